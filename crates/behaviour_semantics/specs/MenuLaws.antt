@@ -1,0 +1,74 @@
+-- What makes a list of solved drafts the exact menu.
+use Rattle.std.specs.Prelude.{◌≡◌, List, Option, None, Some}
+use Rattle.term_algebra.specs.Term.{Term}
+use Rattle.term_algebra.specs.Equation.{Data}
+use Rattle.behaviour_semantics.specs.Behaviour.{Behaviour, Process, Specification}
+use Rattle.behaviour_semantics.specs.Derives.{leaves_in}
+use Rattle.behaviour_semantics.specs.Shape.{Shape}
+use Rattle.behaviour_semantics.specs.Draft.{Draft, draft_of, label_with, Fits}
+use Rattle.behaviour_semantics.specs.Solving.{Entry, SolvesTo}
+use Rattle.behaviour_semantics.specs.Menu.{EqualTerms, EqualLabels, Meets, label_at, derivation_at, IsEntry, Rise, Exact}
+use Rattle.behaviour_semantics.specs.InstanceLaws.{AreOver, MeetsDraft}
+
+-- The list is made as a menu is: its shapes rise and fit, and it has the solved form of each draft that has one, and
+-- nothing else.
+pub record IsSolvedMenu (data_ : Data) (canon : Term → Term) (processes : List Process) (b : Behaviour) (entries : List Entry) : Type 0 where
+  pub rising : Rise entries
+  pub fitting : (entry : Entry) → IsEntry entries entry → Fits data_ canon processes b entry.shape
+  pub solved :
+      (entry : Entry) →
+      IsEntry entries entry →
+      (draft : Draft) × (draft_of data_ canon processes entry.shape b ≡ Some draft) × SolvesTo canon draft (Some entry)
+  pub every_solved :
+      (shape : Shape) (draft : Draft) (entry : Entry) →
+      draft_of data_ canon processes shape b ≡ Some draft →
+      SolvesTo canon draft (Some entry) →
+      IsEntry entries entry
+
+-- such a list is the exact menu
+abbrev pub SolvedMenusAreExact : Type 0
+SolvedMenusAreExact =
+    (data_ : Data) (canon : Term → Term) (specification : Specification) (b : Behaviour) (entries : List Entry) →
+    AreOver data_ canon specification b →
+    IsSolvedMenu data_ canon specification.processes b entries →
+    Exact data_ canon specification.processes b entries
+
+-- Solving the draft of a shape loses no values and adds none.
+pub record SolvingKeepsTheValues : Type 0 where
+  -- each draft has an outcome
+  pub outcome :
+      (data_ : Data) (canon : Term → Term) (specification : Specification) (b : Behaviour) →
+      AreOver data_ canon specification b →
+      (shape : Shape) (draft : Draft) →
+      draft_of data_ canon specification.processes shape b ≡ Some draft →
+      (outcome : Option Entry) × SolvesTo canon draft outcome
+  -- where there is no entry, no ground leaves meet the draft
+  pub nothing :
+      (data_ : Data) (canon : Term → Term) (specification : Specification) (b : Behaviour) →
+      AreOver data_ canon specification b →
+      (shape : Shape) (draft : Draft) →
+      draft_of data_ canon specification.processes shape b ≡ Some draft →
+      SolvesTo canon draft None →
+      (leaves : List Term) →
+      MeetsDraft data_ draft leaves →
+      ⊥
+  -- values that meet the entry give leaves that meet the draft, with an equal label
+  pub sound :
+      (data_ : Data) (canon : Term → Term) (specification : Specification) (b : Behaviour) →
+      AreOver data_ canon specification b →
+      (shape : Shape) (draft : Draft) (entry : Entry) →
+      draft_of data_ canon specification.processes shape b ≡ Some draft →
+      SolvesTo canon draft (Some entry) →
+      (values : List Term) →
+      Meets data_ entry values →
+      MeetsDraft data_ draft (derivation_at entry values).leaves × EqualLabels data_ (label_at entry values) (label_with (leaves_in (derivation_at entry values).leaves) draft.label)
+  -- leaves that meet the draft come from values that meet the entry, up to equality, with an equal label
+  pub complete :
+      (data_ : Data) (canon : Term → Term) (specification : Specification) (b : Behaviour) →
+      AreOver data_ canon specification b →
+      (shape : Shape) (draft : Draft) (entry : Entry) →
+      draft_of data_ canon specification.processes shape b ≡ Some draft →
+      SolvesTo canon draft (Some entry) →
+      (leaves : List Term) →
+      MeetsDraft data_ draft leaves →
+      (values : List Term) × Meets data_ entry values × EqualTerms data_ (derivation_at entry values).leaves leaves × EqualLabels data_ (label_at entry values) (label_with (leaves_in leaves) draft.label)

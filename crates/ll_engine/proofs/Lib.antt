@@ -1,0 +1,17 @@
+pub mod Forests
+pub mod Lists
+pub mod MarkRounds
+pub mod Closure
+pub mod Ranges
+pub mod Begins
+pub mod Nullable
+pub mod FirstSets
+pub mod LeftCycles
+pub mod FollowSets
+pub mod Choices
+pub mod Entries
+pub mod Predicts
+pub mod Verdicts
+pub mod Walks
+pub mod Exactness
+pub mod Uniqueness

@@ -1,0 +1,11 @@
+pub mod Derivation
+pub mod Language
+pub mod Prediction
+pub mod View
+pub mod Computed
+pub mod Answers
+pub mod Related
+pub mod Table
+pub mod Checked
+pub mod Walk
+pub mod Laws

@@ -1,0 +1,19 @@
+use Rattle.std.specs.Prelude.{◌≡◌, ℕ, ◌+◌, ◌<◌, ◌⊎◌, cond, nat_lt, List}
+use Rattle.std.specs.List.{Contains}
+
+-- the last value of a count of faults or of calls
+abbrev pub last_count : ℕ
+last_count = 18446744073709551615
+
+-- the count after one more, which stays at the last value
+abbrev pub next_count : ℕ → ℕ
+next_count count = cond (nat_lt count last_count) (count + 1) count
+
+-- a count of faults rose, or it stands at the last value and cannot
+abbrev pub Rises : ℕ → ℕ → Type 0
+Rises before after = (before < after) ⊎ ((before ≡ last_count) × (after ≡ last_count))
+
+-- the call that comes after `calls` others is one of those listed by number, from 1; a call past the
+-- last value of the count is none of them
+abbrev pub IsListed : List ℕ → ℕ → Type 0
+IsListed numbers calls = (calls < last_count) × Contains numbers (calls + 1)

@@ -1,0 +1,18 @@
+use Rattle.std.specs.Prelude.{ℕ, List, drop}
+use Rattle.lotos_base.specs.declared.memory_source.MemSource.{MemSource}
+
+-- the bytes that a source in memory has left
+abbrev pub left_of : MemSource → List ℕ
+left_of source = drop source.start source.bytes.items
+
+-- how many faults it has counted
+abbrev pub faults_of : MemSource → ℕ
+faults_of source = source.schedule.faults
+
+-- how many calls were made, up to the last value of the count
+abbrev pub calls_of : MemSource → ℕ
+calls_of source = source.schedule.calls
+
+-- the numbers of the calls that fail
+abbrev pub failing_of : MemSource → List ℕ
+failing_of source = source.schedule.failing.items

@@ -1,0 +1,28 @@
+//! What every crate of `lotos` stands on: the outside (a source, a sink, a shelf of texts) as
+//! traits whose contracts say what each call does, the three objects in memory that meet them, and
+//! places, names and written terms.
+#![tactic(auto)]
+
+pub mod counts;
+pub mod faults;
+pub mod memory_shelf;
+pub mod memory_sink;
+pub mod memory_source;
+pub mod names;
+pub mod outside;
+pub mod places;
+mod schedule;
+pub mod written_terms;
+
+pub use counts::counted;
+pub use faults::{Failed, GetFault, NoMemory, PutFault};
+pub use memory_shelf::MemShelf;
+pub use memory_sink::MemSink;
+pub use memory_source::MemSource;
+pub use names::Name;
+pub use outside::{Shelf, Sink, Source};
+pub use places::Place;
+pub use written_terms::{Form, OrderItem, Profile, Written};
+
+#[cfg(test)]
+mod tests;

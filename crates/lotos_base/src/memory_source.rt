@@ -1,0 +1,67 @@
+//! A source over bytes in memory.
+
+ghost use Rattle.std.specs.Prelude.{◌≡◌, ℕ, ◌<◌, ◌≤◌, ◌↔◌, Some, length, IfOk, OnOk, OnErr, IfSome, IsErr, MatchResult};
+ghost use Rattle.lotos_base.specs.Counts.{IsListed, Rises, next_count};
+ghost use Rattle.lotos_base.specs.Outside.{Reads};
+
+use crate::faults::Failed;
+use crate::outside::Source;
+use crate::schedule::Schedule;
+
+/// Bytes to be read, and the numbers (from 1) of the calls that fail.
+#[derive(Debug, Drop)]
+pub struct MemSource {
+    bytes: Vec<u8>,
+    start: usize,
+    schedule: Schedule,
+}
+
+impl MemSource {
+    ghost use Rattle.lotos_base.specs.MemSource.{left_of, faults_of, calls_of, failing_of};
+
+    /// A source with these bytes left and no fault counted. The calls whose number, from 1, is in
+    /// `failing` fail, and no others. Takes no memory.
+    pub fn new(bytes: Vec<u8>, failing: Vec<u64>) -> MemSource
+        ensures left { left_of result ≡ bytes.items }
+        ensures faults { faults_of result ≡ 0 }
+        ensures calls { calls_of result ≡ 0 }
+        ensures failing { failing_of result ≡ failing.items }
+    {
+        MemSource {
+            bytes,
+            start: 0,
+            schedule: Schedule::new(failing),
+        }
+    }
+}
+
+impl Source for MemSource {
+    ghost use Rattle.lotos_base.specs.MemSource.{left_of, faults_of, calls_of, failing_of};
+
+    ghost left = { λ source. Some (left_of source) };
+
+    ghost faults = { faults_of };
+
+    fn read(&mut self, buf: &mut [u8]) -> Result<usize, Failed>
+        requires { 0 < length buf.old }
+        ensures within { IfOk result (λ count. count ≤ length buf.old) }
+        ensures moved { IfOk result (λ count. Reads (left_of self.old) (Some (left_of self.new)) buf.new count) }
+        ensures kept { OnErr result (left_of self.new ≡ left_of self.old) }
+        ensures counts { MatchResult result (λ _. faults_of self.new ≡ faults_of self.old) (λ _. Rises (faults_of self.old) (faults_of self.new)) }
+
+        // The calls fail whose number is listed, and no others.
+        ensures fails { IsErr result ↔ IsListed (failing_of self.old) (calls_of self.old) }
+        ensures calls { calls_of self.new ≡ next_count (calls_of self.old) }
+        ensures failing { failing_of self.new ≡ failing_of self.old }
+    {
+        if self.schedule.begin() {
+            self.schedule.fail();
+            return Err(Failed);
+        }
+        let rest = self.bytes.as_slice().get(self.start..).unwrap_or(&[]);
+        let count = rest.len().min(buf.len());
+        buf[..count].copy_from_slice(&rest[..count]);
+        self.start += count;
+        Ok(count)
+    }
+}

@@ -1,0 +1,48 @@
+use Rattle.std.specs.Prelude.{ℕ, List, map}
+use Rattle.lotos_base.specs.Name.{spelling}
+use Rattle.lotos_grammar.specs.declared.first.FirstOffer.{FirstOffer}
+use Rattle.lotos_grammar.specs.declared.first.FirstOffer.TheVariants.{Give, Ask}
+use Rattle.lotos_grammar.specs.declared.first.FirstBeh.{FirstBeh, Stop, Choice', Action'}
+use Rattle.lotos_grammar.specs.declared.first.FirstText.{FirstText}
+
+-- the spelling of a name
+abbrev pub Spelled : Type 0
+Spelled = List ℕ
+
+-- an offer as it is written
+pub data Offer : Type 0 where
+  give : (name : Spelled) → Offer
+  ask : (variable sort : Spelled) → Offer
+
+-- a behaviour expression as it is written
+pub data Behaviour : Type 0 where
+  stop : Behaviour
+  choice : (left right : Behaviour) → Behaviour
+  action : (gate : Spelled) (offers : List Offer) (next : Behaviour) → Behaviour
+
+-- a specification as it is written: its parts in the order of the text, each constant with its sort
+pub record Text : Type 0 where
+  pub name : Spelled
+  pub gates : List Spelled
+  pub sorts : List Spelled
+  pub constants : List (Spelled × Spelled)
+  pub body : Behaviour
+
+-- what the code's trees are as plain values
+abbrev pub offer_of : FirstOffer → Offer
+offer_of (Give name) = give (spelling name)
+offer_of (Ask variable sort) = ask (spelling variable) (spelling sort)
+
+abbrev pub behaviour_of : FirstBeh → Behaviour
+behaviour_of Stop = stop
+behaviour_of (Choice' _ left _ right) = choice (behaviour_of left) (behaviour_of right)
+behaviour_of (Action' gate offers _ next) = action (spelling gate) (map offer_of offers.items) (behaviour_of next)
+
+abbrev pub text_of : FirstText → Text
+text_of text = record {
+  name = spelling text.name;
+  gates = map spelling text.gates.items;
+  sorts = map spelling text.sorts.items;
+  constants = map (λ pair. (spelling pair.0, spelling pair.1)) text.constants.items;
+  body = behaviour_of text.body;
+}

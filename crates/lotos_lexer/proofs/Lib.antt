@@ -1,0 +1,5 @@
+pub mod Words
+pub mod Tables
+pub mod Comments
+pub mod Spans
+pub mod CuttingLemmas

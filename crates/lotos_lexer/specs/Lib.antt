@@ -1,0 +1,6 @@
+pub mod Bytes
+pub mod Cutting
+pub mod Lexemes
+pub mod Pieces
+pub mod Spellings
+pub mod Tokens

@@ -1,0 +1,16 @@
+//! The tokens of a text, each with its kind, its place and its bytes.
+#![tactic(auto)]
+
+pub mod kinds;
+mod lexemes;
+mod lexing;
+mod pieces;
+mod positions;
+mod spellings;
+pub mod tokens;
+
+pub use lexing::lex;
+pub use tokens::{LexFault, Token};
+
+#[cfg(test)]
+mod tests;

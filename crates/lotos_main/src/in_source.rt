@@ -1,0 +1,36 @@
+//! The real input.
+
+ghost use Rattle.std.specs.Prelude.{None};
+
+use lotos_base::{Failed, Source, counted};
+use std::io::Read;
+
+/// A source over a reader. It tells no content.
+#[derive(Drop)]
+pub struct InSource<R: Read> {
+    reader: R,
+    faults: u64,
+}
+
+impl<R: Read> InSource<R> {
+    /// A source over this reader, with no fault counted.
+    pub fn new(reader: R) -> InSource<R> {
+        InSource { reader, faults: 0 }
+    }
+}
+
+impl<R: Read> Source for InSource<R> {
+    ghost left = { λ _. None };
+
+    ghost faults = { λ source. source.faults };
+
+    fn read(&mut self, buf: &mut [u8]) -> Result<usize, Failed> {
+        match self.reader.read(buf) {
+            Ok(count) => Ok(count),
+            Err(_) => {
+                self.faults = counted(self.faults);
+                Err(Failed)
+            }
+        }
+    }
+}

@@ -1,0 +1,36 @@
+//! The real output.
+
+ghost use Rattle.std.specs.Prelude.{None};
+
+use lotos_base::{Failed, Sink, counted};
+use std::io::Write;
+
+/// A sink over a writer. It tells no content. A writer that takes no byte has failed.
+#[derive(Drop)]
+pub struct OutSink<W: Write> {
+    writer: W,
+    faults: u64,
+}
+
+impl<W: Write> OutSink<W> {
+    /// A sink over this writer, with no fault counted.
+    pub fn new(writer: W) -> OutSink<W> {
+        OutSink { writer, faults: 0 }
+    }
+}
+
+impl<W: Write> Sink for OutSink<W> {
+    ghost written = { λ _. None };
+
+    ghost faults = { λ sink. sink.faults };
+
+    fn write(&mut self, piece: &[u8]) -> Result<usize, Failed> {
+        match self.writer.write(piece) {
+            Ok(count) if count > 0 => Ok(count),
+            _ => {
+                self.faults = counted(self.faults);
+                Err(Failed)
+            }
+        }
+    }
+}

@@ -1,0 +1,5 @@
+pub mod Words
+pub mod Report
+pub mod Writing
+pub mod Outcomes
+pub mod Prepared

@@ -1,0 +1,44 @@
+use Rattle.std.specs.Prelude.{ℕ, ◌+◌, Bool, ◌&&◌, not, List, [], ◌∷◌, map, length, codes, cond, nat_le, Option, Some, None, option_map, String, string_bytes}
+use Rattle.std.specs.Str.{bytes_eq}
+use Rattle.std.specs.declared.alloc.Global.{Global}
+use Rattle.lotos_top.specs.declared.TheConstants.{WORDS_LIMIT, WORD_BYTES_LIMIT}
+use Rattle.lotos_top.specs.declared.commands.Command.{Command}
+use Rattle.lotos_top.specs.declared.commands.Command.TheVariants.{Check, Run, Demo}
+
+-- the bytes of each word
+abbrev pub words_of : List (String Global) → List (List ℕ)
+words_of words = map string_bytes words
+
+-- a line of words
+pub data Line : Type 0 where
+  check : (spec : List ℕ) (order : Option (List ℕ)) (values : List (List ℕ)) → Line
+  session : (spec : List ℕ) (order : Option (List ℕ)) (values : List (List ℕ)) → Line
+  demonstration : (cells : ℕ) → Line
+
+-- what a command of the code is as a line
+abbrev pub line_of : Command → Line
+line_of (Check spec order values) = check spec.now (option_map (λ name. name.now) order) (words_of values.now)
+line_of (Run spec order values) = session spec.now (option_map (λ name. name.now) order) (words_of values.now)
+line_of (Demo cells) = demonstration cells
+
+-- how many bytes the words have together
+abbrev pub total_length : List (List ℕ) → ℕ
+total_length [] = 0
+total_length (word ∷ words) = length word + total_length words
+
+-- the words are within the limits on their number and on their bytes
+abbrev pub are_within : List (List ℕ) → Bool
+are_within words = nat_le (length words) WORDS_LIMIT && nat_le (total_length words) WORD_BYTES_LIMIT
+
+-- two words are a line where they are `check SPEC`, and SPEC is not `with`
+abbrev pub two_words : List ℕ → List ℕ → Option Line
+two_words verb spec = cond (bytes_eq verb (codes "check") && not (bytes_eq spec (codes "with"))) (Some (check spec None [])) None
+
+-- the line that the words are, if they are one
+abbrev pub words_line : List (List ℕ) → Option Line
+words_line (verb ∷ spec ∷ []) = two_words verb spec
+words_line _ = None
+
+-- the line that the words of a command are, if they are one and within the limits
+abbrev pub command_line : List (List ℕ) → Option Line
+command_line words = cond (are_within words) (words_line words) None

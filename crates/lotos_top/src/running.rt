@@ -1,0 +1,120 @@
+//! The whole program over any outside.
+
+ghost use Rattle.std.specs.Prelude.{◌≡◌, None, Some, [], IfOk};
+ghost use Rattle.lotos_top.specs.Words.{check, words_of, command_line};
+ghost use Rattle.lotos_top.specs.Report.{no_line, unread, checked, report_of, status_of};
+ghost use Rattle.lotos_top.specs.Outcomes.{calls_after, Ran, Completes};
+ghost use Rattle.lotos_base.specs.Counts.{next_count};
+ghost use Rattle.lotos_top.specs.Prepared.{Prepared};
+
+use crate::commands::{Command, parse_command};
+use crate::ended::Ended;
+use crate::reports::{accepted_report, refused_report, unread_report, usage_report};
+use crate::writing::write_whole;
+use lotos_base::{Failed, GetFault, Shelf, Sink, Source};
+use lotos_grammar::{FirstFault, TEXT_LIMIT, read_first};
+use std::alloc::{AllocError, Global};
+
+/// Does what the words ask for: gets the files from the shelf and writes the report to the output.
+///
+/// The answer is `WordsRefused` exactly where the words are no line of the usage, `FileFault`
+/// exactly where the shelf's count of faults rose or the shelf lacks the file, `SpecRefused` exactly
+/// where the specification has a form that is not built, and else `Done`. In place of each stands
+/// `OutputFault` exactly where the output's count of faults rose, and `NoMemory` where memory was
+/// wanted. The input is not read.
+pub fn run<F: Shelf, S: Source, K: Sink>(
+    alloc: Global,
+    words: &[String],
+    shelf: &mut F,
+    input: &mut S,
+    output: &mut K,
+) -> Ended
+    ensures ran { Ran (command_line (words_of words.now)) (F.texts shelf.old) (F.faults shelf.old) (F.faults shelf.new)
+        (K.faults output.old) (K.faults output.new) (K.written output.old) (K.written output.new) result }
+    ensures complete { Completes (command_line (words_of words.now)) (F.texts shelf.old) (F.faults shelf.old) (F.faults shelf.new)
+        (K.faults output.old) (K.faults output.new) (K.written output.old) (K.written output.new) result }
+    ensures calls { F.calls shelf.new ≡ calls_after (command_line (words_of words.now)) (F.calls shelf.old) }
+    ensures texts { F.texts shelf.new ≡ F.texts shelf.old }
+    ensures input { input.new ≡ input.old }
+{
+    let _ = input;
+    let answer = match prepare(alloc, words, shelf) {
+        Ok(answer) => answer,
+        Err(AllocError) => return Ended::NoMemory,
+    };
+    match write_whole(output, answer.report.as_slice()) {
+        Ok(()) => answer.ended,
+        Err(Failed) => Ended::OutputFault,
+    }
+}
+
+/// How a run ends and what it prints.
+#[derive(Debug, Drop)]
+struct Answer {
+    ended: Ended,
+    report: Vec<u8>,
+}
+
+/// Finds out what comes of the words, and makes the report.
+fn prepare<F: Shelf>(alloc: Global, words: &[String], shelf: &mut F) -> Result<Answer, AllocError>
+    ensures outcome { Prepared (command_line (words_of words.now)) (F.texts shelf.old) (F.faults shelf.old) (F.faults shelf.new) result }
+    ensures calls { F.calls shelf.new ≡ calls_after (command_line (words_of words.now)) (F.calls shelf.old) }
+    ensures texts { F.texts shelf.new ≡ F.texts shelf.old }
+{
+    match parse_command(words) {
+        Some(Command::Check { spec, .. }) => check_file(alloc, spec, shelf),
+        _ => usage(alloc),
+    }
+}
+
+/// The answer to words that are no line.
+fn usage(alloc: Global) -> Result<Answer, AllocError>
+    ensures { IfOk result (λ answer. (answer.ended ≡ status_of no_line) × (answer.report.items ≡ report_of no_line)) }
+{
+    Ok(Answer {
+        ended: Ended::WordsRefused,
+        report: usage_report(alloc)?,
+    })
+}
+
+/// Gets the specification's text from the shelf and checks it.
+fn check_file<F: Shelf>(alloc: Global, name: &str, shelf: &mut F) -> Result<Answer, AllocError>
+    ensures outcome { Prepared (Some (check name.now None [])) (F.texts shelf.old) (F.faults shelf.old) (F.faults shelf.new) result }
+    ensures calls { F.calls shelf.new ≡ next_count (F.calls shelf.old) }
+    ensures texts { F.texts shelf.new ≡ F.texts shelf.old }
+{
+    let mut text = Vec::new(alloc);
+    match shelf.get(name, TEXT_LIMIT + 1, &mut text) {
+        Ok(()) => check_specification(alloc, name, text.as_slice()),
+        Err(GetFault::Missing) => unread_file(alloc, name),
+        Err(GetFault::Failed) => unread_file(alloc, name),
+        Err(GetFault::NoMemory) => Err(AllocError),
+    }
+}
+
+/// The answer to a file that could not be got.
+fn unread_file(alloc: Global, name: &str) -> Result<Answer, AllocError>
+    ensures { IfOk result (λ answer. (answer.ended ≡ status_of (unread name.now)) × (answer.report.items ≡ report_of (unread name.now))) }
+{
+    Ok(Answer {
+        ended: Ended::FileFault,
+        report: unread_report(alloc, name)?,
+    })
+}
+
+/// Reads the text of a specification, and makes the report.
+fn check_specification(alloc: Global, name: &str, text: &[u8]) -> Result<Answer, AllocError>
+    ensures { IfOk result (λ answer. (answer.ended ≡ status_of (checked name.now text.now)) × (answer.report.items ≡ report_of (checked name.now text.now))) }
+{
+    match read_first(alloc, text) {
+        Ok(parts) => Ok(Answer {
+            ended: Ended::Done,
+            report: accepted_report(alloc, &parts)?,
+        }),
+        Err(FirstFault::Unbuilt) => Ok(Answer {
+            ended: Ended::SpecRefused,
+            report: refused_report(alloc, name)?,
+        }),
+        Err(FirstFault::NoMemory) => Err(AllocError),
+    }
+}

@@ -1,0 +1,76 @@
+-- What the computed cases need: members of short lists, ill-sorted operations, values for the variables of a term.
+use Rattle.std.proofs.Common.{◌≡◌, ℕ, zero, suc, List, [], ◌∷◌, refl, ap, sym, ◌∙◌, subst, inl, inr, eq-eqb, nat_eq, true, false}
+use Rattle.std.specs.Prelude.{Some, slice_get}
+use Rattle.std.proofs.lemmas.Option.{same_Some}
+use Rattle.term_algebra.specs.Signature.{Signature, Operation, IsOperation}
+use Rattle.term_algebra.specs.Term.{Term, variable, node, Terms, no_terms, term_then}
+use Rattle.term_algebra.specs.Sorting.{HaveSorts, IsTermOf, IsGroundOf, OccursAmong}
+use Rattle.term_algebra.specs.Substitution.{Substitution, IsGrounding}
+
+-- P holds of each member
+abbrev pub Each : {X : Type 0} → (X → Type 0) → List X → Type 0
+Each P [] = Unit {0}
+Each P (x ∷ xs) = P x × Each P xs
+
+-- what holds of each member holds of the one at a position
+pub each_member : {X : Type 0} (P : X → Type 0) (xs : List X) (i : ℕ) (x : X) → Each P xs
+    → slice_get xs i ≡ Some x → P x
+each_member P [] i x h e = cc
+each_member P (y ∷ ys) zero x h e = subst P (same_Some y x e) h.0
+each_member P (y ∷ ys) (suc i) x h e = each_member P ys i x h.1 e
+
+-- no two members are alike
+abbrev pub Apart : {X : Type 0} → (X → X → Type 0) → List X → Type 0
+Apart Alike [] = Unit {0}
+Apart Alike (x ∷ xs) = Each (λ y. (Alike x y → ⊥) × (Alike y x → ⊥)) xs × Apart Alike xs
+
+-- so two that are alike stand at one position
+pub one_position : {X : Type 0} (Alike : X → X → Type 0) (xs : List X) (i j : ℕ) (x y : X) → Apart Alike xs
+    → slice_get xs i ≡ Some x → slice_get xs j ≡ Some y → Alike x y → i ≡ j
+one_position Alike [] i j x y h e d a = cc
+one_position Alike (z ∷ zs) zero zero x y h e d a = refl
+one_position Alike (z ∷ zs) zero (suc j) x y h e d a =
+    absurd ((each_member (λ w. (Alike z w → ⊥) × (Alike w z → ⊥)) zs j y h.0 d).0 (subst (λ w. Alike w y) (sym (same_Some z x e)) a))
+one_position Alike (z ∷ zs) (suc i) zero x y h e d a =
+    absurd ((each_member (λ w. (Alike z w → ⊥) × (Alike w z → ⊥)) zs i x h.0 e).1 (subst (λ w. Alike x w) (sym (same_Some z y d)) a))
+one_position Alike (z ∷ zs) (suc i) (suc j) x y h e d a = ap (λ (k : ℕ). suc k) (one_position Alike zs i j x y h.1 e d a)
+
+-- no term has an operation with arguments that do not fit its profile
+pub unfit : (signature : Signature) (f : ℕ) (ts : Terms) (o : Operation) → IsOperation signature f o
+    → (HaveSorts signature ts o.arguments → ⊥) → IsTermOf signature (node f ts) → ⊥
+unfit signature f ts o is bad h =
+    bad (subst (λ (p : Operation). HaveSorts signature ts p.arguments) (same_Some h.1.0 o (sym h.1.1 ∙ is)) h.1.3)
+
+-- the first byte of a name
+abbrev pub first_byte : List ℕ → ℕ
+first_byte [] = 0
+first_byte (b ∷ bs) = b
+
+-- names with different first bytes differ
+pub names_differ : (xs ys : List ℕ) → nat_eq (first_byte xs) (first_byte ys) ≡ false → xs ≡ ys → ⊥
+names_differ xs ys different e =
+    let same : nat_eq (first_byte xs) (first_byte ys) ≡ true = eq-eqb (first_byte xs) (first_byte ys) (ap first_byte e) in
+    cc
+
+abbrev mutual
+  -- the values of the variables that occur are ground terms of their sorts, one by one
+  pub Grounds : Signature → Substitution → Term → Type 0
+  Grounds signature values (variable n s) = IsGroundOf signature s (values n s)
+  Grounds signature values (node f ts) = AllGround signature values ts
+
+  pub AllGround : Signature → Substitution → Terms → Type 0
+  AllGround signature values no_terms = Unit {0}
+  AllGround signature values (term_then t ts) = Grounds signature values t × AllGround signature values ts
+
+mutual
+  pub grounding : (signature : Signature) (values : Substitution) (t : Term) → Grounds signature values t
+      → IsGrounding signature t values
+  grounding signature values (variable m r) h n s o =
+      subst (λ (k : ℕ). IsGroundOf signature s (values k s)) o.0 (subst (λ (q : ℕ). IsGroundOf signature q (values m q)) o.1 h)
+  grounding signature values (node f ts) h n s o = groundings signature values ts h n s o
+
+  pub groundings : (signature : Signature) (values : Substitution) (ts : Terms)
+      → AllGround signature values ts → (n s : ℕ) → OccursAmong n s ts → IsGroundOf signature s (values n s)
+  groundings signature values no_terms h n s o = absurd o
+  groundings signature values (term_then t ts) h n s (inl o) = grounding signature values t h.0 n s o
+  groundings signature values (term_then t ts) h n s (inr o) = groundings signature values ts h.1 n s o

@@ -1,0 +1,139 @@
+-- Links and chains keep terms ground and of their sort.
+use Rattle.std.proofs.Common.{◌≡◌, ℕ, zero, suc, List, [], ◌∷◌, ap, sym, ◌∙◌, subst}
+use Rattle.std.specs.Prelude.{Some}
+use Rattle.std.proofs.lemmas.Option.{same_Some}
+use Rattle.term_algebra.specs.Signature.{Signature, Operation}
+use Rattle.term_algebra.specs.Term.{Term, variable, node, Terms, no_terms, term_then}
+use Rattle.term_algebra.specs.Sorting.{HasSort, HaveSorts, sort_of, IsGround, AreGround}
+use Rattle.term_algebra.specs.Path.{argument_at, with_argument, subterm, put_at}
+use Rattle.term_algebra.specs.Substitution.{Substitution, substituted}
+use Rattle.term_algebra.specs.Equation.{Equation, Data, IsEquationOver, IsWellFormedData, IsGroundInstance}
+use Rattle.term_algebra.specs.Equality.{Direction, forward, backward, old_side, new_side, Link, Equal, same_term, link_then}
+use Rattle.term_algebra.proofs.PathLemmas.{subterm_below, put_below}
+use Rattle.term_algebra.proofs.SubstitutionLemmas.{substituted_sort, instance_ground}
+
+-- ground arguments
+argument_ground : (k : ℕ) (ts : Terms) (a : Term) → AreGround ts → argument_at k ts ≡ Some a → IsGround a
+argument_ground k no_terms a h e = cc
+argument_ground zero (term_then t ts) a h e = subst IsGround (same_Some t a e) h.0
+argument_ground (suc k) (term_then t ts) a h e = argument_ground k ts a h.1 e
+
+with_argument_ground : (k : ℕ) (ts : Terms) (b : Term) → AreGround ts → IsGround b → AreGround (with_argument k b ts)
+with_argument_ground k no_terms b h g = h
+with_argument_ground zero (term_then t ts) b h g = (g, h.1)
+with_argument_ground (suc k) (term_then t ts) b h g = (h.0, with_argument_ground k ts b h.1 g)
+
+-- the subterms of a ground term are ground
+pub subterm_ground : (path : List ℕ) (t part : Term) → IsGround t → subterm path t ≡ Some part → IsGround part
+subterm_ground [] t part h e = subst IsGround (same_Some t part e) h
+subterm_ground (k ∷ path) (variable n s) part h e = absurd h
+subterm_ground (k ∷ path) (node f ts) part h e =
+    let below = subterm_below k path f ts part e in
+    subterm_ground path below.argument part (argument_ground k ts below.argument h below.found) below.inside
+
+-- a ground term with a ground part put in is ground
+pub put_at_ground : (path : List ℕ) (part t whole : Term) → IsGround t → IsGround part
+    → put_at path part t ≡ Some whole → IsGround whole
+put_at_ground [] part t whole h g e = subst IsGround (same_Some part whole e) g
+put_at_ground (k ∷ path) part (variable n s) whole h g e = absurd h
+put_at_ground (k ∷ path) part (node f ts) whole h g e =
+    let below = put_below k path f part ts whole e in
+    subst IsGround below.is_whole
+    (with_argument_ground k ts below.after h
+    (put_at_ground path part below.argument below.after (argument_ground k ts below.argument h below.found) g below.inside))
+
+-- what a link puts in is ground
+pub new_side_ground : (signature : Signature) (equation : Equation) (values : Substitution) (direction : Direction)
+    → IsGroundInstance signature equation values → IsGround (substituted values (new_side direction equation))
+new_side_ground signature equation values forward h = instance_ground values equation.right (λ n s o. (h.right n s o).ground)
+new_side_ground signature equation values backward h = instance_ground values equation.left (λ n s o. (h.left n s o).ground)
+
+pub link_ground : (data_ : Data) (t u : Term) → Link data_ t u → IsGround t → IsGround u
+link_ground data_ t u l h =
+    put_at_ground l.path (substituted l.values (new_side l.direction l.equation)) t u h (new_side_ground data_.signature l.equation l.values l.direction l.is_instance) l.new
+
+pub equal_ground : {data_ : Data} {t u : Term} → Equal data_ t u → IsGround t → IsGround u
+equal_ground (same_term t) h = h
+equal_ground (link_then {t = t} {u = u} l chain) h = equal_ground chain (link_ground _ t u l h)
+
+-- a term has one sort
+pub one_sort : (signature : Signature) (t : Term) (r s : ℕ) → HasSort signature t r → HasSort signature t s → r ≡ s
+one_sort signature (variable n q) r s h k = sym h.0 ∙ k.0
+one_sort signature (node f ts) r s h k =
+    sym h.2 ∙ ap (λ (o : Operation). o.result) (same_Some h.0 k.0 (sym h.1 ∙ k.1)) ∙ k.2
+
+-- it is the one that its head gives it
+pub sort_of_sorted : (signature : Signature) (t : Term) (s : ℕ) → HasSort signature t s → sort_of signature t ≡ Some s
+sort_of_sorted signature (variable n q) s h = ap (λ (r : ℕ). Some r) h.0
+sort_of_sorted signature (node f ts) s h = rw (h.1) (ap (λ (r : ℕ). Some r) h.2)
+
+-- An argument of sorted terms has a sort, and a term of that sort can stand in its place.
+record SortedArgument (signature : Signature) (k : ℕ) (ts : Terms) (a : Term) (sorts : List ℕ) : Type 0 where
+  sort : ℕ
+  sorted : HasSort signature a sort
+  others : (b : Term) → HasSort signature b sort → HaveSorts signature (with_argument k b ts) sorts
+
+argument_sort : (signature : Signature) (k : ℕ) (ts : Terms) (a : Term) (sorts : List ℕ)
+    → HaveSorts signature ts sorts → argument_at k ts ≡ Some a → SortedArgument signature k ts a sorts
+argument_sort signature k no_terms a sorts h e = cc
+argument_sort signature zero (term_then t ts) a [] h e = absurd h
+argument_sort signature zero (term_then t ts) a (s ∷ ss) h e =
+    record { sort = s; sorted = subst (λ (u : Term). HasSort signature u s) (same_Some t a e) h.0; others = λ b g. (g, h.1) }
+argument_sort signature (suc k) (term_then t ts) a [] h e = absurd h
+argument_sort signature (suc k) (term_then t ts) a (s ∷ ss) h e =
+    let deeper = argument_sort signature k ts a ss h.1 e in
+    record { sort = deeper.sort; sorted = deeper.sorted; others = λ b g. (h.0, deeper.others b g) }
+
+-- A subterm of a sorted term has a sort, and with a term of that sort in its place the whole keeps its sort.
+pub record SortedPart (signature : Signature) (path : List ℕ) (t part : Term) (s : ℕ) : Type 0 where
+  pub sort : ℕ
+  pub sorted : HasSort signature part sort
+  pub others : (other whole : Term) → HasSort signature other sort → put_at path other t ≡ Some whole
+      → HasSort signature whole s
+
+pub subterm_sort : (signature : Signature) (path : List ℕ) (t part : Term) (s : ℕ) → HasSort signature t s
+    → subterm path t ≡ Some part → SortedPart signature path t part s
+subterm_sort signature [] t part s h e =
+    record {
+      sort = s;
+      sorted = subst (λ (u : Term). HasSort signature u s) (same_Some t part e) h;
+      others = λ other whole g w. subst (λ (u : Term). HasSort signature u s) (same_Some other whole w) g;
+    }
+subterm_sort signature (k ∷ path) (variable n q) part s h e = cc
+subterm_sort signature (k ∷ path) (node f ts) part s h e =
+    let below = subterm_below k path f ts part e in
+    let argument = argument_sort signature k ts below.argument h.0.arguments h.3 below.found in
+    let deeper = subterm_sort signature path below.argument part argument.sort argument.sorted below.inside in
+    record {
+      sort = deeper.sort;
+      sorted = deeper.sorted;
+      others = λ other whole g w.
+          let put = put_below k path f other ts whole w in
+          let same : put.argument ≡ below.argument = same_Some _ _ (sym put.found ∙ below.found) in
+          let inside : put_at path other below.argument ≡ Some put.after = subst (λ (u : Term). put_at path other u ≡ Some put.after) same put.inside in
+          subst (λ (u : Term). HasSort signature u s) put.is_whole
+          (h.0, h.1, h.2, argument.others put.after (deeper.others other put.after g inside));
+    }
+
+-- both sides of a ground instance have the equation's sort
+pub side_sorts : (signature : Signature) (equation : Equation) (values : Substitution) (direction : Direction) (over : IsEquationOver signature equation)
+    → IsGroundInstance signature equation values
+    → HasSort signature (substituted values (old_side direction equation)) over.sort × HasSort signature (substituted values (new_side direction equation)) over.sort
+side_sorts signature equation values forward over h =
+    (substituted_sort signature values equation.left over.sort over.left_sort (λ n s o. (h.left n s o).sorted), substituted_sort signature values equation.right over.sort over.right_sort (λ n s o. (h.right n s o).sorted))
+side_sorts signature equation values backward over h =
+    (substituted_sort signature values equation.right over.sort over.right_sort (λ n s o. (h.right n s o).sorted), substituted_sort signature values equation.left over.sort over.left_sort (λ n s o. (h.left n s o).sorted))
+
+pub link_sort : (data_ : Data) (t u : Term) (s : ℕ) → IsWellFormedData data_ → Link data_ t u
+    → HasSort data_.signature t s → HasSort data_.signature u s
+link_sort data_ t u s fine l h =
+    let over = fine.equations l.equation l.is_equation in
+    let sides = side_sorts data_.signature l.equation l.values l.direction over l.is_instance in
+    let part = subterm_sort data_.signature l.path t (substituted l.values (old_side l.direction l.equation)) s h l.old in
+    let same : over.sort ≡ part.sort = one_sort data_.signature (substituted l.values (old_side l.direction l.equation)) over.sort part.sort sides.0 part.sorted in
+    part.others (substituted l.values (new_side l.direction l.equation)) u (subst (λ (r : ℕ). HasSort data_.signature (substituted l.values (new_side l.direction l.equation)) r) same sides.1) l.new
+
+pub equal_sort : {data_ : Data} {t u : Term} (s : ℕ) → IsWellFormedData data_ → Equal data_ t u
+    → HasSort data_.signature t s → HasSort data_.signature u s
+equal_sort s fine (same_term t) h = h
+equal_sort s fine (link_then {t = t} {u = u} l chain) h = equal_sort s fine chain (link_sort _ t u s fine l h)

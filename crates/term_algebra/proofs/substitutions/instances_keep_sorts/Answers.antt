@@ -1,0 +1,18 @@
+-- By recursion on the term.
+use Rattle.term_algebra.proofs.SubstitutionLemmas.{substituted_sort, instance_ground, substituted_occurs, occurs_substituted}
+use Rattle.term_algebra.proofs.substitutions.instances_keep_sorts.Goals as goal
+
+pub returns-clause-sorts : goal.returns-clause-sorts
+returns-clause-sorts c = substituted_sort
+
+pub returns-clause-ground : goal.returns-clause-ground
+returns-clause-ground c = λ signature values t sort h g. record {
+  ground = instance_ground values t (λ n s o. (g n s o).ground);
+  sorted = substituted_sort signature values t sort h (λ n s o. (g n s o).sorted);
+}
+
+pub returns-clause-variables : goal.returns-clause-variables
+returns-clause-variables c = λ n s values t. (
+  (λ o. let from = substituted_occurs n s values t o in (from.number, from.sort, from.occurs, from.inside)),
+  (λ from. occurs_substituted n s from.0 from.1 values t from.2 from.3),
+)

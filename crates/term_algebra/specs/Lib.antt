@@ -1,0 +1,17 @@
+pub mod Signature
+pub mod Term
+pub mod Sorting
+pub mod Tests
+pub mod Path
+pub mod Substitution
+pub mod Equation
+pub mod Equality
+pub mod Canon
+pub mod EqualityLaws
+pub mod SmallData
+pub mod Examples
+pub mod PlainView
+pub mod TermLaws
+pub mod PathLaws
+pub mod SubstitutionLaws
+pub mod CanonLaws

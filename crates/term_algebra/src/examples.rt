@@ -1,0 +1,66 @@
+//! Computed cases, which show that the definitions say what a textbook says.
+
+ghost use Rattle.std.specs.Prelude.{◌≡◌};
+ghost use Rattle.term_algebra.specs.SmallData.{bare_data};
+ghost use Rattle.term_algebra.specs.Examples.{
+  CanonExamples,
+  EqualBareTermsAreIdentical,
+  EqualityExamples,
+  PathExamples,
+  SignatureExamples,
+  SortingExamples,
+  SubstitutionExamples,
+  identity_is_congruence,
+};
+
+use crate::equality::{Congruence, equality_is_least};
+
+/// Signatures and equations, well formed and not.
+pub fn signature_examples()
+    ensures { SignatureExamples }
+{}
+
+/// Well-sorted and ill-sorted terms, ground terms, variables that occur, well-formed data.
+pub fn sorting_examples()
+    ensures { SortingExamples }
+{}
+
+/// Subterms and replacements in f(f(a)) and x + Succ(y).
+pub fn path_examples()
+    ensures { PathExamples }
+{}
+
+/// Terms put for x and y, one after the other, and below a binder.
+pub fn substitution_examples()
+    ensures { SubstitutionExamples }
+{}
+
+/// What 0 + x = x, Succ(x) + y = Succ(x + y) and f(f(x)) = f(x) derive, and what they do not.
+pub fn equality_examples()
+    ensures { EqualityExamples }
+{}
+
+/// Leaving out each f of an f is a canon of f(f(x)) = f(x), and the identity function is none.
+pub fn canon_examples()
+    ensures { CanonExamples }
+{}
+
+/// Identity of terms, over natural numbers without equations.
+pub struct Identity;
+
+impl Congruence for Identity {
+    ghost equational_data = { bare_data };
+
+    ghost domain = { λ t. Unit {0} };
+
+    ghost related = { λ t u. t ≡ u };
+
+    ghost is_congruence = { identity_is_congruence };
+}
+
+/// Without equations identity is such a relation, so equal terms are identical.
+pub fn equal_bare_terms_are_identical()
+    ensures { EqualBareTermsAreIdentical }
+{
+    equality_is_least::<Identity>()
+}
