@@ -1,2 +1,7 @@
 pub mod FirstText
+pub mod Sentences
 pub mod Reading
+pub mod Table
+pub mod Derivation
+pub mod Stacks
+pub mod Building

@@ -1,48 +1,56 @@
-use Rattle.std.specs.Prelude.{◌≡◌, ℕ, ◌||◌, Bool, List, [], ◌∷◌, map, cond, length, nat_lt, slice_range, Option, Some, None}
-use Rattle.std.specs.Str.{bytes_eq}
-use Rattle.lotos_lexer.specs.declared.kinds.TheConstants.{SPECIFICATION, NAME, COLON, NOEXIT, BEHAVIOUR, BEHAVIOR, STOP, ENDSPEC}
+-- What a text reads as.
+use Rattle.std.specs.Prelude.{◌≡◌, ℕ, ◌+◌, ◌-◌, ◌<◌, ◌≤◌, ◌==◌, cond, max, List, [], ◌∷◌, length}
+use Rattle.lotos_lexer.specs.declared.kinds.TheConstants.{LEFT_PARENTHESIS, RIGHT_PARENTHESIS}
 use Rattle.lotos_lexer.specs.declared.tokens.Token.{Token}
-use Rattle.lotos_lexer.specs.Tokens.{Lexed, Tokens, BadByte, OpenComment, tokens_of}
-use Rattle.lotos_grammar.specs.declared.TheConstants.{TEXT_LIMIT}
+use Rattle.lotos_lexer.specs.Tokens.{Tokens, tokens_of}
+use Rattle.lotos_grammar.specs.declared.TheConstants.{TEXT_LIMIT, DEPTH_LIMIT, NESTING_LIMIT}
 use Rattle.lotos_grammar.specs.declared.first.FirstFault.{FirstFault}
 use Rattle.lotos_grammar.specs.declared.first.FirstFault.TheVariants.{Unbuilt, NoMemory}
-use Rattle.lotos_grammar.specs.FirstText.{Text, stop}
+use Rattle.lotos_grammar.specs.FirstText.{Behaviour, stop, choice, action, Text}
+use Rattle.lotos_grammar.specs.Sentences.{IsSpecification}
 
--- the kinds of tokens
-abbrev pub kinds_of : List Token → List ℕ
-kinds_of tokens = map (λ token. token.kind) tokens
+-- how deep the deepest node of a behaviour is: its root is at 1, and the sides of a choice and what
+-- stands behind an action are one deeper
+abbrev pub depth : Behaviour → ℕ
+depth stop = 1
+depth (choice left right) = max (depth left) (depth right) + 1
+depth (action gate offers next) = depth next + 1
 
--- a token's bytes in its text
-abbrev pub bytes_of : List ℕ → Token → List ℕ
-bytes_of text token = slice_range text token.first token.past
+-- a node of the behaviour is too deep; want of memory may come with any
+abbrev pub IsTooDeep : Behaviour → FirstFault → Type 0
+IsTooDeep behaviour Unbuilt = DEPTH_LIMIT < depth behaviour
+IsTooDeep behaviour NoMemory = Unit {0}
 
--- the sentences of this grammar: `specification NAME : noexit behaviour stop endspec`, where the
--- word before `stop` has either spelling
-abbrev pub british_sentence : List ℕ
-british_sentence = SPECIFICATION ∷ NAME ∷ COLON ∷ NOEXIT ∷ BEHAVIOUR ∷ STOP ∷ ENDSPEC ∷ []
+-- how many brackets are open behind a token
+abbrev pub open_behind : ℕ → Token → ℕ
+open_behind count token =
+    cond (token.kind == LEFT_PARENTHESIS) (count + 1)
+    (cond (token.kind == RIGHT_PARENTHESIS) (count - 1) count)
 
-abbrev pub american_sentence : List ℕ
-american_sentence = SPECIFICATION ∷ NAME ∷ COLON ∷ NOEXIT ∷ BEHAVIOR ∷ STOP ∷ ENDSPEC ∷ []
+-- the most brackets `(` `)` that are open at one place, given how many are open before the tokens
+abbrev pub nesting_from : ℕ → List Token → ℕ
+nesting_from count [] = count
+nesting_from count (token ∷ rest) = max count (nesting_from (open_behind count token) rest)
 
-abbrev pub is_sentence : List Token → Bool
-is_sentence tokens = bytes_eq (kinds_of tokens) british_sentence || bytes_eq (kinds_of tokens) american_sentence
+-- how deep the brackets of the tokens are nested
+abbrev pub nesting : List Token → ℕ
+nesting tokens = nesting_from 0 tokens
 
--- the parts of a sentence of a text: its name is the second token, and its behaviour is `stop`
-abbrev pub parts_of : List ℕ → List Token → Option Text
-parts_of text (first ∷ name ∷ rest) = Some (record { name = bytes_of text name; gates = []; sorts = []; constants = []; body = stop })
-parts_of text _ = None
+-- the text is within the limit on bytes and can be cut into tokens, which are a sentence with these
+-- parts; no node of its behaviour and no bracket is too deep
+pub record Reads (text : List ℕ) (parts : Text) : Type 0 where
+  pub short : length text ≤ TEXT_LIMIT
+  pub tokens : List Token
+  pub cut_into : tokens_of 0 text ≡ Tokens tokens
+  pub sentence : IsSpecification text tokens parts
+  pub shallow : depth parts.body ≤ DEPTH_LIMIT
+  pub nested : nesting tokens ≤ NESTING_LIMIT
 
--- what is read where a text is cut into tokens, or is not
-abbrev pub read_tokens : List ℕ → Lexed → Option Text
-read_tokens text (Tokens tokens) = cond (is_sentence tokens) (parts_of text tokens) None
-read_tokens text (BadByte place) = None
-read_tokens text (OpenComment place) = None
+-- a text is not read exactly where it reads as nothing; want of memory may come with any text
+abbrev pub IsReadFault : List ℕ → FirstFault → Type 0
+IsReadFault text Unbuilt = (parts : Text) → ¬ Reads text parts
+IsReadFault text NoMemory = Unit {0}
 
--- the parts of a text, if it is within the limit on bytes, can be cut into tokens and is a sentence
-abbrev pub parts_read : List ℕ → Option Text
-parts_read text = cond (nat_lt TEXT_LIMIT (length text)) None (read_tokens text (tokens_of 0 text))
-
--- a fault comes exactly where nothing is read; want of memory may come with any text
-abbrev pub IsReadFault : Option Text → FirstFault → Type 0
-IsReadFault read Unbuilt = read ≡ None
-IsReadFault read NoMemory = Unit {0}
+-- a text reads as one thing at most
+abbrev pub OneReading : Type 0
+OneReading = (text : List ℕ) (one other : Text) → Reads text one → Reads text other → one ≡ other

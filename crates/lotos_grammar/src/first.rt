@@ -1,6 +1,7 @@
 //! The syntax trees of the specifications that are built so far.
 
 use lotos_base::Name;
+use std::alloc::{AllocError, AllocFailed};
 
 /// An offer of an action: a value, or a question for one.
 #[derive(Debug, Drop)]
@@ -56,4 +57,26 @@ pub enum FirstFault {
     Unbuilt,
     /// Memory was wanted and not there.
     NoMemory,
+}
+
+impl From<AllocError> for FirstFault {
+    ghost use Rattle.std.specs.Prelude.{◌≡◌};
+    ghost use Rattle.lotos_grammar.specs.declared.first.FirstFault.TheVariants.{NoMemory};
+
+    ghost from_gives = { λ _ fault. fault ≡ NoMemory };
+
+    fn from(_error: AllocError) -> FirstFault {
+        FirstFault::NoMemory
+    }
+}
+
+impl<T: Drop> From<AllocFailed<T>> for FirstFault {
+    ghost use Rattle.std.specs.Prelude.{◌≡◌};
+    ghost use Rattle.lotos_grammar.specs.declared.first.FirstFault.TheVariants.{NoMemory};
+
+    ghost from_gives = { λ _ fault. fault ≡ NoMemory };
+
+    fn from(_error: AllocFailed<T>) -> FirstFault {
+        FirstFault::NoMemory
+    }
 }

@@ -2,11 +2,10 @@ use Rattle.std.specs.Prelude.{◌≡◌, ℕ, ◌+◌, ◌<◌, ◌⊎◌, List,
 use Rattle.lotos_base.specs.Counts.{Rises, next_count}
 use Rattle.lotos_base.specs.Outside.{Texts, Gets}
 use Rattle.lotos_grammar.specs.declared.TheConstants.{TEXT_LIMIT}
-use Rattle.lotos_grammar.specs.Reading.{parts_read}
 use Rattle.lotos_top.specs.declared.ended.Ended.{Ended}
-use Rattle.lotos_top.specs.declared.ended.Ended.TheVariants.{Done, SpecRefused, WordsRefused, FileFault, InputFault, OutputFault, NoMemory, InputTooLong}
+use Rattle.lotos_top.specs.declared.ended.Ended.TheVariants.{Done, SpecRefused, WordsRefused, FileFault, OutputFault, NoMemory}
 use Rattle.lotos_top.specs.Words.{Line, check}
-use Rattle.lotos_top.specs.Report.{Outcome, no_line, unread, checked, report_of, status_of, usage_text, unread_text, check_text, check_status}
+use Rattle.lotos_top.specs.Report.{Finding, IsFinding, Outcome, no_line, unread, checked, report_of, status_of, usage_text, unread_text, check_text, check_status}
 use Rattle.lotos_top.specs.Writing.{WritesAll, WritesBeginning}
 
 -- the words are the check of the specification with this name
@@ -23,8 +22,8 @@ IsUnread told before after name = Rises before after ⊎ IsSomeAnd told (λ text
 abbrev pub IsOutcome : Option Line → Option Texts → (faults_before faults_after : ℕ) → Outcome → Type 0
 IsOutcome line told before after no_line = (line ≡ None) × (after ≡ before)
 IsOutcome line told before after (unread name) = IsCheck line name × IsUnread told before after name
-IsOutcome line told before after (checked name text) =
-    IsCheck line name × (after ≡ before) × IfSome told (λ texts. Gets texts name (TEXT_LIMIT + 1) text)
+IsOutcome line told before after (checked name text finding) =
+    IsCheck line name × (after ≡ before) × IfSome told (λ texts. Gets texts name (TEXT_LIMIT + 1) text) × IsFinding text finding
 
 -- how many calls of the shelf a line makes: one, and none where the words are no line
 abbrev pub calls_after : Option Line → ℕ → ℕ
@@ -32,31 +31,35 @@ calls_after None calls = calls
 calls_after (Some line) calls = next_count calls
 
 -- the answer is the one of the outcome, and the output counted no fault; or the output failed, and
--- its count rose; or memory was wanted
+-- its count rose
 abbrev pub IsAnswer : Outcome → (faults_before faults_after : ℕ) → Ended → Type 0
 IsAnswer outcome before after Done = (status_of outcome ≡ Done) × (after ≡ before)
 IsAnswer outcome before after SpecRefused = (status_of outcome ≡ SpecRefused) × (after ≡ before)
 IsAnswer outcome before after WordsRefused = (status_of outcome ≡ WordsRefused) × (after ≡ before)
 IsAnswer outcome before after FileFault = (status_of outcome ≡ FileFault) × (after ≡ before)
-IsAnswer outcome before after InputFault = ⊥
 IsAnswer outcome before after OutputFault = Rises before after
-IsAnswer outcome before after NoMemory = after ≡ before
-IsAnswer outcome before after InputTooLong = ⊥
+IsAnswer outcome before after _ = ⊥
 
--- the bytes written: the whole report, or where the output failed its beginning, or where memory was
--- wanted nothing
+-- the bytes written: the whole report, or where the output failed its beginning
 abbrev pub IsWritten : Option (List ℕ) → Option (List ℕ) → List ℕ → Ended → Type 0
 IsWritten before after report OutputFault = WritesBeginning before after report
-IsWritten before after report NoMemory = after ≡ before
 IsWritten before after report _ = WritesAll before after report
 
--- a run: what came of the words, the answer and the bytes written
-pub record Ran (line : Option Line) (told : Option Texts) (shelf_before shelf_after output_before output_after : ℕ)
+-- a run that came to an outcome: the answer and the bytes written are those of the outcome
+pub record Came (line : Option Line) (told : Option Texts) (shelf_before shelf_after output_before output_after : ℕ)
     (written_before written_after : Option (List ℕ)) (answer : Ended) : Type 0 where
   pub outcome : Outcome
   pub possible : IsOutcome line told shelf_before shelf_after outcome
   pub answered : IsAnswer outcome output_before output_after answer
   pub written : IsWritten written_before written_after (report_of outcome) answer
+
+-- a run: it came to an outcome; or memory was wanted, and the output is as before
+abbrev pub Ran : Option Line → Option Texts → (shelf_before shelf_after output_before output_after : ℕ)
+    → (written_before written_after : Option (List ℕ)) → Ended → Type 0
+Ran line told sb sa output_before output_after written_before written_after NoMemory =
+    (output_after ≡ output_before) × (written_after ≡ written_before)
+Ran line told sb sa output_before output_after written_before written_after answer =
+    Came line told sb sa output_before output_after written_before written_after answer
 
 -- the answer with its whole report; or memory was wanted
 abbrev pub EndsWith : Ended → List ℕ → Option (List ℕ) → Option (List ℕ) → Ended → Type 0
@@ -64,8 +67,8 @@ EndsWith status report before after answer = (answer ≡ NoMemory) ⊎ ((answer 
 
 -- each answer comes where its cause stands. Where the output counted no fault: words that are no line
 -- end with the usage line; a file that could not be got with the line that names it; a text that the
--- shelf tells, where the shelf counted no fault, with the report of that text. Where the output's
--- count rose, the answer says so
+-- shelf tells, where the shelf counted no fault, with the report of what is to be found in that text.
+-- Where the output's count rose, the answer says so
 pub record Completes (line : Option Line) (told : Option Texts) (shelf_before shelf_after output_before output_after : ℕ)
     (written_before written_after : Option (List ℕ)) (answer : Ended) : Type 0 where
   pub words : line ≡ None → ¬ Rises output_before output_after
@@ -73,7 +76,7 @@ pub record Completes (line : Option Line) (told : Option Texts) (shelf_before sh
   pub unread_file : (name : List ℕ) → IsCheck line name
       → (shelf_before < shelf_after) ⊎ IsSomeAnd told (λ texts. texts name ≡ None) → ¬ Rises output_before output_after
       → EndsWith FileFault (unread_text name) written_before written_after answer
-  pub file : (name text : List ℕ) → IsCheck line name → IsSomeAnd told (λ texts. texts name ≡ Some text)
-      → ¬ Rises shelf_before shelf_after → ¬ Rises output_before output_after
-      → EndsWith (check_status (parts_read text)) (check_text name (parts_read text)) written_before written_after answer
+  pub file : (name text : List ℕ) (finding : Finding) → IsCheck line name → IsSomeAnd told (λ texts. texts name ≡ Some text)
+      → IsFinding text finding → ¬ Rises shelf_before shelf_after → ¬ Rises output_before output_after
+      → EndsWith (check_status finding) (check_text name finding) written_before written_after answer
   pub output : output_before < output_after → answer ≡ OutputFault

@@ -1,14 +1,44 @@
-use Rattle.std.specs.Prelude.{ℕ, List, ◌++◌, length, codes, decimal, Option, Some, None}
+use Rattle.std.specs.Prelude.{◌≡◌, ℕ, List, [], ◌++◌, length, codes, Some}
+use Rattle.report_text.specs.Texts.{head_text, menu_text}
+use Rattle.behaviour_semantics.specs.Rule.{as_given}
+use Rattle.behaviour_semantics.specs.Solving.{Entry}
+use Rattle.behaviour_semantics.specs.Menu.{Exact}
 use Rattle.lotos_grammar.specs.FirstText.{Text}
-use Rattle.lotos_grammar.specs.Reading.{parts_read}
+use Rattle.lotos_grammar.specs.Reading.{Reads}
 use Rattle.lotos_top.specs.declared.ended.Ended.{Ended}
 use Rattle.lotos_top.specs.declared.ended.Ended.TheVariants.{Done, SpecRefused, WordsRefused, FileFault}
+use Rattle.lotos_top.specs.Resolution.{Resolved, resolved_of}
 
--- what came of the words: they are no line; a file could not be got; or the specification's text was
+-- what is found in a specification's text: it is refused, or it is accepted with what it stands for and
+-- with its first menu
+pub data Finding : Type 0 where
+  refused : Finding
+  accepted : Resolved → List Entry → Finding
+
+-- the text reads as a specification that keeps the rules on names and stands for this, and the entries
+-- are the one exact menu of its behaviour over its data. These have no equations, so a value as it is
+-- given is in canonical form
+pub record IsAccepted (text : List ℕ) (resolved : Resolved) (entries : List Entry) : Type 0 where
+  pub parts : Text
+  pub read : Reads text parts
+  pub stands_for : resolved_of parts ≡ Some resolved
+  pub menu : Exact resolved.data_ as_given [] resolved.body entries
+
+-- the text does not read as a specification that keeps the rules on names
+abbrev pub IsRefused : List ℕ → Type 0
+IsRefused text = (parts : Text) (resolved : Resolved) → Reads text parts → resolved_of parts ≡ Some resolved → ⊥
+
+-- this is what is to be found in the text
+abbrev pub IsFinding : List ℕ → Finding → Type 0
+IsFinding text refused = IsRefused text
+IsFinding text (accepted resolved entries) = IsAccepted text resolved entries
+
+-- what came of the words: they are no line; a file could not be got; or the specification's text was,
+-- and this was found in it
 pub data Outcome : Type 0 where
   no_line : Outcome
   unread : (name : List ℕ) → Outcome
-  checked : (name text : List ℕ) → Outcome
+  checked : (name text : List ℕ) → Finding → Outcome
 
 -- the usage line
 abbrev pub usage_text : List ℕ
@@ -22,34 +52,30 @@ unread_text name = codes "cannot read " ++ name ++ codes "\n"
 abbrev pub refused_text : List ℕ → List ℕ
 refused_text name = codes "refused 100 Unbuilt at " ++ name ++ codes ":1:1\n"
 
--- the head of the report of an accepted specification
-abbrev pub head_text : Text → List ℕ
-head_text text =
-    codes "accepted " ++ text.name ++ codes "\ndata: " ++ decimal (length text.sorts) ++ codes " sorts, "
-    ++ decimal (length text.constants) ++ codes " operations, 0 equations\n"
+-- the report of an accepted specification: its head and its first menu
+abbrev pub accepted_text : Resolved → List Entry → List ℕ
+accepted_text resolved entries =
+    head_text resolved.name resolved.data_.signature (length resolved.data_.equations)
+    ++ menu_text resolved.data_.signature resolved.gate_names entries
 
--- the menu of `stop`, which has no events
-abbrev pub menu_text : List ℕ
-menu_text = codes "events 0\n"
-
--- the report of a specification that was read, or was not
-abbrev pub check_text : List ℕ → Option Text → List ℕ
-check_text name None = refused_text name
-check_text name (Some text) = head_text text ++ menu_text
+-- the report of what is found in a text
+abbrev pub check_text : List ℕ → Finding → List ℕ
+check_text name refused = refused_text name
+check_text name (accepted resolved entries) = accepted_text resolved entries
 
 -- the report of an outcome, all that is written for it
 abbrev pub report_of : Outcome → List ℕ
 report_of no_line = usage_text
 report_of (unread name) = unread_text name
-report_of (checked name text) = check_text name (parts_read text)
+report_of (checked name text finding) = check_text name finding
 
 -- how the check of a specification ends
-abbrev pub check_status : Option Text → Ended
-check_status None = SpecRefused
-check_status (Some text) = Done
+abbrev pub check_status : Finding → Ended
+check_status refused = SpecRefused
+check_status (accepted resolved entries) = Done
 
 -- how a run with an outcome ends, if its report can be made and written
 abbrev pub status_of : Outcome → Ended
 status_of no_line = WordsRefused
 status_of (unread name) = FileFault
-status_of (checked name text) = check_status (parts_read text)
+status_of (checked name text finding) = check_status finding

@@ -3,8 +3,18 @@
 
 pub mod commands;
 mod ended;
+pub mod laws;
+pub mod menu_examples;
+mod menu_report;
+mod menus;
+mod numbering;
 mod reports;
+pub mod resolved;
+mod resolving;
 mod running;
+mod scopes;
+mod specification;
+mod texts;
 mod writing;
 
 pub use commands::{Command, parse_command};
@@ -17,5 +27,9 @@ pub const WORDS_LIMIT: usize = 65_536;
 /// How many bytes the words of a command line may have together.
 pub const WORD_BYTES_LIMIT: usize = 1_048_576;
 
+#[cfg(test)]
+mod check_tests;
+#[cfg(test)]
+mod menus_tests;
 #[cfg(test)]
 mod tests;

@@ -1,11 +1,16 @@
 //! The texts that a run prints.
 
-ghost use Rattle.std.specs.Prelude.{◌≡◌, ◌++◌, IfOk, OnOk, OnErr, decimal};
-ghost use Rattle.lotos_grammar.specs.FirstText.{text_of};
-ghost use Rattle.lotos_top.specs.Report.{usage_text, unread_text, refused_text, head_text, menu_text};
+ghost use Rattle.std.specs.Prelude.{◌≡◌, IfOk, map};
+ghost use Rattle.lotos_top.specs.Report.{usage_text, unread_text, refused_text, accepted_text};
+ghost use Rattle.lotos_top.specs.Resolved.{signature_of};
+ghost use Rattle.lotos_top.specs.Resolving.{resolved_as};
+ghost use Rattle.lotos_top.specs.Menus.{entry_of};
+ghost use Rattle.lotos_top.specs.Apart.{HasNoTwins};
 
-use itoa::Buffer;
-use lotos_grammar::FirstText;
+use crate::menu_report::push_menu;
+use crate::menus::Entry;
+use crate::resolved::Specification;
+use crate::texts::{push_number, push_text};
 use std::alloc::{AllocError, Global};
 
 /// The usage line.
@@ -38,25 +43,24 @@ pub fn refused_report(alloc: Global, name: &str) -> Result<Vec<u8>, AllocError>
     Ok(report)
 }
 
-/// The head of the report of an accepted specification, and its first menu.
-pub fn accepted_report(alloc: Global, text: &FirstText) -> Result<Vec<u8>, AllocError>
-    ensures { IfOk result (λ report. report.items ≡ head_text (text_of text.now) ++ menu_text) }
+/// The report of an accepted specification: its head and its first menu.
+pub fn accepted_report(
+    alloc: Global,
+    specification: &Specification,
+    menu: &[Entry],
+) -> Result<Vec<u8>, AllocError>
+    requires { HasNoTwins (signature_of specification.now) }
+    ensures { IfOk result (λ report. report.items ≡ accepted_text (resolved_as specification.now) (map entry_of menu.now)) }
 {
     let mut report = Vec::from_slice(alloc, b"accepted ")?;
-    report.extend_from_slice(text.name.spelled())?;
-    report.extend_from_slice(b"\ndata: ")?;
-    push_number(&mut report, text.sorts.len())?;
-    report.extend_from_slice(b" sorts, ")?;
-    push_number(&mut report, text.constants.len())?;
-    report.extend_from_slice(b" operations, 0 equations\n")?;
-    report.extend_from_slice(b"events 0\n")?;
+    push_text(&mut report, specification.name.spelled())?;
+    push_text(&mut report, b"\ndata: ")?;
+    push_number(&mut report, specification.sorts.len())?;
+    push_text(&mut report, b" sorts, ")?;
+    push_number(&mut report, specification.constants.len())?;
+    push_text(&mut report, b" operations, ")?;
+    push_number(&mut report, 0)?;
+    push_text(&mut report, b" equations\n")?;
+    push_menu(&mut report, specification, menu)?;
     Ok(report)
-}
-
-/// Appends a number in decimal.
-fn push_number(report: &mut Vec<u8>, number: usize) -> Result<(), AllocError>
-    ensures { OnOk result (report.new.items ≡ report.old.items ++ decimal number) }
-{
-    let mut buffer = Buffer::new();
-    report.extend_from_slice(buffer.format(number).as_bytes())
 }

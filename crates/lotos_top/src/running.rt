@@ -1,18 +1,22 @@
 //! The whole program over any outside.
 
-ghost use Rattle.std.specs.Prelude.{◌≡◌, None, Some, [], IfOk};
-ghost use Rattle.lotos_top.specs.Words.{check, words_of, command_line};
-ghost use Rattle.lotos_top.specs.Report.{no_line, unread, checked, report_of, status_of};
-ghost use Rattle.lotos_top.specs.Outcomes.{calls_after, Ran, Completes};
+ghost use Rattle.std.specs.Prelude.{◌≡◌, None, Some, [], IfOk, MatchResult};
 ghost use Rattle.lotos_base.specs.Counts.{next_count};
-ghost use Rattle.lotos_top.specs.Prepared.{Prepared};
+ghost use Rattle.lotos_grammar.specs.FirstText.{text_of};
+ghost use Rattle.lotos_top.specs.Words.{check, words_of, command_line};
+ghost use Rattle.lotos_top.specs.Report.{no_line, unread, report_of, status_of};
+ghost use Rattle.lotos_top.specs.Outcomes.{calls_after, Ran, Completes};
+ghost use Rattle.lotos_top.specs.Prepared.{IsPrepared, IsRefusal, Checks, ChecksParts};
 
 use crate::commands::{Command, parse_command};
 use crate::ended::Ended;
+use crate::menus::first_menu;
 use crate::reports::{accepted_report, refused_report, unread_report, usage_report};
+use crate::resolving::Unresolved;
+use crate::specification::resolve;
 use crate::writing::write_whole;
 use lotos_base::{Failed, GetFault, Shelf, Sink, Source};
-use lotos_grammar::{FirstFault, TEXT_LIMIT, read_first};
+use lotos_grammar::{FirstFault, FirstText, TEXT_LIMIT, read_first};
 use std::alloc::{AllocError, Global};
 
 /// Does what the words ask for: gets the files from the shelf and writes the report to the output.
@@ -22,6 +26,11 @@ use std::alloc::{AllocError, Global};
 /// where the specification has a form that is not built, and else `Done`. In place of each stands
 /// `OutputFault` exactly where the output's count of faults rose, and `NoMemory` where memory was
 /// wanted. The input is not read.
+///
+/// The menu in the report of an accepted specification is the one exact menu of its behaviour: each
+/// entry, with ground values for its variables, is a transition that ISO 8807:1989 derives, each
+/// derived transition is an instance of the entry of its shape, and each shape stands once, in the
+/// order of shapes.
 pub fn run<F: Shelf, S: Source, K: Sink>(
     alloc: Global,
     words: &[String],
@@ -57,7 +66,7 @@ struct Answer {
 
 /// Finds out what comes of the words, and makes the report.
 fn prepare<F: Shelf>(alloc: Global, words: &[String], shelf: &mut F) -> Result<Answer, AllocError>
-    ensures outcome { Prepared (command_line (words_of words.now)) (F.texts shelf.old) (F.faults shelf.old) (F.faults shelf.new) result }
+    ensures prepared { IfOk result (IsPrepared (command_line (words_of words.now)) (F.texts shelf.old) (F.faults shelf.old) (F.faults shelf.new)) }
     ensures calls { F.calls shelf.new ≡ calls_after (command_line (words_of words.now)) (F.calls shelf.old) }
     ensures texts { F.texts shelf.new ≡ F.texts shelf.old }
 {
@@ -79,7 +88,7 @@ fn usage(alloc: Global) -> Result<Answer, AllocError>
 
 /// Gets the specification's text from the shelf and checks it.
 fn check_file<F: Shelf>(alloc: Global, name: &str, shelf: &mut F) -> Result<Answer, AllocError>
-    ensures outcome { Prepared (Some (check name.now None [])) (F.texts shelf.old) (F.faults shelf.old) (F.faults shelf.new) result }
+    ensures prepared { IfOk result (IsPrepared (Some (check name.now None [])) (F.texts shelf.old) (F.faults shelf.old) (F.faults shelf.new)) }
     ensures calls { F.calls shelf.new ≡ next_count (F.calls shelf.old) }
     ensures texts { F.texts shelf.new ≡ F.texts shelf.old }
 {
@@ -104,17 +113,38 @@ fn unread_file(alloc: Global, name: &str) -> Result<Answer, AllocError>
 
 /// Reads the text of a specification, and makes the report.
 fn check_specification(alloc: Global, name: &str, text: &[u8]) -> Result<Answer, AllocError>
-    ensures { IfOk result (λ answer. (answer.ended ≡ status_of (checked name.now text.now)) × (answer.report.items ≡ report_of (checked name.now text.now))) }
+    ensures { IfOk result (Checks name.now text.now) }
 {
     match read_first(alloc, text) {
-        Ok(parts) => Ok(Answer {
-            ended: Ended::Done,
-            report: accepted_report(alloc, &parts)?,
-        }),
-        Err(FirstFault::Unbuilt) => Ok(Answer {
-            ended: Ended::SpecRefused,
-            report: refused_report(alloc, name)?,
-        }),
+        Ok(parts) => check_parts(alloc, name, &parts),
+        Err(FirstFault::Unbuilt) => refuse(alloc, name),
         Err(FirstFault::NoMemory) => Err(AllocError),
     }
+}
+
+/// Resolves the names of a specification, and makes the report.
+fn check_parts(alloc: Global, name: &str, parts: &FirstText) -> Result<Answer, AllocError>
+    ensures { IfOk result (ChecksParts name.now (text_of parts.now)) }
+{
+    match resolve(alloc, parts) {
+        Ok(specification) => {
+            let menu = first_menu(alloc, &specification.body)?;
+            Ok(Answer {
+                ended: Ended::Done,
+                report: accepted_report(alloc, &specification, menu.as_slice())?,
+            })
+        }
+        Err(Unresolved::Name) => refuse(alloc, name),
+        Err(Unresolved::NoMemory) => Err(AllocError),
+    }
+}
+
+/// The answer to a specification with a form that is not built.
+fn refuse(alloc: Global, name: &str) -> Result<Answer, AllocError>
+    ensures { IfOk result (IsRefusal name.now) }
+{
+    Ok(Answer {
+        ended: Ended::SpecRefused,
+        report: refused_report(alloc, name)?,
+    })
 }

@@ -1,0 +1,10 @@
+pub mod Stacks
+pub mod RowNumbers
+pub mod Derived
+pub mod Derivations
+pub mod Stands
+pub mod Predictive
+pub mod FirstGrammar
+pub mod Readings
+pub mod TokensOfSentences
+pub mod Finishing

@@ -1,0 +1,81 @@
+-- What is found in a text is one thing, also where the text was cut one byte past the limit.
+use Rattle.std.proofs.Common.{◌≡◌, ℕ, ◌+◌, ◌<◌, ◌⊎◌, inl, inr, List, [], take, length, Some, None, refl, sym, ap, subst, ◌∙◌, arith}
+use Rattle.std.proofs.lemmas.Bool.{cases_lt}
+use Rattle.std.proofs.lemmas.List.{length-take-le, take_all}
+use Rattle.behaviour_semantics.specs.Rule.{as_given}
+use Rattle.behaviour_semantics.specs.Solving.{Entry}
+use Rattle.behaviour_semantics.specs.Behaviour.{Behaviour}
+use Rattle.behaviour_semantics.specs.Menu.{Exact, IsEntry}
+use Rattle.behaviour_semantics.proofs.MenuLemmas.{same_members}
+use Rattle.term_algebra.specs.Equation.{Data}
+use Rattle.lotos_grammar.specs.declared.TheConstants.{TEXT_LIMIT}
+use Rattle.lotos_grammar.specs.FirstText.{Text}
+use Rattle.lotos_grammar.specs.Reading.{Reads}
+use Rattle.lotos_grammar.proofs.Readings.{one_reading}
+use Rattle.lotos_top.specs.Resolution.{Resolved, resolved_of}
+use Rattle.lotos_top.specs.declared.running.Answer.{Answer}
+use Rattle.lotos_top.specs.Prepared.{Checks, ChecksParts, stands, breaks}
+use Rattle.lotos_top.specs.Report.{Finding, refused, accepted, IsAccepted, IsFinding}
+
+-- the entries of one exact menu are those of another one
+within : (data_ : Data) (b : Behaviour) (menu other : List Entry) → Exact data_ as_given [] b menu → Exact data_ as_given [] b other
+    → (entry : Entry) → IsEntry menu entry → IsEntry other entry
+within data_ b menu other exact exact' entry inside =
+    let draft = exact.solved entry inside in
+    exact'.every_solved entry.shape draft.0 entry draft.1 draft.2
+
+-- at most one menu is exact
+same_menu : (data_ : Data) (b : Behaviour) (menu other : List Entry) → Exact data_ as_given [] b menu → Exact data_ as_given [] b other → menu ≡ other
+same_menu data_ b menu other exact exact' =
+    same_members menu other exact.rising exact'.rising (within data_ b menu other exact exact') (within data_ b other menu exact' exact)
+
+-- two accepted findings of one text are the same
+same_accepted : (text : List ℕ) (one other : Resolved) (entries others : List Entry) → IsAccepted text one entries → IsAccepted text other others
+    → accepted one entries ≡ accepted other others
+same_accepted text one other entries others is_one is_other =
+    let parts : is_one.parts ≡ is_other.parts = one_reading text is_one.parts is_other.parts is_one.read is_other.read in
+    let some : Some one ≡ Some other = sym is_one.stands_for ∙ (ap resolved_of parts ∙ is_other.stands_for) in
+    let same : one ≡ other = cc some in
+    let IsMenu : Resolved → Type 0 = λ it. Exact it.data_ as_given [] it.body entries in
+    let menus : entries ≡ others = same_menu other.data_ other.body entries others (subst IsMenu same is_one.menu) is_other.menu in
+    λ i. accepted (same i) (menus i)
+
+pub one_finding : (text : List ℕ) (one other : Finding) → IsFinding text one → IsFinding text other → one ≡ other
+one_finding text refused refused is_one is_other = refl
+one_finding text refused (accepted resolved entries) is_one is_other = absurd (is_one is_other.parts resolved is_other.read is_other.stands_for)
+one_finding text (accepted resolved entries) refused is_one is_other = absurd (is_other is_one.parts resolved is_one.read is_one.stands_for)
+one_finding text (accepted one entries) (accepted other others) is_one is_other = same_accepted text one other entries others is_one is_other
+
+-- what was got of a text up to one byte past the limit is the text, or both are too long to be read
+got_or_long : (text : List ℕ) (limit : ℕ) → (take (limit + 1) text ≡ text) ⊎ ((limit < length text) × (limit < length (take (limit + 1) text)))
+got_or_long text limit = elim (cases_lt limit (length text)) [
+  | inl long ↦ inr (long, omega (arith, length-take-le (limit + 1) text (omega arith)))
+  | inr short ↦ inl (take_all (limit + 1) text (omega arith))
+]
+
+too_long : (text : List ℕ) (parts : Text) → TEXT_LIMIT < length text → Reads text parts → ⊥
+too_long text parts long reads = omega (arith, reads.short, long)
+
+-- what is to be found in a text is to be found in what was got of it
+pub finding_of_got : (text : List ℕ) (finding : Finding) → IsFinding text finding → IsFinding (take (TEXT_LIMIT + 1) text) finding
+finding_of_got text finding found = by_length (got_or_long text TEXT_LIMIT) finding found
+  where
+    by_length : (take (TEXT_LIMIT + 1) text ≡ text) ⊎ ((TEXT_LIMIT < length text) × (TEXT_LIMIT < length (take (TEXT_LIMIT + 1) text)))
+        → (it : Finding) → IsFinding text it → IsFinding (take (TEXT_LIMIT + 1) text) it
+    by_length (inl whole) it is_it = rw whole is_it
+    by_length (inr long) refused is_it = λ parts resolved reads stands. too_long (take (TEXT_LIMIT + 1) text) parts long.1 reads
+    by_length (inr long) (accepted resolved entries) is_it = absurd (too_long text is_it.parts long.0 is_it.read)
+
+-- the parts that a text reads as say what is to be found in it
+pub checks_of_parts : (name text : List ℕ) (parts : Text) (answer : Answer) → Reads text parts → ChecksParts name parts answer → Checks name text answer
+checks_of_parts name text parts answer reads (stands resolved entries stands_for menu ended report) =
+    record { finding = accepted resolved entries; found = record { parts = parts; read = reads; stands_for = stands_for; menu = menu }; ended = ended; report = report }
+checks_of_parts name text parts answer reads (breaks none refusal) = record {
+  finding = refused;
+  found = λ other resolved other_reads stands_for.
+      let same : other ≡ parts = one_reading text other parts other_reads reads in
+      let no : None ≡ Some resolved = sym none ∙ (sym (ap resolved_of same) ∙ stands_for) in
+      absurd cc;
+  ended = refusal.0;
+  report = refusal.1;
+}

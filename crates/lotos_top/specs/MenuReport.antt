@@ -1,0 +1,8 @@
+use Rattle.std.specs.Prelude.{ℕ, zero, suc, List}
+use Rattle.term_algebra.specs.Signature.{Signature}
+use Rattle.report_text.specs.Texts.{for_text, more_sorted_text}
+
+-- the text of the variables of an entry that are left, where so many are printed
+abbrev pub variables_left : Signature → ℕ → List ℕ → List ℕ
+variables_left signature zero sorts = for_text signature sorts
+variables_left signature (suc printed) sorts = more_sorted_text signature (suc printed) sorts
