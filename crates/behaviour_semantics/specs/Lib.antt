@@ -24,3 +24,4 @@ pub mod Samples
 pub mod Cases
 pub mod OrderCases
 pub mod MenuCases
+pub mod TableCases

@@ -1,11 +1,12 @@
 //! The dynamic semantics of LOTOS behaviours (ISO 8807:1989): moves, drafts and exact menus, over plain values.
 #![tactic(auto)]
 
-mod cases;
-mod instances;
-mod menus;
-mod order;
-mod relabelling;
-mod replacement;
-mod solving;
-mod transition;
+pub mod cases;
+pub mod instances;
+pub mod menus;
+pub mod order;
+pub mod relabelling;
+pub mod replacement;
+pub mod solving;
+pub mod table_cases;
+pub mod transition;

@@ -32,4 +32,6 @@ mod check_tests;
 #[cfg(test)]
 mod menus_tests;
 #[cfg(test)]
+mod resolving_tests;
+#[cfg(test)]
 mod tests;

@@ -33,7 +33,7 @@ pub fn unread_report(alloc: Global, name: &str) -> Result<Vec<u8>, AllocError>
     Ok(report)
 }
 
-/// The line of a specification with a form that is not built.
+/// The line of a specification that is refused.
 pub fn refused_report(alloc: Global, name: &str) -> Result<Vec<u8>, AllocError>
     ensures { IfOk result (λ report. report.items ≡ refused_text name.now) }
 {

@@ -23,7 +23,7 @@ use std::alloc::{AllocError, Global};
 ///
 /// The answer is `WordsRefused` exactly where the words are no line of the usage, `FileFault`
 /// exactly where the shelf's count of faults rose or the shelf lacks the file, `SpecRefused` exactly
-/// where the specification has a form that is not built, and else `Done`. In place of each stands
+/// where the text does not read as a specification or a name breaks a rule, and else `Done`. In place of each stands
 /// `OutputFault` exactly where the output's count of faults rose, and `NoMemory` where memory was
 /// wanted. The input is not read.
 ///
@@ -139,7 +139,7 @@ fn check_parts(alloc: Global, name: &str, parts: &FirstText) -> Result<Answer, A
     }
 }
 
-/// The answer to a specification with a form that is not built.
+/// The answer to a specification that is refused.
 fn refuse(alloc: Global, name: &str) -> Result<Answer, AllocError>
     ensures { IfOk result (IsRefusal name.now) }
 {

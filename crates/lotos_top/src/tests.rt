@@ -193,10 +193,11 @@ fn an_output_without_room_fails(rt: HostRuntime) -> Result<(), Fail> {
     Ok(())
 }
 
-/// A sink that takes one byte at a time, and fails at the write with this number.
+/// A sink that takes one byte at a time, and fails at the write with this number, from 0, alone.
 #[derive(Drop)]
 struct Slow {
     bytes: Vec<u8>,
+    writes: usize,
     failing: usize,
     faults: u64,
 }
@@ -207,7 +208,9 @@ impl Sink for Slow {
     ghost faults = { λ slow. slow.faults };
 
     fn write(&mut self, piece: &[u8]) -> Result<usize, Failed> {
-        if self.bytes.len() == self.failing || self.bytes.push(piece[0]).is_err() {
+        let number = self.writes;
+        self.writes = number.saturating_add(1);
+        if number == self.failing || self.bytes.push(piece[0]).is_err() {
             self.faults = counted(self.faults);
             return Err(Failed);
         }
@@ -223,6 +226,7 @@ fn an_output_that_fails_at_a_write_ends_the_run(rt: HostRuntime) -> Result<(), F
         let mut input = MemSource::new(Vec::new(alloc), Vec::new(alloc));
         let mut output = Slow {
             bytes: Vec::new(alloc),
+            writes: 0,
             failing,
             faults: 0,
         };
@@ -234,6 +238,10 @@ fn an_output_that_fails_at_a_write_ends_the_run(rt: HostRuntime) -> Result<(), F
             &mut output,
         );
         assert_eq!(rt; output.bytes.as_slice(), &STOP_REPORT.as_bytes()[..failing]);
+        assert_eq!(rt;
+            output.writes,
+            failing.saturating_add(1).min(STOP_REPORT.len())
+        );
         let expected = if failing == STOP_REPORT.len() {
             Ended::Done
         } else {

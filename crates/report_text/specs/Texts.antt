@@ -17,7 +17,7 @@ sort_name (Some sort) = sort.name
 abbrev pub sort_text : Signature → ℕ → List ℕ
 sort_text signature number = sort_name (slice_get signature.sorts number)
 
--- another operation has this name without arguments, and another result sort
+-- another constant has this name, and another result sort. A constant is a prefix operation without arguments
 abbrev pub has_twin : Signature → Operation → Bool
 has_twin signature operation =
     list_any (λ (other : Operation). bytes_eq (folded other.name) (folded operation.name) && nat_eq (length other.arguments) 0 && not (nat_eq other.result operation.result)) signature.operations
@@ -53,7 +53,7 @@ abbrev pub more_values_text : Signature → List Term → List ℕ
 more_values_text signature [] = []
 more_values_text signature (value ∷ values) = codes ", " ++ term_text signature value ++ more_values_text signature values
 
--- the values of `exit`
+-- the values of `exit`. No name begins with `*` yet, so no blank is needed behind the bracket
 abbrev pub exit_text : Signature → List Term → List ℕ
 exit_text signature [] = []
 exit_text signature (value ∷ values) = codes "(" ++ term_text signature value ++ more_values_text signature values ++ codes ")"
