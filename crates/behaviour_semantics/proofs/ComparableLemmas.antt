@@ -198,7 +198,7 @@ module _ (setting : Setting) (leaves : Substitution) where
       record { behaviour = b; first = p.0; second = q.0; first_move = p.1; second_move = q.1 }
   passed_pair f g _ m n e e' = absurd cc
 
-  enabling-exit : (variables : List Variable) (c : Behaviour) (k : Move) (label : Label) (m : Move) → enabling setting.signature variables c k label ≡ Some m → is_exit label ≡ true
+  pub enabling-exit : (variables : List Variable) (c : Behaviour) (k : Move) (label : Label) (m : Move) → enabling setting.signature variables c k label ≡ Some m → is_exit label ≡ true
   enabling-exit variables c k (exit_event values) m e = refl
   enabling-exit variables c k _ m e = absurd cc
 

@@ -1,5 +1,9 @@
-pub mod CaseLemmas
 pub mod OptionLemmas
+pub mod ListLemmas
+pub mod ListingLemmas
+pub mod ListingSoundness
+pub mod ListingOrder
+pub mod ListedOnce
 pub mod OrderLemmas
 pub mod ComparableLemmas
 pub mod MenuLemmas
@@ -23,7 +27,13 @@ pub mod DraftLemmas
 pub mod DraftFineness
 pub mod SolvingLemmas
 pub mod ExactMenus
-pub mod MenuCaseLemmas
+pub mod ListedDrafts
+pub mod ListedMenus
+pub mod PutTerms
+pub mod DistinctGates
+pub mod ClosedTargets
+pub mod GuardedWalks
+pub mod GuardedLists
 pub mod ReplacementLemmas
 pub mod SupplyLemmas
 pub mod OpenedLemmas

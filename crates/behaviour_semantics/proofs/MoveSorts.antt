@@ -9,14 +9,11 @@ use Rattle.behaviour_semantics.specs.Rule.{moves_alone, move_together, label_val
 use Rattle.behaviour_semantics.specs.Shape.{Shape, act, quit, inner_step, guarded, left_side, right_side, both_sides, hidden, enabled, passed, let_bound, with_value, at_gate, called, relabelled}
 use Rattle.behaviour_semantics.specs.Move.{Move, move_of, alone, together, passing, enabling, disabling, hiding, asking, relabelling, after_leaf, act_move, quit_move, inner_move, guarded_move, left_move, right_move, both_move, hidden_move, enabled_move, passed_move, let_move, value_move, gate_move, called_move, relabelled_move}
 use Rattle.behaviour_semantics.specs.WellFormed.{Every}
+use Rattle.behaviour_semantics.proofs.ListLemmas.{Every-append}
 use Rattle.behaviour_semantics.proofs.OptionLemmas.{some_value, mapped, chained, tested, tested_not}
 use Rattle.behaviour_semantics.proofs.RelatedTerms.{Side, Related, IsForm, formed, Puts, Binders, none_related, one_related, bindings_put}
 use Rattle.behaviour_semantics.proofs.RelatedBehaviours.{RelatedResults, no_results, both_values, both_any, Beside, both_exit_with, both_action, both_inner, both_guard, both_choice, both_parallel, both_hide, both_enable, both_disable, both_let, both_choose_value, both_choose_gate, both_call, both_relabel, put_beside, asked-left, open-left, opened_beside}
 use Rattle.behaviour_semantics.proofs.RelatedMoves.{setting_of, forms_related}
-
-every_append : {X : Type 0} (P : X → Type 0) (xs ys : List X) → Every P xs → Every P ys → Every P (xs ++ ys)
-every_append P [] ys h k = k
-every_append P (x ∷ xs) ys h k = (h.0, every_append P xs ys h.1 k)
 
 module _ (data_ : Data) (base : ℕ) (processes : List Process) (x : Side) (form : IsForm data_ x.form) (supply : (next s : ℕ) → IsSort data_.signature s → Related data_ base x x [] s (x.leaves next s) (x.leaves next s)) where
   abbrev pub AreSorts : List ℕ → Type 0
@@ -88,7 +85,7 @@ module _ (data_ : Data) (base : ℕ) (processes : List Process) (x : Side) (form
       let from' : (l : Move) × (others (next + length from.0.sorts) d ≡ Some l) × (together data_.signature meet from.0 l ≡ Some m) = chained (together data_.signature meet from.0) (others (next + length from.0.sorts) d) from.2 in
       let made : _ × _ = tested (move_together data_.signature meet from.0.label from'.0.label) (record { label = from.0.label; target = parallel meet from.0.target from'.0.target; asked = from.0.asked ++ from'.0.asked ++ pairwise (label_values from.0.label) (label_values from'.0.label); sorts = from.0.sorts ++ from'.0.sorts }) from'.2 in
       subst AreSorts (ap (λ (k : Move). k.sorts) made.1)
-      (every_append (IsSort data_.signature) from.0.sorts from'.0.sorts (all f _ r from.0 from.1) (all' (next + length from.0.sorts) d _ q from'.0 from'.1))
+      (Every-append (IsSort data_.signature) from.0.sorts from'.0.sorts (all f _ r from.0 from.1) (all' (next + length from.0.sorts) d _ q from'.0 from'.1))
   both_sorts next moves all others all' b c _ m e = absurd (cc e)
 
   hidden_sorts : (moves : Behaviour → Option Move) → Sorted moves → Sorted (hidden_move moves)

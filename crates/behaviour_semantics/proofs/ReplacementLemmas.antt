@@ -44,7 +44,7 @@ module _ (first second whole : Substitution) (same : (t : Term) → substituted 
       ap (λ (t : Term). (bound.0, t) ∷ map {B = Variable × Term} (λ (b : Variable × Term). (b.0, substituted second b.1)) (map {B = Variable × Term} (λ (b : Variable × Term). (b.0, substituted first b.1)) bindings)) (same bound.1)
       ∙ ap (λ (rest : List (Variable × Term)). (bound.0, substituted whole bound.1) ∷ rest) (bindings_twice bindings)
 
-asked-with : (values : Substitution) (offers : List Offer) → asked_variables (map (offer_with values) offers) ≡ asked_variables offers
+pub asked-with : (values : Substitution) (offers : List Offer) → asked_variables (map (offer_with values) offers) ≡ asked_variables offers
 asked-with values [] = refl
 asked-with values (give t ∷ offers) = asked-with values offers
 asked-with values (ask x ∷ offers) = ap (λ (xs : List Variable). x ∷ xs) (asked-with values offers)

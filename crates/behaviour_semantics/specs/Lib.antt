@@ -11,6 +11,7 @@ pub mod RelabellingLaws
 pub mod InstanceLaws
 pub mod MenuLaws
 pub mod Run
+pub mod TargetLaws
 pub mod Draft
 pub mod ReplacementLaws
 pub mod Solving
@@ -19,9 +20,6 @@ pub mod Menu
 pub mod OrderLaws
 pub mod Alike
 pub mod Guardedness
+pub mod Listing
+pub mod ListingLaws
 pub mod WellFormed
-pub mod Samples
-pub mod Cases
-pub mod OrderCases
-pub mod MenuCases
-pub mod TableCases

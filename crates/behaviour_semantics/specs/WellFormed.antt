@@ -2,10 +2,10 @@
 use Rattle.std.specs.Prelude.{◌≡◌, ◌≢◌, ◌<◌, ℕ, List, [], ◌∷◌, ◌++◌, length, nat_eq, if◌then◌else◌, slice_get, Option, None, Some}
 use Rattle.term_algebra.specs.Signature.{Signature, IsSort}
 use Rattle.term_algebra.specs.Term.{Term}
-use Rattle.term_algebra.specs.Sorting.{HasSort, Occurs}
+use Rattle.term_algebra.specs.Sorting.{HasSort, IsGroundOf, Occurs}
 use Rattle.term_algebra.specs.Equation.{Variable}
 use Rattle.behaviour_semantics.specs.Behaviour.{Behaviour, stop, exit_with, action, inner_action, guard, choice, parallel, hide, enable, disable, let_be, choose_value, choose_gate, par_gate, call, relabel, Test, Offer, give, ask, ExitValue, exit_value, any_of, Meet, no_gates, all_gates, at_gates, Process, Specification, Relabelling, asked_variables, numbers_of, let_variables, let_terms}
-use Rattle.behaviour_semantics.specs.Label.{formals_of}
+use Rattle.behaviour_semantics.specs.Label.{Label, inner_event, gate_event, exit_event, formals_of}
 
 -- Each member of the list has the property.
 abbrev pub Every : {X : Type 0} → (X → Type 0) → List X → Type 0
@@ -120,3 +120,11 @@ pub record IsDefinition (signature : Signature) (names : ℕ) (processes : List 
 pub record IsSpecification (signature : Signature) (specification : Specification) : Type 0 where
   pub whole : IsDefinition signature (length specification.gate_names) specification.processes specification.gates specification.parameters specification.exit specification.body
   pub each : Every (λ (p : Process). IsDefinition signature (length specification.gate_names) specification.processes p.gates p.parameters p.exit p.body) specification.processes
+
+-- The label is closed and well formed over the specification: its gate has a name, and its values are ground terms of
+-- the signature.
+abbrev pub IsClosedLabel : Signature → Specification → Label → Type 0
+IsClosedLabel signature specification inner_event = Unit {0}
+IsClosedLabel signature specification (gate_event g values) =
+    (g < length specification.gate_names) × Every (λ v. (sort : ℕ) × IsGroundOf signature sort v) values
+IsClosedLabel signature specification (exit_event values) = Every (λ v. (sort : ℕ) × IsGroundOf signature sort v) values

@@ -1,12 +1,12 @@
 //! The dynamic semantics of LOTOS behaviours (ISO 8807:1989): moves, drafts and exact menus, over plain values.
 #![tactic(auto)]
 
-pub mod cases;
 pub mod instances;
+pub mod listing;
 pub mod menus;
 pub mod order;
 pub mod relabelling;
 pub mod replacement;
 pub mod solving;
-pub mod table_cases;
+pub mod targets;
 pub mod transition;

@@ -1,0 +1,60 @@
+-- Facts on the sample data that no test computes: a sort without terms, and terms that are not equal.
+use Rattle.std.proofs.Common.{◌≡◌, ℕ, zero, suc, List, [], ◌∷◌, Option, refl, ap, sym, subst, arith}
+use Rattle.std.specs.Option.{option_map_or}
+use Rattle.term_algebra.specs.Signature.{Operation, IsOperation}
+use Rattle.term_algebra.specs.Term.{Term, variable, node, no_terms, term_then}
+use Rattle.term_algebra.specs.Sorting.{IsGroundOf}
+use Rattle.term_algebra.specs.Equality.{Equal}
+use Rattle.behaviour_semantics.specs.Rule.{AreValues}
+use Rattle.behaviour_semantics.specs.Solving.{Entry}
+use Rattle.behaviour_semantics.specs.Menu.{IsEntry}
+use Rattle.behaviour_semantics.proofs.OptionLemmas.{some_value}
+use Rattle.behaviour_cases.specs.Samples.{bool_sort, nat_sort, empty_sort, sample_signature, sample_data, sample_canon, succ, two, truth, falsehood, less}
+use Rattle.behaviour_cases.proofs.SampleCanon.{sample_is_canon}
+use Rattle.behaviour_cases.proofs.TermTests.{ground_in}
+
+abbrev result_or : Option Operation → ℕ
+result_or o = option_map_or (λ (x : Operation). x.result) o 0
+
+no_operation : (f : ℕ) (o : Operation) → IsOperation sample_signature f o → o.result ≡ 2 → ⊥
+no_operation zero o e r = let h : 1 ≡ o.result = ap result_or e in omega arith
+no_operation (suc zero) o e r = let h : 1 ≡ o.result = ap result_or e in omega arith
+no_operation (suc (suc zero)) o e r = let h : 0 ≡ o.result = ap result_or e in omega arith
+no_operation (suc (suc (suc zero))) o e r = let h : 0 ≡ o.result = ap result_or e in omega arith
+no_operation (suc (suc (suc (suc zero)))) o e r = let h : 1 ≡ o.result = ap result_or e in omega arith
+no_operation (suc (suc (suc (suc (suc zero))))) o e r = let h : 0 ≡ o.result = ap result_or e in omega arith
+no_operation (suc (suc (suc (suc (suc (suc f)))))) o e r = let h : 0 ≡ o.result = ap result_or e in omega arith
+
+no_term : (t : Term) → IsGroundOf sample_signature empty_sort t → ⊥
+no_term (variable n s) h = h.ground
+no_term (node f ts) h = no_operation f h.sorted.0 h.sorted.1 h.sorted.2
+
+pub no_value : (values : List Term) → AreValues sample_signature (empty_sort ∷ []) values → ⊥
+no_value [] h = h
+no_value (v ∷ vs) h = no_term v h.0
+
+-- The one entry of a list.
+pub one_entry : (P : Entry → Type 0) (known e : Entry) → IsEntry (known ∷ []) e → P e → P known
+one_entry P known e (zero, at) h = subst P (sym (some_value at)) h
+one_entry P known e (suc k, at) h = absurd (cc at)
+
+-- 2 is not below 2, and 1 is.
+pub two_not_below_two : Equal sample_data (less two two) truth → ⊥
+two_not_below_two e =
+    let same : falsehood ≡ truth = sample_is_canon.decides (less two two) truth bool_sort (ground_in sample_signature bool_sort (less two two) refl) (ground_in sample_signature bool_sort truth refl) e in
+    absurd (cc same)
+
+-- How often `Succ` stands at the head of a term.
+abbrev successors : Term → ℕ
+successors (node (suc zero) (term_then t no_terms)) = suc (successors t)
+successors t = 0
+
+succ_ground : (t : Term) → IsGroundOf sample_signature nat_sort t → IsGroundOf sample_signature nat_sort (succ t)
+succ_ground t h = record { ground = (h.ground, tt); sorted = (_, refl, refl, (h.sorted, tt)) }
+
+-- No number is two greater than itself.
+pub not_two_greater : (t : Term) → IsGroundOf sample_signature nat_sort t → Equal sample_data (succ (succ t)) t → ⊥
+not_two_greater t h e =
+    let same : succ (succ (sample_canon t)) ≡ sample_canon t = sample_is_canon.decides (succ (succ t)) t nat_sort (succ_ground (succ t) (succ_ground t h)) h e in
+    let counted : suc (suc (successors (sample_canon t))) ≡ successors (sample_canon t) = ap successors same in
+    omega arith

@@ -1,0 +1,5 @@
+use Rattle.behaviour_cases.proofs.MenuCaseLemmas.{are_over, exact_three}
+use Rattle.behaviour_cases.proofs.cases.equal_labels_stay_in_the_menu.Goals as goal
+
+pub returns : goal.returns
+returns c = record { over = are_over; exact = exact_three }

@@ -1,0 +1,11 @@
+use Rattle.std.proofs.Common.{refl}
+use Rattle.behaviour_cases.proofs.ShownMenus.{menu}
+use Rattle.behaviour_cases.proofs.table_cases.sorts_have_to_agree.Goals as goal
+
+pub returns : goal.returns
+returns c = record {
+  fewer = menu _ _ 9 _ refl refl refl tt;
+  other = menu _ _ 9 _ refl refl refl tt;
+  fewer_results = menu _ _ 9 _ refl refl refl tt;
+  other_result = menu _ _ 9 _ refl refl refl tt;
+}

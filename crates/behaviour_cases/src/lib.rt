@@ -1,0 +1,5 @@
+//! Worked cases of the dynamic semantics of LOTOS behaviours, computed from the definitions.
+#![tactic(auto)]
+
+pub mod cases;
+pub mod table_cases;

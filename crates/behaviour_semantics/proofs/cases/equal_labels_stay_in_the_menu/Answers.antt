@@ -1,5 +1,0 @@
-use Rattle.behaviour_semantics.proofs.MenuCaseLemmas.{are_over, exact_three}
-use Rattle.behaviour_semantics.proofs.cases.equal_labels_stay_in_the_menu.Goals as goal
-
-pub returns : goal.returns
-returns c = record { over = are_over; exact = exact_three }
