@@ -3,13 +3,13 @@ use Rattle.std.proofs.Common.{◌≡◌, ℕ, zero, suc, List, [], ◌∷◌, Op
 use Rattle.std.specs.Option.{option_map_or}
 use Rattle.term_algebra.specs.Signature.{Operation, IsOperation}
 use Rattle.term_algebra.specs.Term.{Term, variable, node, no_terms, term_then}
-use Rattle.term_algebra.specs.Sorting.{IsGroundOf}
+use Rattle.term_algebra.specs.Sorting.{HasSort, IsGroundOf}
 use Rattle.term_algebra.specs.Equality.{Equal}
 use Rattle.behaviour_semantics.specs.Rule.{AreValues}
 use Rattle.behaviour_semantics.specs.Solving.{Entry}
 use Rattle.behaviour_semantics.specs.Menu.{IsEntry}
 use Rattle.behaviour_semantics.proofs.OptionLemmas.{some_value}
-use Rattle.behaviour_cases.specs.Samples.{bool_sort, nat_sort, empty_sort, sample_signature, sample_data, sample_canon, succ, two, truth, falsehood, less}
+use Rattle.behaviour_cases.specs.Samples.{bool_sort, nat_sort, empty_sort, sample_signature, sample_data, sample_canon, succ, nought, one, two, truth, falsehood, less, plus}
 use Rattle.behaviour_cases.proofs.SampleCanon.{sample_is_canon}
 use Rattle.behaviour_cases.proofs.TermTests.{ground_in}
 
@@ -43,6 +43,28 @@ pub two_not_below_two : Equal sample_data (less two two) truth → ⊥
 two_not_below_two e =
     let same : falsehood ≡ truth = sample_is_canon.decides (less two two) truth bool_sort (ground_in sample_signature bool_sort (less two two) refl) (ground_in sample_signature bool_sort truth refl) e in
     absurd (cc same)
+
+-- 0 is not 1.
+pub nought_not_one : Equal sample_data nought one → ⊥
+nought_not_one e =
+    let same : nought ≡ one = sample_is_canon.decides nought one nat_sort (ground_in sample_signature nat_sort nought refl) (ground_in sample_signature nat_sort one refl) e in
+    absurd (cc same)
+
+-- `true` is no number, and 0 is one.
+pub truth_not_sorted : HasSort sample_signature truth nat_sort → ⊥
+truth_not_sorted h =
+    let result : 0 ≡ h.0.result = ap result_or h.1 in
+    let wanted : h.0.result ≡ 1 = h.2 in
+    omega arith
+
+pub sort_of_nought : (sort : ℕ) → HasSort sample_signature nought sort → sort ≡ nat_sort
+sort_of_nought sort h =
+    let result : 1 ≡ h.0.result = ap result_or h.1 in
+    let wanted : h.0.result ≡ sort = h.2 in
+    omega arith
+
+pub sum_ground : (t u : Term) → IsGroundOf sample_signature nat_sort t → IsGroundOf sample_signature nat_sort u → IsGroundOf sample_signature nat_sort (plus t u)
+sum_ground t u h k = record { ground = (h.ground, (k.ground, tt)); sorted = (_, refl, refl, (h.sorted, (k.sorted, tt))) }
 
 -- How often `Succ` stands at the head of a term.
 abbrev successors : Term → ℕ

@@ -12,7 +12,7 @@ nat_in : IsSort sample_signature 1
 nat_in = omega arith
 
 -- names with different first bytes differ both ways
-names_apart : (xs ys : List ℕ) → nat_eq (first_byte xs) (first_byte ys) ≡ Bool.false → (xs ≡ ys → ⊥) × (ys ≡ xs → ⊥)
+pub names_apart : (xs ys : List ℕ) → nat_eq (first_byte xs) (first_byte ys) ≡ Bool.false → (xs ≡ ys → ⊥) × (ys ≡ xs → ⊥)
 names_apart xs ys different = (names_differ xs ys different, λ e. names_differ xs ys different (sym e))
 
 -- the sorts of no argument, of one of sort Nat, and of two

@@ -10,8 +10,7 @@ use Rattle.behaviour_semantics.specs.Draft.{Draft, draft_of}
 use Rattle.behaviour_semantics.specs.Solving.{Entry, SolvesTo}
 use Rattle.behaviour_semantics.specs.Transition.{Transition}
 use Rattle.behaviour_semantics.specs.Menu.{Meets, IsEntry, HasEntry}
-use Rattle.behaviour_semantics.specs.WellFormed.{Every}
-use Rattle.behaviour_semantics.specs.InstanceLaws.{AreOver}
+use Rattle.behaviour_semantics.specs.WellFormed.{Every, AreOver}
 use Rattle.behaviour_semantics.specs.Listing.{listed_drafts, AllSolveTo, none_left, entry_then, nothing_then}
 use Rattle.behaviour_semantics.specs.Listing.{IsAmong}
 use Rattle.behaviour_semantics.proofs.ListedDrafts.{sound_drafts, complete_drafts}
@@ -20,7 +19,8 @@ use Rattle.behaviour_semantics.proofs.DraftFineness.{shape_of_draft}
 use Rattle.behaviour_semantics.proofs.SupplyLemmas.{Supplies-leaves_in}
 use Rattle.behaviour_semantics.proofs.RuleToMove.{Found, found}
 use Rattle.behaviour_cases.specs.Samples.{sample_signature, sample_data, sample_canon}
-use Rattle.behaviour_cases.specs.Showing.{Line, shapes_of, entries_of, sample_specification, HasMenu, Steps, sample_move, move}
+use Rattle.behaviour_cases.specs.Showing.{Line, shapes_of, entries_of, sample_specification, HasMenu, Steps, KeptSteps, sample_move, move}
+use Rattle.behaviour_semantics.specs.Move.{Setting, move_of}
 use Rattle.behaviour_cases.proofs.SampleCanon.{sample_is_canon}
 use Rattle.behaviour_cases.proofs.SampleSignature.{sample_signature_is_well_formed}
 use Rattle.behaviour_cases.proofs.TermTests.{values_pass, values_in, all_hold, tests_hold}
@@ -80,9 +80,22 @@ module _ (processes : List Process) (b : Behaviour) where
         exact = exact_list sample_data sample_canon (sample_specification processes) b depth (drafts_of lines) (entries_of lines) over list (lines_solved lines solved);
       }
 
+  -- The setting of a step with values in canonical form.
+  abbrev pub kept_setting : Setting
+  kept_setting = record { signature = sample_signature; form = sample_canon; processes = processes }
+
   -- A step is shown by its move and by tests of the leaves and of what is asked.
   pub steps : (shape : Shape) (leaves : List Term) (label : Label) (target : Behaviour) (asked : List Test) (sorts : List ℕ) → sample_move processes b shape leaves ≡ move label target asked sorts → values_pass sample_signature sorts leaves ≡ true → all_hold sample_signature sample_canon asked ≡ true → Steps processes b shape leaves label target
   steps shape leaves label target asked sorts moves values tests = record {
+    asked = asked;
+    sorts = sorts;
+    move = moves;
+    leaves = values_in sample_signature sorts leaves values;
+    holds = tests_hold sample_data sample_canon sample_is_canon asked tests;
+  }
+
+  pub kept_steps : (shape : Shape) (leaves : List Term) (label : Label) (target : Behaviour) (asked : List Test) (sorts : List ℕ) → move_of kept_setting (leaves_in leaves) shape 0 b ≡ move label target asked sorts → values_pass sample_signature sorts leaves ≡ true → all_hold sample_signature sample_canon asked ≡ true → KeptSteps processes b shape leaves label target
+  kept_steps shape leaves label target asked sorts moves values tests = record {
     asked = asked;
     sorts = sorts;
     move = moves;

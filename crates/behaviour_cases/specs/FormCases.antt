@@ -3,27 +3,27 @@ use Rattle.std.specs.Prelude.{[], ◌∷◌, codes, None}
 use Rattle.behaviour_semantics.specs.Behaviour.{Behaviour, stop, exit_with, parallel, hide, enable, disable, choose_gate, par_gate, call, relabel, give, ask, exit_value, any_of, no_gates, all_gates, at_gates, Process}
 use Rattle.behaviour_semantics.specs.Label.{inner_event, gate_event, exit_event}
 use Rattle.behaviour_semantics.specs.Shape.{act, quit, left_side, right_side, both_sides, hidden, enabled, at_gate, called, relabelled}
-use Rattle.behaviour_cases.specs.Samples.{nat_sort, nought, one, nat, nat_variable, gate_a, gate_b, gate_g, gate_h, offering, event, test_of}
+use Rattle.behaviour_cases.specs.Samples.{nat_sort, nought, one, nat, nat_variable, gate_a, gate_b, gate_g, gate_h, gate_x, gate_y, gate_z, offering, event, test_of}
 use Rattle.behaviour_cases.specs.Showing.{HasMenu, Steps, gives, as_it_is, event_line, draft, entry}
 
--- `process P[x, y] := x; stop |[x]| y; y; stop`, where x is gate 4 and y gate 5, and its call `P[a, a]`
+-- `process P[x, y] := x; stop |[x]| y; y; stop`, and its call `P[a, a]`
 abbrev pub one_side_waits : Process
 one_side_waits = record {
   name = codes "P";
-  gates = 4 ∷ 5 ∷ [];
+  gates = gate_x ∷ gate_y ∷ [];
   parameters = [];
   exit = None;
-  body = parallel (at_gates (4 ∷ [])) (event 4 stop) (event 5 (event 5 stop));
+  body = parallel (at_gates (gate_x ∷ [])) (event gate_x stop) (event gate_y (event gate_y stop));
 }
 
 abbrev pub called_twice : Behaviour
 called_twice = call 0 (gate_a ∷ gate_a ∷ []) []
 
 abbrev pub after_one : Behaviour
-after_one = relabel ((4, gate_a) ∷ (5, gate_a) ∷ []) (parallel (at_gates (4 ∷ [])) (event 4 stop) (event 5 stop))
+after_one = relabel ((gate_x, gate_a) ∷ (gate_y, gate_a) ∷ []) (parallel (at_gates (gate_x ∷ [])) (event gate_x stop) (event gate_y stop))
 
 abbrev pub after_two : Behaviour
-after_two = relabel ((4, gate_a) ∷ (5, gate_a) ∷ []) (parallel (at_gates (4 ∷ [])) (event 4 stop) stop)
+after_two = relabel ((gate_x, gate_a) ∷ (gate_y, gate_a) ∷ []) (parallel (at_gates (gate_x ∷ [])) (event gate_x stop) stop)
 
 -- A call relabels the labels of its body, so one actual gate for two formal ones does not merge what they stand for:
 -- the left side waits at x, although both gates are called a, and after two steps nothing is possible.
@@ -35,20 +35,23 @@ pub record ACallKeepsItsGatesApart : Type 0 where
   pub after_second : HasMenu (one_side_waits ∷ []) after_two []
 
 -- `relabel a for x in (x; P[x, b])`, `relabel h for b in (b; relabel b for y in (y; stop))` and
--- `relabel a for x in (x; stop)`, where x is gate 4 and y gate 5
+-- `relabel a for x in (x; stop)`
 abbrev pub relabelled_call : Behaviour
-relabelled_call = relabel ((4, gate_a) ∷ []) (event 4 (call 0 (4 ∷ gate_b ∷ []) []))
+relabelled_call = relabel ((gate_x, gate_a) ∷ []) (event gate_x (call 0 (gate_x ∷ gate_b ∷ []) []))
 
 abbrev pub relabelled_twice : Behaviour
-relabelled_twice = relabel ((gate_b, gate_h) ∷ []) (event gate_b (relabel ((5, gate_b) ∷ []) (event 5 stop)))
+relabelled_twice = relabel ((gate_b, gate_h) ∷ []) (event gate_b (relabel ((gate_y, gate_b) ∷ []) (event gate_y stop)))
 
 abbrev pub relabelled_once : Behaviour
-relabelled_once = relabel ((4, gate_a) ∷ []) (event 4 stop)
+relabelled_once = relabel ((gate_x, gate_a) ∷ []) (event gate_x stop)
 
 -- A target stays relabelled: a call has its actual gates relabelled, two relabellings become one, and `stop` stays.
 pub record ATargetStaysRelabelled : Type 0 where
+  pub call_menu : HasMenu (one_side_waits ∷ []) relabelled_call (event_line (relabelled act) (gate_event gate_a []) ∷ [])
   pub of_a_call : Steps (one_side_waits ∷ []) relabelled_call (relabelled act) [] (gate_event gate_a []) (call 0 (gate_a ∷ gate_b ∷ []) [])
-  pub of_a_relabelling : Steps [] relabelled_twice (relabelled act) [] (gate_event gate_h []) (relabel ((5, gate_h) ∷ (gate_b, gate_h) ∷ []) (event 5 stop))
+  pub relabelling_menu : HasMenu [] relabelled_twice (event_line (relabelled act) (gate_event gate_h []) ∷ [])
+  pub of_a_relabelling : Steps [] relabelled_twice (relabelled act) [] (gate_event gate_h []) (relabel ((gate_y, gate_h) ∷ (gate_b, gate_h) ∷ []) (event gate_y stop))
+  pub stop_menu : HasMenu [] relabelled_once (event_line (relabelled act) (gate_event gate_a []) ∷ [])
   pub of_stop : Steps [] relabelled_once (relabelled act) [] (gate_event gate_a []) stop
 
 -- `exit(0, any Nat) ||| exit(any Nat, Succ(0))`, this before `>> accept m, n:Nat in g !m !n; stop`, and what that becomes
@@ -125,16 +128,16 @@ pub record SidesMeetAtTheirGates : Type 0 where
   pub at_b_menu : HasMenu [] meeting_at_b (event_line (left_side act) (gate_event gate_a []) ∷ [])
   pub at_b : Steps [] meeting_at_b (left_side act) [] (gate_event gate_a []) (parallel (at_gates (gate_b ∷ [])) stop (event gate_b stop))
 
--- `par z in [a, b] ||| z; stop`, where z is gate 4; `choice z in [a, b] [] z; stop`
+-- `par z in [a, b] ||| z; stop`; `choice z in [a, b] [] z; stop`
 abbrev pub in_parallel : Behaviour
-in_parallel = par_gate 4 (gate_a ∷ gate_b ∷ []) no_gates (event 4 stop)
+in_parallel = par_gate gate_z (gate_a ∷ gate_b ∷ []) no_gates (event gate_z stop)
 
 abbrev pub at_one_gate : Behaviour
-at_one_gate = choose_gate 4 (gate_a ∷ gate_b ∷ []) (event 4 stop)
+at_one_gate = choose_gate gate_z (gate_a ∷ gate_b ∷ []) (event gate_z stop)
 
 -- A gate `par` has the moves of its relabelled copies side by side, and a gate choice those of one by position.
 pub record GatesAreListed : Type 0 where
   pub par_menu : HasMenu [] in_parallel (event_line (left_side (relabelled act)) (gate_event gate_a []) ∷ event_line (right_side (relabelled act)) (gate_event gate_b []) ∷ [])
-  pub step : Steps [] in_parallel (left_side (relabelled act)) [] (gate_event gate_a []) (parallel no_gates stop (relabel ((4, gate_b) ∷ []) (event 4 stop)))
+  pub step : Steps [] in_parallel (left_side (relabelled act)) [] (gate_event gate_a []) (parallel no_gates stop (relabel ((gate_z, gate_b) ∷ []) (event gate_z stop)))
   pub choice_menu : HasMenu [] at_one_gate (event_line (at_gate 0 act) (gate_event gate_a []) ∷ event_line (at_gate 1 act) (gate_event gate_b []) ∷ [])
   pub chosen : Steps [] at_one_gate (at_gate 1 act) [] (gate_event gate_b []) stop

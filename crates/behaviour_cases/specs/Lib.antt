@@ -6,3 +6,5 @@ pub mod FormCases
 pub mod OrderCases
 pub mod MenuCases
 pub mod TableCases
+pub mod ValueCases
+pub mod WellFormedCases

@@ -105,31 +105,34 @@ chasing =
     (choose_value (nat_variable 0) (offering gate_g (give (nat 0) ∷ give (succ (nat 0)) ∷ []) stop))
     (choose_value (nat_variable 1) (offering gate_g (give (succ (nat 1)) ∷ give (nat 1) ∷ []) stop))
 
--- the draft of that entry, whose variable is a leaf at another number
-abbrev pub solved_before : Draft
-solved_before =
-    draft (both_sides (with_value act) (with_value act)) (gate_event gate_g (succ (nat 0) ∷ succ (succ (nat 0)) ∷ [])) (succ (nat 0) ∷ nat 0 ∷ [])
-    (test_of (succ (succ (nat 0))) (nat 0) ∷ [])
-
 abbrev pub chasing_entry : Entry
 chasing_entry =
     entry (both_sides (with_value act) (with_value act)) (gate_event gate_g (succ (nat 0) ∷ succ (succ (nat 0)) ∷ [])) (nat_sort ∷ []) (succ (nat 0) ∷ nat 0 ∷ [])
     (test_of (succ (succ (nat 0))) (nat 0) ∷ [])
 
+abbrev pub chasing_lines : List Line
+chasing_lines =
+    gives
+    (draft (both_sides (with_value act) (with_value act)) (gate_event gate_g (nat 0 ∷ succ (nat 0) ∷ [])) (nat 0 ∷ nat 1 ∷ [])
+    (test_of (nat 0) (succ (nat 1)) ∷ test_of (succ (nat 0)) (nat 1) ∷ []))
+    chasing_entry
+    ∷ []
+
+-- the draft of this entry, whose variable is a leaf at another number
+abbrev pub solved_before : Draft
+solved_before =
+    draft (both_sides (with_value act) (with_value act)) (gate_event gate_g (succ (nat 0) ∷ succ (succ (nat 0)) ∷ [])) (succ (nat 0) ∷ nat 0 ∷ [])
+    (test_of (succ (succ (nat 0))) (nat 0) ∷ [])
+
 -- A condition that nobody meets is kept where it is not closed. Solving what is solved changes nothing.
 pub record AnUnsolvableConditionIsKept : Type 0 where
-  pub menu : HasMenu [] chasing (
-      gives
-      (draft (both_sides (with_value act) (with_value act)) (gate_event gate_g (nat 0 ∷ succ (nat 0) ∷ [])) (nat 0 ∷ nat 1 ∷ [])
-      (test_of (nat 0) (succ (nat 1)) ∷ test_of (succ (nat 0)) (nat 1) ∷ []))
-      chasing_entry
-      ∷ []
-      )
+  pub menu : HasMenu [] chasing chasing_lines
   pub again : SolvesTo sample_canon solved_before (Some chasing_entry)
   pub no_instance : (values : List Term) → Meets sample_data chasing_entry values → ⊥
   pub asked :
       sample_move [] chasing (both_sides (with_value act) (with_value act)) (one ∷ nought ∷ [])
       ≡ move (gate_event gate_g (one ∷ two ∷ [])) (parallel (at_gates (gate_g ∷ [])) stop stop) (test_of one one ∷ test_of two nought ∷ []) (nat_sort ∷ nat_sort ∷ [])
+  pub no_transition : (label : Label) (target : Behaviour) → Transition sample_data [] chasing label target → ⊥
 
 -- `(choice x:Nat [] choice z:Nat [] g !x !Succ(z); stop) |[g]| (choice y:Nat [] choice w:Nat [] g !y !Succ(w); stop)`
 abbrev pub two_bare : Behaviour
@@ -170,7 +173,7 @@ accepted_again = let_be ((nat_variable 0, one) ∷ []) (enable (exit_with (exit_
 abbrev pub chosen_again : Behaviour
 chosen_again = let_be ((nat_variable 0, one) ∷ []) (choose_value (nat_variable 0) (offering gate_g (give (nat 0) ∷ []) stop))
 
--- A `let` binds in its body; a guard fixes the value of a choice; and `?x` binds in the behaviour after its action,
+-- A `let` binds in its body; a guard binds nothing, but it may fix the value of a choice; and `?x` binds in the behaviour after its action,
 -- but not in the other offers of that action. An inner `accept`, and an inner choice, hides a name of its number.
 pub record ValuesAreBound : Type 0 where
   pub let_menu : HasMenu [] bound_by_let (event_line (let_bound act) (gate_event gate_g (two ∷ [])) ∷ [])
@@ -179,6 +182,9 @@ pub record ValuesAreBound : Type 0 where
       (entry (with_value (guarded act)) (gate_event gate_g (nought ∷ [])) [] (nought ∷ []) [])
       ∷ []
       )
+  pub scope_menu : HasMenu [] bound_twice (as_it_is (let_bound act) (gate_event gate_g (nat 0 ∷ one ∷ [])) (nat_sort ∷ []) (nat 0 ∷ []) [] ∷ [])
   pub scope : Steps [] bound_twice (let_bound act) (two ∷ []) (gate_event gate_g (two ∷ one ∷ [])) (offering gate_h (give two ∷ []) stop)
+  pub accept_menu : HasMenu [] accepted_again (event_line (let_bound (enabled quit)) inner_event ∷ [])
   pub accept : Steps [] accepted_again (let_bound (enabled quit)) [] inner_event (offering gate_g (give two ∷ []) stop)
+  pub choice_menu : HasMenu [] chosen_again (as_it_is (let_bound (with_value act)) (gate_event gate_g (nat 0 ∷ [])) (nat_sort ∷ []) (nat 0 ∷ []) [] ∷ [])
   pub choice_scope : Steps [] chosen_again (let_bound (with_value act)) (two ∷ []) (gate_event gate_g (two ∷ [])) stop

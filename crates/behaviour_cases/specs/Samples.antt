@@ -1,5 +1,5 @@
 -- Small data and small words for the worked cases: numbers with `lt` and `+` and their usual equations, the canonical
--- forms of these data, a sort without terms, and four gates.
+-- forms of these data, a sort without terms, and gates.
 use Rattle.std.specs.Prelude.{ℕ, zero, suc, List, [], ◌∷◌, codes, None}
 use Rattle.term_algebra.specs.Signature.{Signature, Form, prefix_form, infix_form, Operation}
 use Rattle.term_algebra.specs.Term.{Term, variable, node, Terms, no_terms, term_then}
@@ -131,7 +131,7 @@ abbrev mutual
   sample_canons no_terms = no_terms
   sample_canons (term_then t ts) = term_then (sample_canon t) (sample_canons ts)
 
--- The gates.
+-- The gates of the specification: a, b, g and h.
 abbrev pub gate_a : ℕ
 gate_a = 0
 
@@ -143,6 +143,16 @@ gate_g = 2
 
 abbrev pub gate_h : ℕ
 gate_h = 3
+
+-- Gates that processes, relabellings, gate choices and gate `par`s bind: x, y and z.
+abbrev pub gate_x : ℕ
+gate_x = 4
+
+abbrev pub gate_y : ℕ
+gate_y = 5
+
+abbrev pub gate_z : ℕ
+gate_z = 6
 
 -- An action without a test, and one without offers.
 abbrev pub offering : ℕ → List Offer → Behaviour → Behaviour

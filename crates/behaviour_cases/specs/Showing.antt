@@ -7,12 +7,11 @@ use Rattle.behaviour_semantics.specs.Label.{Label}
 use Rattle.behaviour_semantics.specs.Shape.{Shape}
 use Rattle.behaviour_semantics.specs.Move.{Move, move_of}
 use Rattle.behaviour_semantics.specs.Rule.{as_given}
-use Rattle.behaviour_semantics.specs.Derives.{Derives, leaves_in}
+use Rattle.behaviour_semantics.specs.Derives.{Derives, Keeps, leaves_in}
 use Rattle.behaviour_semantics.specs.Draft.{Draft, draft_of, Fits}
 use Rattle.behaviour_semantics.specs.Solving.{Entry, SolvesTo}
 use Rattle.behaviour_semantics.specs.Menu.{Exact}
-use Rattle.behaviour_semantics.specs.WellFormed.{Every}
-use Rattle.behaviour_semantics.specs.InstanceLaws.{AreOver}
+use Rattle.behaviour_semantics.specs.WellFormed.{Every, AreOver}
 use Rattle.behaviour_semantics.specs.Listing.{IsAmong}
 use Rattle.behaviour_cases.specs.Samples.{sample_signature, sample_data, sample_canon}
 
@@ -50,11 +49,11 @@ shapes_of lines = map (λ (l : Line). l.draft.shape) lines
 abbrev pub entries_of : List Line → List Entry
 entries_of lines = filter_map (λ (l : Line). l.entry) lines
 
--- The specification of the cases: six gates and these processes.
+-- The specification of the cases: the gates of the samples and these processes.
 abbrev pub sample_specification : List Process → Specification
 sample_specification processes = record {
   name = codes "S";
-  gate_names = codes "a" ∷ codes "b" ∷ codes "g" ∷ codes "h" ∷ codes "x" ∷ codes "y" ∷ [];
+  gate_names = codes "a" ∷ codes "b" ∷ codes "g" ∷ codes "h" ∷ codes "x" ∷ codes "y" ∷ codes "z" ∷ [];
   gates = 0 ∷ 1 ∷ 2 ∷ 3 ∷ [];
   parameters = [];
   exit = None;
@@ -74,6 +73,10 @@ pub record HasMenu (processes : List Process) (b : Behaviour) (lines : List Line
 -- The shape with these leaves derives the move.
 abbrev pub Steps : List Process → Behaviour → Shape → List Term → Label → Behaviour → Type 0
 Steps processes b shape leaves label target = Derives sample_data processes b (record { shape = shape; leaves = leaves }) label target
+
+-- The same with bound values and the values of the label in canonical form.
+abbrev pub KeptSteps : List Process → Behaviour → Shape → List Term → Label → Behaviour → Type 0
+KeptSteps processes b shape leaves label target = Keeps sample_data sample_canon processes b (record { shape = shape; leaves = leaves }) label target
 
 -- The move of a shape with these leaves, values as they are given. What it asks need not hold.
 abbrev pub sample_move : List Process → Behaviour → Shape → List Term → Option Move

@@ -4,8 +4,8 @@ use Rattle.std.specs.Prelude.{◌≡◌, [], ◌∷◌, Some}
 use Rattle.behaviour_semantics.specs.Behaviour.{Behaviour, stop, exit_with, action, inner_action, parallel, hide, enable, let_be, choose_gate, par_gate, relabel, give, ask, exit_value, no_gates, all_gates, at_gates}
 use Rattle.behaviour_semantics.specs.Label.{inner_event, gate_event, exit_event}
 use Rattle.behaviour_semantics.specs.Shape.{act, quit, inner_step, left_side, right_side, hidden, enabled, passed, let_bound, at_gate, relabelled}
-use Rattle.behaviour_cases.specs.Samples.{nat_sort, nought, one, two, truth, plus, nat, nat_variable, gate_a, gate_b, gate_g, gate_h, offering, event, test_of}
-use Rattle.behaviour_cases.specs.Showing.{HasMenu, Steps, event_line, sample_move, move}
+use Rattle.behaviour_cases.specs.Samples.{nat_sort, nought, one, two, truth, plus, nat, nat_variable, gate_a, gate_b, gate_g, gate_h, gate_y, gate_z, offering, event, test_of}
+use Rattle.behaviour_cases.specs.Showing.{HasMenu, Steps, gives, event_line, draft, entry, sample_move, move}
 
 -- `i; a; stop || b; stop`, the same turned round, and `i; stop || i; stop`
 abbrev pub inner_on_the_left : Behaviour
@@ -34,8 +34,11 @@ pub record InnerEventsHappenAlone : Type 0 where
   pub right_menu : HasMenu [] inner_on_the_right (event_line (right_side inner_step) inner_event ∷ [])
   pub right : Steps [] inner_on_the_right (right_side inner_step) [] inner_event (parallel all_gates (event gate_b stop) (event gate_a stop))
   pub not_both : HasMenu [] inner_on_both (event_line (left_side inner_step) inner_event ∷ event_line (right_side inner_step) inner_event ∷ [])
+  pub another_gate_menu : HasMenu [] hiding_another (event_line (hidden act) (gate_event gate_b []) ∷ [])
   pub another_gate : Steps [] hiding_another (hidden act) [] (gate_event gate_b []) (hide (gate_a ∷ []) stop)
+  pub an_end_menu : HasMenu [] hiding_an_end (event_line (hidden quit) (exit_event []) ∷ [])
   pub an_end : Steps [] hiding_an_end (hidden quit) [] (exit_event []) (hide (gate_a ∷ []) stop)
+  pub inner_menu : HasMenu [] hiding_an_inner_event (event_line (hidden inner_step) inner_event ∷ [])
   pub inner : Steps [] hiding_an_inner_event (hidden inner_step) [] inner_event (hide (gate_a ∷ []) stop)
 
 -- `g !0; stop |[g]| g; stop`, `g !0; stop |[g]| g !true; stop`, `exit(0) ||| exit`, `exit(true) >> accept x:Nat in g !x; stop`
@@ -58,12 +61,12 @@ pub record SortsHaveToAgree : Type 0 where
   pub fewer_results : HasMenu [] one_result_less []
   pub other_result : HasMenu [] another_result []
 
--- `par z in [a, b, g] ||| z; stop` and `par z in [a] ||| z; stop`, where z is gate 4
+-- `par z in [a, b, g] ||| z; stop` and `par z in [a] ||| z; stop`
 abbrev pub three_copies : Behaviour
-three_copies = par_gate 4 (gate_a ∷ gate_b ∷ gate_g ∷ []) no_gates (event 4 stop)
+three_copies = par_gate gate_z (gate_a ∷ gate_b ∷ gate_g ∷ []) no_gates (event gate_z stop)
 
 abbrev pub one_copy : Behaviour
-one_copy = par_gate 4 (gate_a ∷ []) no_gates (event 4 stop)
+one_copy = par_gate gate_z (gate_a ∷ []) no_gates (event gate_z stop)
 
 -- The copies of a gate `par` are nested to the right, and a single one stands alone.
 pub record CopiesAreNestedToTheRight : Type 0 where
@@ -75,7 +78,7 @@ pub record CopiesAreNestedToTheRight : Type 0 where
       )
   pub third :
       Steps [] three_copies (right_side (right_side (relabelled act))) [] (gate_event gate_g [])
-      (parallel no_gates (relabel ((4, gate_a) ∷ []) (event 4 stop)) (parallel no_gates (relabel ((4, gate_b) ∷ []) (event 4 stop)) stop))
+      (parallel no_gates (relabel ((gate_z, gate_a) ∷ []) (event gate_z stop)) (parallel no_gates (relabel ((gate_z, gate_b) ∷ []) (event gate_z stop)) stop))
   pub one : HasMenu [] one_copy (event_line (relabelled act) (gate_event gate_a []) ∷ [])
   pub alone : Steps [] one_copy (relabelled act) [] (gate_event gate_a []) stop
 
@@ -89,21 +92,42 @@ tested_below_let = let_be ((nat_variable 0, one) ∷ []) (action gate_g (ask (na
 
 -- The terms of a `let` are outside its scope, and an inner binder hides an outer one, also in the test of its action.
 pub record InnerBindersHideOuterOnes : Type 0 where
+  pub let_menu : HasMenu [] let_below_let (event_line (let_bound (let_bound act)) (gate_event gate_g (one ∷ [])) ∷ [])
   pub of_let : Steps [] let_below_let (let_bound (let_bound act)) [] (gate_event gate_g (plus one nought ∷ [])) stop
+  pub question_menu : HasMenu [] tested_below_let (
+      gives (draft (let_bound act) (gate_event gate_g (nat 0 ∷ [])) (nat 0 ∷ []) (test_of (nat 0) nought ∷ []))
+      (entry (let_bound act) (gate_event gate_g (nought ∷ [])) [] (nought ∷ []) [])
+      ∷ []
+      )
   pub of_a_question : sample_move [] tested_below_let (let_bound act) (two ∷ []) ≡ move (gate_event gate_g (two ∷ [])) stop (test_of two nought ∷ []) (nat_sort ∷ [])
 
--- `relabel h for y, g for b in (b; relabel b for y in (y; stop))`, where y is gate 5, and
--- `choice z in [a, b] [] z; z; stop`, where z is gate 4
+-- `relabel h for y, g for b in (b; relabel b for y in (y; stop))` and
+-- `choice z in [a, b] [] z; z; stop`
 abbrev pub relabelled_at_one_formal : Behaviour
-relabelled_at_one_formal = relabel ((5, gate_h) ∷ (gate_b, gate_g) ∷ []) (event gate_b (relabel ((5, gate_b) ∷ []) (event 5 stop)))
+relabelled_at_one_formal = relabel ((gate_y, gate_h) ∷ (gate_b, gate_g) ∷ []) (event gate_b (relabel ((gate_y, gate_b) ∷ []) (event gate_y stop)))
 
 abbrev pub at_one_gate_twice : Behaviour
-at_one_gate_twice = choose_gate 4 (gate_a ∷ gate_b ∷ []) (event 4 (event 4 stop))
+at_one_gate_twice = choose_gate gate_z (gate_a ∷ gate_b ∷ []) (event gate_z (event gate_z stop))
 
 -- Of two relabellings the inner one counts at a formal gate of both, and the target of a gate choice stays relabelled.
 pub record RelabellingsGoOn : Type 0 where
-  pub composed : Steps [] relabelled_at_one_formal (relabelled act) [] (gate_event gate_g []) (relabel ((5, gate_g) ∷ (gate_b, gate_g) ∷ []) (event 5 stop))
-  pub chosen : Steps [] at_one_gate_twice (at_gate 0 act) [] (gate_event gate_a []) (relabel ((4, gate_a) ∷ []) (event 4 stop))
+  pub composed_menu : HasMenu [] relabelled_at_one_formal (event_line (relabelled act) (gate_event gate_g []) ∷ [])
+  pub composed : Steps [] relabelled_at_one_formal (relabelled act) [] (gate_event gate_g []) (relabel ((gate_y, gate_g) ∷ (gate_b, gate_g) ∷ []) (event gate_y stop))
+  pub chosen_menu : HasMenu [] at_one_gate_twice (event_line (at_gate 0 act) (gate_event gate_a []) ∷ event_line (at_gate 1 act) (gate_event gate_b []) ∷ [])
+  pub chosen : Steps [] at_one_gate_twice (at_gate 0 act) [] (gate_event gate_a []) (relabel ((gate_z, gate_a) ∷ []) (event gate_z stop))
+
+-- `b; stop |[a, b]| stop` and `hide a, b in (b; stop)`
+abbrev pub waiting_at_the_second : Behaviour
+waiting_at_the_second = parallel (at_gates (gate_a ∷ gate_b ∷ [])) (event gate_b stop) stop
+
+abbrev pub hiding_two : Behaviour
+hiding_two = hide (gate_a ∷ gate_b ∷ []) (event gate_b stop)
+
+-- A side waits at each gate of the set, and each gate of the list is hidden.
+pub record EachListedGateCounts : Type 0 where
+  pub waits : HasMenu [] waiting_at_the_second []
+  pub menu : HasMenu [] hiding_two (event_line (hidden act) inner_event ∷ [])
+  pub hides : Steps [] hiding_two (hidden act) [] inner_event (hide (gate_a ∷ gate_b ∷ []) stop)
 
 -- `a; exit >> b; stop`, and what it becomes after `a`
 abbrev pub going_on : Behaviour

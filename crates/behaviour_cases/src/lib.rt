@@ -3,3 +3,5 @@
 
 pub mod cases;
 pub mod table_cases;
+pub mod value_cases;
+pub mod well_formed_cases;

@@ -1,6 +1,6 @@
 //! Worked cases for what the other cases do not reach.
 
-ghost use Rattle.behaviour_cases.specs.TableCases.{InnerEventsHappenAlone, SortsHaveToAgree, CopiesAreNestedToTheRight, InnerBindersHideOuterOnes, RelabellingsGoOn, TheLeftSideGoesOn};
+ghost use Rattle.behaviour_cases.specs.TableCases.{EachListedGateCounts, InnerEventsHappenAlone, SortsHaveToAgree, CopiesAreNestedToTheRight, InnerBindersHideOuterOnes, RelabellingsGoOn, TheLeftSideGoesOn};
 
 /// An inner event happens on one side of a parallel alone, and hiding leaves what is not hidden.
 pub fn inner_events_happen_alone()
@@ -25,6 +25,11 @@ pub fn inner_binders_hide_outer_ones()
 /// Of two relabellings the inner one counts, and a target stays relabelled.
 pub fn relabellings_go_on()
     ensures { RelabellingsGoOn }
+{}
+
+/// Each gate of a set is met, and each gate of a list is hidden.
+pub fn each_listed_gate_counts()
+    ensures { EachListedGateCounts }
 {}
 
 /// The left side of `>>` goes on until it ends.

@@ -16,7 +16,7 @@ use Rattle.behaviour_semantics.specs.Replacement.{with_values, binding_of}
 use Rattle.behaviour_semantics.specs.Rule.{offered, results_of, moves_alone, is_same_sort, have_sorts, move_together, label_values, pairwise, hidden_label, is_exit, still_disabled, copies, AreValues}
 use Rattle.behaviour_semantics.specs.Shape.{Shape, act, quit, inner_step, guarded, left_side, right_side, both_sides, hidden, enabled, passed, let_bound, with_value, at_gate, called, relabelled, Derivation}
 use Rattle.behaviour_semantics.specs.Move.{Setting, Move, move_of, taken, opened, alone, together, passing, enabling, disabling, hiding, asking, relabelling, after_leaf, act_move, quit_move, inner_move, guarded_move, left_move, right_move, both_move, hidden_move, enabled_move, passed_move, let_move, value_move, gate_move, called_move, relabelled_move}
-use Rattle.behaviour_semantics.specs.Derives.{Moves, leaves_in}
+use Rattle.behaviour_semantics.specs.Derives.{GivesMove, leaves_in}
 use Rattle.behaviour_semantics.specs.WellFormed.{Every, IsTermIn, AreTermsIn, IsOffer, IsExitValue, AreGates, IsMeet, IsRelabelling, IsBehaviour, IsDefinition, IsSpecification, IsClosedLabel, IsClosedBehaviour}
 use Rattle.behaviour_semantics.proofs.OptionLemmas.{some_value, mapped, chained, tested, tested_not}
 use Rattle.behaviour_semantics.proofs.ListLemmas.{Every-at}
@@ -324,7 +324,7 @@ module _ (data_ : Data) (specification : Specification) (well_formed : IsSpecifi
   good_moves (called s) next b m c e = called_good next (move_of setting leaves s next) (good_moves s next) (opened b) m (opened_closed b c) e
   good_moves (relabelled s) next b m c e = relabelled_row next (move_of setting leaves s next) (good_moves s next) (opened b) m (opened_closed b c) e
 
-pub closed_move : (data_ : Data) (specification : Specification) (form : Term → Term) → IsSpecification data_.signature specification → KeepsGround data_.signature form → (b : Behaviour) → IsClosedBehaviour data_.signature specification b → (d : Derivation) (label : Label) (target : Behaviour) → Moves data_ form specification.processes b d label target → IsClosedLabel data_.signature specification label × IsClosedBehaviour data_.signature specification target
+pub closed_move : (data_ : Data) (specification : Specification) (form : Term → Term) → IsSpecification data_.signature specification → KeepsGround data_.signature form → (b : Behaviour) → IsClosedBehaviour data_.signature specification b → (d : Derivation) (label : Label) (target : Behaviour) → GivesMove data_ form specification.processes b d label target → IsClosedLabel data_.signature specification label × IsClosedBehaviour data_.signature specification target
 closed_move data_ specification form well_formed keeps b closed d label target m =
     good_moves data_ specification well_formed form keeps (leaves_in d.leaves) d.shape 0 b
     (record { label = label; target = target; asked = m.asked; sorts = m.sorts }) closed m.move (Supplied-leaves_in data_.signature m.sorts d.leaves m.leaves)

@@ -13,9 +13,8 @@ use Rattle.behaviour_semantics.specs.Rule.{AreValues, label_values}
 use Rattle.behaviour_semantics.specs.Shape.{Shape}
 use Rattle.behaviour_semantics.specs.Move.{Setting, Move, move_of, taken}
 use Rattle.behaviour_semantics.specs.Derives.{leaves_in}
-use Rattle.behaviour_semantics.specs.Draft.{Draft, draft_of, draft_by, label_with, leaves_from, numbered_from_zero, above, above_processes, first_apart}
-use Rattle.behaviour_semantics.specs.InstanceLaws.{AreOver, variable_sorts, MeetsDraft}
-use Rattle.behaviour_semantics.specs.WellFormed.{Every}
+use Rattle.behaviour_semantics.specs.Draft.{Draft, draft_of, draft_by, label_with, leaves_from, numbered_from_zero, above, above_processes, first_apart, variable_sorts, MeetsDraft}
+use Rattle.behaviour_semantics.specs.WellFormed.{AreOver, Every}
 use Rattle.behaviour_semantics.proofs.OptionLemmas.{mapped}
 use Rattle.behaviour_semantics.proofs.SupplyLemmas.{taken-supplied, Supplies-leaves_in}
 use Rattle.behaviour_semantics.proofs.RelatedTerms.{Side, occurs_sort, Related, only_leaf, canon_form, RelatedTerms, none_related, one_related}

@@ -14,9 +14,10 @@ use Rattle.behaviour_semantics.specs.Rule.{as_given, AllHold, AreValues}
 use Rattle.behaviour_semantics.specs.Shape.{Shape, Derivation}
 use Rattle.behaviour_semantics.specs.Move.{Setting, Move, move_of, taken}
 use Rattle.behaviour_semantics.specs.Derives.{Derives, leaves_in}
-use Rattle.behaviour_semantics.specs.Draft.{Draft, draft_of, draft_by, label_with, leaves_from, numbered_from_zero, above, above_processes, first_apart}
+use Rattle.behaviour_semantics.specs.Draft.{Draft, draft_of, draft_by, label_with, leaves_from, numbered_from_zero, above, above_processes, first_apart, variable_sorts, MeetsDraft}
 use Rattle.behaviour_semantics.specs.Menu.{EqualLabels}
-use Rattle.behaviour_semantics.specs.InstanceLaws.{AreOver, variable_sorts, MeetsDraft, Instance, DraftOf}
+use Rattle.behaviour_semantics.specs.WellFormed.{AreOver}
+use Rattle.behaviour_semantics.specs.InstanceLaws.{Instance, DraftOf}
 use Rattle.behaviour_semantics.proofs.OptionLemmas.{mapped}
 use Rattle.behaviour_semantics.proofs.SupplyLemmas.{Supplied, Supplied-leaves_in}
 use Rattle.behaviour_semantics.proofs.RelatedTerms.{Side, with_leaves, with_leaves-leaf, Related, canon_form, given_form}

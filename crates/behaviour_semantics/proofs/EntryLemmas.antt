@@ -19,10 +19,10 @@ use Rattle.behaviour_semantics.proofs.OptionLemmas.{some_value}
 use Rattle.behaviour_semantics.proofs.FineDrafts.{Own, at_map, FineTerm, FineValues, FineLeaves, FineTests, Fine, leaf_value, equal_terms_then, equal_terms_same, Solves}
 
 -- Where a variable that is left stands in the list of those.
-record Place (first n r : ℕ) (kept : List (ℕ × ℕ)) : Type 0 where
-  at : ℕ
-  place : place_of first kept n ≡ first + at
-  here : slice_get kept at ≡ Some (n, r)
+pub record Place (first n r : ℕ) (kept : List (ℕ × ℕ)) : Type 0 where
+  pub at : ℕ
+  pub place : place_of first kept n ≡ first + at
+  pub here : slice_get kept at ≡ Some (n, r)
 
 skipped : (first n r m s : ℕ) (kept : List (ℕ × ℕ)) → (m ≡ n → ⊥) → Place (suc first) n r kept → Place first n r ((m, s) ∷ kept)
 skipped first n r m s kept apart p = record {
@@ -31,7 +31,7 @@ skipped first n r m s kept apart p = record {
   here = p.here;
 }
 
-place_at : (first k : ℕ) (leaves : List Term) (i n r : ℕ) → k + i ≡ n → slice_get leaves i ≡ Some (variable n r) → Place first n r (left_over k leaves)
+pub place_at : (first k : ℕ) (leaves : List Term) (i n r : ℕ) → k + i ≡ n → slice_get leaves i ≡ Some (variable n r) → Place first n r (left_over k leaves)
 place_at first k [] i n r e own = absurd (cc own)
 place_at first k (leaf ∷ leaves) zero n r e own =
     subst (λ (t : Term). Place first n r (own_variable k t (left_over (suc k) leaves))) (sym (some_value own))
@@ -75,7 +75,7 @@ kept_values signature f k (leaf ∷ leaves) h = by leaf (λ n s e own. h 0 n s e
         at false e = rw e rest
 
 -- The numbers that variables get.
-abbrev renumbered : List Term → Substitution
+abbrev pub renumbered : List Term → Substitution
 renumbered leaves n s = variable (place_of 0 (left_over 0 leaves) n) s
 
 -- Values of an entry's variables and of all leaves that fit one another.

@@ -9,7 +9,8 @@ use Rattle.behaviour_semantics.specs.Derives.{Derives, leaves_in}
 use Rattle.behaviour_semantics.specs.Draft.{Draft, draft_of, label_with}
 use Rattle.behaviour_semantics.specs.Solving.{Entry, SolvesTo}
 use Rattle.behaviour_semantics.specs.Menu.{EqualTerms, EqualLabels, Meets, label_at, derivation_at, IsEntry, HasEntry, Exact}
-use Rattle.behaviour_semantics.specs.InstanceLaws.{AreOver, Instance, DraftOf}
+use Rattle.behaviour_semantics.specs.WellFormed.{AreOver}
+use Rattle.behaviour_semantics.specs.InstanceLaws.{Instance, DraftOf}
 use Rattle.behaviour_semantics.specs.MenuLaws.{IsSolvedMenu}
 use Rattle.behaviour_semantics.proofs.DraftLemmas.{sound_law, complete_law}
 use Rattle.behaviour_semantics.proofs.DraftFineness.{FineDraft, fine_draft, shape_of_draft, meets_solves, solves_meets}

@@ -11,7 +11,7 @@ use Rattle.behaviour_semantics.specs.Replacement.{test_with}
 use Rattle.behaviour_semantics.specs.Rule.{Holds, AllHold, AreValues}
 use Rattle.behaviour_semantics.specs.Shape.{Derivation}
 use Rattle.behaviour_semantics.specs.Move.{Move, move_of}
-use Rattle.behaviour_semantics.specs.Derives.{Moves, leaves_in}
+use Rattle.behaviour_semantics.specs.Derives.{GivesMove, leaves_in}
 use Rattle.behaviour_semantics.specs.Draft.{above_processes}
 use Rattle.behaviour_semantics.specs.Run.{Reaches, at_start, one_move}
 use Rattle.behaviour_semantics.specs.WellFormed.{IsSpecification}
@@ -79,11 +79,11 @@ module _ (data_ : Data) (base : ℕ) (form other : Term → Term) (leaves more :
 -- What one form derives another one derives too.
 pub record Another (data_ : Data) (base : ℕ) (form other : Term → Term) (processes : List Process) (c : Behaviour) (d : Derivation) (label : Label) (target : Behaviour) : Type 0 where
   pub move : Move
-  pub made : Moves data_ other processes c d move.label move.target
+  pub made : GivesMove data_ other processes c d move.label move.target
   pub labels : RelatedLabels data_ base processes (plain form (leaves_in d.leaves)) (plain other (leaves_in d.leaves)) label move.label
   pub targets : Beside data_ base processes (plain form (leaves_in d.leaves)) (plain other (leaves_in d.leaves)) [] target move.target
 
-pub another : (data_ : Data) (base : ℕ) (form other : Term → Term) (specification : Specification) (b c : Behaviour) → IsSpecification data_.signature specification → above_processes specification.processes ≤ base → IsForm data_ form → IsForm data_ other → (d : Derivation) → Beside data_ base specification.processes (plain form (leaves_in d.leaves)) (plain other (leaves_in d.leaves)) [] b c → (label : Label) (target : Behaviour) → Moves data_ form specification.processes b d label target → Another data_ base form other specification.processes c d label target
+pub another : (data_ : Data) (base : ℕ) (form other : Term → Term) (specification : Specification) (b c : Behaviour) → IsSpecification data_.signature specification → above_processes specification.processes ≤ base → IsForm data_ form → IsForm data_ other → (d : Derivation) → Beside data_ base specification.processes (plain form (leaves_in d.leaves)) (plain other (leaves_in d.leaves)) [] b c → (label : Label) (target : Behaviour) → GivesMove data_ form specification.processes b d label target → Another data_ base form other specification.processes c d label target
 another data_ base form other specification b c fine le f g d beside label target moves =
     let x : Side = plain form (leaves_in d.leaves) in
     let y : Side = plain other (leaves_in d.leaves) in

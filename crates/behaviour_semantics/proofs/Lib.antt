@@ -20,6 +20,7 @@ pub mod FineDrafts
 pub mod ReplacingLemmas
 pub mod OwnLeaves
 pub mod EntryLemmas
+pub mod SolvedEntries
 pub mod OutcomeLemmas
 pub mod EndingLemmas
 pub mod MoveSorts

@@ -7,8 +7,7 @@ use Rattle.behaviour_semantics.specs.Shape.{Shape, Before}
 use Rattle.behaviour_semantics.specs.Draft.{Draft, draft_of}
 use Rattle.behaviour_semantics.specs.Solving.{Entry, SolvesTo, unsolvable, settled, replacing}
 use Rattle.behaviour_semantics.specs.Menu.{IsEntry, Rise, Exact}
-use Rattle.behaviour_semantics.specs.WellFormed.{Every}
-use Rattle.behaviour_semantics.specs.InstanceLaws.{AreOver}
+use Rattle.behaviour_semantics.specs.WellFormed.{Every, AreOver}
 use Rattle.behaviour_semantics.specs.Listing.{listed_drafts, AllSolveTo, none_left, entry_then, nothing_then}
 use Rattle.behaviour_semantics.specs.Listing.{IsAmong, ShapesRise, shapes_of_drafts}
 use Rattle.behaviour_semantics.proofs.OptionLemmas.{some_value}

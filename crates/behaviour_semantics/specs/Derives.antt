@@ -18,7 +18,7 @@ leaves_in (v ∷ vs) (suc k) s = leaves_in vs k s
 -- The derivation gives the behaviour this label and target, where bound values and the values of the label are put
 -- in the form: the table has that move, the leaves are ground values of the sorts that it wants, no more and no
 -- fewer, and the data derive each equation that is asked.
-pub record Moves (data_ : Data) (form : Term → Term) (processes : List Process) (b : Behaviour) (d : Derivation) (label : Label) (target : Behaviour) : Type 0 where
+pub record GivesMove (data_ : Data) (form : Term → Term) (processes : List Process) (b : Behaviour) (d : Derivation) (label : Label) (target : Behaviour) : Type 0 where
   pub asked : List Test
   pub sorts : List ℕ
   pub move : move_of (record { signature = data_.signature; form = form; processes = processes }) (leaves_in d.leaves) d.shape 0 b ≡ Some (record { label = label; target = target; asked = asked; sorts = sorts })
@@ -27,8 +27,8 @@ pub record Moves (data_ : Data) (form : Term → Term) (processes : List Process
 
 -- The derivation derives the move, with values as they are given.
 abbrev pub Derives : Data → List Process → Behaviour → Derivation → Label → Behaviour → Type 0
-Derives data_ processes b d label target = Moves data_ as_given processes b d label target
+Derives data_ processes b d label target = GivesMove data_ as_given processes b d label target
 
 -- The same with every value that is bound to a variable and every value of the label in canonical form.
 abbrev pub Keeps : Data → (Term → Term) → List Process → Behaviour → Derivation → Label → Behaviour → Type 0
-Keeps data_ canon processes b d label target = Moves data_ canon processes b d label target
+Keeps data_ canon processes b d label target = GivesMove data_ canon processes b d label target

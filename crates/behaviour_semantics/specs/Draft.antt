@@ -1,13 +1,15 @@
 -- Drafts: the move of a shape with variables for its leaves, and with what is asked collected as conditions.
 use Rattle.std.specs.Prelude.{◌≡◌, ℕ, suc, ◌-◌, ◌+◌, max, List, [], ◌∷◌, map, Option, Some, option_map}
-use Rattle.term_algebra.specs.Term.{Term, variable}
+use Rattle.term_algebra.specs.Term.{Term, variable, node}
 use Rattle.term_algebra.specs.Equation.{Data, Variable}
 use Rattle.term_algebra.specs.Substitution.{Substitution, substituted, renaming}
 use Rattle.behaviour_semantics.specs.Behaviour.{Behaviour, stop, exit_with, action, inner_action, guard, choice, parallel, hide, enable, disable, let_be, choose_value, choose_gate, par_gate, call, relabel, Test, Process, asked_variables, let_variables}
 use Rattle.behaviour_semantics.specs.Label.{Label, inner_event, gate_event, exit_event}
 use Rattle.behaviour_semantics.specs.Replacement.{test_with}
 use Rattle.behaviour_semantics.specs.Shape.{Shape}
+use Rattle.behaviour_semantics.specs.Rule.{AreValues, AllHold}
 use Rattle.behaviour_semantics.specs.Move.{Move, move_of, taken}
+use Rattle.behaviour_semantics.specs.Derives.{leaves_in}
 
 -- A draft: the shape, the label, the leaves, of which leaf number `k` is the variable number `k`, and the conditions.
 pub record Draft : Type 0 where
@@ -92,3 +94,14 @@ draft_of data_ canon processes shape b =
 -- The shape fits the behaviour: it has a draft there.
 abbrev pub Fits : Data → (Term → Term) → List Process → Behaviour → Shape → Type 0
 Fits data_ canon processes b shape = (draft : Draft) × (draft_of data_ canon processes shape b ≡ Some draft)
+
+-- The sorts of the variables in a list.
+abbrev pub variable_sorts : List Term → List ℕ
+variable_sorts [] = []
+variable_sorts (variable n s ∷ ts) = s ∷ variable_sorts ts
+variable_sorts (node f us ∷ ts) = variable_sorts ts
+
+-- The values are ground, one for each leaf of the draft, of its sort, and meet the draft's conditions.
+pub record MeetsDraft (data_ : Data) (draft : Draft) (values : List Term) : Type 0 where
+  pub sorted : AreValues data_.signature (variable_sorts draft.leaves) values
+  pub met : AllHold data_ (map (test_with (leaves_in values)) draft.conditions)

@@ -1,31 +1,16 @@
 -- What drafts and canonical forms obey, over data with a canon and well-formed behaviours.
-use Rattle.std.specs.Prelude.{◌≡◌, ℕ, List, [], ◌∷◌, map, Some}
-use Rattle.term_algebra.specs.Signature.{IsWellFormedSignature}
-use Rattle.term_algebra.specs.Term.{Term, variable, node}
+use Rattle.std.specs.Prelude.{◌≡◌, List, Some}
+use Rattle.term_algebra.specs.Term.{Term, variable}
 use Rattle.term_algebra.specs.Equation.{Data}
-use Rattle.term_algebra.specs.Canon.{IsCanon}
 use Rattle.behaviour_semantics.specs.Behaviour.{Behaviour, Specification, Process}
 use Rattle.behaviour_semantics.specs.Label.{Label}
-use Rattle.behaviour_semantics.specs.Replacement.{test_with}
-use Rattle.behaviour_semantics.specs.Rule.{AllHold, AreValues}
 use Rattle.behaviour_semantics.specs.Shape.{Shape, Derivation}
 use Rattle.behaviour_semantics.specs.Move.{taken}
 use Rattle.behaviour_semantics.specs.Derives.{Derives, Keeps, leaves_in}
-use Rattle.behaviour_semantics.specs.Draft.{Draft, draft_of, label_with}
+use Rattle.behaviour_semantics.specs.Draft.{Draft, draft_of, label_with, variable_sorts, MeetsDraft}
 use Rattle.behaviour_semantics.specs.Menu.{EqualLabels}
 use Rattle.behaviour_semantics.specs.Alike.{Alike, AlikeLabels}
-use Rattle.behaviour_semantics.specs.WellFormed.{IsSpecification, IsClosedBehaviour}
-
--- The sorts of the variables in a list.
-abbrev pub variable_sorts : List Term → List ℕ
-variable_sorts [] = []
-variable_sorts (variable n s ∷ ts) = s ∷ variable_sorts ts
-variable_sorts (node f us ∷ ts) = variable_sorts ts
-
--- The values are ground, one for each leaf of the draft, of its sort, and meet the draft's conditions.
-pub record MeetsDraft (data_ : Data) (draft : Draft) (values : List Term) : Type 0 where
-  pub sorted : AreValues data_.signature (variable_sorts draft.leaves) values
-  pub met : AllHold data_ (map (test_with (leaves_in values)) draft.conditions)
+use Rattle.behaviour_semantics.specs.WellFormed.{AreOver}
 
 -- A derivation of the shape with these leaves, whose label equals the draft's label with the leaves put in.
 pub record Instance (data_ : Data) (processes : List Process) (b : Behaviour) (draft : Draft) (values : List Term) : Type 0 where
@@ -40,14 +25,6 @@ pub record DraftOf (data_ : Data) (canon : Term → Term) (processes : List Proc
   pub is_draft : draft_of data_ canon processes d.shape b ≡ Some draft
   pub meets : MeetsDraft data_ draft d.leaves
   pub labels : EqualLabels data_ (label_with (leaves_in d.leaves) draft.label) label
-
--- The data have a canon over a well-formed signature, and the behaviour is closed and well formed over the
--- specification, which is well formed too.
-pub record AreOver (data_ : Data) (canon : Term → Term) (specification : Specification) (b : Behaviour) : Type 0 where
-  pub signature : IsWellFormedSignature data_.signature
-  pub is_canon : IsCanon data_ canon
-  pub well_formed : IsSpecification data_.signature specification
-  pub closed : IsClosedBehaviour data_.signature specification b
 
 -- leaf number `k` of a draft is the variable number `k`; ground leaves that meet the draft of a shape make it a
 -- derivation, and each derivation of the shape is made so

@@ -9,7 +9,7 @@ use Rattle.behaviour_semantics.specs.Move.{Setting, move_of}
 use Rattle.behaviour_semantics.specs.Draft.{Draft, draft_of}
 use Rattle.behaviour_semantics.specs.Solving.{Entry}
 use Rattle.behaviour_semantics.specs.Menu.{Exact}
-use Rattle.behaviour_semantics.specs.InstanceLaws.{AreOver}
+use Rattle.behaviour_semantics.specs.WellFormed.{AreOver}
 use Rattle.behaviour_semantics.specs.Guardedness.{IsGuarded}
 use Rattle.behaviour_semantics.specs.Listing.{ShapedMove, IsAmong, ShapesRise, shapes_of_moves, shapes_of_drafts, listed_moves, listed_drafts, AllSolveTo}
 

@@ -5,10 +5,10 @@ use Rattle.term_algebra.specs.Equation.{Data}
 use Rattle.behaviour_semantics.specs.Behaviour.{Behaviour, Process, Specification}
 use Rattle.behaviour_semantics.specs.Derives.{leaves_in}
 use Rattle.behaviour_semantics.specs.Shape.{Shape}
-use Rattle.behaviour_semantics.specs.Draft.{Draft, draft_of, label_with, Fits}
+use Rattle.behaviour_semantics.specs.Draft.{Draft, draft_of, label_with, Fits, MeetsDraft}
 use Rattle.behaviour_semantics.specs.Solving.{Entry, SolvesTo}
 use Rattle.behaviour_semantics.specs.Menu.{EqualTerms, EqualLabels, Meets, label_at, derivation_at, IsEntry, Rise, Exact}
-use Rattle.behaviour_semantics.specs.InstanceLaws.{AreOver, MeetsDraft}
+use Rattle.behaviour_semantics.specs.WellFormed.{AreOver}
 
 -- The list is made as a menu is: its shapes rise and fit, and it has the solved form of each draft that has one, and
 -- nothing else.

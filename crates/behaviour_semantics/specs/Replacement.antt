@@ -1,5 +1,6 @@
 -- Terms put for the free variables of a behaviour. A binder keeps its own numbers: `?x` binds in the test and the
 -- behaviour after the action and not in its offers, `accept` on the right side, `let` and `choice x` in their body.
+-- No binder is renamed: the terms are closed, or their variables have other numbers than the binders of the behaviour.
 use Rattle.std.specs.Prelude.{List, [], ◌∷◌, map, zip, option_map}
 use Rattle.term_algebra.specs.Term.{Term}
 use Rattle.term_algebra.specs.Equation.{Variable}

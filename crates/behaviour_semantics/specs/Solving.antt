@@ -9,7 +9,7 @@ use Rattle.behaviour_semantics.specs.Replacement.{test_with}
 use Rattle.behaviour_semantics.specs.Shape.{Shape}
 use Rattle.behaviour_semantics.specs.Draft.{Draft, draft_with, label_with}
 
--- Every term of the draft in canonical form.
+-- A label, a test and a draft with every term in canonical form.
 abbrev pub label_in : (Term → Term) → Label → Label
 label_in canon inner_event = inner_event
 label_in canon (gate_event g terms) = gate_event g (map canon terms)
@@ -39,27 +39,30 @@ has_closed (test ∷ tests) = (is_ground test.left && is_ground test.right) || h
 abbrev pub tidied : (Term → Term) → Draft → Draft
 tidied canon draft = let made : Draft = canonical canon draft in record made { conditions = differing made.conditions }
 
--- The variable that a condition gives a value, with this value. Of two bare variables the later is replaced by the
--- earlier; otherwise a bare left side that the right side lacks is replaced, or else a bare right side that the
--- left side lacks.
+-- A bare side, with the other side, which lacks it.
 abbrev pub one_side : Term → Term → Option (ℕ × Term)
 one_side (variable n s) other = if occurs n s other then None else Some (n, other)
 one_side (node f ts) other = None
 
+-- What the left side gives, or else what the right side gives.
 abbrev pub either_side : Term → Term → Option (ℕ × Term) → Option (ℕ × Term)
 either_side left right (Some found) = Some found
 either_side left right None = one_side right left
 
+-- The variable that a condition gives a value, with this value. Of two bare variables the later is replaced by the
+-- earlier; otherwise a bare left side that the right side lacks is replaced, or else a bare right side that the
+-- left side lacks.
 abbrev pub replacement_of : Term → Term → Option (ℕ × Term)
 replacement_of (variable n s) (variable m r) =
     if nat_lt n m then Some (m, variable n s) else (if nat_lt m n then Some (n, variable m r) else None)
 replacement_of left right = either_side left right (one_side left right)
 
--- The replacement that the first condition gives that gives one.
+-- The first of two replacements that is there.
 abbrev pub first_found : Option (ℕ × Term) → Option (ℕ × Term) → Option (ℕ × Term)
 first_found (Some found) later = Some found
 first_found None later = later
 
+-- The replacement that the first condition gives that gives one.
 abbrev pub first_replacement : List Test → Option (ℕ × Term)
 first_replacement [] = None
 first_replacement (test ∷ tests) = first_found (replacement_of test.left test.right) (first_replacement tests)
@@ -82,6 +85,7 @@ leaf_sort n [] = None
 leaf_sort n (variable m s ∷ leaves) = if nat_eq m n then Some s else leaf_sort n leaves
 leaf_sort n (node f ts ∷ leaves) = leaf_sort n leaves
 
+-- The number with its sort, if it has one, before the rest.
 abbrev pub numbered : ℕ → Option ℕ → List (ℕ × ℕ) → List (ℕ × ℕ)
 numbered n None rest = rest
 numbered n (Some s) rest = (n, s) ∷ rest

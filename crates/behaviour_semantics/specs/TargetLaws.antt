@@ -7,8 +7,7 @@ use Rattle.behaviour_semantics.specs.Label.{Label}
 use Rattle.behaviour_semantics.specs.Rule.{as_given}
 use Rattle.behaviour_semantics.specs.Shape.{Derivation}
 use Rattle.behaviour_semantics.specs.Derives.{Derives, Keeps}
-use Rattle.behaviour_semantics.specs.WellFormed.{IsClosedBehaviour, IsClosedLabel}
-use Rattle.behaviour_semantics.specs.InstanceLaws.{AreOver}
+use Rattle.behaviour_semantics.specs.WellFormed.{IsClosedBehaviour, IsClosedLabel, AreOver}
 use Rattle.behaviour_semantics.specs.Run.{Reaches}
 
 -- a move of a closed well-formed behaviour has a closed label and leads to a closed well-formed behaviour, with values

@@ -1,5 +1,7 @@
 -- The transitions of a closed behaviour: the inference rules of ISO 8807's dynamic semantics of behaviour
--- expressions, one constructor each. Values are ground terms, and an equation holds where the data derive it.
+-- expressions, one constructor each. Values are ground terms, and an equation holds where the data derive it. In the
+-- standard a value is a class of equal ground terms; here each term of the class stands for it, and labels with equal
+-- values are labels of their own.
 use Rattle.std.specs.Prelude.{◌≡◌, ℕ, List, [], ◌∷◌, zip, slice_get, Option, Some, Bool}
 use Rattle.term_algebra.specs.Term.{Term}
 use Rattle.term_algebra.specs.Sorting.{IsGroundOf}
@@ -76,7 +78,7 @@ module _ (data_ : Data) (processes : List Process) where
         Transition b (gate_event g values) target →
         is_listed gates g ≡ Bool.true →
         Transition (hide gates b) inner_event (hide gates target)
-    -- any other label stays
+    -- an event at another gate, the inner event and successful termination stay
     shows :
         {gates : List ℕ} {b target : Behaviour} {g : ℕ} {values : List Term} →
         Transition b (gate_event g values) target →

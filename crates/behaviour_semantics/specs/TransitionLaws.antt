@@ -5,7 +5,7 @@ use Rattle.term_algebra.specs.Equation.{Data}
 use Rattle.behaviour_semantics.specs.Behaviour.{Behaviour, Process}
 use Rattle.behaviour_semantics.specs.Label.{Label}
 use Rattle.behaviour_semantics.specs.Shape.{Derivation}
-use Rattle.behaviour_semantics.specs.Derives.{Derives, Moves}
+use Rattle.behaviour_semantics.specs.Derives.{Derives, GivesMove}
 use Rattle.behaviour_semantics.specs.Transition.{Transition}
 
 -- a transition exists exactly where some derivation gives it
@@ -16,7 +16,7 @@ TransitionsAreDerived =
 
 -- A behaviour and a derivation determine label, target, the equations that are asked and the sorts of the leaves,
 -- in whatever form values are put.
-pub record SameMove (data_ : Data) (form : Term → Term) (processes : List Process) (b : Behaviour) (d : Derivation) (label other : Label) (target another : Behaviour) (m : Moves data_ form processes b d label target) (n : Moves data_ form processes b d other another) : Type 0 where
+pub record SameMove (data_ : Data) (form : Term → Term) (processes : List Process) (b : Behaviour) (d : Derivation) (label other : Label) (target another : Behaviour) (m : GivesMove data_ form processes b d label target) (n : GivesMove data_ form processes b d other another) : Type 0 where
   pub labels : label ≡ other
   pub targets : target ≡ another
   pub asked : m.asked ≡ n.asked
@@ -24,5 +24,5 @@ pub record SameMove (data_ : Data) (form : Term → Term) (processes : List Proc
 
 abbrev pub MovesAreDetermined : Type 0
 MovesAreDetermined =
-    (data_ : Data) (form : Term → Term) (processes : List Process) (b : Behaviour) (d : Derivation) (label other : Label) (target another : Behaviour) (m : Moves data_ form processes b d label target) (n : Moves data_ form processes b d other another) →
+    (data_ : Data) (form : Term → Term) (processes : List Process) (b : Behaviour) (d : Derivation) (label other : Label) (target another : Behaviour) (m : GivesMove data_ form processes b d label target) (n : GivesMove data_ form processes b d other another) →
     SameMove data_ form processes b d label other target another m n

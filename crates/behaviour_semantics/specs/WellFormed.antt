@@ -1,9 +1,10 @@
 -- Well-formed behaviours and specifications over a signature.
 use Rattle.std.specs.Prelude.{◌≡◌, ◌≢◌, ◌<◌, ℕ, List, [], ◌∷◌, ◌++◌, length, nat_eq, if◌then◌else◌, slice_get, Option, None, Some}
-use Rattle.term_algebra.specs.Signature.{Signature, IsSort}
+use Rattle.term_algebra.specs.Signature.{Signature, IsSort, IsWellFormedSignature}
 use Rattle.term_algebra.specs.Term.{Term}
 use Rattle.term_algebra.specs.Sorting.{HasSort, IsGroundOf, Occurs}
-use Rattle.term_algebra.specs.Equation.{Variable}
+use Rattle.term_algebra.specs.Equation.{Data, Variable}
+use Rattle.term_algebra.specs.Canon.{IsCanon}
 use Rattle.behaviour_semantics.specs.Behaviour.{Behaviour, stop, exit_with, action, inner_action, guard, choice, parallel, hide, enable, disable, let_be, choose_value, choose_gate, par_gate, call, relabel, Test, Offer, give, ask, ExitValue, exit_value, any_of, Meet, no_gates, all_gates, at_gates, Process, Specification, Relabelling, asked_variables, numbers_of, let_variables, let_terms}
 use Rattle.behaviour_semantics.specs.Label.{Label, inner_event, gate_event, exit_event, formals_of}
 
@@ -32,7 +33,7 @@ pub record IsTestIn (signature : Signature) (scope : List Variable) (test : Test
   pub left : IsTermIn signature scope sort test.left
   pub right : IsTermIn signature scope sort test.right
 
--- The terms have the sorts, one by one.
+-- The terms have the sorts of the variables, one by one.
 abbrev pub AreTermsIn : Signature → List Variable → List Variable → List Term → Type 0
 AreTermsIn signature scope [] [] = Unit {0}
 AreTermsIn signature scope (x ∷ variables) (t ∷ terms) = IsTermIn signature scope x.sort t × AreTermsIn signature scope variables terms
@@ -42,6 +43,7 @@ AreTermsIn signature scope _ _ = ⊥
 abbrev pub AreBinders : Signature → List Variable → Type 0
 AreBinders signature variables = AreDistinct (numbers_of variables) × Every (λ (x : Variable). IsSort signature x.sort) variables
 
+-- A test, an offer and a value of `exit` are well formed in the scope.
 abbrev pub IsTestOption : Signature → List Variable → Option Test → Type 0
 IsTestOption signature scope None = Unit {0}
 IsTestOption signature scope (Some test) = IsTestIn signature scope test
@@ -58,6 +60,7 @@ IsExitValue signature scope (any_of s) = IsSort signature s
 abbrev pub AreGates : ℕ → List ℕ → Type 0
 AreGates names gates = Every (λ g. g < names) gates
 
+-- The gates at which sides meet have names.
 abbrev pub IsMeet : ℕ → Meet → Type 0
 IsMeet names no_gates = Unit {0}
 IsMeet names all_gates = Unit {0}
@@ -128,3 +131,11 @@ IsClosedLabel signature specification inner_event = Unit {0}
 IsClosedLabel signature specification (gate_event g values) =
     (g < length specification.gate_names) × Every (λ v. (sort : ℕ) × IsGroundOf signature sort v) values
 IsClosedLabel signature specification (exit_event values) = Every (λ v. (sort : ℕ) × IsGroundOf signature sort v) values
+
+-- The data have a canon over a well-formed signature, and the behaviour is closed and well formed over the
+-- specification, which is well formed too.
+pub record AreOver (data_ : Data) (canon : Term → Term) (specification : Specification) (b : Behaviour) : Type 0 where
+  pub signature : IsWellFormedSignature data_.signature
+  pub is_canon : IsCanon data_ canon
+  pub well_formed : IsSpecification data_.signature specification
+  pub closed : IsClosedBehaviour data_.signature specification b

@@ -1,7 +1,7 @@
 //! Drafts and canonical forms. Each function carries one law as its contract and does nothing.
 
 ghost use Rattle.behaviour_semantics.specs.InstanceLaws.{DraftsAreDerivations, KeepsWhereDerives};
-ghost use Rattle.behaviour_semantics.specs.Run.{RunsAreAlike};
+ghost use Rattle.behaviour_semantics.specs.RunLaws.{RunsAreAlike};
 
 /// The draft of a shape, with ground leaves that meet its conditions put in for its variables, is the derivation with
 /// these leaves, and there is no other derivation of the shape.

@@ -16,7 +16,7 @@ use Rattle.term_algebra.specs.Examples.{CanonExamples}
 use Rattle.term_algebra.proofs.ExampleHelpers.{each_member, grounding}
 use Rattle.term_algebra.proofs.TestLemmas.{Decides-term_eq}
 use Rattle.term_algebra.proofs.PathLemmas.{put_below}
-use Rattle.term_algebra.proofs.SubstitutionLemmas.{substituted_sort, instance_ground}
+use Rattle.term_algebra.proofs.SubstitutionLemmas.{substituted_sort, instance_ground, renamed_same}
 use Rattle.term_algebra.proofs.EqualityLemmas.{equal_then, equal_back, equal_under, equal_instance, equal_related}
 
 -- A meet of canons is one of them where they are identical, and otherwise their meet.
@@ -87,34 +87,6 @@ mutual
   all_occurring n s no_terms o = o
   all_occurring n s (term_then t ts) (inl o) = inl (occurring n s t o)
   all_occurring n s (term_then t ts) (inr o) = inr (all_occurring n s ts o)
-
-mutual
-  -- terms that a renaming apart makes identical are identical
-  renamed_same : (number : ℕ → ℕ → ℕ) (t u : Term)
-      → ((n m s : ℕ) → Occurs n s t → Occurs m s u → number n s ≡ number m s → n ≡ m)
-      → substituted (renaming number) t ≡ substituted (renaming number) u → t ≡ u
-  renamed_same number (variable n s) (variable m r) apart e =
-      let sorts : s ≡ r = cc in
-      let numbers : number n s ≡ number m r = cc in
-      let one : n ≡ m = apart n m s (refl, refl) (refl, sym sorts) (numbers ∙ ap (number m) (sym sorts)) in
-      λ i. variable (one i) (sorts i)
-  renamed_same number (variable n s) (node g us) apart e = cc
-  renamed_same number (node f ts) (variable m r) apart e = cc
-  renamed_same number (node f ts) (node g us) apart e =
-      let operations : f ≡ g = cc in
-      let arguments : ts ≡ us = all_renamed_same number ts us apart cc in
-      λ i. node (operations i) (arguments i)
-
-  all_renamed_same : (number : ℕ → ℕ → ℕ) (ts us : Terms)
-      → ((n m s : ℕ) → OccursAmong n s ts → OccursAmong m s us → number n s ≡ number m s → n ≡ m)
-      → all_substituted (renaming number) ts ≡ all_substituted (renaming number) us → ts ≡ us
-  all_renamed_same number no_terms no_terms apart e = refl
-  all_renamed_same number no_terms (term_then u us) apart e = cc
-  all_renamed_same number (term_then t ts) no_terms apart e = cc
-  all_renamed_same number (term_then t ts) (term_then u us) apart e =
-      let first : t ≡ u = renamed_same number t u (λ n m s o p. apart n m s (inl o) (inl p)) cc in
-      let rest : ts ≡ us = all_renamed_same number ts us (λ n m s o p. apart n m s (inr o) (inr p)) cc in
-      λ i. term_then (first i) (rest i)
 
 renamed_met : (number : ℕ → ℕ → ℕ) (f : ℕ) (ts : Terms)
     → ((n m s : ℕ) → OccursAmong n s ts → OccursAmong m s ts → number n s ≡ number m s → n ≡ m)

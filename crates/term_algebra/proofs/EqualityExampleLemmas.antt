@@ -1,18 +1,19 @@
 -- The computed cases of equality: chains of links, and numbers that tell terms apart.
-use Rattle.std.proofs.Common.{◌≡◌, ℕ, zero, suc, ◌+◌, List, [], ◌∷◌, refl, ap, sym, ◌∙◌, subst, arith, inl, zero-add}
+use Rattle.std.proofs.Common.{◌≡◌, ℕ, zero, suc, List, [], ◌∷◌, refl, ap, sym, ◌∙◌, subst, inl}
 use Rattle.std.specs.Prelude.{codes}
 use Rattle.std.proofs.lemmas.Option.{same_Some, none-some}
 use Rattle.term_algebra.specs.Signature.{Operation, prefix_form}
 use Rattle.term_algebra.specs.Term.{Term, variable, node, Terms, no_terms, term_then}
 use Rattle.term_algebra.specs.Sorting.{HasSort, HaveSorts, IsGround, AreGround, IsGroundOf}
 use Rattle.term_algebra.specs.Substitution.{Substitution, substituted, binding}
-use Rattle.term_algebra.specs.Equation.{Equation, IsEquation, IsGroundInstance}
+use Rattle.term_algebra.specs.Equation.{Equation, IsGroundInstance}
 use Rattle.term_algebra.specs.Equality.{Equal}
-use Rattle.term_algebra.specs.SmallData.{operation_named, natural_signature, natural_data, nought_law, successor_law, nought, successor, plus, idle_signature, idle_data, idle_law, a_term, b_term, f_term}
-use Rattle.term_algebra.specs.Examples.{EqualityExamples}
+use Rattle.term_algebra.specs.SmallData.{operation_named, natural_signature, natural_data, natural_operate, nought_law, successor_law, nought, successor, plus, idle_signature, idle_data, idle_law, a_term, b_term, f_term}
+use Rattle.term_algebra.specs.Meaning.{meaning, meanings, MeetsEquations}
+use Rattle.term_algebra.specs.Examples.{EqualityExamples, natural_equations_are_met}
 use Rattle.term_algebra.proofs.ExampleHelpers.{each_member, grounding}
 use Rattle.term_algebra.proofs.EqualityLemmas.{equal_then, equal_back, equal_instance, equal_inside}
-use Rattle.term_algebra.proofs.MeaningLemmas.{meaning, meanings, equal_meaning}
+use Rattle.term_algebra.proofs.MeaningLemmas.{equal_meaning}
 use Rattle.term_algebra.proofs.SortLemmas.{one_sort}
 
 nought_ground : IsGroundOf natural_signature 0 nought
@@ -41,20 +42,6 @@ two_links = equal_then
     values : Substitution
     values = binding ((0, nought) ∷ (1, successor nought) ∷ [])
 
--- natural numbers as numbers
-abbrev natural_operate : ℕ → List ℕ → ℕ
-natural_operate zero ms = 0
-natural_operate (suc zero) (m ∷ ms) = suc m
-natural_operate (suc (suc zero)) (m ∷ k ∷ ms) = m + k
-natural_operate _ _ = 0
-
-natural_holds : (equation : Equation) (values : Substitution) → IsEquation natural_data equation
-    → IsGroundInstance natural_signature equation values
-    → meaning natural_operate (substituted values equation.left) ≡ meaning natural_operate (substituted values equation.right)
-natural_holds equation values is instance =
-    each_member (λ (e : Equation). meaning natural_operate (substituted values e.left) ≡ meaning natural_operate (substituted values e.right)) natural_data.equations is.0 equation
-    (zero-add (meaning natural_operate (values 0 0)), (omega arith, tt)) is.1
-
 pub a_ground : IsGroundOf idle_signature 0 a_term
 a_ground = record { ground = tt; sorted = (_, refl, refl, tt) }
 
@@ -73,9 +60,7 @@ abbrev head_operate : ℕ → List ℕ → ℕ
 head_operate (suc (suc zero)) ms = 1
 head_operate _ _ = 0
 
-head_holds : (equation : Equation) (values : Substitution) → IsEquation idle_data equation
-    → IsGroundInstance idle_signature equation values
-    → meaning head_operate (substituted values equation.left) ≡ meaning head_operate (substituted values equation.right)
+head_holds : MeetsEquations idle_data head_operate
 head_holds equation values is instance =
     each_member (λ (e : Equation). meaning head_operate (substituted values e.left) ≡ meaning head_operate (substituted values e.right)) idle_data.equations is.0 equation (refl, tt) is.1
 
@@ -115,9 +100,7 @@ nothing_empty (variable n s) h g = g
 nothing_empty (node f ts) h g =
     each_member (λ (o : Operation). o.result ≡ 2 → ⊥) idle_signature.operations f h.0 ((λ e. cc), ((λ e. cc), ((λ e. cc), tt))) h.1 h.2
 
-height_holds : (equation : Equation) (values : Substitution) → IsEquation idle_data equation
-    → IsGroundInstance idle_signature equation values
-    → meaning height_operate (substituted values equation.left) ≡ meaning height_operate (substituted values equation.right)
+height_holds : MeetsEquations idle_data height_operate
 height_holds equation values is instance =
     each_member (λ (e : Equation). IsGroundInstance idle_signature e values → meaning height_operate (substituted values e.left) ≡ meaning height_operate (substituted values e.right)) idle_data.equations is.0 equation
     ((λ instance. let ground = instance.right 0 0 (inl (refl, refl)) in rw (no_height (values 0 0) ground.sorted ground.ground) refl), tt) is.1 instance
@@ -127,7 +110,7 @@ equality_examples = record {
   one_link = one_link;
   two_links = two_links;
   backward_link = equal_back one_link;
-  not_equal = λ e. let same : 0 ≡ 1 = equal_meaning natural_operate natural_holds e in cc;
+  not_equal = λ e. let same : 0 ≡ 1 = equal_meaning natural_operate natural_equations_are_met e in cc;
   idle_twice = equal_then (idle_link (f_term a_term) (record { ground = (tt, tt); sorted = (_, refl, refl, (a_ground.sorted, tt)) })) (idle_link a_term a_ground);
   not_idle = λ e. let same : 0 ≡ 1 = equal_meaning head_operate head_holds e in cc;
   wrong_sort = λ e. let same : 3 ≡ 2 = equal_meaning height_operate height_holds e in cc;

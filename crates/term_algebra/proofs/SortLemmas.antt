@@ -7,7 +7,7 @@ use Rattle.term_algebra.specs.Term.{Term, variable, node, Terms, no_terms, term_
 use Rattle.term_algebra.specs.Sorting.{HasSort, HaveSorts, sort_of, IsGround, AreGround}
 use Rattle.term_algebra.specs.Path.{argument_at, with_argument, subterm, put_at}
 use Rattle.term_algebra.specs.Substitution.{Substitution, substituted}
-use Rattle.term_algebra.specs.Equation.{Equation, Data, IsEquationOver, IsWellFormedData, IsGroundInstance}
+use Rattle.term_algebra.specs.Equation.{Equation, Data, HasOneSort, HasSortedSides, IsWellFormedData, IsGroundInstance}
 use Rattle.term_algebra.specs.Equality.{Direction, forward, backward, old_side, new_side, Link, Equal, same_term, link_then}
 use Rattle.term_algebra.proofs.PathLemmas.{subterm_below, put_below}
 use Rattle.term_algebra.proofs.SubstitutionLemmas.{substituted_sort, instance_ground}
@@ -115,25 +115,29 @@ subterm_sort signature (k ∷ path) (node f ts) part s h e =
           (h.0, h.1, h.2, argument.others put.after (deeper.others other put.after g inside));
     }
 
--- both sides of a ground instance have the equation's sort
-pub side_sorts : (signature : Signature) (equation : Equation) (values : Substitution) (direction : Direction) (over : IsEquationOver signature equation)
-    → IsGroundInstance signature equation values
-    → HasSort signature (substituted values (old_side direction equation)) over.sort × HasSort signature (substituted values (new_side direction equation)) over.sort
-side_sorts signature equation values forward over h =
-    (substituted_sort signature values equation.left over.sort over.left_sort (λ n s o. (h.left n s o).sorted), substituted_sort signature values equation.right over.sort over.right_sort (λ n s o. (h.right n s o).sorted))
-side_sorts signature equation values backward over h =
-    (substituted_sort signature values equation.right over.sort over.right_sort (λ n s o. (h.right n s o).sorted), substituted_sort signature values equation.left over.sort over.left_sort (λ n s o. (h.left n s o).sorted))
+-- in well-formed data the two sides of each equation have one sort
+pub well_formed_sides : (data_ : Data) → IsWellFormedData data_ → HasSortedSides data_
+well_formed_sides data_ fine equation is = let over = fine.equations equation is in record { sort = over.sort; left = over.left_sort; right = over.right_sort }
 
-pub link_sort : (data_ : Data) (t u : Term) (s : ℕ) → IsWellFormedData data_ → Link data_ t u
+-- both sides of a ground instance have the equation's sort
+pub side_sorts : (signature : Signature) (equation : Equation) (values : Substitution) (direction : Direction) (one : HasOneSort signature equation)
+    → IsGroundInstance signature equation values
+    → HasSort signature (substituted values (old_side direction equation)) one.sort × HasSort signature (substituted values (new_side direction equation)) one.sort
+side_sorts signature equation values forward one h =
+    (substituted_sort signature values equation.left one.sort one.left (λ n s o. (h.left n s o).sorted), substituted_sort signature values equation.right one.sort one.right (λ n s o. (h.right n s o).sorted))
+side_sorts signature equation values backward one h =
+    (substituted_sort signature values equation.right one.sort one.right (λ n s o. (h.right n s o).sorted), substituted_sort signature values equation.left one.sort one.left (λ n s o. (h.left n s o).sorted))
+
+pub link_sort : (data_ : Data) (t u : Term) (s : ℕ) → HasSortedSides data_ → Link data_ t u
     → HasSort data_.signature t s → HasSort data_.signature u s
-link_sort data_ t u s fine l h =
-    let over = fine.equations l.equation l.is_equation in
-    let sides = side_sorts data_.signature l.equation l.values l.direction over l.is_instance in
+link_sort data_ t u s sorted l h =
+    let one = sorted l.equation l.is_equation in
+    let sides = side_sorts data_.signature l.equation l.values l.direction one l.is_instance in
     let part = subterm_sort data_.signature l.path t (substituted l.values (old_side l.direction l.equation)) s h l.old in
-    let same : over.sort ≡ part.sort = one_sort data_.signature (substituted l.values (old_side l.direction l.equation)) over.sort part.sort sides.0 part.sorted in
+    let same : one.sort ≡ part.sort = one_sort data_.signature (substituted l.values (old_side l.direction l.equation)) one.sort part.sort sides.0 part.sorted in
     part.others (substituted l.values (new_side l.direction l.equation)) u (subst (λ (r : ℕ). HasSort data_.signature (substituted l.values (new_side l.direction l.equation)) r) same sides.1) l.new
 
-pub equal_sort : {data_ : Data} {t u : Term} (s : ℕ) → IsWellFormedData data_ → Equal data_ t u
+pub equal_sort : {data_ : Data} {t u : Term} (s : ℕ) → HasSortedSides data_ → Equal data_ t u
     → HasSort data_.signature t s → HasSort data_.signature u s
-equal_sort s fine (same_term t) h = h
-equal_sort s fine (link_then {t = t} {u = u} l chain) h = equal_sort s fine chain (link_sort _ t u s fine l h)
+equal_sort s sorted (same_term t) h = h
+equal_sort s sorted (link_then {t = t} {u = u} l chain) h = equal_sort s sorted chain (link_sort _ t u s sorted l h)

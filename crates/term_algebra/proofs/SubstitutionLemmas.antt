@@ -6,7 +6,7 @@ use Rattle.term_algebra.specs.Signature.{Signature}
 use Rattle.term_algebra.specs.Term.{Term, variable, node, Terms, no_terms, term_then, list_of}
 use Rattle.term_algebra.specs.Sorting.{HasSort, HaveSorts, IsGround, AreGround, Occurs, OccursAmong}
 use Rattle.term_algebra.specs.Path.{argument_at, with_argument, subterm, put_at}
-use Rattle.term_algebra.specs.Substitution.{Substitution, substituted, all_substituted, followed_by, KeepsSorts}
+use Rattle.term_algebra.specs.Substitution.{Substitution, substituted, all_substituted, followed_by, renaming, KeepsSorts}
 use Rattle.term_algebra.proofs.PathLemmas.{subterm_below, subterm_under, put_below, put_under}
 
 -- the members of substituted arguments
@@ -191,3 +191,31 @@ put_at-substituted (k ∷ path) values part (node f ts) whole e =
     (put_at-substituted path values part below.argument below.after below.inside)
     ∙ ap (λ us. Some (node f us)) (sym (all_substituted-with_argument k values below.after ts))
     ∙ ap (λ u. Some (substituted values u)) below.is_whole
+
+mutual
+  -- terms that a renaming apart makes identical are identical
+  pub renamed_same : (number : ℕ → ℕ → ℕ) (t u : Term)
+      → ((n m s : ℕ) → Occurs n s t → Occurs m s u → number n s ≡ number m s → n ≡ m)
+      → substituted (renaming number) t ≡ substituted (renaming number) u → t ≡ u
+  renamed_same number (variable n s) (variable m r) apart e =
+      let sorts : s ≡ r = cc in
+      let numbers : number n s ≡ number m r = cc in
+      let one : n ≡ m = apart n m s (refl, refl) (refl, sym sorts) (numbers ∙ ap (number m) (sym sorts)) in
+      λ i. variable (one i) (sorts i)
+  renamed_same number (variable n s) (node g us) apart e = cc
+  renamed_same number (node f ts) (variable m r) apart e = cc
+  renamed_same number (node f ts) (node g us) apart e =
+      let operations : f ≡ g = cc in
+      let arguments : ts ≡ us = all_renamed_same number ts us apart cc in
+      λ i. node (operations i) (arguments i)
+
+  pub all_renamed_same : (number : ℕ → ℕ → ℕ) (ts us : Terms)
+      → ((n m s : ℕ) → OccursAmong n s ts → OccursAmong m s us → number n s ≡ number m s → n ≡ m)
+      → all_substituted (renaming number) ts ≡ all_substituted (renaming number) us → ts ≡ us
+  all_renamed_same number no_terms no_terms apart e = refl
+  all_renamed_same number no_terms (term_then u us) apart e = cc
+  all_renamed_same number (term_then t ts) no_terms apart e = cc
+  all_renamed_same number (term_then t ts) (term_then u us) apart e =
+      let first : t ≡ u = renamed_same number t u (λ n m s o p. apart n m s (inl o) (inl p)) cc in
+      let rest : ts ≡ us = all_renamed_same number ts us (λ n m s o p. apart n m s (inr o) (inr p)) cc in
+      λ i. term_then (first i) (rest i)

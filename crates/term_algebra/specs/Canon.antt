@@ -10,8 +10,8 @@ use Rattle.term_algebra.specs.Equality.{Equal}
 abbrev pub KeepsApart : (ℕ → ℕ → ℕ) → Term → Type 0
 KeepsApart number t = (n m s : ℕ) → Occurs n s t → Occurs m s t → number n s ≡ number m s → n ≡ m
 
--- The seven laws of a canon of the data, over the terms of their signature, below the fact that the canon of a
--- term has the term's sort.
+-- The seven laws of a canon of the data, over the terms of their signature (that on variables over all variables), below
+-- the fact that the canon of a term has the term's sort.
 pub record IsCanon (data_ : Data) (canon : Term → Term) : Type 0 where
   -- the canon of a term is a term of the same sort
   pub sorts : (t : Term) (s : ℕ) → HasSort data_.signature t s → HasSort data_.signature (canon t) s

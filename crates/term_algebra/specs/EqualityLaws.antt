@@ -4,7 +4,7 @@ use Rattle.term_algebra.specs.Term.{Term, node, Terms}
 use Rattle.term_algebra.specs.Sorting.{HasSort, IsGround}
 use Rattle.term_algebra.specs.Path.{put_at}
 use Rattle.term_algebra.specs.Substitution.{Substitution, substituted}
-use Rattle.term_algebra.specs.Equation.{Equation, Data, IsEquation, IsWellFormedData, IsGroundInstance}
+use Rattle.term_algebra.specs.Equation.{Equation, Data, IsEquation, HasSortedSides, IsGroundInstance}
 use Rattle.term_algebra.specs.Equality.{Link, Equal, AllEqual}
 
 -- each term is equal to itself
@@ -39,12 +39,14 @@ EquationsHold = (data_ : Data) (equation : Equation) (values : Substitution) →
 abbrev pub EqualityKeepsGround : Type 0
 EqualityKeepsGround = (data_ : Data) (t u : Term) → Equal data_ t u → IsGround t → IsGround u
 
--- what is equal to a term of some sort has that sort
+-- where the two sides of each equation have one sort, what is equal to a term of some sort has that sort
 abbrev pub EqualityKeepsSorts : Type 0
-EqualityKeepsSorts = (data_ : Data) (t u : Term) (s : ℕ) → IsWellFormedData data_ → Equal data_ t u
+EqualityKeepsSorts = (data_ : Data) (t u : Term) (s : ℕ) → HasSortedSides data_ → Equal data_ t u
     → HasSort data_.signature t s → HasSort data_.signature u s
 
--- A relation on the terms of a domain that no link leaves is a congruence that holds every ground instance.
+-- A relation on the terms of a domain that no link leaves is a congruence that holds every ground instance. It is
+-- asked of terms outside the domain too: `inside` speaks of any two related terms t and u that are put in, and
+-- `equations` of every ground instance.
 pub record IsCongruence (data_ : Data) (Domain : Term → Type 0) (Related : Term → Term → Type 0) : Type 0 where
   pub closed : (t u : Term) → Domain t → Link data_ t u → Domain u
   pub reflexive : (t : Term) → Domain t → Related t t

@@ -38,6 +38,16 @@ abbrev pub IsDeclared : Equation → ℕ → ℕ → Type 0
 IsDeclared equation n s =
     (i : ℕ) × (v : Variable) × (slice_get equation.variables i ≡ Some v) × (v.number ≡ n) × (v.sort ≡ s)
 
+-- The two sides of the equation have one sort.
+pub record HasOneSort (signature : Signature) (equation : Equation) : Type 0 where
+  pub sort : ℕ
+  pub left : HasSort signature equation.left sort
+  pub right : HasSort signature equation.right sort
+
+-- The two sides of each equation of the data have one sort.
+abbrev pub HasSortedSides : Data → Type 0
+HasSortedSides data_ = (equation : Equation) → IsEquation data_ equation → HasOneSort data_.signature equation
+
 -- An equation is well formed over a signature: its two sides have one sort, its variables have sorts of the
 -- signature and different numbers, and each variable that occurs in a side is declared.
 pub record IsEquationOver (signature : Signature) (equation : Equation) : Type 0 where

@@ -1,15 +1,16 @@
 -- Computed cases, which show that the definitions say what a textbook says.
-use Rattle.std.specs.Prelude.{◌≡◌, suc, List, [], ◌∷◌, None, Some, codes}
-use Rattle.std.proofs.Common.{refl, sym, ◌∙◌, ap}
+use Rattle.std.specs.Prelude.{◌≡◌, ℕ, zero, suc, List, [], ◌∷◌, None, Some, codes, slice_get}
+use Rattle.std.proofs.Common.{refl, sym, ◌∙◌, ap, subst, zero-add, suc-add}
 use Rattle.std.proofs.lemmas.Option.{same_Some, none-some}
 use Rattle.term_algebra.specs.Signature.{Signature, Operation, prefix_form, infix_form, IsWellFormedSignature}
 use Rattle.term_algebra.specs.Term.{Term, variable, node, no_terms, term_then, terms_of}
 use Rattle.term_algebra.specs.Sorting.{HasSort, IsTermOf, sort_of, IsGround, IsGroundOf, Occurs}
 use Rattle.term_algebra.specs.Path.{subterm, put_at, AreParallel}
-use Rattle.term_algebra.specs.Substitution.{substituted, followed_by, binding, without}
-use Rattle.term_algebra.specs.Equation.{IsEquationOver, IsWellFormedData, IsGroundInstance}
+use Rattle.term_algebra.specs.Substitution.{Substitution, substituted, followed_by, binding, without}
+use Rattle.term_algebra.specs.Equation.{Equation, IsEquationOver, IsWellFormedData, IsGroundInstance}
 use Rattle.term_algebra.specs.Equality.{Equal}
 use Rattle.term_algebra.specs.EqualityLaws.{IsCongruence}
+use Rattle.term_algebra.specs.Meaning.{MeetsEquations, meaning_is_congruence}
 use Rattle.term_algebra.specs.Canon.{KeepsApart, IsCanon}
 use Rattle.term_algebra.specs.SmallData.{
   sort_named,
@@ -22,7 +23,11 @@ use Rattle.term_algebra.specs.SmallData.{
   plus,
   x_natural,
   y_natural,
+  nought_law,
+  successor_law,
   natural_data,
+  natural_operate,
+  natural_meaning,
   bare_data,
   idle_signature,
   a_term,
@@ -192,6 +197,29 @@ identity_is_congruence = record {
   equations = λ equation values is instance. absurd (none-some equation is.1);
 }
 
--- there equal terms are identical
+-- 0 + x = x and Succ(x) + y = Succ(x + y) are true of numbers
+natural_equations_are_true : (values : Substitution) (i : ℕ) (equation : Equation)
+    → slice_get natural_data.equations i ≡ Some equation
+    → natural_meaning (substituted values equation.left) ≡ natural_meaning (substituted values equation.right)
+natural_equations_are_true values zero equation e =
+    subst (λ (q : Equation). natural_meaning (substituted values q.left) ≡ natural_meaning (substituted values q.right))
+    (same_Some nought_law equation e) (zero-add (natural_meaning (values 0 0)))
+natural_equations_are_true values (suc zero) equation e =
+    subst (λ (q : Equation). natural_meaning (substituted values q.left) ≡ natural_meaning (substituted values q.right))
+    (same_Some successor_law equation e) (suc-add (natural_meaning (values 0 0)) (natural_meaning (values 1 0)))
+natural_equations_are_true values (suc (suc i)) equation e = absurd (none-some equation e)
+
+-- so natural numbers meet their equations, and having the same meaning is a congruence
+pub natural_equations_are_met : MeetsEquations natural_data natural_operate
+natural_equations_are_met equation values is instance = natural_equations_are_true values is.0 equation is.1
+
+pub natural_meaning_is_congruence : IsCongruence natural_data (λ t. Unit {0}) (λ t u. natural_meaning t ≡ natural_meaning u)
+natural_meaning_is_congruence = meaning_is_congruence natural_data natural_operate natural_equations_are_met
+
+-- without equations equal terms are identical
 abbrev pub EqualBareTermsAreIdentical : Type 0
 EqualBareTermsAreIdentical = (t u : Term) → Equal bare_data t u → t ≡ u
+
+-- equal terms of natural numbers mean the same number
+abbrev pub EqualNaturalTermsMeanTheSame : Type 0
+EqualNaturalTermsMeanTheSame = (t u : Term) → Equal natural_data t u → natural_meaning t ≡ natural_meaning u

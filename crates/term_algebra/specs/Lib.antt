@@ -8,6 +8,7 @@ pub mod Equation
 pub mod Equality
 pub mod Canon
 pub mod EqualityLaws
+pub mod Meaning
 pub mod SmallData
 pub mod Examples
 pub mod PlainView

@@ -33,7 +33,8 @@ abbrev pub IsOperation : Signature → ℕ → Operation → Type 0
 IsOperation signature number operation = slice_get signature.operations number ≡ Some operation
 
 -- A signature is well formed: its profiles name sorts that it has, no two of its sorts have one name, and no two
--- of its operations have one name, form and profile.
+-- of its operations have one name, form and profile. Names are compared as they stand here; who makes a signature
+-- from a text folds letter case first, since names that differ only in case are one name there.
 pub record IsWellFormedSignature (signature : Signature) : Type 0 where
   pub results : (f : ℕ) (o : Operation) → IsOperation signature f o → IsSort signature o.result
   pub arguments : (f i s : ℕ) (o : Operation) → IsOperation signature f o → slice_get o.arguments i ≡ Some s

@@ -1,9 +1,10 @@
 -- Small data for the computed cases.
-use Rattle.std.specs.Prelude.{ℕ, zero, suc, List, [], ◌∷◌, codes, if◌then◌else◌}
+use Rattle.std.specs.Prelude.{ℕ, zero, suc, ◌+◌, List, [], ◌∷◌, codes, if◌then◌else◌}
 use Rattle.term_algebra.specs.Signature.{Signature, Sort, Operation, Form, prefix_form, infix_form}
 use Rattle.term_algebra.specs.Term.{Term, variable, node, Terms, no_terms, term_then}
 use Rattle.term_algebra.specs.Tests.{term_eq}
 use Rattle.term_algebra.specs.Equation.{Variable, Equation, Data}
+use Rattle.term_algebra.specs.Meaning.{meaning}
 
 abbrev pub sort_named : List ℕ → Sort
 sort_named name = record { name = name; origin = codes "Example" }
@@ -62,6 +63,17 @@ successor_law = equation_of natural_variables (plus (successor x_natural) y_natu
 
 abbrev pub natural_data : Data
 natural_data = record { signature = natural_signature; equations = nought_law ∷ successor_law ∷ [] }
+
+-- what 0, Succ and + do with numbers
+abbrev pub natural_operate : ℕ → List ℕ → ℕ
+natural_operate zero ms = 0
+natural_operate (suc zero) (m ∷ ms) = suc m
+natural_operate (suc (suc zero)) (m ∷ k ∷ ms) = m + k
+natural_operate _ _ = 0
+
+-- the number that a term means, with 0 for each variable
+abbrev pub natural_meaning : Term → ℕ
+natural_meaning t = meaning natural_operate t
 
 -- natural numbers without equations
 abbrev pub bare_data : Data

@@ -35,7 +35,8 @@ pub fn equations_hold()
     ensures { EquationsHold }
 {}
 
-/// What is equal to a ground term is a ground term of its sort.
+/// What is equal to a ground term is ground. Where the two sides of each equation have one sort, what is equal to a
+/// term of some sort has that sort.
 pub fn equality_keeps_terms()
     ensures ground { EqualityKeepsGround }
     ensures sorts { EqualityKeepsSorts }

@@ -1,16 +1,18 @@
 //! Computed cases, which show that the definitions say what a textbook says.
 
 ghost use Rattle.std.specs.Prelude.{◌≡◌};
-ghost use Rattle.term_algebra.specs.SmallData.{bare_data};
+ghost use Rattle.term_algebra.specs.SmallData.{bare_data, natural_data, natural_meaning};
 ghost use Rattle.term_algebra.specs.Examples.{
   CanonExamples,
   EqualBareTermsAreIdentical,
+  EqualNaturalTermsMeanTheSame,
   EqualityExamples,
   PathExamples,
   SignatureExamples,
   SortingExamples,
   SubstitutionExamples,
   identity_is_congruence,
+  natural_meaning_is_congruence,
 };
 
 use crate::equality::{Congruence, equality_is_least};
@@ -40,7 +42,7 @@ pub fn equality_examples()
     ensures { EqualityExamples }
 {}
 
-/// Leaving out each f of an f is a canon of f(f(x)) = f(x), and the identity function is none.
+/// Leaving out each meet of a term with itself is a canon of meet(x, x) = x, and the identity function is none.
 pub fn canon_examples()
     ensures { CanonExamples }
 {}
@@ -63,4 +65,24 @@ pub fn equal_bare_terms_are_identical()
     ensures { EqualBareTermsAreIdentical }
 {
     equality_is_least::<Identity>()
+}
+
+/// Meaning the same number, over natural numbers with 0, Succ and +.
+pub struct SameMeaning;
+
+impl Congruence for SameMeaning {
+    ghost equational_data = { natural_data };
+
+    ghost domain = { λ t. Unit {0} };
+
+    ghost related = { λ t u. natural_meaning t ≡ natural_meaning u };
+
+    ghost is_congruence = { natural_meaning_is_congruence };
+}
+
+/// The equations of 0, Succ and + are true of numbers, so equal terms mean the same number.
+pub fn equal_natural_terms_mean_the_same()
+    ensures { EqualNaturalTermsMeanTheSame }
+{
+    equality_is_least::<SameMeaning>()
 }

@@ -1,11 +1,12 @@
 use Rattle.std.proofs.Common.{List, [], ◌∷◌, refl}
 use Rattle.term_algebra.specs.Term.{Term}
-use Rattle.behaviour_semantics.specs.Solving.{settled, replacing}
+use Rattle.behaviour_semantics.specs.Solving.{Entry, settled, replacing}
 use Rattle.behaviour_semantics.specs.Menu.{Meets}
 use Rattle.behaviour_cases.specs.Samples.{sample_data}
-use Rattle.behaviour_cases.specs.OfferCases.{chasing_entry}
-use Rattle.behaviour_cases.proofs.CaseLemmas.{not_two_greater}
-use Rattle.behaviour_cases.proofs.ShownMenus.{menu}
+use Rattle.behaviour_cases.specs.OfferCases.{chasing, chasing_entry, chasing_lines}
+use Rattle.behaviour_cases.specs.Showing.{HasMenu}
+use Rattle.behaviour_cases.proofs.CaseLemmas.{not_two_greater, one_entry}
+use Rattle.behaviour_cases.proofs.ShownMenus.{menu, no_transition}
 use Rattle.behaviour_cases.proofs.cases.an_unsolvable_condition_is_kept.Goals as goal
 
 none : (values : List Term) → Meets sample_data chasing_entry values → ⊥
@@ -13,10 +14,14 @@ none [] h = h.sorted
 none (v ∷ []) h = not_two_greater v h.sorted.0 h.met.0
 none (v ∷ w ∷ values) h = h.sorted.1
 
+shown : HasMenu [] chasing chasing_lines
+shown = menu _ _ 9 _ refl refl refl (replacing _ _ _ refl refl (settled _ refl refl), tt)
+
 pub returns : goal.returns
 returns c = record {
-  menu = menu _ _ 9 _ refl refl refl (replacing _ _ _ refl refl (settled _ refl refl), tt);
+  menu = shown;
   again = settled _ refl refl;
   no_instance = none;
   asked = refl;
+  no_transition = no_transition [] chasing chasing_lines shown (λ e values listed meets. none values (one_entry (λ (x : Entry). Meets sample_data x values) chasing_entry e listed meets));
 }

@@ -10,7 +10,10 @@ returns c = record {
   right_menu = menu _ _ 9 _ refl refl refl (settled _ refl refl, tt);
   right = steps _ _ _ _ _ _ _ _ refl refl refl;
   not_both = menu _ _ 9 _ refl refl refl (settled _ refl refl, (settled _ refl refl, tt));
+  another_gate_menu = menu _ _ 9 _ refl refl refl (settled _ refl refl, tt);
   another_gate = steps _ _ _ _ _ _ _ _ refl refl refl;
+  an_end_menu = menu _ _ 9 _ refl refl refl (settled _ refl refl, tt);
   an_end = steps _ _ _ _ _ _ _ _ refl refl refl;
+  inner_menu = menu _ _ 9 _ refl refl refl (settled _ refl refl, tt);
   inner = steps _ _ _ _ _ _ _ _ refl refl refl;
 }

@@ -5,9 +5,10 @@ use Rattle.behaviour_semantics.specs.Behaviour.{Behaviour, Specification}
 use Rattle.behaviour_semantics.specs.Label.{Label}
 use Rattle.behaviour_semantics.specs.Rule.{as_given}
 use Rattle.behaviour_semantics.specs.Shape.{Derivation}
-use Rattle.behaviour_semantics.specs.Derives.{Derives, Keeps, Moves, leaves_in}
+use Rattle.behaviour_semantics.specs.Derives.{Derives, Keeps, GivesMove, leaves_in}
 use Rattle.behaviour_semantics.specs.Draft.{above, above_processes, first_apart}
-use Rattle.behaviour_semantics.specs.InstanceLaws.{AreOver, Kept, Derived}
+use Rattle.behaviour_semantics.specs.WellFormed.{AreOver}
+use Rattle.behaviour_semantics.specs.InstanceLaws.{Kept, Derived}
 use Rattle.behaviour_semantics.proofs.RelatedTerms.{IsForm, canon_form, given_form}
 use Rattle.behaviour_semantics.proofs.SameBehaviours.{low_nothing, same_beside, turned_beside}
 use Rattle.behaviour_semantics.proofs.InstanceLemmas.{plain, turned_labels}
@@ -15,7 +16,7 @@ use Rattle.behaviour_semantics.proofs.AlikeLemmas.{alike_labels, alike_behaviour
 use Rattle.behaviour_semantics.proofs.FollowingMoves.{Another, another}
 use Rattle.behaviour_semantics.proofs.instances.keeps_where_derives.Goals as goal
 
-other_form : (data_ : Data) (canon form other : Term → Term) (specification : Specification) (b : Behaviour) → AreOver data_ canon specification b → IsForm data_ form → IsForm data_ other → (d : Derivation) (label : Label) (target : Behaviour) → Moves data_ form specification.processes b d label target → Another data_ (first_apart specification.processes b) form other specification.processes b d label target
+other_form : (data_ : Data) (canon form other : Term → Term) (specification : Specification) (b : Behaviour) → AreOver data_ canon specification b → IsForm data_ form → IsForm data_ other → (d : Derivation) (label : Label) (target : Behaviour) → GivesMove data_ form specification.processes b d label target → Another data_ (first_apart specification.processes b) form other specification.processes b d label target
 other_form data_ canon form other specification b over f g d label target moves =
     let base : ℕ = first_apart specification.processes b in
     let le_processes : above_processes specification.processes ≤ base = omega arith in

@@ -6,7 +6,7 @@ use Rattle.behaviour_semantics.specs.Rule.{as_given}
 use Rattle.behaviour_semantics.specs.Shape.{Derivation}
 use Rattle.behaviour_semantics.specs.Draft.{above, above_processes, first_apart}
 use Rattle.behaviour_semantics.specs.Alike.{Alike}
-use Rattle.behaviour_semantics.specs.InstanceLaws.{AreOver}
+use Rattle.behaviour_semantics.specs.WellFormed.{AreOver}
 use Rattle.behaviour_semantics.specs.Run.{Reaches}
 use Rattle.behaviour_semantics.proofs.RelatedTerms.{IsForm, canon_form, given_form}
 use Rattle.behaviour_semantics.proofs.SameBehaviours.{low_nothing, same_beside, turned_beside}

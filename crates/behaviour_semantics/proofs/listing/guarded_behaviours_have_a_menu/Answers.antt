@@ -5,7 +5,7 @@ use Rattle.behaviour_semantics.specs.Behaviour.{Behaviour, Specification}
 use Rattle.behaviour_semantics.specs.Move.{Setting}
 use Rattle.behaviour_semantics.specs.Draft.{draft_by, first_apart, leaves_from}
 use Rattle.behaviour_semantics.specs.Guardedness.{IsGuarded}
-use Rattle.behaviour_semantics.specs.InstanceLaws.{AreOver}
+use Rattle.behaviour_semantics.specs.WellFormed.{AreOver}
 use Rattle.behaviour_semantics.specs.Listing.{ShapedMove, listed_moves}
 use Rattle.behaviour_semantics.specs.Menu.{Exact}
 use Rattle.behaviour_semantics.specs.Solving.{Entry}

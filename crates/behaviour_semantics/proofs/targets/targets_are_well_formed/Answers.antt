@@ -5,7 +5,7 @@ use Rattle.term_algebra.proofs.CanonLemmas.{canon_ground}
 use Rattle.behaviour_semantics.specs.Behaviour.{Behaviour, Specification}
 use Rattle.behaviour_semantics.specs.Rule.{as_given}
 use Rattle.behaviour_semantics.specs.Shape.{Derivation}
-use Rattle.behaviour_semantics.specs.InstanceLaws.{AreOver}
+use Rattle.behaviour_semantics.specs.WellFormed.{AreOver}
 use Rattle.behaviour_semantics.specs.Run.{Reaches, at_start, one_move}
 use Rattle.behaviour_semantics.proofs.ClosedTargets.{KeepsGround, closed_move}
 use Rattle.behaviour_semantics.proofs.targets.targets_are_well_formed.Goals as goal

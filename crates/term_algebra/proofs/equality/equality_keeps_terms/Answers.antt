@@ -6,4 +6,4 @@ pub returns-clause-ground : goal.returns-clause-ground
 returns-clause-ground c = λ data_ t u e h. equal_ground e h
 
 pub returns-clause-sorts : goal.returns-clause-sorts
-returns-clause-sorts c = λ data_ t u s fine e h. equal_sort s fine e h
+returns-clause-sorts c = λ data_ t u s sorted e h. equal_sort s sorted e h
