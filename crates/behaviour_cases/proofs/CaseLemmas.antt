@@ -5,6 +5,7 @@ use Rattle.term_algebra.specs.Signature.{Operation, IsOperation}
 use Rattle.term_algebra.specs.Term.{Term, variable, node, no_terms, term_then}
 use Rattle.term_algebra.specs.Sorting.{HasSort, IsGroundOf}
 use Rattle.term_algebra.specs.Equality.{Equal}
+use Rattle.term_algebra.proofs.CanonLemmas.{canon_tells}
 use Rattle.behaviour_semantics.specs.Rule.{AreValues}
 use Rattle.behaviour_semantics.specs.Solving.{Entry}
 use Rattle.behaviour_semantics.specs.Menu.{IsEntry}
@@ -49,6 +50,10 @@ pub nought_not_one : Equal sample_data nought one → ⊥
 nought_not_one e =
     let same : nought ≡ one = sample_is_canon.decides nought one nat_sort (ground_in sample_signature nat_sort nought refl) (ground_in sample_signature nat_sort one refl) e in
     absurd (cc same)
+
+-- `Succ(0) + 0` is 1.
+pub sum_is_one : Equal sample_data (plus one nought) one
+sum_is_one = canon_tells sample_data sample_canon (plus one nought) one nat_sort sample_is_canon (ground_in sample_signature nat_sort (plus one nought) refl) (ground_in sample_signature nat_sort one refl) refl
 
 -- `true` is no number, and 0 is one.
 pub truth_not_sorted : HasSort sample_signature truth nat_sort → ⊥

@@ -86,6 +86,10 @@ disabled = disable (event gate_a (exit_with [])) (event gate_b stop)
 abbrev pub disabled_after_a : Behaviour
 disabled_after_a = disable (exit_with []) (event gate_b stop)
 
+-- `a; stop [> exit`
+abbrev pub disabled_by_an_end : Behaviour
+disabled_by_an_end = disable (event gate_a stop) (exit_with [])
+
 -- A disabling stays while its left side goes on, is gone after its left side ended, and is gone once it began.
 pub record ADisablingEndsWithItsLeftSide : Type 0 where
   pub menu : HasMenu [] disabled (event_line (left_side act) (gate_event gate_a []) ∷ event_line (right_side act) (gate_event gate_b []) ∷ [])
@@ -95,6 +99,8 @@ pub record ADisablingEndsWithItsLeftSide : Type 0 where
   pub ends : Steps [] disabled_after_a (left_side quit) [] (exit_event []) stop
   pub still_begins : Steps [] disabled_after_a (right_side act) [] (gate_event gate_b []) stop
   pub last : HasMenu [] stop []
+  pub end_menu : HasMenu [] disabled_by_an_end (event_line (left_side act) (gate_event gate_a []) ∷ event_line (right_side quit) (exit_event []) ∷ [])
+  pub ends_by_the_right : Steps [] disabled_by_an_end (right_side quit) [] (exit_event []) stop
 
 -- `hide g in (g ?x:Nat; h !x; stop)`, and what it becomes with 1
 abbrev pub hiding_a_value : Behaviour

@@ -7,4 +7,6 @@ pub mod OrderCases
 pub mod MenuCases
 pub mod TableCases
 pub mod ValueCases
+pub mod SolvingCases
+pub mod ComparisonCases
 pub mod WellFormedCases

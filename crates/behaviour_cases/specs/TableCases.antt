@@ -3,7 +3,7 @@
 use Rattle.std.specs.Prelude.{◌≡◌, [], ◌∷◌, Some}
 use Rattle.behaviour_semantics.specs.Behaviour.{Behaviour, stop, exit_with, action, inner_action, parallel, hide, enable, let_be, choose_gate, par_gate, relabel, give, ask, exit_value, no_gates, all_gates, at_gates}
 use Rattle.behaviour_semantics.specs.Label.{inner_event, gate_event, exit_event}
-use Rattle.behaviour_semantics.specs.Shape.{act, quit, inner_step, left_side, right_side, hidden, enabled, passed, let_bound, at_gate, relabelled}
+use Rattle.behaviour_semantics.specs.Shape.{act, quit, inner_step, left_side, right_side, both_sides, hidden, enabled, passed, let_bound, at_gate, relabelled}
 use Rattle.behaviour_cases.specs.Samples.{nat_sort, nought, one, two, truth, plus, nat, nat_variable, gate_a, gate_b, gate_g, gate_h, gate_y, gate_z, offering, event, test_of}
 use Rattle.behaviour_cases.specs.Showing.{HasMenu, Steps, gives, event_line, draft, entry, sample_move, move}
 
@@ -51,6 +51,17 @@ another_sort = parallel (at_gates (gate_g ∷ [])) (offering gate_g (give nought
 abbrev pub one_result_less : Behaviour
 one_result_less = parallel no_gates (exit_with (exit_value nought ∷ [])) (exit_with [])
 
+-- `g; stop |[g]| g !0; stop`, `exit(0, Succ(0)) >> accept x:Nat in g !x; stop` and
+-- `exit(0) >> accept x, y:Nat in g !x; stop`
+abbrev pub one_value_more : Behaviour
+one_value_more = parallel (at_gates (gate_g ∷ [])) (event gate_g stop) (offering gate_g (give nought ∷ []) stop)
+
+abbrev pub one_result_more : Behaviour
+one_result_more = enable (exit_with (exit_value nought ∷ exit_value one ∷ [])) (nat_variable 0 ∷ []) (offering gate_g (give (nat 0) ∷ []) stop)
+
+abbrev pub one_variable_more : Behaviour
+one_variable_more = enable (exit_with (exit_value nought ∷ [])) (nat_variable 0 ∷ nat_variable 1 ∷ []) (offering gate_g (give (nat 0) ∷ []) stop)
+
 abbrev pub another_result : Behaviour
 another_result = enable (exit_with (exit_value truth ∷ [])) (nat_variable 0 ∷ []) (offering gate_g (give (nat 0) ∷ []) stop)
 
@@ -58,7 +69,10 @@ another_result = enable (exit_with (exit_value truth ∷ [])) (nat_variable 0 �
 pub record SortsHaveToAgree : Type 0 where
   pub fewer : HasMenu [] one_value_less []
   pub other : HasMenu [] another_sort []
+  pub more : HasMenu [] one_value_more []
   pub fewer_results : HasMenu [] one_result_less []
+  pub more_results : HasMenu [] one_result_more []
+  pub more_variables : HasMenu [] one_variable_more []
   pub other_result : HasMenu [] another_result []
 
 -- `par z in [a, b, g] ||| z; stop` and `par z in [a] ||| z; stop`
@@ -68,7 +82,11 @@ three_copies = par_gate gate_z (gate_a ∷ gate_b ∷ gate_g ∷ []) no_gates (e
 abbrev pub one_copy : Behaviour
 one_copy = par_gate gate_z (gate_a ∷ []) no_gates (event gate_z stop)
 
--- The copies of a gate `par` are nested to the right, and a single one stands alone.
+-- `par z in [a, a] || z; stop`
+abbrev pub meeting_copies : Behaviour
+meeting_copies = par_gate gate_z (gate_a ∷ gate_a ∷ []) all_gates (event gate_z stop)
+
+-- The copies of a gate `par` are nested to the right, and a single one stands alone. They meet at the gates of its set.
 pub record CopiesAreNestedToTheRight : Type 0 where
   pub three : HasMenu [] three_copies (
       event_line (left_side (relabelled act)) (gate_event gate_a [])
@@ -80,6 +98,7 @@ pub record CopiesAreNestedToTheRight : Type 0 where
       Steps [] three_copies (right_side (right_side (relabelled act))) [] (gate_event gate_g [])
       (parallel no_gates (relabel ((gate_z, gate_a) ∷ []) (event gate_z stop)) (parallel no_gates (relabel ((gate_z, gate_b) ∷ []) (event gate_z stop)) stop))
   pub one : HasMenu [] one_copy (event_line (relabelled act) (gate_event gate_a []) ∷ [])
+  pub meeting : HasMenu [] meeting_copies (event_line (both_sides (relabelled act) (relabelled act)) (gate_event gate_a []) ∷ [])
   pub alone : Steps [] one_copy (relabelled act) [] (gate_event gate_a []) stop
 
 -- `let x = Succ(0) in let x = x + 0 in g !x; stop` and `let x = Succ(0) in g ?x:Nat [x = 0]; stop`, where all x have one

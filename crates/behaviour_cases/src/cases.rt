@@ -2,7 +2,7 @@
 
 ghost use Rattle.behaviour_cases.specs.MenuCases.{EqualLabelsStayInTheMenu};
 ghost use Rattle.behaviour_cases.specs.SampleLaws.{SampleFormsAreACanon};
-ghost use Rattle.behaviour_cases.specs.OrderCases.{ShapesStandInOrder, CallsAreGuardedByActions};
+ghost use Rattle.behaviour_cases.specs.OrderCases.{ShapesStandInOrder, CallsAreGuardedByActions, EdgesNeedNotMakeACycle};
 ghost use Rattle.behaviour_cases.specs.OfferCases.{EqualLabelsAreTwoEntries, APredicateIsKept, AMatchGivesTheValue, APredicateOutlivesAMatch, AnEmptyChoiceHasNoInstance, AnUnsolvableConditionIsKept, TheEarlierVariableStays, ValuesAreBound};
 ghost use Rattle.behaviour_cases.specs.FormCases.{ACallKeepsItsGatesApart, ATargetStaysRelabelled, BothSidesEndTogether, ADisablingEndsWithItsLeftSide, AHiddenEventKeepsItsVariable, SidesMeetAtTheirGates, GatesAreListed};
 
@@ -89,6 +89,11 @@ pub fn the_earlier_variable_stays()
 /// Calls below an action and on the right of `>>` are guarded.
 pub fn calls_are_guarded_by_actions()
     ensures { CallsAreGuardedByActions }
+{}
+
+/// Processes with an unguarded call and without a cycle are guarded.
+pub fn edges_need_not_make_a_cycle()
+    ensures { EdgesNeedNotMakeACycle }
 {}
 
 /// The exact menu keeps two entries with one label, and what the laws ask for can be met.

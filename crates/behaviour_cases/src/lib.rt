@@ -2,6 +2,8 @@
 #![tactic(auto)]
 
 pub mod cases;
+pub mod comparison_cases;
+pub mod solving_cases;
 pub mod table_cases;
 pub mod value_cases;
 pub mod well_formed_cases;

@@ -1,6 +1,6 @@
 //! Worked cases on values.
 
-ghost use Rattle.behaviour_cases.specs.ValueCases.{LeavesStandInOrder, ParametersGetTheirValues, LetBindsTogether, BoundValuesAreCanonical, AlikeBehavioursHaveEqualTerms};
+ghost use Rattle.behaviour_cases.specs.ValueCases.{LeavesStandInOrder, ParametersGetTheirValues, LetBindsTogether, BoundValuesAreCanonical, ValuesOfLabelsStay, AlikeBehavioursHaveEqualTerms};
 
 /// The leaves of a derivation stand in preorder, as many as are wanted.
 pub fn leaves_stand_in_order()
@@ -20,6 +20,11 @@ pub fn let_binds_together()
 /// Bound values and the values of labels are kept in canonical form.
 pub fn bound_values_are_canonical()
     ensures { BoundValuesAreCanonical }
+{}
+
+/// The values of labels stay under `hide` and under a relabelling.
+pub fn values_of_labels_stay()
+    ensures { ValuesOfLabelsStay }
 {}
 
 /// Behaviours are alike where only equal terms differ.

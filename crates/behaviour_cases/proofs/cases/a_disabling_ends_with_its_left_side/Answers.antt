@@ -11,5 +11,7 @@ returns c = record {
   next = menu _ _ 9 _ refl refl refl (settled _ refl refl, (settled _ refl refl, tt));
   ends = steps _ _ _ _ _ _ _ _ refl refl refl;
   still_begins = steps _ _ _ _ _ _ _ _ refl refl refl;
+  end_menu = menu _ _ 9 _ refl refl refl (settled _ refl refl, (settled _ refl refl, tt));
+  ends_by_the_right = steps _ _ _ _ _ _ _ _ refl refl refl;
   last = menu _ _ 9 _ refl refl refl tt;
 }

@@ -45,6 +45,7 @@ returns c = record {
   unguarded = refl;
   cycle = (((at_once, refl, (0, refl)), tt), refl);
   below = refl;
+  below_inner = refl;
   behind = refl;
   on_the_left = refl;
   guarded = no_cycle;

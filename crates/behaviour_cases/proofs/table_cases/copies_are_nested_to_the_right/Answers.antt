@@ -8,5 +8,6 @@ returns c = record {
   three = menu _ _ 9 _ refl refl refl (settled _ refl refl, (settled _ refl refl, (settled _ refl refl, tt)));
   third = steps _ _ _ _ _ _ _ _ refl refl refl;
   one = menu _ _ 9 _ refl refl refl (settled _ refl refl, tt);
+  meeting = menu _ _ 9 _ refl refl refl (settled _ refl refl, tt);
   alone = steps _ _ _ _ _ _ _ _ refl refl refl;
 }

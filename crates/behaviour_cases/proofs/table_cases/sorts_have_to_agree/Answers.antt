@@ -6,6 +6,9 @@ pub returns : goal.returns
 returns c = record {
   fewer = menu _ _ 9 _ refl refl refl tt;
   other = menu _ _ 9 _ refl refl refl tt;
+  more = menu _ _ 9 _ refl refl refl tt;
+  more_results = menu _ _ 9 _ refl refl refl tt;
+  more_variables = menu _ _ 9 _ refl refl refl tt;
   fewer_results = menu _ _ 9 _ refl refl refl tt;
   other_result = menu _ _ 9 _ refl refl refl tt;
 }

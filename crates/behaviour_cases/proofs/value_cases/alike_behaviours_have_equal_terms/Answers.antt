@@ -6,14 +6,10 @@ use Rattle.term_algebra.proofs.SubstitutionLemmas.{ground_no_variable}
 use Rattle.term_algebra.proofs.CanonLemmas.{canon_tells}
 use Rattle.behaviour_semantics.specs.Alike.{AlikeTerms}
 use Rattle.behaviour_cases.specs.Samples.{nat_sort, sample_signature, sample_data, sample_canon, nought, one, plus, nat}
-use Rattle.behaviour_cases.specs.ValueCases.{sum}
 use Rattle.behaviour_cases.proofs.SampleCanon.{sample_is_canon}
 use Rattle.behaviour_cases.proofs.TermTests.{term_passes, ground_in}
-use Rattle.behaviour_cases.proofs.CaseLemmas.{sum_ground, nought_not_one}
+use Rattle.behaviour_cases.proofs.CaseLemmas.{sum_ground, sum_is_one, nought_not_one}
 use Rattle.behaviour_cases.proofs.value_cases.alike_behaviours_have_equal_terms.Goals as goal
-
-sum_is_one : AlikeTerms sample_data sum one
-sum_is_one values h k = canon_tells sample_data sample_canon sum one nat_sort sample_is_canon (ground_in sample_signature nat_sort sum refl) (ground_in sample_signature nat_sort one refl) refl
 
 sum_with_nought_is_the_same : AlikeTerms sample_data (plus (nat 0) nought) (nat 0)
 sum_with_nought_is_the_same values h k =
@@ -40,11 +36,13 @@ x_is_not_one h = nought_not_one (h always_nought x_as_nought (closed one nat_sor
 
 pub returns : goal.returns
 returns c = record {
-  closed = (refl, (sum_is_one, tt), tt, tt);
+  closed = (refl, ((λ values h k. sum_is_one), tt), tt, tt);
   with_variables = (refl, (refl, tt), tt, (refl, (sum_with_nought_is_the_same, tt), tt, tt));
   not_another_value = λ h. nought_is_not_one h.1.0;
   not_another_variable = λ h. x_is_not_one h.3.1.0;
   not_swapped = λ h. absurd (cc h.0.0);
   not_another_offer = λ h. h.1;
+  not_another_argument = λ h. nought_is_not_one h.2.0;
+  not_another_form = λ h. h;
   not_fewer_offers = λ h. h.1;
 }

@@ -14,6 +14,8 @@ returns c = record {
   accepting_as_given = steps _ _ _ _ _ _ _ _ refl refl refl;
   calling = kept_steps _ _ _ _ _ _ _ _ refl refl refl;
   calling_as_given = steps _ _ _ _ _ _ _ _ refl refl refl;
+  ending = kept_steps _ _ _ _ _ _ _ _ refl refl refl;
+  ending_as_given = steps _ _ _ _ _ _ _ _ refl refl refl;
   given = kept_steps _ _ _ _ _ _ _ _ refl refl refl;
   written = kept_steps _ _ _ _ _ _ _ _ refl refl refl;
 }

@@ -8,6 +8,7 @@ returns c = record {
   menu = menu _ _ 9 _ refl refl refl (settled _ refl refl, tt);
   step = steps _ _ _ _ _ _ _ _ refl refl refl;
   next = menu _ _ 9 _ refl refl refl (settled _ refl refl, tt);
+  two_menu = menu _ _ 9 _ refl refl refl (settled _ refl refl, tt);
   below_let_menu = menu _ _ 9 _ refl refl refl (settled _ refl refl, tt);
   below_let = steps _ _ _ _ _ _ _ _ refl refl refl;
 }
