@@ -24,6 +24,7 @@ pub record WhatIsNotWellFormed : Type 0 where
   pub free_variable : IsAccepted [] (offering gate_g (give (nat 0) ∷ []) stop) → ⊥
   pub ill_sorted_term : IsAccepted [] (offering gate_g (give (succ truth) ∷ []) stop) → ⊥
   pub unknown_sort : IsAccepted [] (choose_value (record { name = codes "x"; number = 0; sort = no_sort }) stop) → ⊥
+  pub unknown_question : IsAccepted [] (offering gate_g (ask (record { name = codes "x"; number = 0; sort = no_sort }) ∷ []) stop) → ⊥
   pub unknown_result : IsAccepted [] (exit_with (any_of no_sort ∷ [])) → ⊥
   -- the innermost variable with a number counts, here one of sort Nat
   pub hidden_variable : IsAccepted [] (let_be ((record { name = codes "x"; number = 0; sort = bool_sort }, truth) ∷ []) (choose_value (nat_variable 0) (exit_with (exit_value (variable 0 bool_sort) ∷ [])))) → ⊥

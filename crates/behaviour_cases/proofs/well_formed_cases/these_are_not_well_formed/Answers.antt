@@ -32,6 +32,7 @@ returns c = record {
   free_variable = λ h. absurd (cc (h.1.0.1.bound 0 nat_sort (refl, refl)));
   ill_sorted_term = λ h. no_successor h.1.0.0 h.1.0.1.sorted;
   unknown_sort = λ h. not_below_itself 3 h.0;
+  unknown_question = λ h. not_below_itself 3 h.1.0;
   unknown_result = λ h. not_below_itself 3 h.0;
   hidden_variable = λ h. absurd (cc (h.2.1.0.1.bound 0 0 (refl, refl)));
   offer_in_its_own_scope = λ h. absurd (cc (h.1.1.0.1.bound 0 nat_sort (refl, refl)));

@@ -1,0 +1,33 @@
+use Rattle.std.proofs.Common.{◌≡◌, [], sym, subst, ◌∙◌, if◌then◌else◌}
+use Rattle.std.specs.Prelude.{IfSome}
+use Rattle.std.proofs.lemmas.Result.{IfOk-weaker}
+use Rattle.term_algebra.specs.Signature.{Signature}
+use Rattle.behaviour_semantics.specs.Behaviour as plain
+use Rattle.behaviour_semantics.specs.Behaviour.{Behaviour}
+use Rattle.behaviour_semantics.specs.Listing.{below_enable}
+use Rattle.behaviour_semantics.specs.Replacement.{binding_of}
+use Rattle.behaviour_semantics.specs.Rule.{is_exit}
+use Rattle.behaviour_semantics.specs.Shape.{Shape}
+use Rattle.plain_moves.specs.MoveView.{shaped_of}
+use Rattle.plain_moves.specs.Taken.{taken_of}
+use Rattle.plain_moves.specs.View.{behaviour_of, label_of}
+use Rattle.plain_moves.specs.declared.behaviour.PlainBehaviour.{PlainBehaviour}
+use Rattle.plain_moves.specs.declared.label.PlainLabel.{PlainLabel}
+use Rattle.plain_moves.specs.declared.label.PlainLabel.TheVariants as label
+use Rattle.plain_moves.specs.declared.rule.Rule.{Rule}
+use Rattle.plain_moves.proofs.NoValues.{same_with_values}
+use Rattle.plain_moves.proofs.rule.Rule.target.Goals as goal
+
+-- the target of a left side of `>>`
+enabled_target : (signature : Signature) (shape : Shape) (l : PlainLabel) (target b : Behaviour) (right : PlainBehaviour) →
+    b ≡ (if is_exit (label_of l) then behaviour_of right else plain.enable target [] (behaviour_of right)) →
+    IfSome (below_enable signature [] (behaviour_of right) (record { shape = shape; move = record { label = label_of l; target = target; asked = []; sorts = [] } })) (λ x. x.move.target ≡ b)
+enabled_target signature shape label.Inner target b right e = sym e
+enabled_target signature shape (label.Gate gate) target b right e = sym e
+enabled_target signature shape label.Exit target b right e = same_with_values (binding_of [] []) right ∙ sym e
+
+pub returns-in-Enabling : goal.returns-in-Enabling
+returns-in-Enabling c =
+    IfOk-weaker c.after_enable.result _ _ (λ b e signature. subst (λ (r : Rule). IfSome (taken_of signature r (shaped_of c.args.part.now)) (λ x. x.move.target ≡ behaviour_of b)) (sym c.in-Enabling.is)
+    (enabled_target signature _ c.args.part.now.label (behaviour_of c.args.part.now.target) (behaviour_of b) c.in-Enabling.right.now (let same : behaviour_of c.in_ok-target.target ≡ behaviour_of c.args.part.now.target = c.in_ok-target.ensures in cc)))
+    c.after_enable.ensures

@@ -1,0 +1,4 @@
+pub mod Listed
+pub mod MoveView
+pub mod Taken
+pub mod View
