@@ -73,14 +73,18 @@ pub record ParametersGetTheirValues : Type 0 where
   pub below_let_menu : HasMenu (counting ∷ []) called_below_let (event_line (let_bound (called act)) (gate_event gate_a (one ∷ [])) ∷ [])
   pub below_let : Steps (counting ∷ []) called_below_let (let_bound (called act)) [] (gate_event gate_a (one ∷ [])) counted_to_two
 
--- `let x:Nat = Succ(0), y:Nat = Succ(Succ(0)) in let x:Nat = y, y:Nat = x in g !x !y; stop`
+-- `let x:Nat = Succ(0), y:Nat = Succ(Succ(0)) in g !x !y; stop`, and with `let x:Nat = y, y:Nat = x in` before the action
+abbrev pub bound_together : Behaviour
+bound_together = let_be ((nat_variable 0, one) ∷ (nat_variable 1, two) ∷ []) (offering gate_g (give (nat 0) ∷ give (nat 1) ∷ []) stop)
+
 abbrev pub swapped_by_let : Behaviour
 swapped_by_let =
     let_be ((nat_variable 0, one) ∷ (nat_variable 1, two) ∷ [])
     (let_be ((nat_variable 0, nat 1) ∷ (nat_variable 1, nat 0) ∷ []) (offering gate_g (give (nat 0) ∷ give (nat 1) ∷ []) stop))
 
--- The variables of one `let` get their values together.
+-- The variables of one `let` get their values one by one and together.
 pub record LetBindsTogether : Type 0 where
+  pub in_order : HasMenu [] bound_together (event_line (let_bound act) (gate_event gate_g (one ∷ two ∷ [])) ∷ [])
   pub menu : HasMenu [] swapped_by_let (event_line (let_bound (let_bound act)) (gate_event gate_g (two ∷ one ∷ [])) ∷ [])
   pub step : Steps [] swapped_by_let (let_bound (let_bound act)) [] (gate_event gate_g (two ∷ one ∷ [])) stop
 
