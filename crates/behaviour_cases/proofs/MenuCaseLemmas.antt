@@ -3,7 +3,7 @@ use Rattle.std.proofs.Common.{◌≡◌, ℕ, List, [], ◌∷◌, slice_get, So
 use Rattle.term_algebra.specs.Signature.{Sort, Operation, IsSort, IsWellFormedSignature}
 use Rattle.term_algebra.specs.Term.{Term}
 use Rattle.term_algebra.proofs.CanonLemmas.{identity_canon}
-use Rattle.term_algebra.proofs.ExampleHelpers.{each_member, one_position}
+use Rattle.term_algebra.proofs.ExampleHelpers.{each_member, one_named}
 use Rattle.behaviour_semantics.specs.Behaviour.{Behaviour, stop}
 use Rattle.behaviour_semantics.specs.Derives.{Derives}
 use Rattle.behaviour_semantics.specs.Label.{gate_event}
@@ -17,7 +17,6 @@ use Rattle.behaviour_semantics.specs.Listing.{none_left, entry_then}
 use Rattle.behaviour_semantics.proofs.OptionLemmas.{some_value}
 use Rattle.behaviour_semantics.proofs.ListedMenus.{exact_list}
 use Rattle.behaviour_cases.specs.MenuCases.{two_constants, first_constant, second_constant, three_actions, with_three_actions, three_entries}
-use Rattle.behaviour_cases.proofs.SampleSignature.{names_apart}
 use Rattle.behaviour_cases.proofs.TermTests.{values_in}
 use Rattle.behaviour_cases.proofs.WellFormedTests.{closed_behaviour, well_formed_specification}
 
@@ -31,8 +30,9 @@ is_well_formed : IsWellFormedSignature two_constants.signature
 is_well_formed = record {
   results = λ f o e. each_member (λ (o : Operation). IsSort two_constants.signature o.result) two_constants.signature.operations f o (sort_in, (sort_in, tt)) e;
   arguments = λ f i s o e d. each_member (λ (o : Operation). (i s : ℕ) → slice_get o.arguments i ≡ Some s → IsSort two_constants.signature s) two_constants.signature.operations f o (no_argument_in, (no_argument_in, tt)) e i s d;
-  sort_names = λ i j s t e d a. one_position (λ (s t : Sort). s.name ≡ t.name) two_constants.signature.sorts i j s t (tt, tt) e d a;
-  profiles = λ f g o p e d name form arguments result. one_position (λ (o p : Operation). o.name ≡ p.name) two_constants.signature.operations f g o p ((names_apart _ _ refl, tt), (tt, tt)) e d name;
+  sort_names = λ i j s t e d a. one_named (λ (s : Sort). s.name) two_constants.signature.sorts i j s t refl e d a;
+  profiles = λ f g o p e d name form arguments result. one_named (λ (o : Operation). o.name) two_constants.signature.operations f g o p
+      refl e d name;
 }
 
 pub are_over : AreOver two_constants as_given with_three_actions three_actions

@@ -1,8 +1,8 @@
 -- The sample signature is well formed: its sorts and operations have different names.
-use Rattle.std.proofs.Common.{◌≡◌, ℕ, List, [], ◌∷◌, refl, sym, arith}
-use Rattle.std.specs.Prelude.{Some, slice_get, nat_eq, Bool}
+use Rattle.std.proofs.Common.{◌≡◌, ℕ, List, [], ◌∷◌, refl, arith}
+use Rattle.std.specs.Prelude.{Some, slice_get}
 use Rattle.term_algebra.specs.Signature.{Sort, Operation, IsSort, IsWellFormedSignature}
-use Rattle.term_algebra.proofs.ExampleHelpers.{each_member, one_position, first_byte, names_differ}
+use Rattle.term_algebra.proofs.ExampleHelpers.{each_member, one_named}
 use Rattle.behaviour_cases.specs.Samples.{sample_signature}
 
 bool_in : IsSort sample_signature 0
@@ -10,10 +10,6 @@ bool_in = omega arith
 
 nat_in : IsSort sample_signature 1
 nat_in = omega arith
-
--- names with different first bytes differ both ways
-pub names_apart : (xs ys : List ℕ) → nat_eq (first_byte xs) (first_byte ys) ≡ Bool.false → (xs ≡ ys → ⊥) × (ys ≡ xs → ⊥)
-names_apart xs ys different = (names_differ xs ys different, λ e. names_differ xs ys different (sym e))
 
 -- the sorts of no argument, of one of sort Nat, and of two
 abbrev ArgumentsIn : List ℕ → Type 0
@@ -34,16 +30,7 @@ sample_signature_is_well_formed = record {
       (nat_in, (nat_in, (bool_in, (bool_in, (nat_in, (bool_in, tt)))))) e;
   arguments = λ f i s o e d. each_member (λ (o : Operation). ArgumentsIn o.arguments) sample_signature.operations f o
       (no_argument_in, (one_argument_in, (no_argument_in, (two_arguments_in, (two_arguments_in, (no_argument_in, tt)))))) e i s d;
-  sort_names = λ i j s t e d a. one_position (λ (s t : Sort). s.name ≡ t.name) sample_signature.sorts i j s t
-      ((names_apart _ _ refl, (names_apart _ _ refl, tt)), ((names_apart _ _ refl, tt), (tt, tt))) e d a;
-  profiles = λ f g o p e d name form arguments result. one_position (λ (o p : Operation). o.name ≡ p.name) sample_signature.operations f g o p (
-    (names_apart _ _ refl, (names_apart _ _ refl, (names_apart _ _ refl, (names_apart _ _ refl, (names_apart _ _ refl, tt))))),
-    (
-      (names_apart _ _ refl, (names_apart _ _ refl, (names_apart _ _ refl, (names_apart _ _ refl, tt)))),
-      (
-        (names_apart _ _ refl, (names_apart _ _ refl, (names_apart _ _ refl, tt))),
-        ((names_apart _ _ refl, (names_apart _ _ refl, tt)), ((names_apart _ _ refl, tt), (tt, tt))),
-      ),
-    ),
-  ) e d name;
+  sort_names = λ i j s t e d a. one_named (λ (s : Sort). s.name) sample_signature.sorts i j s t refl e d a;
+  profiles = λ f g o p e d name form arguments result. one_named (λ (o : Operation). o.name) sample_signature.operations f g o p refl e
+      d name;
 }

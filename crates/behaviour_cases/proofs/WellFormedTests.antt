@@ -5,9 +5,9 @@ use Rattle.term_algebra.specs.Signature.{Signature, IsSort}
 use Rattle.term_algebra.specs.Term.{Term}
 use Rattle.term_algebra.specs.Equation.{Variable}
 use Rattle.term_algebra.specs.Substitution.{is_listed}
-use Rattle.behaviour_semantics.specs.Behaviour.{Behaviour, stop, exit_with, action, inner_action, guard, choice, parallel, hide, enable, disable, let_be, choose_value, choose_gate, par_gate, call, relabel, Test, Offer, give, ask, ExitValue, exit_value, any_of, Meet, no_gates, all_gates, at_gates, Process, Specification, Relabelling, asked_variables, numbers_of, let_variables, let_terms}
+use Rattle.behaviour_semantics.specs.Behaviour.{Behaviour, stop, exit_with, action, inner_action, guard, choice, parallel, hide, enable, disable, let_be, choose_value, choose_gate, par_gate, call, relabel, Test, Offer, give, ask, ExitValue, exit_value, any_of, SynchronisationSet, no_gates, all_gates, at_gates, Process, Specification, Relabelling, asked_variables, numbers_of, let_variables, let_terms}
 use Rattle.behaviour_semantics.specs.Label.{formals_of}
-use Rattle.behaviour_semantics.specs.WellFormed.{Every, AreDistinct, IsTestIn, AreTermsIn, AreBinders, IsTestOption, IsOffer, IsExitValue, AreGates, IsMeet, IsCall, IsRelabelling, IsBehaviour, IsFunctionality, IsDefinition, IsSpecification}
+use Rattle.behaviour_semantics.specs.WellFormed.{Every, AreDistinct, IsTestIn, AreTermsIn, AreBinders, IsTestOption, IsOffer, IsExitValue, AreGates, IsSynchronisationSet, IsCall, IsRelabelling, IsBehaviour, IsFunctionality, IsDefinition, IsSpecification}
 use Rattle.std.proofs.Common.{arith}
 use Rattle.std.proofs.lemmas.Bool.Decides.{nat_tests}
 use Rattle.behaviour_semantics.proofs.OptionLemmas.{some_value}
@@ -122,12 +122,12 @@ module _ (signature : Signature) (names : ℕ) (processes : List Process) where
   are_gates : (gates : List ℕ) → gates_pass gates ≡ true → AreGates names gates
   are_gates gates e = every_passed (λ g. nat_lt g names) (λ g. g < names) (λ g h. ltb-true g names h) gates e
 
-  abbrev meet_passes : Meet → Bool
+  abbrev meet_passes : SynchronisationSet → Bool
   meet_passes no_gates = true
   meet_passes all_gates = true
   meet_passes (at_gates gates) = gates_pass gates
 
-  is_meet : (meet : Meet) → meet_passes meet ≡ true → IsMeet names meet
+  is_meet : (meet : SynchronisationSet) → meet_passes meet ≡ true → IsSynchronisationSet names meet
   is_meet no_gates e = tt
   is_meet all_gates e = tt
   is_meet (at_gates gates) e = are_gates gates e

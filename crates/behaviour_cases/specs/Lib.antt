@@ -10,3 +10,5 @@ pub mod ValueCases
 pub mod SolvingCases
 pub mod ComparisonCases
 pub mod WellFormedCases
+pub mod FaultCases
+pub mod DraftCases

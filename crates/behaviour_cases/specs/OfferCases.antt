@@ -9,7 +9,7 @@ use Rattle.behaviour_semantics.specs.Menu.{Meets}
 use Rattle.behaviour_semantics.specs.Solving.{Entry, SolvesTo}
 use Rattle.behaviour_semantics.specs.Transition.{Transition}
 use Rattle.behaviour_cases.specs.Samples.{nat_sort, empty_sort, nought, succ, one, two, truth, less, plus, nat, nat_variable, gate_g, gate_h, offering, test_of, sample_data, sample_canon}
-use Rattle.behaviour_cases.specs.Showing.{Line, HasMenu, Steps, gives, gives_nothing, as_it_is, event_line, sample_move, draft, entry, move}
+use Rattle.behaviour_cases.specs.Showing.{FittingShape, HasMenu, Steps, gives, gives_nothing, as_it_is, event_line, sample_move, draft, entry, move}
 
 -- `g !0; stop [] (g ?x:Nat; stop [] g !0; stop)`
 abbrev pub equal_labels : Behaviour
@@ -67,7 +67,7 @@ mismatched =
     (action gate_g (ask (nat_variable 0) ∷ []) (Some (test_of (nat 0) nought)) stop)
     (offering gate_g (give (plus one nought) ∷ []) stop)
 
-abbrev pub mismatched_lines : List Line
+abbrev pub mismatched_lines : List FittingShape
 mismatched_lines =
     gives_nothing (draft (both_sides act act) (gate_event gate_g (nat 0 ∷ [])) (nat 0 ∷ []) (test_of (nat 0) nought ∷ test_of (nat 0) one ∷ []))
     ∷ []
@@ -87,7 +87,7 @@ over_nothing = choose_value (record { name = codes "x"; number = 0; sort = empty
 abbrev pub over_nothing_entry : Entry
 over_nothing_entry = entry (with_value act) (gate_event gate_g (variable 0 empty_sort ∷ [])) (empty_sort ∷ []) (variable 0 empty_sort ∷ []) []
 
-abbrev pub over_nothing_lines : List Line
+abbrev pub over_nothing_lines : List FittingShape
 over_nothing_lines =
     gives (draft (with_value act) (gate_event gate_g (variable 0 empty_sort ∷ [])) (variable 0 empty_sort ∷ []) []) over_nothing_entry
     ∷ []
@@ -110,7 +110,7 @@ chasing_entry =
     entry (both_sides (with_value act) (with_value act)) (gate_event gate_g (succ (nat 0) ∷ succ (succ (nat 0)) ∷ [])) (nat_sort ∷ []) (succ (nat 0) ∷ nat 0 ∷ [])
     (test_of (succ (succ (nat 0))) (nat 0) ∷ [])
 
-abbrev pub chasing_lines : List Line
+abbrev pub chasing_lines : List FittingShape
 chasing_lines =
     gives
     (draft (both_sides (with_value act) (with_value act)) (gate_event gate_g (nat 0 ∷ succ (nat 0) ∷ [])) (nat 0 ∷ nat 1 ∷ [])

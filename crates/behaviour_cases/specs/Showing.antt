@@ -25,29 +25,29 @@ abbrev pub move : Label → Behaviour → List Test → List ℕ → Option Move
 move label target asked sorts = Some (record { label = label; target = target; asked = asked; sorts = sorts })
 
 -- A shape that fits, by its draft, with the entry that solving the draft gives, if it gives one.
-pub record Line : Type 0 where
+pub record FittingShape : Type 0 where
   pub draft : Draft
   pub entry : Option Entry
 
-abbrev pub gives : Draft → Entry → Line
+abbrev pub gives : Draft → Entry → FittingShape
 gives draft entry = record { draft = draft; entry = Some entry }
 
-abbrev pub gives_nothing : Draft → Line
+abbrev pub gives_nothing : Draft → FittingShape
 gives_nothing draft = record { draft = draft; entry = None }
 
 -- Where solving has nothing to do, the entry has the draft's label, leaves and conditions.
-abbrev pub as_it_is : Shape → Label → List ℕ → List Term → List Test → Line
+abbrev pub as_it_is : Shape → Label → List ℕ → List Term → List Test → FittingShape
 as_it_is shape label variables leaves conditions = gives (draft shape label leaves conditions) (entry shape label variables leaves conditions)
 
 -- The same for a shape without leaves and conditions.
-abbrev pub event_line : Shape → Label → Line
+abbrev pub event_line : Shape → Label → FittingShape
 event_line shape label = as_it_is shape label [] [] []
 
-abbrev pub shapes_of : List Line → List Shape
-shapes_of lines = map (λ (l : Line). l.draft.shape) lines
+abbrev pub shapes_of : List FittingShape → List Shape
+shapes_of lines = map (λ (l : FittingShape). l.draft.shape) lines
 
-abbrev pub entries_of : List Line → List Entry
-entries_of lines = filter_map (λ (l : Line). l.entry) lines
+abbrev pub entries_of : List FittingShape → List Entry
+entries_of lines = filter_map (λ (l : FittingShape). l.entry) lines
 
 -- The specification of the cases: the gates of the samples and these processes.
 abbrev pub sample_specification : List Process → Specification
@@ -63,11 +63,11 @@ sample_specification processes = record {
 
 -- The behaviour is closed and well formed, and so is all that stands with it; the shapes of the lines fit, with these
 -- drafts, and no other shape does; each draft solves to its entry; and the entries are the exact menu.
-pub record HasMenu (processes : List Process) (b : Behaviour) (lines : List Line) : Type 0 where
+pub record HasMenu (processes : List Process) (b : Behaviour) (lines : List FittingShape) : Type 0 where
   pub over : AreOver sample_data sample_canon (sample_specification processes) b
-  pub drafts : Every (λ (l : Line). draft_of sample_data sample_canon processes l.draft.shape b ≡ Some l.draft) lines
+  pub drafts : Every (λ (l : FittingShape). draft_of sample_data sample_canon processes l.draft.shape b ≡ Some l.draft) lines
   pub no_other : (shape : Shape) → Fits sample_data sample_canon processes b shape → IsAmong shape (shapes_of lines)
-  pub solved : Every (λ (l : Line). SolvesTo sample_canon l.draft l.entry) lines
+  pub solved : Every (λ (l : FittingShape). SolvesTo sample_canon l.draft l.entry) lines
   pub exact : Exact sample_data sample_canon processes b (entries_of lines)
 
 -- The shape with these leaves derives the move.
@@ -81,4 +81,4 @@ KeptSteps processes b shape leaves label target = Keeps sample_data sample_canon
 -- The move of a shape with these leaves, values as they are given. What it asks need not hold.
 abbrev pub sample_move : List Process → Behaviour → Shape → List Term → Option Move
 sample_move processes b shape leaves =
-    move_of (record { signature = sample_signature; form = as_given; processes = processes }) (leaves_in leaves) shape 0 b
+    move_of (record { signature = sample_signature; represent = as_given; processes = processes }) (leaves_in leaves) shape 0 b

@@ -3,6 +3,8 @@
 
 pub mod cases;
 pub mod comparison_cases;
+pub mod draft_cases;
+pub mod fault_cases;
 pub mod solving_cases;
 pub mod table_cases;
 pub mod value_cases;

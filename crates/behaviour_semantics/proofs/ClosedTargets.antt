@@ -10,14 +10,14 @@ use Rattle.term_algebra.specs.Equation.{Data, Variable}
 use Rattle.term_algebra.specs.Substitution.{Substitution, is_listed}
 use Rattle.term_algebra.proofs.SubstitutionLemmas.{no_variable_ground}
 use Rattle.term_algebra.proofs.SortLemmas.{sort_of_sorted}
-use Rattle.behaviour_semantics.specs.Behaviour.{Behaviour, stop, exit_with, action, inner_action, guard, choice, parallel, hide, enable, disable, let_be, choose_value, choose_gate, par_gate, call, relabel, Offer, give, ask, ExitValue, exit_value, any_of, Meet, Process, Specification, Relabelling, asked_variables, open_sorts, sorts_of, let_variables, let_terms}
+use Rattle.behaviour_semantics.specs.Behaviour.{Behaviour, stop, exit_with, action, inner_action, guard, choice, parallel, hide, enable, disable, let_be, choose_value, choose_gate, par_gate, call, relabel, Offer, give, ask, ExitValue, exit_value, any_of, SynchronisationSet, Process, Specification, Relabelling, asked_variables, open_sorts, sorts_of, let_variables, let_terms}
 use Rattle.behaviour_semantics.specs.Label.{Label, inner_event, gate_event, exit_event, label_under, gate_under, under}
 use Rattle.behaviour_semantics.specs.Replacement.{with_values, binding_of}
 use Rattle.behaviour_semantics.specs.Rule.{offered, results_of, moves_alone, is_same_sort, have_sorts, move_together, label_values, pairwise, hidden_label, is_exit, still_disabled, copies, AreValues}
 use Rattle.behaviour_semantics.specs.Shape.{Shape, act, quit, inner_step, guarded, left_side, right_side, both_sides, hidden, enabled, passed, let_bound, with_value, at_gate, called, relabelled, Derivation}
 use Rattle.behaviour_semantics.specs.Move.{Setting, Move, move_of, taken, opened, alone, together, passing, enabling, disabling, hiding, asking, relabelling, after_leaf, act_move, quit_move, inner_move, guarded_move, left_move, right_move, both_move, hidden_move, enabled_move, passed_move, let_move, value_move, gate_move, called_move, relabelled_move}
 use Rattle.behaviour_semantics.specs.Derives.{GivesMove, leaves_in}
-use Rattle.behaviour_semantics.specs.WellFormed.{Every, IsTermIn, AreTermsIn, IsOffer, IsExitValue, AreGates, IsMeet, IsRelabelling, IsBehaviour, IsDefinition, IsSpecification, IsClosedLabel, IsClosedBehaviour}
+use Rattle.behaviour_semantics.specs.WellFormed.{Every, IsTermIn, AreTermsIn, IsOffer, IsExitValue, AreGates, IsSynchronisationSet, IsRelabelling, IsBehaviour, IsDefinition, IsSpecification, IsClosedLabel, IsClosedBehaviour}
 use Rattle.behaviour_semantics.proofs.OptionLemmas.{some_value, mapped, chained, tested, tested_not}
 use Rattle.behaviour_semantics.proofs.ListLemmas.{Every-at}
 use Rattle.behaviour_semantics.proofs.SupplyLemmas.{Supplied, Supplied-append, Supplied-leaves_in, AreValues-taken}
@@ -26,38 +26,45 @@ use Rattle.behaviour_semantics.proofs.DistinctGates.{gate_named, gates_named, co
 
 -- The form keeps ground terms ground and of their sort.
 abbrev pub KeepsGround : Signature → (Term → Term) → Type 0
-KeepsGround signature form = (t : Term) (s : ℕ) → IsGroundOf signature s t → IsGroundOf signature s (form t)
+KeepsGround signature represent = (t : Term) (s : ℕ) → IsGroundOf signature s t → IsGroundOf signature s (represent t)
 
-abbrev IsValue : Signature → Term → Type 0
+abbrev pub IsValue : Signature → Term → Type 0
 IsValue signature v = (sort : ℕ) × IsGroundOf signature sort v
 
-ground_of : (signature : Signature) (s : ℕ) (t : Term) → IsTermIn signature [] s t → IsGroundOf signature s t
+pub ground_of : (signature : Signature) (s : ℕ) (t : Term) → IsTermIn signature [] s t → IsGroundOf signature s t
 ground_of signature s t h = record { ground = no_variable_ground t (λ n r o. absurd (cc (h.bound n r o))); sorted = h.sorted }
 
 same_sort : (o : Option ℕ) (s : ℕ) → is_same_sort o (Some s) ≡ true → o ≡ Some s
 same_sort None s e = absurd (cc e)
 same_sort (Some r) s e = ap (λ (n : ℕ). Some n) (eqb-true r s e)
 
-module _ (signature : Signature) (form : Term → Term) (keeps : KeepsGround signature form) where
-  formed_values : (sorts : List ℕ) (terms : List Term) → AreValues signature sorts terms → AreValues signature sorts (map form terms)
-  formed_values [] [] h = tt
-  formed_values (s ∷ sorts) (t ∷ terms) h = (keeps t s h.0, formed_values sorts terms h.1)
-  formed_values [] (t ∷ terms) h = absurd h
-  formed_values (s ∷ sorts) [] h = absurd h
+module _ (signature : Signature) (represent : Term → Term) (keeps : KeepsGround signature represent) where
+  pub represented_values : (sorts : List ℕ) (terms : List Term) → AreValues signature sorts terms
+      → AreValues signature sorts (map represent terms)
+  represented_values [] [] h = tt
+  represented_values (s ∷ sorts) (t ∷ terms) h = (keeps t s h.0, represented_values sorts terms h.1)
+  represented_values [] (t ∷ terms) h = absurd h
+  represented_values (s ∷ sorts) [] h = absurd h
 
-  formed_terms : (variables : List Variable) (terms : List Term) → AreTermsIn signature [] variables terms → AreValues signature (sorts_of variables) (map form terms)
-  formed_terms [] [] h = tt
-  formed_terms (x ∷ variables) (t ∷ terms) h = (keeps t x.sort (ground_of signature x.sort t h.0), formed_terms variables terms h.1)
-  formed_terms [] (t ∷ terms) h = absurd h
-  formed_terms (x ∷ variables) [] h = absurd h
+  pub represented_terms : (variables : List Variable) (terms : List Term) → AreTermsIn signature [] variables terms
+      → AreValues signature (sorts_of variables) (map represent terms)
+  represented_terms [] [] h = tt
+  represented_terms (x ∷ variables) (t ∷ terms) h = (
+    keeps t x.sort (ground_of signature x.sort t h.0),
+    represented_terms variables terms h.1,
+  )
+  represented_terms [] (t ∷ terms) h = absurd h
+  represented_terms (x ∷ variables) [] h = absurd h
 
-  offered_values : (offers : List Offer) (chosen : List Term) → Every (IsOffer signature []) offers → AreValues signature (sorts_of (asked_variables offers)) chosen → Every (IsValue signature) (offered form offers chosen)
+  offered_values : (offers : List Offer) (chosen : List Term) → Every (IsOffer signature []) offers
+      → AreValues signature (sorts_of (asked_variables offers)) chosen → Every (IsValue signature) (offered represent offers chosen)
   offered_values [] chosen h values = tt
   offered_values (give t ∷ offers) chosen h values = ((h.0.0, keeps t h.0.0 (ground_of signature h.0.0 t h.0.1)), offered_values offers chosen h.1 values)
   offered_values (ask x ∷ offers) [] h values = absurd values
   offered_values (ask x ∷ offers) (v ∷ chosen) h values = ((x.sort, keeps v x.sort values.0), offered_values offers chosen h.1 values.1)
 
-  result_values : (results : List ExitValue) (chosen : List Term) → Every (IsExitValue signature []) results → AreValues signature (open_sorts results) chosen → Every (IsValue signature) (results_of form results chosen)
+  result_values : (results : List ExitValue) (chosen : List Term) → Every (IsExitValue signature []) results
+      → AreValues signature (open_sorts results) chosen → Every (IsValue signature) (results_of represent results chosen)
   result_values [] chosen h values = tt
   result_values (exit_value t ∷ results) chosen h values = ((h.0.0, keeps t h.0.0 (ground_of signature h.0.0 t h.0.1)), result_values results chosen h.1 values)
   result_values (any_of s ∷ results) [] h values = absurd values
@@ -73,12 +80,13 @@ module _ (signature : Signature) (form : Term → Term) (keeps : KeepsGround sig
   sorted_values [] (x ∷ variables) h e = absurd (cc e)
   sorted_values (v ∷ values) [] h e = absurd (cc e)
 
-module _ (data_ : Data) (specification : Specification) (well_formed : IsSpecification data_.signature specification) (form : Term → Term) (keeps : KeepsGround data_.signature form) (leaves : Substitution) where
+module _ (data_ : Data) (specification : Specification) (well_formed : IsSpecification data_.signature specification) (represent : Term
+    → Term) (keeps : KeepsGround data_.signature represent) (leaves : Substitution) where
   abbrev names : ℕ
   names = length specification.gate_names
 
   abbrev setting : Setting
-  setting = record { signature = data_.signature; form = form; processes = specification.processes }
+  setting = record { signature = data_.signature; represent = represent; processes = specification.processes }
 
   abbrev Closed : Behaviour → Type 0
   Closed b = IsClosedBehaviour data_.signature specification b
@@ -124,12 +132,13 @@ module _ (data_ : Data) (specification : Specification) (well_formed : IsSpecifi
   relabelled_good : (pairs : Relabelling) (m : Move) → IsRelabelling names pairs → IsGood m → IsGood (relabelling pairs m)
   relabelled_good pairs m h good = (label_closed pairs m.label h good.0, under_closed m.target pairs h good.1)
 
-  copies_closed : (g : ℕ) (gates : List ℕ) (meet : Meet) (b : Behaviour) → g < names → AreGates names gates → IsMeet names meet → Closed b → Closed (copies g gates meet b)
+  copies_closed : (g : ℕ) (gates : List ℕ) (meet : SynchronisationSet) (b : Behaviour) → g < names → AreGates names gates
+      → IsSynchronisationSet names meet → Closed b → Closed (copies g gates meet b)
   copies_closed g [] meet b lt h m c = tt
   copies_closed g (a ∷ []) meet b lt h m c = under_closed b ((g, a) ∷ []) (of_gate names g a lt h.0) c
   copies_closed g (a ∷ a' ∷ gates) meet b lt h m c = (m, under_closed b ((g, a) ∷ []) (of_gate names g a lt h.0) c, copies_closed g (a' ∷ gates) meet b lt h.1 m c)
 
-  opened_closed : (b : Behaviour) → Closed b → Closed (opened b)
+  pub opened_closed : (b : Behaviour) → Closed b → Closed (opened b)
   opened_closed (par_gate g gates meet b) c = copies_closed g gates meet b c.0 c.2 c.3 c.4
   opened_closed stop c = c
   opened_closed (exit_with results) c = c
@@ -148,7 +157,9 @@ module _ (data_ : Data) (specification : Specification) (well_formed : IsSpecifi
   opened_closed (relabel pairs b) c = c
 
   -- A behaviour in the scope of variables is closed by values for them.
-  inside : (variables : List Variable) (terms : List Term) (b : Behaviour) → AreValues data_.signature (sorts_of variables) terms → IsBehaviour data_.signature names specification.processes (variables ++ []) b → Closed (with_values (binding_of variables terms) b)
+  pub inside : (variables : List Variable) (terms : List Term) (b : Behaviour) → AreValues data_.signature (sorts_of variables) terms
+      → IsBehaviour data_.signature names specification.processes (variables ++ []) b
+      → Closed (with_values (binding_of variables terms) b)
   inside variables terms b values h =
       closed_by data_.signature names specification.processes variables terms b values
       (subst (λ (scope : List Variable). IsBehaviour data_.signature names specification.processes scope b) (append-nil variables) h)
@@ -160,14 +171,21 @@ module _ (data_ : Data) (specification : Specification) (well_formed : IsSpecifi
       subst (Good next) (some_value e) (λ sorted.
       let variables : List Variable = asked_variables offers in
       let chosen : List Term = taken leaves next (sorts_of variables) in
-      let values : AreValues data_.signature (sorts_of variables) chosen = AreValues-taken data_.signature leaves next (sorts_of variables) sorted in
-      ((c.0, offered_values data_.signature form keeps offers chosen c.1 values), inside variables (map form chosen) b (formed_values data_.signature form keeps (sorts_of variables) chosen values) c.4))
+      let values : AreValues data_.signature (sorts_of variables) chosen =
+      AreValues-taken data_.signature leaves next (sorts_of variables) sorted in (
+        (c.0, offered_values data_.signature represent keeps offers chosen c.1 values),
+        inside variables (map represent chosen) b (represented_values data_.signature represent keeps
+            (sorts_of variables) chosen values) c.4,
+      ))
   act_good next _ m c e = absurd (cc e)
 
   quit_good : (next : ℕ) → AreGood next (quit_move setting leaves next)
   quit_good next (exit_with results) m c e =
-      subst (Good next) (some_value e) (λ sorted.
-      (result_values data_.signature form keeps results (taken leaves next (open_sorts results)) c (AreValues-taken data_.signature leaves next (open_sorts results) sorted), tt))
+      subst (Good next) (some_value e) (λ sorted. (
+        result_values data_.signature represent keeps results (taken leaves next (open_sorts results)) c
+            (AreValues-taken data_.signature leaves next (open_sorts results) sorted),
+        tt,
+      ))
   quit_good next _ m c e = absurd (cc e)
 
   inner_good : (next : ℕ) → AreGood next inner_move
@@ -239,7 +257,7 @@ module _ (data_ : Data) (specification : Specification) (well_formed : IsSpecifi
   enabling_good : (variables : List Variable) (d : Behaviour) (n m : Move) (label : Label) → IsClosedLabel data_.signature specification label → IsBehaviour data_.signature names specification.processes (variables ++ []) d → enabling data_.signature variables d n label ≡ Some m → IsGood m
   enabling_good variables d n m (exit_event values) l c e =
       let test : _ = tested (have_sorts data_.signature values (sorts_of variables)) (record n { label = inner_event; target = with_values (binding_of variables values) d }) e in
-      subst IsGood test.1 (tt, inside variables values d (sorted_values data_.signature form keeps values variables l test.0) c)
+      subst IsGood test.1 (tt, inside variables values d (sorted_values data_.signature represent keeps values variables l test.0) c)
   enabling_good variables d n m _ l c e = absurd (cc e)
 
   enabling_sorts : (variables : List Variable) (d : Behaviour) (n m : Move) (label : Label) → enabling data_.signature variables d n label ≡ Some m → m.sorts ≡ n.sorts
@@ -264,16 +282,18 @@ module _ (data_ : Data) (specification : Specification) (well_formed : IsSpecifi
 
   let_good : (next : ℕ) (moves : Behaviour → Option Move) → AreGood next moves → AreGood next (let_move setting moves)
   let_good next moves good (let_be bindings b) m c e =
-      good (with_values (binding_of (let_variables bindings) (map form (let_terms bindings))) b) m
-      (inside (let_variables bindings) (map form (let_terms bindings)) b (formed_terms data_.signature form keeps (let_variables bindings) (let_terms bindings) c.1) c.2) e
+      good (with_values (binding_of (let_variables bindings) (map represent (let_terms bindings))) b) m
+      (inside (let_variables bindings) (map represent (let_terms bindings)) b
+      (represented_terms data_.signature represent keeps (let_variables bindings) (let_terms bindings) c.1) c.2) e
   let_good next moves good _ m c e = absurd (cc e)
 
   value_good : (next : ℕ) (moves : Behaviour → Option Move) → AreGood (suc next) moves → AreGood next (value_move setting leaves next moves)
   value_good next moves good (choose_value x b) m c e =
-      let within : Behaviour = with_values (binding_of (x ∷ []) (form (leaves next x.sort) ∷ [])) b in
+      let within : Behaviour = with_values (binding_of (x ∷ []) (represent (leaves next x.sort) ∷ [])) b in
       let from : _ = mapped (after_leaf x.sort) (moves within) e in
       subst (Good next) from.2 (λ sorted.
-      good within from.0 (inside (x ∷ []) (form (leaves next x.sort) ∷ []) b (keeps (leaves next x.sort) x.sort sorted.0, tt) c.1) from.1 sorted.1)
+      good within from.0 (inside (x ∷ []) (represent (leaves next x.sort) ∷ []) b (keeps (leaves next x.sort) x.sort sorted.0, tt) c.1)
+      from.1 sorted.1)
   value_good next moves good _ m c e = absurd (cc e)
 
   gate_good : (k next : ℕ) (moves : Behaviour → Option Move) → AreGood next moves → AreGood next (gate_move k moves)
@@ -288,17 +308,21 @@ module _ (data_ : Data) (specification : Specification) (well_formed : IsSpecifi
 
   called_good : (next : ℕ) (moves : Behaviour → Option Move) → AreGood next moves → AreGood next (called_move setting moves)
   called_good next moves good (call number gates arguments) m c e =
-      let at : _ = chained (λ (process : Process). option_map (relabelling (zip process.gates gates)) (moves (with_values (binding_of process.parameters (map form arguments)) process.body))) (slice_get specification.processes number) e in
+      let at : _ = chained (λ (process : Process). option_map (relabelling (zip process.gates gates))
+      (moves (with_values (binding_of process.parameters (map represent arguments)) process.body)))
+      (slice_get specification.processes number) e in
       let process : Process = at.0 in
       let same : c.1.process ≡ process = some_value (sym c.1.exists ∙ at.1) in
       let defined : Defined process = Every-at Defined specification.processes number process well_formed.each at.1 in
-      let within : Behaviour = with_values (binding_of process.parameters (map form arguments)) process.body in
+      let within : Behaviour = with_values (binding_of process.parameters (map represent arguments)) process.body in
       let from : _ = mapped (relabelling (zip process.gates gates)) (moves within) at.2 in
       let terms : AreTermsIn data_.signature [] process.parameters arguments = subst (λ (p : Process). AreTermsIn data_.signature [] p.parameters arguments) same c.1.values in
       let count : length gates ≡ length process.gates = subst (λ (p : Process). length gates ≡ length p.gates) same c.1.gate_count in
       subst (Good next) from.2 (λ sorted.
       relabelled_good (zip process.gates gates) from.0 (of_call names process.gates gates defined.distinct_gates defined.named_gates c.0 count)
-      (good within from.0 (closed_by data_.signature names specification.processes process.parameters (map form arguments) process.body (formed_terms data_.signature form keeps process.parameters arguments terms) defined.behaviour) from.1 sorted))
+      (good within from.0 (closed_by data_.signature names specification.processes process.parameters
+      (map represent arguments) process.body (represented_terms data_.signature represent keeps process.parameters arguments terms)
+      defined.behaviour) from.1 sorted))
   called_good next moves good _ m c e = absurd (cc e)
 
   relabelled_row : (next : ℕ) (moves : Behaviour → Option Move) → AreGood next moves → AreGood next (relabelled_move moves)
@@ -307,7 +331,7 @@ module _ (data_ : Data) (specification : Specification) (well_formed : IsSpecifi
       subst (Good next) from.2 (λ sorted. relabelled_good pairs from.0 c.0 (good b from.0 c.1 from.1 sorted))
   relabelled_row next moves good _ m c e = absurd (cc e)
 
-  good_moves : (s : Shape) (next : ℕ) → AreGood next (move_of setting leaves s next)
+  pub good_moves : (s : Shape) (next : ℕ) → AreGood next (move_of setting leaves s next)
   good_moves act next b m c e = act_good next (opened b) m (opened_closed b c) e
   good_moves quit next b m c e = quit_good next (opened b) m (opened_closed b c) e
   good_moves inner_step next b m c e = inner_good next (opened b) m (opened_closed b c) e
@@ -324,7 +348,11 @@ module _ (data_ : Data) (specification : Specification) (well_formed : IsSpecifi
   good_moves (called s) next b m c e = called_good next (move_of setting leaves s next) (good_moves s next) (opened b) m (opened_closed b c) e
   good_moves (relabelled s) next b m c e = relabelled_row next (move_of setting leaves s next) (good_moves s next) (opened b) m (opened_closed b c) e
 
-pub closed_move : (data_ : Data) (specification : Specification) (form : Term → Term) → IsSpecification data_.signature specification → KeepsGround data_.signature form → (b : Behaviour) → IsClosedBehaviour data_.signature specification b → (d : Derivation) (label : Label) (target : Behaviour) → GivesMove data_ form specification.processes b d label target → IsClosedLabel data_.signature specification label × IsClosedBehaviour data_.signature specification target
-closed_move data_ specification form well_formed keeps b closed d label target m =
-    good_moves data_ specification well_formed form keeps (leaves_in d.leaves) d.shape 0 b
+pub closed_move : (data_ : Data) (specification : Specification) (represent : Term → Term)
+    → IsSpecification data_.signature specification → KeepsGround data_.signature represent → (b : Behaviour)
+    → IsClosedBehaviour data_.signature specification b → (d : Derivation) (label : Label) (target : Behaviour)
+    → GivesMove data_ represent specification.processes b d label target → IsClosedLabel data_.signature specification label
+    × IsClosedBehaviour data_.signature specification target
+closed_move data_ specification represent well_formed keeps b closed d label target m =
+    good_moves data_ specification well_formed represent keeps (leaves_in d.leaves) d.shape 0 b
     (record { label = label; target = target; asked = m.asked; sorts = m.sorts }) closed m.move (Supplied-leaves_in data_.signature m.sorts d.leaves m.leaves)

@@ -215,12 +215,18 @@ module _ (setting : Setting) (leaves : Substitution) where
 
   let_pair : (f g : Behaviour → Option Move) (c : Behaviour) (m n : Move) → let_move setting f c ≡ Some m → let_move setting g c ≡ Some n → Common f g
   let_pair f g (let_be bindings b) m n e e' =
-      record { behaviour = with_values (binding_of (let_variables bindings) (map setting.form (let_terms bindings))) b; first = m; second = n; first_move = e; second_move = e' }
+      record {
+        behaviour = with_values (binding_of (let_variables bindings) (map setting.represent (let_terms bindings))) b;
+        first = m;
+        second = n;
+        first_move = e;
+        second_move = e';
+      }
   let_pair f g _ m n e e' = absurd cc
 
   value_pair : (next : ℕ) (f g : Behaviour → Option Move) (c : Behaviour) (m n : Move) → value_move setting leaves next f c ≡ Some m → value_move setting leaves next g c ≡ Some n → Common f g
   value_pair next f g (choose_value x b) m n e e' =
-      let inside : Behaviour = with_values (binding_of (x ∷ []) (setting.form (leaves next x.sort) ∷ [])) b in
+      let inside : Behaviour = with_values (binding_of (x ∷ []) (setting.represent (leaves next x.sort) ∷ [])) b in
       let p : _ = mapped (after_leaf x.sort) (f inside) e in
       let q : _ = mapped (after_leaf x.sort) (g inside) e' in
       record { behaviour = inside; first = p.0; second = q.0; first_move = p.1; second_move = q.1 }
@@ -244,7 +250,8 @@ module _ (setting : Setting) (leaves : Substitution) where
 
   called_pair : (f g : Behaviour → Option Move) (c : Behaviour) (m n : Move) → called_move setting f c ≡ Some m → called_move setting g c ≡ Some n → Common f g
   called_pair f g (call number gates arguments) m n e e' =
-      called_at f g (λ p. zip p.gates gates) (λ p. with_values (binding_of p.parameters (map setting.form arguments)) p.body) (slice_get setting.processes number) m n e e'
+      called_at f g (λ p. zip p.gates gates) (λ p. with_values (binding_of p.parameters (map setting.represent arguments)) p.body)
+      (slice_get setting.processes number) m n e e'
   called_pair f g _ m n e e' = absurd cc
 
   relabelled_pair : (f g : Behaviour → Option Move) (c : Behaviour) (m n : Move) → relabelled_move f c ≡ Some m → relabelled_move g c ≡ Some n → Common f g

@@ -20,7 +20,7 @@ use Rattle.behaviour_semantics.specs.WellFormed.{AreOver}
 use Rattle.behaviour_semantics.specs.InstanceLaws.{Instance, DraftOf}
 use Rattle.behaviour_semantics.proofs.OptionLemmas.{mapped}
 use Rattle.behaviour_semantics.proofs.SupplyLemmas.{Supplied, Supplied-leaves_in}
-use Rattle.behaviour_semantics.proofs.RelatedTerms.{Side, with_leaves, with_leaves-leaf, Related, canon_form, given_form}
+use Rattle.behaviour_semantics.proofs.RelatedTerms.{Side, with_leaves, with_leaves-leaf, Related, canon_represents, given_represents}
 use Rattle.behaviour_semantics.proofs.SameBehaviours.{low_nothing, same_beside}
 use Rattle.behaviour_semantics.proofs.RelatedMoves.{RelatedLeaves, RelatedMoves, Answer, setting_of, follows}
 use Rattle.behaviour_semantics.proofs.InstanceLemmas.{plain, bodies_of, turned_leaves, turned_moves, closed_labels, asked_over, asked_back}
@@ -72,7 +72,13 @@ ground_sort signature s (node f ts) fine h = subst (IsSort signature) h.sorted.2
 
 -- The sides: the draft with variables for leaves, and the derivation with these values.
 abbrev drafted : Data → (Term → Term) → ℕ → List Term → Side
-drafted data_ canon base values = record { form = canon; leaves = leaves_from base; values = behind base values; leaf = λ n r. IsGroundOf data_.signature r (behind base values n r) }
+drafted data_ canon base values = record {
+  represent = canon;
+  leaves = leaves_from base;
+  values = behind base values;
+  leaf =
+      λ n r. IsGroundOf data_.signature r (behind base values n r);
+}
 
 abbrev valued : List Term → Side
 valued values = plain as_given (leaves_in values)
@@ -104,11 +110,22 @@ leaves_related data_ canon processes base values fine next (s ∷ sorts) h = (le
 pub leaves_law : (data_ : Data) (canon : Term → Term) (processes : List Process) (shape : Shape) (b : Behaviour) (draft : Draft) → draft_of data_ canon processes shape b ≡ Some draft → draft.leaves ≡ taken variable 0 (variable_sorts draft.leaves)
 leaves_law data_ canon processes shape b draft e =
     let base : ℕ = first_apart processes b in
-    let from : (m : Move) × (move_of (record { signature = data_.signature; form = canon; processes = processes }) (leaves_from base) shape 0 b ≡ Some m) × (draft_by shape base m ≡ draft) = mapped (draft_by shape base) (move_of (record { signature = data_.signature; form = canon; processes = processes }) (leaves_from base) shape 0 b) e in
+    let from : (m : Move) × (move_of (record { signature = data_.signature; represent = canon; processes = processes })
+    (leaves_from base) shape 0 b ≡ Some m) × (draft_by shape base m ≡ draft) =
+    mapped (draft_by shape base) (move_of (record { signature = data_.signature; represent = canon; processes = processes })
+    (leaves_from base) shape 0 b) e in
     subst (λ (d : Draft). d.leaves ≡ taken variable 0 (variable_sorts d.leaves)) from.2 (draft_leaves shape base from.0)
 
 -- The move of a draft, with values that meet the draft, is the move of a derivation.
-sound_move : (data_ : Data) (canon : Term → Term) (specification : Specification) (b : Behaviour) → AreOver data_ canon specification b → (shape : Shape) (m : Move) (values : List Term) → move_of (record { signature = data_.signature; form = canon; processes = specification.processes }) (leaves_from (first_apart specification.processes b)) shape 0 b ≡ Some m → MeetsDraft data_ (draft_by shape (first_apart specification.processes b) m) values → Instance data_ specification.processes b (draft_by shape (first_apart specification.processes b) m) values
+sound_move : (data_ : Data) (canon : Term → Term) (specification : Specification) (b : Behaviour) → AreOver data_ canon specification b
+    → (shape : Shape) (m : Move) (values : List Term) → move_of (record {
+      signature = data_.signature;
+      represent = canon;
+      processes =
+          specification.processes;
+    }) (leaves_from (first_apart specification.processes b)) shape 0 b ≡ Some m
+    → MeetsDraft data_ (draft_by shape (first_apart specification.processes b) m) values
+    → Instance data_ specification.processes b (draft_by shape (first_apart specification.processes b) m) values
 sound_move data_ canon specification b over shape m values e meets =
     let base : ℕ = first_apart specification.processes b in
     let x : Side = drafted data_ canon base values in
@@ -117,7 +134,8 @@ sound_move data_ canon specification b over shape m values e meets =
     let le_b : above b ≤ base = omega arith in
     let sorted : AreValues data_.signature m.sorts values = subst (λ (ss : List ℕ). AreValues data_.signature ss values) (draft_sorts shape base m) meets.sorted in
     let answer : Answer data_ base specification.processes x y (move_of (setting_of data_ base specification.processes y) y.leaves shape 0 b) m =
-    follows data_ base specification.processes x y (canon_form data_ canon over.is_canon) (given_form data_) (bodies_of data_ base x y specification over.well_formed le_processes) shape 0 b b
+    follows data_ base specification.processes x y (canon_represents data_ canon over.is_canon) (given_represents data_)
+    (bodies_of data_ base x y specification over.well_formed le_processes) shape 0 b b
     (same_beside data_ base x y _ specification.processes [] b (low_nothing data_ base) le_b over.closed) m e
     (leaves_related data_ canon specification.processes base values over.signature 0 m.sorts (Supplied-leaves_in data_.signature m.sorts values sorted)) in
     let asked : AllHold data_ (map (test_with (behind base values)) m.asked) = subst (AllHold data_) (tests_behind base values m.asked) meets.met in
@@ -137,7 +155,7 @@ sound_move data_ canon specification b over shape m values e meets =
 pub sound_law : (data_ : Data) (canon : Term → Term) (specification : Specification) (b : Behaviour) → AreOver data_ canon specification b → (shape : Shape) (draft : Draft) (values : List Term) → draft_of data_ canon specification.processes shape b ≡ Some draft → MeetsDraft data_ draft values → Instance data_ specification.processes b draft values
 sound_law data_ canon specification b over shape draft values e meets =
     let base : ℕ = first_apart specification.processes b in
-    let setting : Setting = record { signature = data_.signature; form = canon; processes = specification.processes } in
+    let setting : Setting = record { signature = data_.signature; represent = canon; processes = specification.processes } in
     let from : (m : Move) × (move_of setting (leaves_from base) shape 0 b ≡ Some m) × (draft_by shape base m ≡ draft) = mapped (draft_by shape base) (move_of setting (leaves_from base) shape 0 b) e in
     subst (λ (d : Draft). MeetsDraft data_ d values → Instance data_ specification.processes b d values) from.2 (sound_move data_ canon specification b over shape from.0 values from.1) meets
 
@@ -151,7 +169,8 @@ complete_law data_ canon specification b over d label target derives =
     let le_processes : above_processes specification.processes ≤ base = omega arith in
     let le_b : above b ≤ base = omega arith in
     let answer : Answer data_ base specification.processes y x (move_of (setting_of data_ base specification.processes x) x.leaves d.shape 0 b) n =
-    follows data_ base specification.processes y x (given_form data_) (canon_form data_ canon over.is_canon) (bodies_of data_ base y x specification over.well_formed le_processes) d.shape 0 b b
+    follows data_ base specification.processes y x (given_represents data_) (canon_represents data_ canon over.is_canon)
+    (bodies_of data_ base y x specification over.well_formed le_processes) d.shape 0 b b
     (same_beside data_ base y x _ specification.processes [] b (low_nothing data_ base) le_b over.closed) n derives.move
     (turned_leaves data_ base specification.processes x y 0 n.sorts
     (leaves_related data_ canon specification.processes base values over.signature 0 n.sorts (Supplied-leaves_in data_.signature n.sorts values derives.leaves))) in

@@ -3,7 +3,7 @@ use Rattle.std.proofs.Common.{◌≡◌, ◌<◌, ◌≤◌, ℕ, zero, suc, ◌
 use Rattle.term_algebra.specs.Signature.{Signature}
 use Rattle.term_algebra.specs.Term.{Term}
 use Rattle.term_algebra.specs.Substitution.{Substitution, without}
-use Rattle.behaviour_semantics.specs.Behaviour.{Behaviour, stop, exit_with, action, inner_action, guard, choice, parallel, hide, enable, disable, let_be, choose_value, choose_gate, par_gate, call, relabel, Meet, Process, Relabelling, numbers_of, let_variables, let_terms}
+use Rattle.behaviour_semantics.specs.Behaviour.{Behaviour, stop, exit_with, action, inner_action, guard, choice, parallel, hide, enable, disable, let_be, choose_value, choose_gate, par_gate, call, relabel, SynchronisationSet, Process, Relabelling, numbers_of, let_variables, let_terms}
 use Rattle.behaviour_semantics.specs.Label.{under}
 use Rattle.behaviour_semantics.specs.Replacement.{with_values, binding_of}
 use Rattle.behaviour_semantics.specs.Rule.{copies}
@@ -30,14 +30,17 @@ Ends-each : (f : ShapedMove → Option ShapedMove) (o : Option (List ShapedMove)
 Ends-each f None h = absurd h
 Ends-each f (Some xs) h = tt
 
-Ends-both : (signature : Signature) (meet : Meet) (next : ℕ) (rights : ℕ → Option (List ShapedMove)) → ((n : ℕ) → Ends (rights n)) → (lefts : List ShapedMove) → Ends (both_below signature meet next rights lefts)
+Ends-both : (signature : Signature) (meet : SynchronisationSet) (next : ℕ) (rights : ℕ → Option (List ShapedMove))
+    → ((n : ℕ) → Ends (rights n)) → (lefts : List ShapedMove) → Ends (both_below signature meet next rights lefts)
 Ends-both signature meet next rights h [] = tt
 Ends-both signature meet next rights h (x ∷ lefts) =
     Ends-one_behind (each_below (both_sides x.shape) (together signature meet x.move) (rights (next + length x.move.sorts))) (both_below signature meet next rights lefts)
     (Ends-each (below (both_sides x.shape) (together signature meet x.move)) (rights (next + length x.move.sorts)) (h (next + length x.move.sorts)))
     (Ends-both signature meet next rights h lefts)
 
-Ends-both_in : (signature : Signature) (meet : Meet) (next : ℕ) (rights : ℕ → Option (List ShapedMove)) → ((n : ℕ) → Ends (rights n)) → (o : Option (List ShapedMove)) → Ends o → Ends (option_and_then (both_below signature meet next rights) o)
+Ends-both_in : (signature : Signature) (meet : SynchronisationSet) (next : ℕ) (rights : ℕ → Option (List ShapedMove))
+    → ((n : ℕ) → Ends (rights n)) → (o : Option (List ShapedMove)) → Ends o
+    → Ends (option_and_then (both_below signature meet next rights) o)
 Ends-both_in signature meet next rights h None k = absurd k
 Ends-both_in signature meet next rights h (Some lefts) k = Ends-both signature meet next rights h lefts
 
@@ -126,7 +129,8 @@ height-under cost (call number gates arguments) pairs = omega arith
 height-under cost (relabel inner b) pairs = omega arith
 height-under cost _ pairs = omega arith
 
-height-copies : (cost g : ℕ) (gates : List ℕ) (meet : Meet) (b : Behaviour) → height cost (copies g gates meet b) ≤ length gates + suc (height cost b)
+height-copies : (cost g : ℕ) (gates : List ℕ) (meet : SynchronisationSet) (b : Behaviour)
+    → height cost (copies g gates meet b) ≤ length gates + suc (height cost b)
 height-copies cost g [] meet b = omega arith
 height-copies cost g (a ∷ []) meet b = let one : _ = height-under cost b ((g, a) ∷ []) in omega (arith, one)
 height-copies cost g (a ∷ a' ∷ gates) meet b =
@@ -141,7 +145,8 @@ module _ (P : ℕ → Type 0) where
   Every-under (relabel inner b) pairs h = h
   Every-under _ pairs h = h
 
-  Every-copies : (g : ℕ) (gates : List ℕ) (meet : Meet) (b : Behaviour) → Every P (unguarded_calls b) → Every P (unguarded_calls (copies g gates meet b))
+  Every-copies : (g : ℕ) (gates : List ℕ) (meet : SynchronisationSet) (b : Behaviour) → Every P (unguarded_calls b)
+      → Every P (unguarded_calls (copies g gates meet b))
   Every-copies g [] meet b h = tt
   Every-copies g (a ∷ []) meet b h = Every-under b ((g, a) ∷ []) h
   Every-copies g (a ∷ a' ∷ gates) meet b h =
@@ -180,7 +185,7 @@ module _ (setting : Setting) (leaves : Substitution) where
     call_ends n next number gates arguments lt below_ None at = tt
     call_ends zero next number gates arguments lt below_ (Some process) at = let none : 0 < 0 = below_ [] tt in absurd (omega arith)
     call_ends (suc n) next number gates arguments lt below_ (Some process) at =
-        let values : Substitution = binding_of process.parameters (map setting.form arguments) in
+        let values : Substitution = binding_of process.parameters (map setting.represent arguments) in
         let lower : _ = height-le_highest (cost_of setting.processes n) setting.processes number process at in
         let same : height (cost_of setting.processes n) (with_values values process.body) ≡ height (cost_of setting.processes n) process.body = height-with_values (cost_of setting.processes n) values process.body in
         Ends-each (below called (λ m. Some (relabelling (zip process.gates gates) m))) (parts next (with_values values process.body))
@@ -221,10 +226,10 @@ module _ (setting : Setting) (leaves : Substitution) where
         (Ends-each (below left_side (λ m. Some (disabling c m))) (parts next b) (ends n next b (omega arith) (Every-first (WalksBelow n) (unguarded_calls b) (unguarded_calls c) calls)))
         (Ends-each (below right_side (λ m. Some m)) (parts next c) (ends n next c (omega arith) (Every-second (WalksBelow n) (unguarded_calls b) (unguarded_calls c) calls)))
     form_ends n next (let_be bindings b) lt calls =
-        let values : Substitution = binding_of (let_variables bindings) (map setting.form (let_terms bindings)) in
+        let values : Substitution = binding_of (let_variables bindings) (map setting.represent (let_terms bindings)) in
         Ends-each (below let_bound (λ m. Some m)) (parts next (with_values values b)) (inside_ends n next values b (omega arith) calls)
     form_ends n next (choose_value x b) lt calls =
-        let values : Substitution = binding_of (x ∷ []) (setting.form (leaves next x.sort) ∷ []) in
+        let values : Substitution = binding_of (x ∷ []) (setting.represent (leaves next x.sort) ∷ []) in
         Ends-each (below with_value (λ m. Some (after_leaf x.sort m))) (parts (suc next) (with_values values b)) (inside_ends n (suc next) values b (omega arith) calls)
     form_ends n next (choose_gate g gates b) lt calls = Ends-gates g 0 gates (parts next b) (ends n next b (omega arith) calls)
     form_ends n next (par_gate g gates meet b) lt calls = tt

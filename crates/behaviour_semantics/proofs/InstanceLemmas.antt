@@ -24,10 +24,10 @@ use Rattle.behaviour_semantics.proofs.RelatedMoves.{RelatedLeaves, RelatedLabels
 
 -- A side without leaf variables.
 abbrev pub plain : (Term → Term) → Substitution → Side
-plain form leaves = record { form = form; leaves = leaves; values = variable; leaf = λ n r. ⊥ }
+plain represent leaves = record { represent = represent; leaves = leaves; values = variable; leaf = λ n r. ⊥ }
 
-pub plain_grounded : (data_ : Data) (form : Term → Term) (leaves : Substitution) → Grounded data_ (plain form leaves)
-plain_grounded data_ form leaves n r h = absurd h
+pub plain_grounded : (data_ : Data) (represent : Term → Term) (leaves : Substitution) → Grounded data_ (plain represent leaves)
+plain_grounded data_ represent leaves n r h = absurd h
 
 every_at : {X : Type 0} (P : X → Type 0) (xs : List X) (k : ℕ) (z : X) → Every P xs → slice_get xs k ≡ Some z → P z
 every_at P [] k z h e = absurd (cc e)
@@ -73,39 +73,48 @@ module _ (data_ : Data) (base : ℕ) where
   turned_leaves processes x y next [] h = tt
   turned_leaves processes x y next (s ∷ sorts) h = (turned h.0, turned_leaves processes x y (suc next) sorts h.1)
 
-  module _ (form : Term → Term) (leaves : Substitution) where
+  module _ (represent : Term → Term) (leaves : Substitution) where
     -- A closed term of a plain side is ground.
-    pub plain_ground : (u : Term) → Free data_ base (plain form leaves) [] u → IsGround u
-    plain_ground u free = no_variable_ground u (λ n r o. (only_leaf data_ base (plain form leaves) n r (free n r o)).1)
+    pub plain_ground : (u : Term) → Free data_ base (plain represent leaves) [] u → IsGround u
+    plain_ground u free = no_variable_ground u (λ n r o. (only_leaf data_ base (plain represent leaves) n r (free n r o)).1)
 
     -- A closed term with its leaf variables' values equals what it is related to on a plain side.
-    pub closed_equal : (x : Side) → Grounded data_ x → (s : ℕ) (t u : Term) → Related data_ base x (plain form leaves) [] s t u → Equal data_ (substituted x.values t) u
+    pub closed_equal : (x : Side) → Grounded data_ x → (s : ℕ) (t u : Term) → Related data_ base x (plain represent leaves) [] s t u
+        → Equal data_ (substituted x.values t) u
     closed_equal x grounded s t u r =
         let ground : IsGround u = plain_ground u r.right_free in
         equal_then (equal_same data_ _ _ (substituted_agree x.values (with_leaves base x variable) t (λ n q o. sym (with_leaves-leaf base x variable n q (only_leaf data_ base x n q (r.left_free n q o)).0))))
-        (equal_then (r.equal grounded (plain_grounded data_ form leaves) variable (λ n q lt o. absurd (unbound n q lt o)))
-        (equal_same data_ _ _ (substituted_ground (with_leaves base (plain form leaves) variable) u ground)))
+        (equal_then (r.equal grounded (plain_grounded data_ represent leaves) variable (λ n q lt o. absurd (unbound n q lt o)))
+        (equal_same data_ _ _ (substituted_ground (with_leaves base (plain represent leaves) variable) u ground)))
       where
         unbound : (n q : ℕ) → n < base → Occurs n q t ⊎ Occurs n q u → ⊥
         unbound n q lt (inl o) = let leaf : (base ≤ n) × _ = only_leaf data_ base x n q (r.left_free n q o) in omega (arith, leaf.0)
-        unbound n q lt (inr o) = let leaf : (base ≤ n) × _ = only_leaf data_ base (plain form leaves) n q (r.right_free n q o) in omega (arith, leaf.0)
+        unbound n q lt (inr o) = let leaf : (base ≤ n) × _ = only_leaf data_ base (plain represent leaves) n q (r.right_free n q o) in
+            omega (arith, leaf.0)
 
-    pub closed_terms : (x : Side) → Grounded data_ x → {sorts : List ℕ} {ts us : List Term} → RelatedTerms data_ base x (plain form leaves) [] sorts ts us → EqualTerms data_ (map (substituted x.values) ts) us
+    pub closed_terms : (x : Side) → Grounded data_ x → {sorts : List ℕ} {ts us : List Term}
+        → RelatedTerms data_ base x (plain represent leaves) [] sorts ts us → EqualTerms data_ (map (substituted x.values) ts) us
     closed_terms x grounded none_related = tt
     closed_terms x grounded (one_related {s = s} {t = t} {u = u} r rest) = (closed_equal x grounded s t u r, closed_terms x grounded rest)
 
-    pub closed_labels : {processes : List Process} (x : Side) → Grounded data_ x → {label other : Label} → RelatedLabels data_ base processes x (plain form leaves) label other → EqualLabels data_ (label_with x.values label) other
+    pub closed_labels : {processes : List Process} (x : Side) → Grounded data_ x → {label other : Label}
+        → RelatedLabels data_ base processes x (plain represent leaves) label other
+        → EqualLabels data_ (label_with x.values label) other
     closed_labels x grounded both_inner_events = tt
     closed_labels x grounded (both_gate_events sorts r) = (refl, closed_terms x grounded r)
     closed_labels x grounded (both_exit_events sorts r) = closed_terms x grounded r
 
     -- What is asked holds on the one side where it holds on the other.
-    pub asked_over : {processes : List Process} (x : Side) → Grounded data_ x → {tests others : List Test} → RelatedAsked data_ base processes x (plain form leaves) tests others → AllHold data_ (map (test_with x.values) tests) → AllHold data_ others
+    pub asked_over : {processes : List Process} (x : Side) → Grounded data_ x → {tests others : List Test}
+        → RelatedAsked data_ base processes x (plain represent leaves) tests others → AllHold data_ (map (test_with x.values) tests)
+        → AllHold data_ others
     asked_over x grounded none_asked h = tt
     asked_over x grounded (one_asked r rest) h =
         (equal_then (equal_back (closed_equal x grounded r.sort _ _ r.left)) (equal_then h.0 (closed_equal x grounded r.sort _ _ r.right)), asked_over x grounded rest h.1)
 
-    pub asked_back : {processes : List Process} (x : Side) → Grounded data_ x → {tests others : List Test} → RelatedAsked data_ base processes x (plain form leaves) tests others → AllHold data_ others → AllHold data_ (map (test_with x.values) tests)
+    pub asked_back : {processes : List Process} (x : Side) → Grounded data_ x → {tests others : List Test}
+        → RelatedAsked data_ base processes x (plain represent leaves) tests others → AllHold data_ others
+        → AllHold data_ (map (test_with x.values) tests)
     asked_back x grounded none_asked h = tt
     asked_back x grounded (one_asked r rest) h =
         (equal_then (closed_equal x grounded r.sort _ _ r.left) (equal_then h.0 (equal_back (closed_equal x grounded r.sort _ _ r.right))), asked_back x grounded rest h.1)

@@ -26,7 +26,7 @@ map_among f (y ∷ xs) x (inr a) = inr (map_among f xs x a)
 
 module _ (data_ : Data) (canon : Term → Term) (processes : List Process) (b : Behaviour) where
   abbrev setting : Setting
-  setting = record { signature = data_.signature; form = canon; processes = processes }
+  setting = record { signature = data_.signature; represent = canon; processes = processes }
 
   abbrev base : ℕ
   base = first_apart processes b

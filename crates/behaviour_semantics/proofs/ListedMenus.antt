@@ -15,7 +15,7 @@ use Rattle.behaviour_semantics.proofs.ListLemmas.{Every-at}
 use Rattle.behaviour_semantics.proofs.SolvingLemmas.{determined}
 use Rattle.behaviour_semantics.proofs.ExactMenus.{exact_menu}
 use Rattle.behaviour_semantics.proofs.DraftFineness.{FineDraft, fine_draft}
-use Rattle.behaviour_semantics.proofs.EndingLemmas.{has_outcome}
+use Rattle.behaviour_semantics.proofs.SolvingAnyDraft.{solving_any}
 use Rattle.behaviour_semantics.proofs.ListedDrafts.{sound_drafts, complete_drafts, drafts_rise}
 
 -- Solving keeps the shape.
@@ -101,4 +101,5 @@ listed_menu data_ canon specification b depth drafts over list =
     outcome d a =
         let fits : draft_of data_ canon specification.processes d.shape b ≡ Some d = sound_drafts data_ canon specification.processes b depth drafts list d a in
         let f : FineDraft data_ d = fine_draft data_ canon specification b over d.shape d fits in
-        has_outcome data_ canon over.is_canon f.sorts d f.fine
+        let o = solving_any.outcome data_ canon d over.is_canon f.order in
+        (o.0, o.1)

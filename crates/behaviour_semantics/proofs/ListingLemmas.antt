@@ -3,7 +3,7 @@ use Rattle.std.proofs.Common.{◌≡◌, inl, inr, ℕ, zero, suc, ◌+◌, List
 use Rattle.term_algebra.specs.Signature.{Signature}
 use Rattle.term_algebra.specs.Term.{Term}
 use Rattle.term_algebra.specs.Substitution.{Substitution}
-use Rattle.behaviour_semantics.specs.Behaviour.{Behaviour, exit_with, action, inner_action, guard, choice, parallel, hide, enable, disable, let_be, choose_value, choose_gate, call, relabel, Meet, Process, let_variables, let_terms}
+use Rattle.behaviour_semantics.specs.Behaviour.{Behaviour, exit_with, action, inner_action, guard, choice, parallel, hide, enable, disable, let_be, choose_value, choose_gate, call, relabel, SynchronisationSet, Process, let_variables, let_terms}
 use Rattle.behaviour_semantics.specs.Replacement.{with_values, binding_of}
 use Rattle.behaviour_semantics.specs.Rule.{is_exit}
 use Rattle.behaviour_semantics.specs.Shape.{Shape, act, quit, inner_step, guarded, left_side, right_side, both_sides, hidden, enabled, passed, let_bound, with_value, at_gate, called, relabelled}
@@ -25,7 +25,9 @@ single_within : (s : Shape) (o : Option Move) (m : Move) → o ≡ Some m → Is
 single_within s None m e = absurd (cc e)
 single_within s (Some k) m e = inl (ap (shaped s) (some_value e))
 
-both_within : (signature : Signature) (meet : Meet) (next : ℕ) (rights : ℕ → Option (List ShapedMove)) (s t : Shape) (k n m : Move) (lefts : List ShapedMove) → IsAmong (shaped s k) lefts → Within (shaped t n) (rights (next + length k.sorts)) → together signature meet k n ≡ Some m → Within (shaped (both_sides s t) m) (both_below signature meet next rights lefts)
+both_within : (signature : Signature) (meet : SynchronisationSet) (next : ℕ) (rights : ℕ → Option (List ShapedMove)) (s t : Shape)
+    (k n m : Move) (lefts : List ShapedMove) → IsAmong (shaped s k) lefts → Within (shaped t n) (rights (next + length k.sorts))
+    → together signature meet k n ≡ Some m → Within (shaped (both_sides s t) m) (both_below signature meet next rights lefts)
 both_within signature meet next rights s t k n m [] a w e = absurd a
 both_within signature meet next rights s t k n m (x ∷ lefts) (inl same) w e =
     Within-first (shaped (both_sides s t) m)
@@ -39,7 +41,10 @@ both_within signature meet next rights s t k n m (x ∷ lefts) (inr a) w e =
     (both_below signature meet next rights lefts)
     (both_within signature meet next rights s t k n m lefts a w e)
 
-both_within_list : (signature : Signature) (meet : Meet) (next : ℕ) (rights : ℕ → Option (List ShapedMove)) (s t : Shape) (k n m : Move) (o : Option (List ShapedMove)) → Within (shaped s k) o → Within (shaped t n) (rights (next + length k.sorts)) → together signature meet k n ≡ Some m → Within (shaped (both_sides s t) m) (option_and_then (both_below signature meet next rights) o)
+both_within_list : (signature : Signature) (meet : SynchronisationSet) (next : ℕ) (rights : ℕ → Option (List ShapedMove)) (s t : Shape)
+    (k n m : Move) (o : Option (List ShapedMove)) → Within (shaped s k) o → Within (shaped t n) (rights (next + length k.sorts))
+    → together signature meet k n ≡ Some m → Within (shaped (both_sides s t) m)
+    (option_and_then (both_below signature meet next rights) o)
 both_within_list signature meet next rights s t k n m None a w e = tt
 both_within_list signature meet next rights s t k n m (Some lefts) a w e = both_within signature meet next rights s t k n m lefts a w e
 
@@ -145,13 +150,13 @@ module _ (setting : Setting) (leaves : Substitution) (next : ℕ) (parts : Parts
 
   let_row : (s : Shape) → Holds s → (c : Behaviour) (m : Move) → let_move setting (move_of setting leaves s next) c ≡ Some m → Within (shaped (let_bound s) m) (moves_by_form setting leaves next parts c)
   let_row s h (let_be bindings b) m e =
-      let inside : Behaviour = with_values (binding_of (let_variables bindings) (map setting.form (let_terms bindings))) b in
+      let inside : Behaviour = with_values (binding_of (let_variables bindings) (map setting.represent (let_terms bindings))) b in
       taken_below let_bound (λ k. Some k) s m m (parts next inside) refl (h next inside m e)
   let_row s h _ m e = absurd cc
 
   value_row : (s : Shape) → Holds s → (c : Behaviour) (m : Move) → value_move setting leaves next (move_of setting leaves s (suc next)) c ≡ Some m → Within (shaped (with_value s) m) (moves_by_form setting leaves next parts c)
   value_row s h (choose_value x b) m e =
-      let inside : Behaviour = with_values (binding_of (x ∷ []) (setting.form (leaves next x.sort) ∷ [])) b in
+      let inside : Behaviour = with_values (binding_of (x ∷ []) (setting.represent (leaves next x.sort) ∷ [])) b in
       let p : _ = mapped (after_leaf x.sort) (move_of setting leaves s (suc next) inside) e in
       taken_below with_value (λ k. Some (after_leaf x.sort k)) s p.0 m (parts (suc next) inside) (ap (λ (k : Move). Some k) p.2) (h (suc next) inside p.0 p.1)
   value_row s h _ m e = absurd cc
@@ -163,10 +168,13 @@ module _ (setting : Setting) (leaves : Substitution) (next : ℕ) (parts : Parts
       gate_within g p.0 k k 0 s q.0 m gates (parts next b) (omega arith) p.1 q.2 (h next b q.0 q.1)
   gate_row k s h _ m e = absurd cc
 
-  called_at : (s : Shape) → Holds s → (gates : List ℕ) (arguments : List Term) (o : Option Process) (m : Move) → option_and_then (λ (process : Process). option_map (relabelling (zip process.gates gates)) (move_of setting leaves s next (with_values (binding_of process.parameters (map setting.form arguments)) process.body))) o ≡ Some m → Within (shaped (called s) m) (called_below setting next parts gates arguments o)
+  called_at : (s : Shape) → Holds s → (gates : List ℕ) (arguments : List Term) (o : Option Process) (m : Move)
+      → option_and_then (λ (process : Process). option_map (relabelling (zip process.gates gates))
+      (move_of setting leaves s next (with_values (binding_of process.parameters (map setting.represent arguments)) process.body))) o
+      ≡ Some m → Within (shaped (called s) m) (called_below setting next parts gates arguments o)
   called_at s h gates arguments None m e = absurd (cc e)
   called_at s h gates arguments (Some process) m e =
-      let inside : Behaviour = with_values (binding_of process.parameters (map setting.form arguments)) process.body in
+      let inside : Behaviour = with_values (binding_of process.parameters (map setting.represent arguments)) process.body in
       let p : _ = mapped (relabelling (zip process.gates gates)) (move_of setting leaves s next inside) e in
       taken_below called (λ k. Some (relabelling (zip process.gates gates) k)) s p.0 m (parts next inside) (ap (λ (k : Move). Some k) p.2) (h next inside p.0 p.1)
 

@@ -5,7 +5,7 @@ use Rattle.term_algebra.specs.Signature.{Signature}
 use Rattle.term_algebra.specs.Term.{Term}
 use Rattle.term_algebra.specs.Equation.{Variable}
 use Rattle.term_algebra.specs.Substitution.{Substitution}
-use Rattle.behaviour_semantics.specs.Behaviour.{Behaviour, stop, exit_with, action, inner_action, guard, choice, parallel, hide, enable, disable, let_be, choose_value, choose_gate, par_gate, call, relabel, Meet, Process, let_variables, let_terms}
+use Rattle.behaviour_semantics.specs.Behaviour.{Behaviour, stop, exit_with, action, inner_action, guard, choice, parallel, hide, enable, disable, let_be, choose_value, choose_gate, par_gate, call, relabel, SynchronisationSet, Process, let_variables, let_terms}
 use Rattle.behaviour_semantics.specs.Replacement.{with_values, binding_of}
 use Rattle.behaviour_semantics.specs.Rule.{is_exit}
 use Rattle.behaviour_semantics.specs.Shape.{Shape, guarded, left_side, right_side, both_sides, hidden, enabled, passed, let_bound, with_value, at_gate, called, relabelled, Before, left_then_right, left_then_both, right_then_both, by_gate, in_guarded, in_left, in_right, in_first, in_second, in_hidden, in_enabled, in_passed, in_enabled_passed, in_passed_enabled, in_let, in_value, in_gate, in_called, in_relabelled}
@@ -129,7 +129,7 @@ right_before_both x y (s, e) (t, u, e') = subst (λ v. Before v y.shape) e (subs
 abbrev IsBothAfter : Shape → ShapedMove → Type 0
 IsBothAfter r x = (s : Shape) × (t : Shape) × Before r s × (both_sides s t ≡ x.shape)
 
-module _ (signature : Signature) (meet : Meet) (next : ℕ) (rights : ℕ → Option (List ShapedMove)) where
+module _ (signature : Signature) (meet : SynchronisationSet) (next : ℕ) (rights : ℕ → Option (List ShapedMove)) where
   block : ShapedMove → Option (List ShapedMove)
   block x = each_below (both_sides x.shape) (together signature meet x.move) (rights (next + length x.move.sorts))
 
@@ -206,7 +206,10 @@ Rising-sides left right o p h k =
     (apart (HasVariant left_side) (HasVariant right_side) left_before_right (each_below left_side left o) (each_below right_side right p) (each_variant left_side left o) (each_variant right_side right p))
 
 module _ (setting : Setting) (leaves : Substitution) (next : ℕ) (parts : Parts) (rising : (n : ℕ) (b : Behaviour) → RisingIn (parts n b)) where
-  Rising-parallel : (meet : Meet) (b c : Behaviour) (left right : Move → Option Move) → RisingIn (one_behind (each_below left_side left (parts next b)) (one_behind (each_below right_side right (parts next c)) (option_and_then (both_below setting.signature meet next (λ n. parts n c)) (parts next b))))
+  Rising-parallel : (meet : SynchronisationSet) (b c : Behaviour) (left right : Move → Option Move)
+      → RisingIn (one_behind (each_below left_side left (parts next b))
+      (one_behind (each_below right_side right (parts next c)) (option_and_then
+      (both_below setting.signature meet next (λ n. parts n c)) (parts next b))))
   Rising-parallel meet b c left right =
       let lefts : Option (List ShapedMove) = each_below left_side left (parts next b) in
       let rights : Option (List ShapedMove) = each_below right_side right (parts next c) in
@@ -227,7 +230,7 @@ module _ (setting : Setting) (leaves : Substitution) (next : ℕ) (parts : Parts
   Rising-called : (gates : List ℕ) (arguments : List Term) (o : Option Process) → RisingIn (called_below setting next parts gates arguments o)
   Rising-called gates arguments None = tt
   Rising-called gates arguments (Some process) =
-      let inside : Behaviour = with_values (binding_of process.parameters (map setting.form arguments)) process.body in
+      let inside : Behaviour = with_values (binding_of process.parameters (map setting.represent arguments)) process.body in
       Rising-below called (λ m. Some (relabelling (zip process.gates gates) m)) (λ s t before. in_called before) (parts next inside) (rising next inside)
 
   Rising-form : (c : Behaviour) → RisingIn (moves_by_form setting leaves next parts c)
@@ -242,10 +245,10 @@ module _ (setting : Setting) (leaves : Substitution) (next : ℕ) (parts : Parts
   Rising-form (enable b variables c) = Rising-each (below_enable setting.signature variables c) (enable-keeps setting.signature variables c) (parts next b) (rising next b)
   Rising-form (disable b c) = Rising-sides (λ m. Some (disabling c m)) (λ m. Some m) (parts next b) (parts next c) (rising next b) (rising next c)
   Rising-form (let_be bindings b) =
-      let inside : Behaviour = with_values (binding_of (let_variables bindings) (map setting.form (let_terms bindings))) b in
+      let inside : Behaviour = with_values (binding_of (let_variables bindings) (map setting.represent (let_terms bindings))) b in
       Rising-below let_bound (λ m. Some m) (λ s t before. in_let before) (parts next inside) (rising next inside)
   Rising-form (choose_value x b) =
-      let inside : Behaviour = with_values (binding_of (x ∷ []) (setting.form (leaves next x.sort) ∷ [])) b in
+      let inside : Behaviour = with_values (binding_of (x ∷ []) (setting.represent (leaves next x.sort) ∷ [])) b in
       Rising-below with_value (λ m. Some (after_leaf x.sort m)) (λ s t before. in_value before) (parts (suc next) inside) (rising (suc next) inside)
   Rising-form (choose_gate g gates b) = Rising-gates g 0 gates (parts next b) (rising next b)
   Rising-form (par_gate g gates meet b) = tt

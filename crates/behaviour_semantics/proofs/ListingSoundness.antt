@@ -3,7 +3,7 @@ use Rattle.std.proofs.Common.{◌≡◌, ℕ, zero, suc, ◌+◌, List, [], ◌�
 use Rattle.term_algebra.specs.Term.{Term}
 use Rattle.term_algebra.specs.Equation.{Variable}
 use Rattle.term_algebra.specs.Substitution.{Substitution}
-use Rattle.behaviour_semantics.specs.Behaviour.{Behaviour, stop, exit_with, action, inner_action, guard, choice, parallel, hide, enable, disable, let_be, choose_value, choose_gate, par_gate, call, relabel, Meet, Process, let_variables, let_terms}
+use Rattle.behaviour_semantics.specs.Behaviour.{Behaviour, stop, exit_with, action, inner_action, guard, choice, parallel, hide, enable, disable, let_be, choose_value, choose_gate, par_gate, call, relabel, SynchronisationSet, Process, let_variables, let_terms}
 use Rattle.behaviour_semantics.specs.Replacement.{with_values, binding_of}
 use Rattle.behaviour_semantics.specs.Rule.{is_exit, copies}
 use Rattle.behaviour_semantics.specs.Shape.{Shape, guarded, left_side, right_side, both_sides, hidden, enabled, passed, let_bound, with_value, at_gate, called, relabelled}
@@ -33,7 +33,9 @@ module _ (setting : Setting) (leaves : Substitution) where
   abbrev IsMove : ℕ → Behaviour → ShapedMove → Type 0
   IsMove n b x = move_of setting leaves x.shape n b ≡ Some x.move
 
-  both_sound : (next : ℕ) (meet : Meet) (b c : Behaviour) (rights : ℕ → Option (List ShapedMove)) → ((n : ℕ) → EachOf (IsMove n c) (rights n)) → (lefts : List ShapedMove) → Every (IsMove next b) lefts → EachOf (IsMove next (parallel meet b c)) (both_below setting.signature meet next rights lefts)
+  both_sound : (next : ℕ) (meet : SynchronisationSet) (b c : Behaviour) (rights : ℕ → Option (List ShapedMove))
+      → ((n : ℕ) → EachOf (IsMove n c) (rights n)) → (lefts : List ShapedMove) → Every (IsMove next b) lefts
+      → EachOf (IsMove next (parallel meet b c)) (both_below setting.signature meet next rights lefts)
   both_sound next meet b c rights h [] w = tt
   both_sound next meet b c rights h (x ∷ lefts) w =
       EachOf-one_behind (IsMove next (parallel meet b c))
@@ -47,7 +49,9 @@ module _ (setting : Setting) (leaves : Substitution) where
       (rights (next + length x.move.sorts)) (h (next + length x.move.sorts)))
       (both_sound next meet b c rights h lefts w.1)
 
-  both_sound_list : (next : ℕ) (meet : Meet) (b c : Behaviour) (rights : ℕ → Option (List ShapedMove)) → ((n : ℕ) → EachOf (IsMove n c) (rights n)) → (o : Option (List ShapedMove)) → EachOf (IsMove next b) o → EachOf (IsMove next (parallel meet b c)) (option_and_then (both_below setting.signature meet next rights) o)
+  both_sound_list : (next : ℕ) (meet : SynchronisationSet) (b c : Behaviour) (rights : ℕ → Option (List ShapedMove))
+      → ((n : ℕ) → EachOf (IsMove n c) (rights n)) → (o : Option (List ShapedMove)) → EachOf (IsMove next b) o
+      → EachOf (IsMove next (parallel meet b c)) (option_and_then (both_below setting.signature meet next rights) o)
   both_sound_list next meet b c rights h None w = tt
   both_sound_list next meet b c rights h (Some lefts) w = both_sound next meet b c rights h lefts w
 
@@ -80,10 +84,11 @@ module _ (setting : Setting) (leaves : Substitution) where
     called_sound : (number : ℕ) (gates : List ℕ) (arguments : List Term) (o : Option Process) → slice_get setting.processes number ≡ o → EachOf (IsMove next (call number gates arguments)) (called_below setting next parts gates arguments o)
     called_sound number gates arguments None at = tt
     called_sound number gates arguments (Some process) at =
-        let inside : Behaviour = with_values (binding_of process.parameters (map setting.form arguments)) process.body in
+        let inside : Behaviour = with_values (binding_of process.parameters (map setting.represent arguments)) process.body in
         each_taken called (λ m. Some (relabelling (zip process.gates gates) m)) (IsMove next inside) (IsMove next (call number gates arguments))
         (λ s k m p e.
-        ap (option_and_then (λ (q : Process). option_map (relabelling (zip q.gates gates)) (move_of setting leaves s next (with_values (binding_of q.parameters (map setting.form arguments)) q.body)))) at
+        ap (option_and_then (λ (q : Process). option_map (relabelling (zip q.gates gates))
+        (move_of setting leaves s next (with_values (binding_of q.parameters (map setting.represent arguments)) q.body)))) at
         ∙ ap (option_map (relabelling (zip process.gates gates))) p
         ∙ e)
         (parts next inside) (are_moves next inside)
@@ -118,10 +123,10 @@ module _ (setting : Setting) (leaves : Substitution) where
         (each_taken left_side (λ m. Some (disabling c m)) (IsMove next b) (IsMove next (disable b c)) (λ s k m p e. ap (option_map (disabling c)) p ∙ e) (parts next b) (are_moves next b))
         (each_taken right_side (λ m. Some m) (IsMove next c) (IsMove next (disable b c)) (λ s k m p e. p ∙ e) (parts next c) (are_moves next c))
     sound_form (let_be bindings b) =
-        let inside : Behaviour = with_values (binding_of (let_variables bindings) (map setting.form (let_terms bindings))) b in
+        let inside : Behaviour = with_values (binding_of (let_variables bindings) (map setting.represent (let_terms bindings))) b in
         each_taken let_bound (λ m. Some m) (IsMove next inside) (IsMove next (let_be bindings b)) (λ s k m p e. p ∙ e) (parts next inside) (are_moves next inside)
     sound_form (choose_value x b) =
-        let inside : Behaviour = with_values (binding_of (x ∷ []) (setting.form (leaves next x.sort) ∷ [])) b in
+        let inside : Behaviour = with_values (binding_of (x ∷ []) (setting.represent (leaves next x.sort) ∷ [])) b in
         each_taken with_value (λ m. Some (after_leaf x.sort m)) (IsMove (suc next) inside) (IsMove next (choose_value x b)) (λ s k m p e. ap (option_map (after_leaf x.sort)) p ∙ e) (parts (suc next) inside) (are_moves (suc next) inside)
     sound_form (choose_gate g gates b) =
         gates_sound next g gates b 0 gates (parts next b) (λ i k a same at. subst (λ (p : ℕ). slice_get gates p ≡ Some a) (omega arith) at) (are_moves next b)

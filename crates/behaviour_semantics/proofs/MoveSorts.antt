@@ -2,7 +2,7 @@
 use Rattle.std.proofs.Common.{◌≡◌, ℕ, suc, ◌+◌, List, [], ◌∷◌, ◌++◌, length, map, zip, slice_get, Option, None, Some, option_map, option_and_then, refl, ap, sym, ◌∙◌, subst}
 use Rattle.term_algebra.specs.Signature.{IsSort}
 use Rattle.term_algebra.specs.Equation.{Data, Variable}
-use Rattle.behaviour_semantics.specs.Behaviour.{Behaviour, parallel, enable, Meet, Process, ExitValue, sorts_of, let_variables, let_terms}
+use Rattle.behaviour_semantics.specs.Behaviour.{Behaviour, parallel, enable, SynchronisationSet, Process, ExitValue, sorts_of, let_variables, let_terms}
 use Rattle.behaviour_semantics.specs.Label.{Label, exit_event}
 use Rattle.behaviour_semantics.specs.Replacement.{with_values, binding_of}
 use Rattle.behaviour_semantics.specs.Rule.{moves_alone, move_together, label_values, pairwise, have_sorts, is_exit}
@@ -11,11 +11,12 @@ use Rattle.behaviour_semantics.specs.Move.{Move, move_of, alone, together, passi
 use Rattle.behaviour_semantics.specs.WellFormed.{Every}
 use Rattle.behaviour_semantics.proofs.ListLemmas.{Every-append}
 use Rattle.behaviour_semantics.proofs.OptionLemmas.{some_value, mapped, chained, tested, tested_not}
-use Rattle.behaviour_semantics.proofs.RelatedTerms.{Side, Related, IsForm, formed, Puts, Binders, none_related, one_related, bindings_put}
+use Rattle.behaviour_semantics.proofs.RelatedTerms.{Side, Related, IsRepresenting, represented, Puts, Binders, none_related, one_related, bindings_put}
 use Rattle.behaviour_semantics.proofs.RelatedBehaviours.{RelatedResults, no_results, both_values, both_any, Beside, both_exit_with, both_action, both_inner, both_guard, both_choice, both_parallel, both_hide, both_enable, both_disable, both_let, both_choose_value, both_choose_gate, both_call, both_relabel, put_beside, asked-left, open-left, opened_beside}
-use Rattle.behaviour_semantics.proofs.RelatedMoves.{setting_of, forms_related}
+use Rattle.behaviour_semantics.proofs.RelatedMoves.{setting_of, represented_related}
 
-module _ (data_ : Data) (base : ℕ) (processes : List Process) (x : Side) (form : IsForm data_ x.form) (supply : (next s : ℕ) → IsSort data_.signature s → Related data_ base x x [] s (x.leaves next s) (x.leaves next s)) where
+module _ (data_ : Data) (base : ℕ) (processes : List Process) (x : Side) (represent : IsRepresenting data_ x.represent)
+    (supply : (next s : ℕ) → IsSort data_.signature s → Related data_ base x x [] s (x.leaves next s) (x.leaves next s)) where
   abbrev pub AreSorts : List ℕ → Type 0
   AreSorts sorts = Every (IsSort data_.signature) sorts
 
@@ -42,7 +43,7 @@ module _ (data_ : Data) (base : ℕ) (processes : List Process) (x : Side) (form
       let from : (k : Move) × (o ≡ Some k) × (f k ≡ Some m) = chained f o e in
       subst AreSorts (sym (same from.0 m from.2)) (h from.0 from.1)
 
-  alone_sorts : (meet : Meet) (beside : Behaviour → Behaviour) (m k : Move) → alone meet beside m ≡ Some k → k.sorts ≡ m.sorts
+  alone_sorts : (meet : SynchronisationSet) (beside : Behaviour → Behaviour) (m k : Move) → alone meet beside m ≡ Some k → k.sorts ≡ m.sorts
   alone_sorts meet beside m k e = ap (λ (z : Move). z.sorts) (sym (tested (moves_alone meet m.label) (record m { target = beside m.target }) e).1)
 
   enabling_sorts : (variables : List Variable) (d : Behaviour) (m k : Move) (label : Label) → enabling data_.signature variables d m label ≡ Some k → k.sorts ≡ m.sorts
@@ -103,17 +104,24 @@ module _ (data_ : Data) (base : ℕ) (processes : List Process) (x : Side) (form
 
   let_sorts : (moves : Behaviour → Option Move) → Sorted moves → Sorted (let_move (setting_of data_ base processes x) moves)
   let_sorts moves all b c (both_let variables {bindings = bindings} {others = bindings'} {b = f} {c = d} e e' binders terms rest) m e'' =
-      let put : Puts data_ base x x (variables ++ []) [] (binding_of variables (map x.form (let_terms bindings))) (binding_of variables (map x.form (let_terms bindings'))) = bindings_put data_ base variables _ _ binders (forms_related data_ base processes x x form form terms) in
-      let inside : Beside data_ base processes x x [] (with_values (binding_of (let_variables bindings) (map x.form (let_terms bindings))) f) (with_values (binding_of (let_variables bindings') (map x.form (let_terms bindings'))) d) = rw (e, e') (put_beside data_ base processes put rest) in
+      let put : Puts data_ base x x (variables ++ []) [] (binding_of variables (map x.represent (let_terms bindings)))
+      (binding_of variables (map x.represent (let_terms bindings'))) =
+      bindings_put data_ base variables _ _ binders (represented_related data_ base processes x x represent represent terms) in
+      let inside : Beside data_ base processes x x [] (with_values (binding_of (let_variables bindings)
+      (map x.represent (let_terms bindings))) f) (with_values
+      (binding_of (let_variables bindings') (map x.represent (let_terms bindings'))) d) =
+      rw (e, e') (put_beside data_ base processes put rest) in
       all _ _ inside m e''
   let_sorts moves all b c _ m e = absurd (cc e)
 
   value_sorts : (next : ℕ) (moves : Behaviour → Option Move) → Sorted moves → Sorted (value_move (setting_of data_ base processes x) x.leaves next moves)
   value_sorts next moves all b c (both_choose_value {z = z} {b = f} {c = d} binders rest) m e =
-      let inside : Behaviour = with_values (binding_of (z ∷ []) (x.form (x.leaves next z.sort) ∷ [])) f in
+      let inside : Behaviour = with_values (binding_of (z ∷ []) (x.represent (x.leaves next z.sort) ∷ [])) f in
       let from : (k : Move) × (moves inside ≡ Some k) × (after_leaf z.sort k ≡ m) = mapped (after_leaf z.sort) (moves inside) e in
-      let put : Puts data_ base x x (z ∷ []) [] (binding_of (z ∷ []) (x.form (x.leaves next z.sort) ∷ [])) (binding_of (z ∷ []) (x.form (x.leaves next z.sort) ∷ [])) =
-      bindings_put data_ base (z ∷ []) _ _ binders (one_related (formed data_ base form form (supply next z.sort binders.0.1)) none_related) in
+      let put : Puts data_ base x x (z ∷ []) [] (binding_of (z ∷ []) (x.represent (x.leaves next z.sort) ∷ []))
+      (binding_of (z ∷ []) (x.represent (x.leaves next z.sort) ∷ [])) =
+      bindings_put data_ base (z ∷ []) _ _ binders (one_related (represented data_ base represent represent
+      (supply next z.sort binders.0.1)) none_related) in
       subst AreSorts (ap (λ (k : Move). k.sorts) from.2) (binders.0.1, all _ _ (put_beside data_ base processes put rest) from.0 from.1)
   value_sorts next moves all b c _ m e = absurd (cc e)
 
@@ -133,10 +141,14 @@ module _ (data_ : Data) (base : ℕ) (processes : List Process) (x : Side) (form
     called_sorts : (moves : Behaviour → Option Move) → Sorted moves → Sorted (called_move (setting_of data_ base processes x) moves)
     called_sorts moves all b c (both_call {number = number} {gates = gates} {arguments = arguments} {others = others} process at terms) m e =
         let body : Binders data_ base process.parameters × Beside data_ base processes x x (process.parameters ++ []) process.body process.body = bodies number process at in
-        let put : Puts data_ base x x (process.parameters ++ []) [] (binding_of process.parameters (map x.form arguments)) (binding_of process.parameters (map x.form others)) = bindings_put data_ base process.parameters _ _ body.0 (forms_related data_ base processes x x form form terms) in
-        let inside : Behaviour = with_values (binding_of process.parameters (map x.form arguments)) process.body in
+        let put : Puts data_ base x x (process.parameters ++ []) [] (binding_of process.parameters (map x.represent arguments))
+        (binding_of process.parameters (map x.represent others)) =
+        bindings_put data_ base process.parameters _ _ body.0
+        (represented_related data_ base processes x x represent represent terms) in
+        let inside : Behaviour = with_values (binding_of process.parameters (map x.represent arguments)) process.body in
         let made : option_map (relabelling (zip process.gates gates)) (moves inside) ≡ Some m =
-        subst (λ (o : Option Process). option_and_then (λ (p : Process). option_map (relabelling (zip p.gates gates)) (moves (with_values (binding_of p.parameters (map x.form arguments)) p.body))) o ≡ Some m) at e in
+        subst (λ (o : Option Process). option_and_then (λ (p : Process). option_map (relabelling (zip p.gates gates))
+        (moves (with_values (binding_of p.parameters (map x.represent arguments)) p.body))) o ≡ Some m) at e in
         by_map (relabelling (zip process.gates gates)) (λ k. refl) (moves inside) (all _ _ (put_beside data_ base processes put body.1)) m made
     called_sorts moves all b c _ m e = absurd (cc e)
 

@@ -3,10 +3,10 @@ use Rattle.std.proofs.Common.{◌≡◌, ℕ, suc, ◌+◌, List, [], ◌∷◌,
 use Rattle.term_algebra.specs.Term.{Term}
 use Rattle.term_algebra.specs.Equation.{Data, Variable}
 use Rattle.term_algebra.specs.Substitution.{Substitution, is_listed}
-use Rattle.behaviour_semantics.specs.Behaviour.{Behaviour, exit_with, action, inner_action, guard, choice, parallel, hide, enable, disable, let_be, choose_value, choose_gate, par_gate, call, relabel, Meet, Process, asked_variables, open_sorts, sorts_of, let_variables, let_terms}
+use Rattle.behaviour_semantics.specs.Behaviour.{Behaviour, exit_with, action, inner_action, guard, choice, parallel, hide, enable, disable, let_be, choose_value, choose_gate, par_gate, call, relabel, SynchronisationSet, Process, asked_variables, open_sorts, sorts_of, let_variables, let_terms}
 use Rattle.behaviour_semantics.specs.Label.{Label, inner_event, gate_event, exit_event}
 use Rattle.behaviour_semantics.specs.Replacement.{with_values, binding_of}
-use Rattle.behaviour_semantics.specs.Rule.{as_given, is_met, moves_alone, have_sorts, have_same_sorts, move_together, label_values, pairwise, hidden_label, is_exit, still_disabled, AllHold}
+use Rattle.behaviour_semantics.specs.Rule.{as_given, synchronises, moves_alone, have_sorts, have_same_sorts, move_together, label_values, pairwise, hidden_label, is_exit, still_disabled, AllHold}
 use Rattle.behaviour_semantics.specs.Shape.{Shape, act, quit, inner_step, guarded, left_side, right_side, both_sides, hidden, enabled, passed, let_bound, with_value, at_gate, called, relabelled}
 use Rattle.behaviour_semantics.specs.Move.{Setting, Move, move_of, taken, opened, alone, together, passing, enabling, disabling, hiding, asking, relabelling, after_leaf, act_move, quit_move, inner_move, guarded_move, left_move, right_move, both_move, hidden_move, enabled_move, passed_move, let_move, value_move, gate_move, called_move, relabelled_move}
 use Rattle.behaviour_semantics.specs.Transition.{Transition, exits, acts, acts_inside, guard_holds, chooses_left, chooses_right, left_alone, right_alone, both_act, both_exit, hides, shows, inside_hide, exit_of_hide, goes_on, enables, left_goes_on, left_ends, disables, lets, chooses_value, chooses_gate, par_copies, calls, relabels}
@@ -81,10 +81,13 @@ module _ (data_ : Data) (processes : List Process) (values : Substitution) where
   right_rule next moves rules (disable b c) m e = λ sorted holds. disables (rules c m e sorted holds)
   right_rule next moves rules _ m e = absurd cc
 
-  meeting : (meet : Meet) {b c left right : Behaviour} (label other : Label) → move_together data_.signature meet label other ≡ true → AllHold data_ (pairwise (label_values label) (label_values other)) → Transition data_ processes b label left → Transition data_ processes c other right → Transition data_ processes (parallel meet b c) label (parallel meet left right)
+  meeting : (meet : SynchronisationSet) {b c left right : Behaviour} (label other : Label)
+      → move_together data_.signature meet label other ≡ true → AllHold data_ (pairwise (label_values label) (label_values other))
+      → Transition data_ processes b label left → Transition data_ processes c other right
+      → Transition data_ processes (parallel meet b c) label (parallel meet left right)
   meeting meet {b = b} {c = c} {left = left} {right = right} (gate_event g us) (gate_event h vs) e holds t u =
-      let outer : _ × _ = and_parts (nat_eq g h && is_met meet g) (have_same_sorts data_.signature us vs) e in
-      let inner : _ × _ = and_parts (nat_eq g h) (is_met meet g) outer.0 in
+      let outer : _ × _ = and_parts (nat_eq g h && synchronises meet g) (have_same_sorts data_.signature us vs) e in
+      let inner : _ × _ = and_parts (nat_eq g h) (synchronises meet g) outer.0 in
       let gates : h ≡ g = sym (eqb-true g h inner.0) in
       both_act t (subst (λ k. Transition data_ processes c (gate_event k vs) right) gates u) inner.1 outer.1 holds
   meeting meet (exit_event us) (exit_event vs) e holds t u = both_exit t u e holds

@@ -1,7 +1,7 @@
 -- A gate `par` has the moves of its copies.
 use Rattle.std.proofs.Common.{◌≡◌, ℕ, suc, List, [], ◌∷◌, refl, ap}
 use Rattle.term_algebra.specs.Substitution.{Substitution}
-use Rattle.behaviour_semantics.specs.Behaviour.{Behaviour, par_gate, relabel, Meet, Relabelling}
+use Rattle.behaviour_semantics.specs.Behaviour.{Behaviour, par_gate, relabel, SynchronisationSet, Relabelling}
 use Rattle.behaviour_semantics.specs.Label.{under}
 use Rattle.behaviour_semantics.specs.Rule.{copies}
 use Rattle.behaviour_semantics.specs.Shape.{Shape, act, quit, inner_step, guarded, left_side, right_side, both_sides, hidden, enabled, passed, let_bound, with_value, at_gate, called, relabelled}
@@ -11,13 +11,15 @@ pub opened-under : (b : Behaviour) (pairs : Relabelling) → opened (under b pai
 opened-under (relabel inner b) pairs = refl
 opened-under _ pairs = refl
 
-pub opened-copies : (g : ℕ) (gates : List ℕ) (meet : Meet) (b : Behaviour) → opened (copies g gates meet b) ≡ copies g gates meet b
+pub opened-copies : (g : ℕ) (gates : List ℕ) (meet : SynchronisationSet) (b : Behaviour)
+    → opened (copies g gates meet b) ≡ copies g gates meet b
 opened-copies g [] meet b = refl
 opened-copies g (a ∷ []) meet b = opened-under b ((g, a) ∷ [])
 opened-copies g (a ∷ a' ∷ gates) meet b = refl
 
 module _ (setting : Setting) (leaves : Substitution) where
-  pub move_of-copies : (s : Shape) (next g : ℕ) (gates : List ℕ) (meet : Meet) (b : Behaviour) → move_of setting leaves s next (copies g gates meet b) ≡ move_of setting leaves s next (par_gate g gates meet b)
+  pub move_of-copies : (s : Shape) (next g : ℕ) (gates : List ℕ) (meet : SynchronisationSet) (b : Behaviour)
+      → move_of setting leaves s next (copies g gates meet b) ≡ move_of setting leaves s next (par_gate g gates meet b)
   move_of-copies act next g gates meet b = ap (act_move setting leaves next) (opened-copies g gates meet b)
   move_of-copies quit next g gates meet b = ap (quit_move setting leaves next) (opened-copies g gates meet b)
   move_of-copies inner_step next g gates meet b = ap inner_move (opened-copies g gates meet b)

@@ -1,12 +1,20 @@
--- In a draft whose variables are their own leaves, the variables that are left are the leaves that still are their own.
-use Rattle.std.proofs.Common.{◌≡◌, ℕ, zero, suc, ◌+◌, List, [], ◌∷◌, map, slice_get, Option, None, Some, Bool, true, false, nat_eq, if◌then◌else◌, refl, ap, sym, ◌∙◌, arith, subst, eqb-true, eq-eqb}
+-- Where each variable among the leaves is its own leaf, the variables that are left are the leaves that are variables.
+use Rattle.std.proofs.Common.{◌≡◌, ℕ, zero, suc, ◌+◌, List, [], ◌∷◌, slice_get, Option, None, Some, Bool, true, false, nat_eq, if◌then◌else◌, refl, ap, sym, ◌∙◌, arith, subst, eqb-true, eq-eqb}
 use Rattle.term_algebra.specs.Term.{Term, variable, node}
-use Rattle.term_algebra.specs.Substitution.{Substitution, substituted}
-use Rattle.behaviour_semantics.specs.Replacement.{test_with}
-use Rattle.behaviour_semantics.specs.Draft.{Draft, label_with}
-use Rattle.behaviour_semantics.specs.Solving.{Entry, leaf_sort, numbered, variables_left, place_of, entry_of}
+use Rattle.term_algebra.specs.Sorting.{Occurs}
+use Rattle.behaviour_semantics.specs.Solving.{leaf_sort, numbered, variables_left}
 use Rattle.behaviour_semantics.proofs.OptionLemmas.{some_value}
-use Rattle.behaviour_semantics.proofs.FineDrafts.{Own, one_own}
+
+abbrev variable_sort : Term → ℕ
+variable_sort (variable n s) = s
+variable_sort (node f ts) = 0
+
+-- a variable's sort is fixed by its own leaf
+pub one_own : (leaves : List Term) (n r s : ℕ) → slice_get leaves n ≡ Some (variable n r) → slice_get leaves n ≡ Some (variable n s) → r ≡ s
+one_own leaves n r s e e' = ap variable_sort (some_value (sym e ∙ e'))
+
+abbrev pub Own : List Term → Term → Type 0
+Own leaves t = (n r : ℕ) → Occurs n r t → slice_get leaves n ≡ Some (variable n r)
 
 -- The leaves that still are their own variables: number and sort. The first leaf of the list has the number `k`.
 abbrev pub own_variable : ℕ → Term → List (ℕ × ℕ) → List (ℕ × ℕ)
@@ -16,21 +24,6 @@ own_variable k (node f ts) rest = rest
 abbrev pub left_over : ℕ → List Term → List (ℕ × ℕ)
 left_over k [] = []
 left_over k (leaf ∷ leaves) = own_variable k leaf (left_over (suc k) leaves)
-
--- The entry that keeps these variables.
-abbrev pub entry_keeping : List (ℕ × ℕ) → Draft → Entry
-entry_keeping kept draft =
-    let renumbered : Substitution = λ n s. variable (place_of 0 kept n) s in
-    record {
-      shape = draft.shape;
-      label = label_with renumbered draft.label;
-      variables = map (λ (v : ℕ × ℕ). v.1) kept;
-      leaves = map (substituted renumbered) draft.leaves;
-      conditions = map (test_with renumbered) draft.conditions;
-    }
-
-abbrev pub own_entry : Draft → Entry
-own_entry draft = entry_keeping (left_over 0 draft.leaves) draft
 
 -- Where a leaf with a sort was found.
 leaf_found : (n s : ℕ) (leaves : List Term) → leaf_sort n leaves ≡ Some s → (i : ℕ) × (slice_get leaves i ≡ Some (variable n s))
@@ -97,6 +90,3 @@ module _ (leaves : List Term) (own : (i : ℕ) (t : Term) → slice_get leaves i
 
   pub same_left : variables_left 0 leaves leaves ≡ left_over 0 leaves
   same_left = all_numbers 0 leaves (λ i t e. subst (λ (n : ℕ). slice_get leaves n ≡ Some t) (let h : i ≡ 0 + i = omega arith in h) e)
-
-pub same_entry : (draft : Draft) → ((i : ℕ) (t : Term) → slice_get draft.leaves i ≡ Some t → Own draft.leaves t) → own_entry draft ≡ entry_of draft
-same_entry draft own = ap (λ (kept : List (ℕ × ℕ)). entry_keeping kept draft) (sym (same_left draft.leaves own))

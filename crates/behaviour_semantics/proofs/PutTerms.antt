@@ -41,7 +41,8 @@ module _ (signature : Signature) where
     put_test : (test : Test) → IsTestIn signature scope test → IsTestIn signature other (test_with values test)
     put_test test h = record { sort = h.sort; left = put_term h.sort test.left h.left; right = put_term h.sort test.right h.right }
 
-    put_option : (test : Option Test) → IsTestOption signature scope test → IsTestOption signature other (option_map (test_with values) test)
+    pub put_option : (test : Option Test) → IsTestOption signature scope test
+        → IsTestOption signature other (option_map (test_with values) test)
     put_option None h = tt
     put_option (Some test) h = put_test test h
 
@@ -122,7 +123,8 @@ module _ (signature : Signature) where
     put_behaviour scope other values puts (relabel pairs b) h = (h.0, put_behaviour scope other values puts b h.1)
 
   -- Values for all variables of a scope close what is in the scope.
-  bound_puts : (variables : List Variable) (terms : List Term) → AreValues signature (sorts_of variables) terms → PutsIn variables [] (binding_of variables terms)
+  pub bound_puts : (variables : List Variable) (terms : List Term) → AreValues signature (sorts_of variables) terms
+      → PutsIn variables [] (binding_of variables terms)
   bound_puts [] [] h n s at = absurd (cc at)
   bound_puts [] (t ∷ terms) h n s at = absurd h
   bound_puts (x ∷ variables) [] h n s at = absurd h
@@ -136,6 +138,23 @@ module _ (signature : Signature) where
           inr (subst (IsGroundOf signature s) (sym (ap (λ (b : Bool). if b then t else binding_of variables terms n s) e)) (subst (λ (r : ℕ). IsGroundOf signature r t) (some_value found) h.0))
       by false e rest found =
           subst (λ (u : Term). ((u ≡ variable n s) × (sort_in [] n ≡ Some s)) ⊎ IsGroundOf signature s u) (sym (ap (λ (b : Bool). if b then t else binding_of variables terms n s) e)) (rest found)
+
+  -- Values for the inner variables of a scope leave the outer ones.
+  pub inner_puts : (variables scope : List Variable) (terms : List Term) → AreValues signature (sorts_of variables) terms
+      → PutsIn (variables ++ scope) scope (binding_of variables terms)
+  inner_puts [] scope [] h n s at = inl (refl, at)
+  inner_puts [] scope (t ∷ terms) h n s at = absurd h
+  inner_puts (x ∷ variables) scope [] h n s at = absurd h
+  inner_puts (x ∷ variables) scope (t ∷ terms) h n s at = by (nat_eq x.number n) (inner_puts variables scope terms h.1 n s) at
+    where
+      by : (same : Bool)
+          → (sort_in (variables ++ scope) n ≡ Some s → ((binding_of variables terms n s ≡ variable n s) × (sort_in scope n ≡ Some s))
+          ⊎ IsGroundOf signature s (binding_of variables terms n s))
+          → (if same then Some x.sort else sort_in (variables ++ scope) n) ≡ Some s
+          → (((if same then t else binding_of variables terms n s) ≡ variable n s) × (sort_in scope n ≡ Some s))
+          ⊎ IsGroundOf signature s (if same then t else binding_of variables terms n s)
+      by true rest found = inr (subst (λ (r : ℕ). IsGroundOf signature r t) (some_value found) h.0)
+      by false rest found = rest found
 
   pub closed_by : (names : ℕ) (processes : List Process) (variables : List Variable) (terms : List Term) (b : Behaviour) → AreValues signature (sorts_of variables) terms → IsBehaviour signature names processes variables b → IsBehaviour signature names processes [] (with_values (binding_of variables terms) b)
   closed_by names processes variables terms b values h = put_behaviour names processes variables [] (binding_of variables terms) (bound_puts variables terms values) b h

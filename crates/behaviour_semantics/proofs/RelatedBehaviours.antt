@@ -5,7 +5,7 @@ use Rattle.term_algebra.specs.Signature.{IsSort}
 use Rattle.term_algebra.specs.Term.{Term}
 use Rattle.term_algebra.specs.Equation.{Data, Variable}
 use Rattle.term_algebra.specs.Substitution.{Substitution, substituted, without}
-use Rattle.behaviour_semantics.specs.Behaviour.{Behaviour, stop, exit_with, action, inner_action, guard, choice, parallel, hide, enable, disable, let_be, choose_value, choose_gate, par_gate, call, relabel, Test, Offer, give, ask, ExitValue, exit_value, any_of, Meet, Process, Relabelling, asked_variables, open_sorts, numbers_of, sorts_of, let_variables, let_terms}
+use Rattle.behaviour_semantics.specs.Behaviour.{Behaviour, stop, exit_with, action, inner_action, guard, choice, parallel, hide, enable, disable, let_be, choose_value, choose_gate, par_gate, call, relabel, Test, Offer, give, ask, ExitValue, exit_value, any_of, SynchronisationSet, Process, Relabelling, asked_variables, open_sorts, numbers_of, sorts_of, let_variables, let_terms}
 use Rattle.behaviour_semantics.specs.Label.{under}
 use Rattle.behaviour_semantics.specs.Replacement.{test_with, offer_with, exit_value_with, with_values}
 use Rattle.behaviour_semantics.specs.Rule.{copies}
@@ -41,14 +41,16 @@ module _ (data_ : Data) (base : ℕ) where
     both_inner : {scope : List Variable} {b c : Behaviour} → Beside processes x y scope b c → Beside processes x y scope (inner_action b) (inner_action c)
     both_guard : {scope : List Variable} {test other : Test} {b c : Behaviour} → RelatedTests x y scope test other → Beside processes x y scope b c → Beside processes x y scope (guard test b) (guard other c)
     both_choice : {scope : List Variable} {b c d e : Behaviour} → Beside processes x y scope b c → Beside processes x y scope d e → Beside processes x y scope (choice b d) (choice c e)
-    both_parallel : {scope : List Variable} {meet : Meet} {b c d e : Behaviour} → Beside processes x y scope b c → Beside processes x y scope d e → Beside processes x y scope (parallel meet b d) (parallel meet c e)
+    both_parallel : {scope : List Variable} {meet : SynchronisationSet} {b c d e : Behaviour} → Beside processes x y scope b c
+        → Beside processes x y scope d e → Beside processes x y scope (parallel meet b d) (parallel meet c e)
     both_hide : {scope : List Variable} {gates : List ℕ} {b c : Behaviour} → Beside processes x y scope b c → Beside processes x y scope (hide gates b) (hide gates c)
     both_enable : {scope : List Variable} {variables : List Variable} {b c d e : Behaviour} → Beside processes x y scope b c → Binders data_ base variables → Beside processes x y (variables ++ scope) d e → Beside processes x y scope (enable b variables d) (enable c variables e)
     both_disable : {scope : List Variable} {b c d e : Behaviour} → Beside processes x y scope b c → Beside processes x y scope d e → Beside processes x y scope (disable b d) (disable c e)
     both_let : {scope : List Variable} (variables : List Variable) {bindings others : List (Variable × Term)} {b c : Behaviour} → let_variables bindings ≡ variables → let_variables others ≡ variables → Binders data_ base variables → RelatedTerms data_ base x y scope (sorts_of variables) (let_terms bindings) (let_terms others) → Beside processes x y (variables ++ scope) b c → Beside processes x y scope (let_be bindings b) (let_be others c)
     both_choose_value : {scope : List Variable} {z : Variable} {b c : Behaviour} → Binders data_ base (z ∷ []) → Beside processes x y (z ∷ scope) b c → Beside processes x y scope (choose_value z b) (choose_value z c)
     both_choose_gate : {scope : List Variable} {g : ℕ} {gates : List ℕ} {b c : Behaviour} → Beside processes x y scope b c → Beside processes x y scope (choose_gate g gates b) (choose_gate g gates c)
-    both_par_gate : {scope : List Variable} {g : ℕ} {gates : List ℕ} {meet : Meet} {b c : Behaviour} → Beside processes x y scope b c → Beside processes x y scope (par_gate g gates meet b) (par_gate g gates meet c)
+    both_par_gate : {scope : List Variable} {g : ℕ} {gates : List ℕ} {meet : SynchronisationSet} {b c : Behaviour}
+        → Beside processes x y scope b c → Beside processes x y scope (par_gate g gates meet b) (par_gate g gates meet c)
     both_call : {scope : List Variable} {number : ℕ} {gates : List ℕ} {arguments others : List Term} (process : Process) → slice_get processes number ≡ Some process → RelatedTerms data_ base x y scope (sorts_of process.parameters) arguments others → Beside processes x y scope (call number gates arguments) (call number gates others)
     both_relabel : {scope : List Variable} {pairs : Relabelling} {b c : Behaviour} → Beside processes x y scope b c → Beside processes x y scope (relabel pairs b) (relabel pairs c)
 
@@ -152,7 +154,8 @@ module _ (data_ : Data) (base : ℕ) where
     under_beside pairs (both_call process at terms) = both_call process at terms
     under_beside pairs (both_relabel r) = both_relabel r
 
-    copies_beside : {x y : Side} {scope : List Variable} {b c : Behaviour} (g : ℕ) (gates : List ℕ) (meet : Meet) → Beside processes x y scope b c → Beside processes x y scope (copies g gates meet b) (copies g gates meet c)
+    copies_beside : {x y : Side} {scope : List Variable} {b c : Behaviour} (g : ℕ) (gates : List ℕ) (meet : SynchronisationSet)
+        → Beside processes x y scope b c → Beside processes x y scope (copies g gates meet b) (copies g gates meet c)
     copies_beside g [] meet r = both_stop
     copies_beside g (a ∷ []) meet r = under_beside ((g, a) ∷ []) r
     copies_beside g (a ∷ a' ∷ gates) meet r = both_parallel (under_beside ((g, a) ∷ []) r) (copies_beside g (a' ∷ gates) meet r)

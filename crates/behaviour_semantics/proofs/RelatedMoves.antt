@@ -4,20 +4,20 @@ use Rattle.term_algebra.specs.Term.{Term}
 use Rattle.term_algebra.specs.Equation.{Data, Variable}
 use Rattle.term_algebra.specs.Substitution.{Substitution, is_listed}
 use Rattle.term_algebra.proofs.SortLemmas.{sort_of_sorted}
-use Rattle.behaviour_semantics.specs.Behaviour.{Behaviour, stop, parallel, enable, Test, Offer, ExitValue, Meet, Process, Relabelling, sorts_of, let_variables, let_terms}
+use Rattle.behaviour_semantics.specs.Behaviour.{Behaviour, stop, parallel, enable, Test, Offer, ExitValue, SynchronisationSet, Process, Relabelling, sorts_of, let_variables, let_terms}
 use Rattle.behaviour_semantics.specs.Label.{Label, inner_event, gate_event, exit_event, label_under}
 use Rattle.behaviour_semantics.specs.Replacement.{with_values, binding_of}
-use Rattle.behaviour_semantics.specs.Rule.{offered, results_of, tests_of, is_met, moves_alone, have_sorts, have_same_sorts, move_together, label_values, pairwise, hidden_label, is_exit, still_disabled}
+use Rattle.behaviour_semantics.specs.Rule.{offered, results_of, tests_of, synchronises, moves_alone, have_sorts, have_same_sorts, move_together, label_values, pairwise, hidden_label, is_exit, still_disabled}
 use Rattle.behaviour_semantics.specs.Shape.{Shape, act, quit, inner_step, guarded, left_side, right_side, both_sides, hidden, enabled, passed, let_bound, with_value, at_gate, called, relabelled}
 use Rattle.behaviour_semantics.specs.Move.{Setting, Move, move_of, taken, alone, together, passing, enabling, disabling, hiding, asking, relabelling, after_leaf, act_move, quit_move, inner_move, guarded_move, left_move, right_move, both_move, hidden_move, enabled_move, passed_move, let_move, value_move, gate_move, called_move, relabelled_move}
 use Rattle.behaviour_semantics.proofs.OptionLemmas.{some_value, mapped, chained, tested, tested_not}
 use Rattle.behaviour_semantics.proofs.MoveToRule.{and_parts}
-use Rattle.behaviour_semantics.proofs.RelatedTerms.{Side, Related, IsForm, formed, Puts, Binders, RelatedTerms, none_related, one_related, bindings_put}
+use Rattle.behaviour_semantics.proofs.RelatedTerms.{Side, Related, IsRepresenting, represented, Puts, Binders, RelatedTerms, none_related, one_related, bindings_put}
 use Rattle.behaviour_semantics.proofs.RelatedBehaviours.{RelatedTests, RelatedOptions, no_tests, some_tests, RelatedOffers, no_offers, both_give, both_ask, RelatedResults, no_results, both_values, both_any, Beside, both_stop, both_exit_with, both_action, both_inner, both_guard, both_choice, both_parallel, both_hide, both_enable, both_disable, both_let, both_choose_value, both_choose_gate, both_call, both_relabel, put_beside, put_tests, asked-left, asked-right, open-left, open-right, under_beside, opened_beside}
 
 module _ (data_ : Data) (base : ℕ) (processes : List Process) where
   abbrev pub setting_of : Side → Setting
-  setting_of x = record { signature = data_.signature; form = x.form; processes = processes }
+  setting_of x = record { signature = data_.signature; represent = x.represent; processes = processes }
 
   -- Related leaves, from a number on.
   abbrev pub RelatedLeaves : Side → Side → ℕ → List ℕ → Type 0
@@ -63,7 +63,8 @@ module _ (data_ : Data) (base : ℕ) (processes : List Process) where
       (last.0, ap (option_and_then g) answer.1 ∙ last.1, last.2)
 
   -- Labels.
-  alone-same : {x y : Side} (meet : Meet) {label other : Label} → RelatedLabels x y label other → moves_alone meet label ≡ moves_alone meet other
+  alone-same : {x y : Side} (meet : SynchronisationSet) {label other : Label} → RelatedLabels x y label other
+      → moves_alone meet label ≡ moves_alone meet other
   alone-same meet both_inner_events = refl
   alone-same meet (both_gate_events sorts r) = refl
   alone-same meet (both_exit_events sorts r) = refl
@@ -103,10 +104,13 @@ module _ (data_ : Data) (base : ℕ) (processes : List Process) where
       rw (sort_of_sorted data_.signature t p r.left_sorted, sort_of_sorted data_.signature u p r.right_sorted, sort_of_sorted data_.signature v q r'.left_sorted, sort_of_sorted data_.signature w q r'.right_sorted)
       (ap (λ (rest : Bool). nat_eq p q && rest) (have_same_sorts-same rest rest'))
 
-  together-same : {x y : Side} (meet : Meet) {label other label' other' : Label} → RelatedLabels x y label other → RelatedLabels x y label' other' → move_together data_.signature meet label label' ≡ move_together data_.signature meet other other'
+  together-same : {x y : Side} (meet : SynchronisationSet) {label other label' other' : Label} → RelatedLabels x y label other
+      → RelatedLabels x y label' other' → move_together data_.signature meet label label'
+      ≡ move_together data_.signature meet other other'
   together-same meet both_inner_events r = refl
   together-same meet (both_gate_events sorts r) both_inner_events = refl
-  together-same meet (both_gate_events {g = g} sorts r) (both_gate_events {g = h} sorts' r') = ap (λ (rest : Bool). nat_eq g h && is_met meet g && rest) (have_same_sorts-same r r')
+  together-same meet (both_gate_events {g = g} sorts r) (both_gate_events {g = h} sorts' r') =
+      ap (λ (rest : Bool). nat_eq g h && synchronises meet g && rest) (have_same_sorts-same r r')
   together-same meet (both_gate_events sorts r) (both_exit_events sorts' r') = refl
   together-same meet (both_exit_events sorts r) both_inner_events = refl
   together-same meet (both_exit_events sorts r) (both_gate_events sorts' r') = refl
@@ -126,9 +130,11 @@ module _ (data_ : Data) (base : ℕ) (processes : List Process) where
       let parts : (nat_eq p q ≡ true) × (have_same_sorts data_.signature ts vs ≡ true) = and_parts (nat_eq p q) (have_same_sorts data_.signature ts vs) test in
       one_asked (record { sort = p; left = r; right = subst (λ k. Related data_ base x y [] k v w) (sym (eqb-true p q parts.0)) r' }) (pairwise-related parts.1 rest rest')
 
-  matched-related : {x y : Side} (meet : Meet) {label other label' other' : Label} → move_together data_.signature meet label label' ≡ true → RelatedLabels x y label other → RelatedLabels x y label' other' → RelatedAsked x y (pairwise (label_values label) (label_values label')) (pairwise (label_values other) (label_values other'))
+  matched-related : {x y : Side} (meet : SynchronisationSet) {label other label' other' : Label}
+      → move_together data_.signature meet label label' ≡ true → RelatedLabels x y label other → RelatedLabels x y label' other'
+      → RelatedAsked x y (pairwise (label_values label) (label_values label')) (pairwise (label_values other) (label_values other'))
   matched-related meet e (both_gate_events {g = g} sorts {ts = ts} r) (both_gate_events {g = h} sorts' {ts = vs} r') =
-      pairwise-related (and_parts (nat_eq g h && is_met meet g) (have_same_sorts data_.signature ts vs) e).1 r r'
+      pairwise-related (and_parts (nat_eq g h && synchronises meet g) (have_same_sorts data_.signature ts vs) e).1 r r'
   matched-related meet e (both_exit_events sorts r) (both_exit_events sorts' r') = pairwise-related e r r'
   matched-related meet e both_inner_events _ = absurd (cc e)
   matched-related meet e (both_gate_events sorts r) both_inner_events = absurd (cc e)
@@ -147,28 +153,33 @@ module _ (data_ : Data) (base : ℕ) (processes : List Process) where
   taken-related next [] h = none_related
   taken-related next (s ∷ ss) h = one_related h.0 (taken-related (suc next) ss h.1)
 
-  module _ (x y : Side) (form : IsForm data_ x.form) (other_form : IsForm data_ y.form) where
-    pub forms_related : {sorts : List ℕ} {ts us : List Term} → RelatedTerms data_ base x y [] sorts ts us → RelatedTerms data_ base x y [] sorts (map x.form ts) (map y.form us)
-    forms_related none_related = none_related
-    forms_related (one_related r rest) = one_related (formed data_ base form other_form r) (forms_related rest)
+  module _ (x y : Side) (represent : IsRepresenting data_ x.represent) (other_represent : IsRepresenting data_ y.represent) where
+    pub represented_related : {sorts : List ℕ} {ts us : List Term} → RelatedTerms data_ base x y [] sorts ts us
+        → RelatedTerms data_ base x y [] sorts (map x.represent ts) (map y.represent us)
+    represented_related none_related = none_related
+    represented_related (one_related r rest) = one_related (represented data_ base represent other_represent r) (represented_related rest)
 
-    offered-related : {variables : List Variable} {offers others : List Offer} {ts us : List Term} → RelatedOffers data_ base x y [] variables offers others → RelatedTerms data_ base x y [] (sorts_of variables) ts us → (sorts : List ℕ) × RelatedTerms data_ base x y [] sorts (offered x.form offers ts) (offered y.form others us)
+    offered-related : {variables : List Variable} {offers others : List Offer} {ts us : List Term}
+        → RelatedOffers data_ base x y [] variables offers others → RelatedTerms data_ base x y [] (sorts_of variables) ts us
+        → (sorts : List ℕ) × RelatedTerms data_ base x y [] sorts (offered x.represent offers ts) (offered y.represent others us)
     offered-related no_offers r = ([], none_related)
     offered-related (both_give {s = s} t rest) r =
         let below : (sorts : List ℕ) × _ = offered-related rest r in
-        (s ∷ below.0, one_related (formed data_ base form other_form t) below.1)
+        (s ∷ below.0, one_related (represented data_ base represent other_represent t) below.1)
     offered-related (both_ask z rest) (one_related {s = s} t r) =
         let below : (sorts : List ℕ) × _ = offered-related rest r in
-        (s ∷ below.0, one_related (formed data_ base form other_form t) below.1)
+        (s ∷ below.0, one_related (represented data_ base represent other_represent t) below.1)
 
-    results-related : {open_ : List ℕ} {results others : List ExitValue} {ts us : List Term} → RelatedResults data_ base x y [] open_ results others → RelatedTerms data_ base x y [] open_ ts us → (sorts : List ℕ) × RelatedTerms data_ base x y [] sorts (results_of x.form results ts) (results_of y.form others us)
+    results-related : {open_ : List ℕ} {results others : List ExitValue} {ts us : List Term}
+        → RelatedResults data_ base x y [] open_ results others → RelatedTerms data_ base x y [] open_ ts us → (sorts : List ℕ)
+        × RelatedTerms data_ base x y [] sorts (results_of x.represent results ts) (results_of y.represent others us)
     results-related no_results r = ([], none_related)
     results-related (both_values {s = s} t rest) r =
         let below : (sorts : List ℕ) × _ = results-related rest r in
-        (s ∷ below.0, one_related (formed data_ base form other_form t) below.1)
+        (s ∷ below.0, one_related (represented data_ base represent other_represent t) below.1)
     results-related (both_any q is_sort rest) (one_related {s = s} t r) =
         let below : (sorts : List ℕ) × _ = results-related rest r in
-        (s ∷ below.0, one_related (formed data_ base form other_form t) below.1)
+        (s ∷ below.0, one_related (represented data_ base represent other_represent t) below.1)
 
     tests-related : (variables : List Variable) {v w : Substitution} {test other : Option Test} → Puts data_ base x y (variables ++ []) [] v w → RelatedOptions data_ base x y (variables ++ []) test other → RelatedAsked x y (tests_of v test) (tests_of w other)
     tests-related variables p no_tests = none_asked
@@ -177,9 +188,9 @@ module _ (data_ : Data) (base : ℕ) (processes : List Process) where
     -- The move of an action whose `?x` ask for these variables.
     abbrev acted : Side → ℕ → ℕ → List Offer → Option Test → Behaviour → List Variable → Move
     acted z next g offers test b variables = record {
-      label = gate_event g (offered z.form offers (taken z.leaves next (sorts_of variables)));
-      target = with_values (binding_of variables (map z.form (taken z.leaves next (sorts_of variables)))) b;
-      asked = tests_of (binding_of variables (map z.form (taken z.leaves next (sorts_of variables)))) test;
+      label = gate_event g (offered z.represent offers (taken z.leaves next (sorts_of variables)));
+      target = with_values (binding_of variables (map z.represent (taken z.leaves next (sorts_of variables)))) b;
+      asked = tests_of (binding_of variables (map z.represent (taken z.leaves next (sorts_of variables)))) test;
       sorts = sorts_of variables;
     }
 
@@ -188,9 +199,13 @@ module _ (data_ : Data) (base : ℕ) (processes : List Process) where
         let same : acted x next g offers test b variables ≡ m = some_value (ap (λ vs. Some (acted x next g offers test b vs)) (sym (asked-left data_ base r)) ∙ e) in
         let below : RelatedLeaves x y next (sorts_of variables) = subst (RelatedLeaves x y next) (ap (λ (k : Move). k.sorts) (sym same)) leaves in
         let chosen : RelatedTerms data_ base x y [] (sorts_of variables) (taken x.leaves next (sorts_of variables)) (taken y.leaves next (sorts_of variables)) = taken-related next (sorts_of variables) below in
-        let put : Puts data_ base x y (variables ++ []) [] (binding_of variables (map x.form (taken x.leaves next (sorts_of variables)))) (binding_of variables (map y.form (taken y.leaves next (sorts_of variables)))) =
-        bindings_put data_ base variables _ _ binders (forms_related chosen) in
-        let values : (sorts : List ℕ) × RelatedTerms data_ base x y [] sorts (offered x.form offers (taken x.leaves next (sorts_of variables))) (offered y.form others (taken y.leaves next (sorts_of variables))) = offered-related r chosen in
+        let put : Puts data_ base x y (variables ++ []) [] (binding_of variables
+        (map x.represent (taken x.leaves next (sorts_of variables))))
+        (binding_of variables (map y.represent (taken y.leaves next (sorts_of variables)))) =
+        bindings_put data_ base variables _ _ binders (represented_related chosen) in
+        let values : (sorts : List ℕ) × RelatedTerms data_ base x y [] sorts
+        (offered x.represent offers (taken x.leaves next (sorts_of variables)))
+        (offered y.represent others (taken y.leaves next (sorts_of variables))) = offered-related r chosen in
         let n : Move = acted y next g others other c variables in
         let related : RelatedMoves x y (acted x next g offers test b variables) n = record {
           label = both_gate_events values.0 values.1;
@@ -202,13 +217,20 @@ module _ (data_ : Data) (base : ℕ) (processes : List Process) where
     act_follows next _ m e leaves = absurd cc
 
     abbrev ended : Side → ℕ → List ExitValue → List ℕ → Move
-    ended z next results sorts = record { label = exit_event (results_of z.form results (taken z.leaves next sorts)); target = stop; asked = []; sorts = sorts }
+    ended z next results sorts = record {
+      label = exit_event (results_of z.represent results (taken z.leaves next sorts));
+      target =
+          stop;
+      asked = [];
+      sorts = sorts;
+    }
 
     quit_follows : (next : ℕ) {b c : Behaviour} → Beside data_ base processes x y [] b c → Follows x y next (quit_move (setting_of x) x.leaves next b) (quit_move (setting_of y) y.leaves next c)
     quit_follows next (both_exit_with {sorts = sorts} {results = results} {others = others} r) m e leaves =
         let same : ended x next results sorts ≡ m = some_value (ap (λ ss. Some (ended x next results ss)) (sym (open-left data_ base r)) ∙ e) in
         let below : RelatedLeaves x y next sorts = subst (RelatedLeaves x y next) (ap (λ (k : Move). k.sorts) (sym same)) leaves in
-        let values : (ss : List ℕ) × RelatedTerms data_ base x y [] ss (results_of x.form results (taken x.leaves next sorts)) (results_of y.form others (taken y.leaves next sorts)) = results-related r (taken-related next sorts below) in
+        let values : (ss : List ℕ) × RelatedTerms data_ base x y [] ss (results_of x.represent results (taken x.leaves next sorts))
+        (results_of y.represent others (taken y.leaves next sorts)) = results-related r (taken-related next sorts below) in
         let n : Move = ended y next others sorts in
         let related : RelatedMoves x y (ended x next results sorts) n = record { label = both_exit_events values.0 values.1; target = both_stop; asked = none_asked; sorts = refl } in
         (n, ap (λ ss. Some (ended y next others ss)) (open-right data_ base r), subst (λ k. RelatedMoves x y k n) same related)
@@ -231,7 +253,10 @@ module _ (data_ : Data) (base : ℕ) (processes : List Process) where
     guarded_follows next moves others all _ = λ m e leaves. absurd cc
 
     -- A side of a parallel that moves alone.
-    alone_follows : (meet : Meet) (beside beside' : Behaviour → Behaviour) → ((b c : Behaviour) → Beside data_ base processes x y [] b c → Beside data_ base processes x y [] (beside b) (beside' c)) → (m n k : Move) → RelatedMoves x y m n → alone meet beside m ≡ Some k → (l : Move) × (alone meet beside' n ≡ Some l) × RelatedMoves x y k l
+    alone_follows : (meet : SynchronisationSet) (beside beside' : Behaviour → Behaviour)
+        → ((b c : Behaviour) → Beside data_ base processes x y [] b c → Beside data_ base processes x y [] (beside b) (beside' c))
+        → (m n k : Move) → RelatedMoves x y m n → alone meet beside m ≡ Some k → (l : Move) × (alone meet beside' n ≡ Some l)
+        × RelatedMoves x y k l
     alone_follows meet beside beside' keep m n k related e =
         let test : (moves_alone meet m.label ≡ true) × (record m { target = beside m.target } ≡ k) = tested (moves_alone meet m.label) (record m { target = beside m.target }) e in
         let other : moves_alone meet n.label ≡ true = sym (alone-same meet related.label) ∙ test.0 in
@@ -239,7 +264,8 @@ module _ (data_ : Data) (base : ℕ) (processes : List Process) where
         let made : RelatedMoves x y (record m { target = beside m.target }) l = record { label = related.label; target = keep m.target n.target related.target; asked = related.asked; sorts = related.sorts } in
         (l, rw other refl, subst (λ z. RelatedMoves x y z l) test.1 made)
 
-    alone-sorts : (meet : Meet) (beside : Behaviour → Behaviour) (m k : Move) → alone meet beside m ≡ Some k → k.sorts ≡ m.sorts
+    alone-sorts : (meet : SynchronisationSet) (beside : Behaviour → Behaviour) (m k : Move) → alone meet beside m ≡ Some k
+        → k.sorts ≡ m.sorts
     alone-sorts meet beside m k e = ap (λ (z : Move). z.sorts) (sym (tested (moves_alone meet m.label) (record m { target = beside m.target }) e).1)
 
     still-related : {b c d f : Behaviour} {label other : Label} → RelatedLabels x y label other → Beside data_ base processes x y [] b c → Beside data_ base processes x y [] d f → Beside data_ base processes x y [] (still_disabled label b d) (still_disabled other c f)
@@ -266,7 +292,7 @@ module _ (data_ : Data) (base : ℕ) (processes : List Process) where
     right_follows next moves others all (both_disable r q) = all _ _ q
     right_follows next moves others all _ = λ m e leaves. absurd cc
 
-    abbrev joined : Meet → Move → Move → Move
+    abbrev joined : SynchronisationSet → Move → Move → Move
     joined meet m n = record {
       label = m.label;
       target = parallel meet m.target n.target;
@@ -274,7 +300,8 @@ module _ (data_ : Data) (base : ℕ) (processes : List Process) where
       sorts = m.sorts ++ n.sorts;
     }
 
-    together-joined : (meet : Meet) (m n : Move) → move_together data_.signature meet m.label n.label ≡ true → together data_.signature meet m n ≡ Some (joined meet m n)
+    together-joined : (meet : SynchronisationSet) (m n : Move) → move_together data_.signature meet m.label n.label ≡ true
+        → together data_.signature meet m n ≡ Some (joined meet m n)
     together-joined meet m n e = rw e refl
 
     both_follows : (next : ℕ) (moves others : Behaviour → Option Move) → AllFollow next moves others → (moves' others' : ℕ → Behaviour → Option Move) → ((k : ℕ) → AllFollow k (moves' k) (others' k)) → {b c : Behaviour} → Beside data_ base processes x y [] b c → Follows x y next (both_move (setting_of x) next moves moves' b) (both_move (setting_of y) next others others' c)
@@ -365,20 +392,28 @@ module _ (data_ : Data) (base : ℕ) (processes : List Process) where
 
     let_follows : (next : ℕ) (moves others : Behaviour → Option Move) → AllFollow next moves others → {b c : Behaviour} → Beside data_ base processes x y [] b c → Follows x y next (let_move (setting_of x) moves b) (let_move (setting_of y) others c)
     let_follows next moves others all (both_let variables {bindings = bindings} {others = bindings'} {b = b} {c = c} e e' binders terms rest) =
-        let put : Puts data_ base x y (variables ++ []) [] (binding_of variables (map x.form (let_terms bindings))) (binding_of variables (map y.form (let_terms bindings'))) = bindings_put data_ base variables _ _ binders (forms_related terms) in
-        let inside : Beside data_ base processes x y [] (with_values (binding_of (let_variables bindings) (map x.form (let_terms bindings))) b) (with_values (binding_of (let_variables bindings') (map y.form (let_terms bindings'))) c) =
+        let put : Puts data_ base x y (variables ++ []) [] (binding_of variables (map x.represent (let_terms bindings)))
+        (binding_of variables (map y.represent (let_terms bindings'))) =
+        bindings_put data_ base variables _ _ binders (represented_related terms) in
+        let inside : Beside data_ base processes x y [] (with_values (binding_of (let_variables bindings)
+        (map x.represent (let_terms bindings))) b) (with_values
+        (binding_of (let_variables bindings') (map y.represent (let_terms bindings'))) c) =
         rw (e, e') (put_beside data_ base processes put rest) in
         all _ _ inside
     let_follows next moves others all _ = λ m e leaves. absurd cc
 
     value_follows : (next : ℕ) (moves others : Behaviour → Option Move) → AllFollow (suc next) moves others → {b c : Behaviour} → Beside data_ base processes x y [] b c → Follows x y next (value_move (setting_of x) x.leaves next moves b) (value_move (setting_of y) y.leaves next others c)
     value_follows next moves others all (both_choose_value {z = z} {b = b} {c = c} binders rest) m e leaves =
-        let inside : Behaviour = with_values (binding_of (z ∷ []) (x.form (x.leaves next z.sort) ∷ [])) b in
+        let inside : Behaviour = with_values (binding_of (z ∷ []) (x.represent (x.leaves next z.sort) ∷ [])) b in
         let from : (k : Move) × (moves inside ≡ Some k) × (after_leaf z.sort k ≡ m) = mapped (after_leaf z.sort) (moves inside) e in
         let below : RelatedLeaves x y next (z.sort ∷ from.0.sorts) = subst (RelatedLeaves x y next) (ap (λ (k : Move). k.sorts) (sym from.2)) leaves in
-        let values : RelatedTerms data_ base x y [] (z.sort ∷ []) (x.form (x.leaves next z.sort) ∷ []) (y.form (y.leaves next z.sort) ∷ []) = one_related (formed data_ base form other_form below.0) none_related in
-        let put : Puts data_ base x y (z ∷ []) [] (binding_of (z ∷ []) (x.form (x.leaves next z.sort) ∷ [])) (binding_of (z ∷ []) (y.form (y.leaves next z.sort) ∷ [])) = bindings_put data_ base (z ∷ []) _ _ binders values in
-        let answer : Answer x y (others (with_values (binding_of (z ∷ []) (y.form (y.leaves next z.sort) ∷ [])) c)) from.0 = all _ _ (put_beside data_ base processes put rest) from.0 from.1 below.1 in
+        let values : RelatedTerms data_ base x y [] (z.sort ∷ []) (x.represent (x.leaves next z.sort) ∷ [])
+        (y.represent (y.leaves next z.sort) ∷ []) = one_related
+        (represented data_ base represent other_represent below.0) none_related in
+        let put : Puts data_ base x y (z ∷ []) [] (binding_of (z ∷ []) (x.represent (x.leaves next z.sort) ∷ []))
+        (binding_of (z ∷ []) (y.represent (y.leaves next z.sort) ∷ [])) = bindings_put data_ base (z ∷ []) _ _ binders values in
+        let answer : Answer x y (others (with_values (binding_of (z ∷ []) (y.represent (y.leaves next z.sort) ∷ [])) c)) from.0 =
+        all _ _ (put_beside data_ base processes put rest) from.0 from.1 below.1 in
         let made : RelatedMoves x y (after_leaf z.sort from.0) (after_leaf z.sort answer.0) = record { label = answer.2.label; target = answer.2.target; asked = answer.2.asked; sorts = ap (λ ss. z.sort ∷ ss) answer.2.sorts } in
         (after_leaf z.sort answer.0, ap (option_map (after_leaf z.sort)) answer.1, subst (λ k. RelatedMoves x y k (after_leaf z.sort answer.0)) from.2 made)
     value_follows next moves others all _ m e leaves = absurd cc
@@ -402,7 +437,9 @@ module _ (data_ : Data) (base : ℕ) (processes : List Process) where
       called_follows : (next : ℕ) (moves others : Behaviour → Option Move) → AllFollow next moves others → {b c : Behaviour} → Beside data_ base processes x y [] b c → Follows x y next (called_move (setting_of x) moves b) (called_move (setting_of y) others c)
       called_follows next moves others all (both_call {number = number} {gates = gates} {arguments = arguments} {others = arguments'} process at terms) =
           let body : Binders data_ base process.parameters × Beside data_ base processes x y (process.parameters ++ []) process.body process.body = bodies number process at in
-          let put : Puts data_ base x y (process.parameters ++ []) [] (binding_of process.parameters (map x.form arguments)) (binding_of process.parameters (map y.form arguments')) = bindings_put data_ base process.parameters _ _ body.0 (forms_related terms) in
+          let put : Puts data_ base x y (process.parameters ++ []) [] (binding_of process.parameters (map x.represent arguments))
+          (binding_of process.parameters (map y.represent arguments')) =
+          bindings_put data_ base process.parameters _ _ body.0 (represented_related terms) in
           rw at (relabelling_follows (zip process.gates gates) (all _ _ (put_beside data_ base processes put body.1)))
       called_follows next moves others all _ = λ m e leaves. absurd cc
 

@@ -7,18 +7,18 @@ use Rattle.term_algebra.specs.Signature.{Signature, IsSort}
 use Rattle.term_algebra.specs.Term.{Term, variable, node, Terms, no_terms, term_then}
 use Rattle.term_algebra.specs.Sorting.{HasSort, HaveSorts, IsGroundOf, IsTermOf, Occurs, OccursAmong}
 use Rattle.term_algebra.specs.Equation.{Data, Variable}
-use Rattle.term_algebra.specs.Equality.{Equal, AllEqual, same_term}
-use Rattle.term_algebra.specs.Substitution.{Substitution, substituted, all_substituted, followed_by, without, is_listed, IsGrounding}
+use Rattle.term_algebra.specs.Equality.{Equal, same_term}
+use Rattle.term_algebra.specs.Substitution.{Substitution, substituted, followed_by, without, is_listed, IsGrounding}
 use Rattle.term_algebra.specs.Canon.{IsCanon}
 use Rattle.term_algebra.proofs.SubstitutionLemmas.{substituted_twice, substituted_agree, substituted_sort, instance_ground, substituted_occurs, ComesFrom, occurs_substituted}
-use Rattle.term_algebra.proofs.EqualityLemmas.{equal_then, equal_back, equal_same, equal_under}
+use Rattle.term_algebra.proofs.EqualityLemmas.{equal_then, equal_back, equal_same, equal_values}
 use Rattle.behaviour_semantics.specs.Behaviour.{numbers_of, sorts_of}
 use Rattle.behaviour_semantics.specs.Replacement.{binding_of}
 use Rattle.behaviour_semantics.specs.WellFormed.{sort_in, Every}
 use Rattle.behaviour_semantics.proofs.OptionLemmas.{some_value}
 
 pub record Side : Type 1 where
-  pub form : Term → Term
+  pub represent : Term → Term
   pub leaves : Substitution
   pub values : Substitution
   pub leaf : ℕ → ℕ → Type 0
@@ -45,16 +45,6 @@ mutual
   occurs_sorts signature (term_then t ts) [] n r h o = absurd h
   occurs_sorts signature (term_then t ts) (s ∷ ss) n r h (inl o) = occurs_sort signature t s n r h.0 o
   occurs_sorts signature (term_then t ts) (s ∷ ss) n r h (inr o) = occurs_sorts signature ts ss n r h.1 o
-
-mutual
-  -- instances by equal values are equal
-  pub instance_equal : (data_ : Data) (v w : Substitution) (t : Term) → ((n r : ℕ) → Occurs n r t → Equal data_ (v n r) (w n r)) → Equal data_ (substituted v t) (substituted w t)
-  instance_equal data_ v w (variable n s) h = h n s (refl, refl)
-  instance_equal data_ v w (node f ts) h = equal_under data_ f (all_substituted v ts) (all_substituted w ts) (instances_equal data_ v w ts h)
-
-  pub instances_equal : (data_ : Data) (v w : Substitution) (ts : Terms) → ((n r : ℕ) → OccursAmong n r ts → Equal data_ (v n r) (w n r)) → AllEqual data_ (all_substituted v ts) (all_substituted w ts)
-  instances_equal data_ v w no_terms h = tt
-  instances_equal data_ v w (term_then t ts) h = (instance_equal data_ v w t (λ n r o. h n r (inl o)), instances_equal data_ v w ts (λ n r o. h n r (inr o)))
 
 -- A variable that is bound in the scope, or a leaf variable of its sort.
 abbrev pub Placed : Data → ℕ → Side → List Variable → ℕ → ℕ → Type 0
@@ -92,16 +82,22 @@ turned r = record {
 }
 
 -- A form of values that keeps sorts, adds no variable, and keeps what ground instances are equal to.
-pub record IsForm (data_ : Data) (form : Term → Term) : Type 0 where
-  pub sorts : (t : Term) (s : ℕ) → HasSort data_.signature t s → HasSort data_.signature (form t) s
-  pub occurring : (t : Term) (n r : ℕ) → IsTermOf data_.signature t → Occurs n r (form t) → Occurs n r t
-  pub instances : (t : Term) (values : Substitution) → IsTermOf data_.signature t → IsGrounding data_.signature t values → Equal data_ (substituted values (form t)) (substituted values t)
+pub record IsRepresenting (data_ : Data) (represent : Term → Term) : Type 0 where
+  pub sorts : (t : Term) (s : ℕ) → HasSort data_.signature t s → HasSort data_.signature (represent t) s
+  pub occurring : (t : Term) (n r : ℕ) → IsTermOf data_.signature t → Occurs n r (represent t) → Occurs n r t
+  pub instances : (t : Term) (values : Substitution) → IsTermOf data_.signature t → IsGrounding data_.signature t values
+      → Equal data_ (substituted values (represent t)) (substituted values t)
 
-pub canon_form : (data_ : Data) (canon : Term → Term) → IsCanon data_ canon → IsForm data_ canon
-canon_form data_ canon c = record { sorts = c.sorts; occurring = c.occurring; instances = c.instances }
+pub canon_represents : (data_ : Data) (canon : Term → Term) → IsCanon data_ canon → IsRepresenting data_ canon
+canon_represents data_ canon c = record { sorts = c.sorts; occurring = c.occurring; instances = c.instances }
 
-pub given_form : (data_ : Data) → IsForm data_ (λ t. t)
-given_form data_ = record { sorts = λ t s h. h; occurring = λ t n r h o. o; instances = λ t values h g. same_term (substituted values t) }
+pub given_represents : (data_ : Data) → IsRepresenting data_ (λ t. t)
+given_represents data_ = record {
+  sorts = λ t s h. h;
+  occurring = λ t n r h o. o;
+  instances =
+      λ t values h g. same_term (substituted values t);
+}
 
 module _ (data_ : Data) (base : ℕ) where
   -- Nothing is bound in the empty scope.
@@ -126,8 +122,9 @@ module _ (data_ : Data) (base : ℕ) where
   }
 
   -- The forms of related closed terms are related.
-  pub formed : {x y : Side} {s : ℕ} {t u : Term} → IsForm data_ x.form → IsForm data_ y.form → Related data_ base x y [] s t u → Related data_ base x y [] s (x.form t) (y.form u)
-  formed {x = x} {y = y} {s = s} {t = t} {u = u} f g r = record {
+  pub represented : {x y : Side} {s : ℕ} {t u : Term} → IsRepresenting data_ x.represent → IsRepresenting data_ y.represent
+      → Related data_ base x y [] s t u → Related data_ base x y [] s (x.represent t) (y.represent u)
+  represented {x = x} {y = y} {s = s} {t = t} {u = u} f g r = record {
     left_sorted = f.sorts t s r.left_sorted;
     right_sorted = g.sorts u s r.right_sorted;
     left_free = λ n q o. r.left_free n q (f.occurring t n q (s, r.left_sorted) o);
@@ -205,7 +202,8 @@ module _ (data_ : Data) (base : ℕ) where
         equal_then (equal_same data_ (substituted (with_leaves base x others) (substituted v t)) (substituted (with_leaves base x (inner others)) t)
         (substituted_twice v (with_leaves base x others) t ∙ substituted_agree (followed_by v (with_leaves base x others)) (with_leaves base x (inner others)) t (λ n q o. left_same others n q (r.left_free n q o))))
         (equal_then (r.equal left right (inner others) (λ n q lt o. inner_ground left others grounds n q lt o))
-        (equal_then (instance_equal data_ (with_leaves base y (inner others)) (followed_by w (with_leaves base y others)) u (λ n q o. right_equal left right others grounds n q o (r.right_free n q o)))
+        (equal_then (equal_values data_ (with_leaves base y (inner others)) (followed_by w (with_leaves base y others)) u
+        (λ n q o. right_equal left right others grounds n q o (r.right_free n q o)))
         (equal_same data_ (substituted (followed_by w (with_leaves base y others)) u) (substituted (with_leaves base y others) (substituted w u)) (sym (substituted_twice w (with_leaves base y others) u)))));
   }
     where

@@ -49,7 +49,9 @@ asked-with values [] = refl
 asked-with values (give t ∷ offers) = asked-with values offers
 asked-with values (ask x ∷ offers) = ap (λ (xs : List Variable). x ∷ xs) (asked-with values offers)
 
-let_variables-with : (values : Substitution) (bindings : List (Variable × Term)) → let_variables (map {B = Variable × Term} (λ (bound : Variable × Term). (bound.0, substituted values bound.1)) bindings) ≡ let_variables bindings
+pub let_variables-with : (values : Substitution) (bindings : List (Variable × Term))
+    → let_variables (map {B = Variable × Term} (λ (bound : Variable × Term). (bound.0, substituted values bound.1)) bindings)
+    ≡ let_variables bindings
 let_variables-with values [] = refl
 let_variables-with values (bound ∷ bindings) = ap (λ (xs : List Variable). bound.0 ∷ xs) (let_variables-with values bindings)
 

@@ -3,7 +3,7 @@ use Rattle.std.proofs.Common.{◌≡◌, ℕ, suc, ◌+◌, List, [], ◌∷◌,
 use Rattle.term_algebra.specs.Term.{Term}
 use Rattle.term_algebra.specs.Equation.{Data}
 use Rattle.term_algebra.specs.Substitution.{Substitution}
-use Rattle.behaviour_semantics.specs.Behaviour.{Behaviour, parallel, Test, Meet, Process, asked_variables, open_sorts, sorts_of, let_terms}
+use Rattle.behaviour_semantics.specs.Behaviour.{Behaviour, parallel, Test, SynchronisationSet, Process, asked_variables, open_sorts, sorts_of, let_terms}
 use Rattle.behaviour_semantics.specs.Label.{Label}
 use Rattle.behaviour_semantics.specs.Replacement.{binding_of}
 use Rattle.behaviour_semantics.specs.Rule.{as_given, tests_of, move_together, label_values, pairwise, AllHold, AreValues}
@@ -14,7 +14,7 @@ use Rattle.behaviour_semantics.proofs.SupplyLemmas.{Supplies, taken-supplied, Su
 use Rattle.behaviour_semantics.proofs.OpenedLemmas.{move_of-copies}
 
 abbrev pub given : Data → List Process → Setting
-given data_ processes = record { signature = data_.signature; form = as_given; processes = processes }
+given data_ processes = record { signature = data_.signature; represent = as_given; processes = processes }
 
 -- A derivation of the move, whatever number its first leaf has.
 pub record Found (data_ : Data) (processes : List Process) (b : Behaviour) (label : Label) (target : Behaviour) : Type 0 where
@@ -34,7 +34,10 @@ nat_eq-same : (n : ℕ) → nat_eq n n ≡ true
 nat_eq-same n = eq-eqb n n refl
 
 -- Both sides of a parallel move together.
-both_found : (data_ : Data) (processes : List Process) (meet : Meet) {b c left right : Behaviour} {label other : Label} → Found data_ processes b label left → Found data_ processes c other right → move_together data_.signature meet label other ≡ true → AllHold data_ (pairwise (label_values label) (label_values other)) → Found data_ processes (parallel meet b c) label (parallel meet left right)
+both_found : (data_ : Data) (processes : List Process) (meet : SynchronisationSet) {b c left right : Behaviour} {label other : Label}
+    → Found data_ processes b label left → Found data_ processes c other right → move_together data_.signature meet label other ≡ true
+    → AllHold data_ (pairwise (label_values label) (label_values other))
+    → Found data_ processes (parallel meet b c) label (parallel meet left right)
 both_found data_ processes meet {b = b} {c = c} {left = left} {label = label} {other = other} f g meets holds = record {
   shape = both_sides f.shape g.shape;
   leaves = f.leaves ++ g.leaves;

@@ -37,7 +37,8 @@ AlikeResults data_ (exit_value t ∷ results) (exit_value u ∷ others) = AlikeT
 AlikeResults data_ (any_of s ∷ results) (any_of r ∷ others) = (s ≡ r) × AlikeResults data_ results others
 AlikeResults data_ _ _ = ⊥
 
--- Two labels are alike: of one kind, at one gate, with equal values.
+-- Two labels are alike: of one kind, at one gate, with values that are alike. Labels of closed behaviours are ground, and
+-- there it is `EqualLabels`.
 abbrev pub AlikeLabels : Data → Label → Label → Type 0
 AlikeLabels data_ inner_event inner_event = Unit {0}
 AlikeLabels data_ (gate_event g us) (gate_event h vs) = (g ≡ h) × AllAlike data_ us vs

@@ -20,11 +20,11 @@ pub data ExitValue : Type 0 where
   exit_value : Term → ExitValue
   any_of : ℕ → ExitValue
 
--- The gates at which the two sides of a parallel meet: `|||`, `||` and `|[..]|`.
-pub data Meet : Type 0 where
-  no_gates : Meet
-  all_gates : Meet
-  at_gates : List ℕ → Meet
+-- The gates at which the two sides of a parallel synchronise: `|||`, `||` and `|[..]|`.
+pub data SynchronisationSet : Type 0 where
+  no_gates : SynchronisationSet
+  all_gates : SynchronisationSet
+  at_gates : List ℕ → SynchronisationSet
 
 -- A relabelling: pairs of a formal and an actual gate, with distinct formal gates.
 abbrev pub Relabelling : Type 0
@@ -40,14 +40,14 @@ pub data Behaviour : Type 0 where
   inner_action : Behaviour → Behaviour
   guard : Test → Behaviour → Behaviour
   choice : Behaviour → Behaviour → Behaviour
-  parallel : Meet → Behaviour → Behaviour → Behaviour
+  parallel : SynchronisationSet → Behaviour → Behaviour → Behaviour
   hide : List ℕ → Behaviour → Behaviour
   enable : Behaviour → List Variable → Behaviour → Behaviour
   disable : Behaviour → Behaviour → Behaviour
   let_be : List (Variable × Term) → Behaviour → Behaviour
   choose_value : Variable → Behaviour → Behaviour
   choose_gate : ℕ → List ℕ → Behaviour → Behaviour
-  par_gate : ℕ → List ℕ → Meet → Behaviour → Behaviour
+  par_gate : ℕ → List ℕ → SynchronisationSet → Behaviour → Behaviour
   call : ℕ → List ℕ → List Term → Behaviour
   relabel : Relabelling → Behaviour → Behaviour
 

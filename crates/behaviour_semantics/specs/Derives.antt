@@ -15,13 +15,15 @@ leaves_in [] k s = variable k s
 leaves_in (v ∷ vs) zero s = v
 leaves_in (v ∷ vs) (suc k) s = leaves_in vs k s
 
--- The derivation gives the behaviour this label and target, where bound values and the values of the label are put
--- in the form: the table has that move, the leaves are ground values of the sorts that it wants, no more and no
+-- The derivation gives the behaviour this label and target, where bound values and the values of the label are the
+-- terms that represent them: the table has that move, the leaves are ground values of the sorts that it wants, no more and no
 -- fewer, and the data derive each equation that is asked.
-pub record GivesMove (data_ : Data) (form : Term → Term) (processes : List Process) (b : Behaviour) (d : Derivation) (label : Label) (target : Behaviour) : Type 0 where
+pub record GivesMove (data_ : Data) (represent : Term → Term) (processes : List Process) (b : Behaviour) (d : Derivation)
+    (label : Label) (target : Behaviour) : Type 0 where
   pub asked : List Test
   pub sorts : List ℕ
-  pub move : move_of (record { signature = data_.signature; form = form; processes = processes }) (leaves_in d.leaves) d.shape 0 b ≡ Some (record { label = label; target = target; asked = asked; sorts = sorts })
+  pub move : move_of (record { signature = data_.signature; represent = represent; processes = processes })
+      (leaves_in d.leaves) d.shape 0 b ≡ Some (record { label = label; target = target; asked = asked; sorts = sorts })
   pub leaves : AreValues data_.signature sorts d.leaves
   pub holds : AllHold data_ asked
 

@@ -89,7 +89,7 @@ abbrev pub draft_of : Data → (Term → Term) → List Process → Shape → Be
 draft_of data_ canon processes shape b =
     let base : ℕ = first_apart processes b in
     option_map (draft_by shape base)
-    (move_of (record { signature = data_.signature; form = canon; processes = processes }) (leaves_from base) shape 0 b)
+    (move_of (record { signature = data_.signature; represent = canon; processes = processes }) (leaves_from base) shape 0 b)
 
 -- The shape fits the behaviour: it has a draft there.
 abbrev pub Fits : Data → (Term → Term) → List Process → Behaviour → Shape → Type 0

@@ -6,7 +6,7 @@ use Rattle.term_algebra.specs.Signature.{Signature}
 use Rattle.term_algebra.specs.Term.{Term}
 use Rattle.term_algebra.specs.Equation.{Data, Variable}
 use Rattle.term_algebra.specs.Substitution.{Substitution}
-use Rattle.behaviour_semantics.specs.Behaviour.{Behaviour, stop, exit_with, action, inner_action, guard, choice, parallel, hide, enable, disable, let_be, choose_value, choose_gate, par_gate, call, relabel, Meet, Process, let_variables, let_terms}
+use Rattle.behaviour_semantics.specs.Behaviour.{Behaviour, stop, exit_with, action, inner_action, guard, choice, parallel, hide, enable, disable, let_be, choose_value, choose_gate, par_gate, call, relabel, SynchronisationSet, Process, let_variables, let_terms}
 use Rattle.behaviour_semantics.specs.Replacement.{with_values, binding_of}
 use Rattle.behaviour_semantics.specs.Rule.{is_exit}
 use Rattle.behaviour_semantics.specs.Shape.{Shape, act, quit, inner_step, guarded, left_side, right_side, both_sides, hidden, enabled, passed, let_bound, with_value, at_gate, called, relabelled, Before}
@@ -50,7 +50,7 @@ one_behind _ _ = None
 
 -- The moves of both sides of a parallel: for each move of the left side, those of the right side, whose leaves come
 -- after those of the left one.
-abbrev pub both_below : Signature → Meet → ℕ → (ℕ → Option (List ShapedMove)) → List ShapedMove → Option (List ShapedMove)
+abbrev pub both_below : Signature → SynchronisationSet → ℕ → (ℕ → Option (List ShapedMove)) → List ShapedMove → Option (List ShapedMove)
 both_below signature meet next rights [] = Some []
 both_below signature meet next rights (x ∷ lefts) =
     one_behind (each_below (both_sides x.shape) (together signature meet x.move) (rights (next + length x.move.sorts)))
@@ -67,7 +67,7 @@ abbrev pub called_below : Setting → ℕ → Parts → List ℕ → List Term �
 called_below setting next parts gates arguments None = Some []
 called_below setting next parts gates arguments (Some process) =
     each_below called (λ m. Some (relabelling (zip process.gates gates) m))
-    (parts next (with_values (binding_of process.parameters (map setting.form arguments)) process.body))
+    (parts next (with_values (binding_of process.parameters (map setting.represent arguments)) process.body))
 
 -- The moves by the form of the behaviour. A gate `par` is opened before.
 abbrev pub moves_by_form : Setting → Substitution → ℕ → Parts → Behaviour → Option (List ShapedMove)
@@ -88,10 +88,11 @@ moves_by_form setting leaves next parts (enable b variables c) =
 moves_by_form setting leaves next parts (disable b c) =
     one_behind (each_below left_side (λ m. Some (disabling c m)) (parts next b)) (each_below right_side (λ m. Some m) (parts next c))
 moves_by_form setting leaves next parts (let_be bindings b) =
-    each_below let_bound (λ m. Some m) (parts next (with_values (binding_of (let_variables bindings) (map setting.form (let_terms bindings))) b))
+    each_below let_bound (λ m. Some m) (parts next (with_values (binding_of (let_variables bindings)
+    (map setting.represent (let_terms bindings))) b))
 moves_by_form setting leaves next parts (choose_value x b) =
     each_below with_value (λ m. Some (after_leaf x.sort m))
-    (parts (suc next) (with_values (binding_of (x ∷ []) (setting.form (leaves next x.sort) ∷ [])) b))
+    (parts (suc next) (with_values (binding_of (x ∷ []) (setting.represent (leaves next x.sort) ∷ [])) b))
 moves_by_form setting leaves next parts (choose_gate g gates b) = at_gates_below g 0 gates (parts next b)
 moves_by_form setting leaves next parts (par_gate g gates meet b) = Some []
 moves_by_form setting leaves next parts (call number gates arguments) =
@@ -108,7 +109,7 @@ abbrev pub listed_drafts : Data → (Term → Term) → List Process → ℕ →
 listed_drafts data_ canon processes depth b =
     let base : ℕ = first_apart processes b in
     option_map (map (λ (x : ShapedMove). draft_by x.shape base x.move))
-    (listed_moves (record { signature = data_.signature; form = canon; processes = processes }) (leaves_from base) depth 0 b)
+    (listed_moves (record { signature = data_.signature; represent = canon; processes = processes }) (leaves_from base) depth 0 b)
 
 -- The drafts solved one by one: the entries of those that have one, in order.
 pub data AllSolveTo (canon : Term → Term) : List Draft → List Entry → Type 0 where

@@ -13,7 +13,9 @@ use Rattle.behaviour_semantics.specs.Derives.{Derives, leaves_in}
 use Rattle.behaviour_semantics.specs.Draft.{Draft, draft_of, label_with, Fits}
 use Rattle.behaviour_semantics.specs.Solving.{Entry, SolvesTo}
 
--- The terms of two lists are equal one by one.
+-- The terms of two lists are equal one by one: `AllEqual` for lists that are no arguments of an operation. These are
+-- for values, which are ground; `AlikeTerms`, `AllAlike` and `AlikeLabels` are for terms with variables, and ask for
+-- equality under all ground values. On ground values the two agree.
 abbrev pub EqualTerms : Data → List Term → List Term → Type 0
 EqualTerms data_ [] [] = Unit {0}
 EqualTerms data_ (t ∷ ts) (u ∷ us) = Equal data_ t u × EqualTerms data_ ts us

@@ -6,17 +6,17 @@ use Rattle.term_algebra.specs.Signature.{Signature}
 use Rattle.term_algebra.specs.Term.{Term}
 use Rattle.term_algebra.specs.Equation.{Variable}
 use Rattle.term_algebra.specs.Substitution.{Substitution}
-use Rattle.behaviour_semantics.specs.Behaviour.{Behaviour, stop, exit_with, action, inner_action, guard, choice, parallel, hide, enable, disable, let_be, choose_value, choose_gate, par_gate, call, relabel, Test, Meet, Process, Relabelling, asked_variables, open_sorts, sorts_of, let_variables, let_terms}
+use Rattle.behaviour_semantics.specs.Behaviour.{Behaviour, stop, exit_with, action, inner_action, guard, choice, parallel, hide, enable, disable, let_be, choose_value, choose_gate, par_gate, call, relabel, Test, SynchronisationSet, Process, Relabelling, asked_variables, open_sorts, sorts_of, let_variables, let_terms}
 use Rattle.behaviour_semantics.specs.Label.{Label, inner_event, gate_event, exit_event, label_under, under}
 use Rattle.behaviour_semantics.specs.Replacement.{with_values, binding_of}
 use Rattle.behaviour_semantics.specs.Rule.{offered, results_of, tests_of, moves_alone, have_sorts, move_together, label_values, pairwise, hidden_label, is_exit, still_disabled, copies}
 use Rattle.behaviour_semantics.specs.Shape.{Shape, act, quit, inner_step, guarded, left_side, right_side, both_sides, hidden, enabled, passed, let_bound, with_value, at_gate, called, relabelled}
 
--- What a move depends on besides behaviour, shape and leaves: the signature, the form in which bound values and the
--- values of labels are put, and the processes.
+-- What a move depends on besides behaviour, shape and leaves: the signature, the term that represents a bound
+-- value or a value of a label (the value as given, or its canonical form), and the processes.
 pub record Setting : Type 0 where
   pub signature : Signature
-  pub form : Term → Term
+  pub represent : Term → Term
   pub processes : List Process
 
 -- A move: its label, its target, the equations that it asks, in order, and the sorts that its leaves have.
@@ -38,11 +38,11 @@ abbrev pub asking : Test → Move → Move
 asking test m = record m { asked = test ∷ m.asked }
 
 -- A side of a parallel moves alone.
-abbrev pub alone : Meet → (Behaviour → Behaviour) → Move → Option Move
+abbrev pub alone : SynchronisationSet → (Behaviour → Behaviour) → Move → Option Move
 alone meet beside m = if moves_alone meet m.label then Some (record m { target = beside m.target }) else None
 
 -- Both sides of a parallel move together, with the label of the left one.
-abbrev pub together : Signature → Meet → Move → Move → Option Move
+abbrev pub together : Signature → SynchronisationSet → Move → Move → Option Move
 together signature meet m n =
     if move_together signature meet m.label n.label
     then Some (record {
@@ -91,9 +91,9 @@ abbrev pub act_move : Setting → Substitution → ℕ → Behaviour → Option 
 act_move setting leaves next (action g offers test b) =
     let variables : List Variable = asked_variables offers in
     let chosen : List Term = taken leaves next (sorts_of variables) in
-    let values : Substitution = binding_of variables (map setting.form chosen) in
+    let values : Substitution = binding_of variables (map setting.represent chosen) in
     Some (record {
-      label = gate_event g (offered setting.form offers chosen);
+      label = gate_event g (offered setting.represent offers chosen);
       target = with_values values b;
       asked = tests_of values test;
       sorts = sorts_of variables;
@@ -103,7 +103,7 @@ act_move setting leaves next _ = None
 abbrev pub quit_move : Setting → Substitution → ℕ → Behaviour → Option Move
 quit_move setting leaves next (exit_with results) =
     Some (record {
-      label = exit_event (results_of setting.form results (taken leaves next (open_sorts results)));
+      label = exit_event (results_of setting.represent results (taken leaves next (open_sorts results)));
       target = stop;
       asked = [];
       sorts = open_sorts results;
@@ -151,12 +151,12 @@ passed_move moves _ = None
 
 abbrev pub let_move : Setting → (Behaviour → Option Move) → Behaviour → Option Move
 let_move setting moves (let_be bindings b) =
-    moves (with_values (binding_of (let_variables bindings) (map setting.form (let_terms bindings))) b)
+    moves (with_values (binding_of (let_variables bindings) (map setting.represent (let_terms bindings))) b)
 let_move setting moves _ = None
 
 abbrev pub value_move : Setting → Substitution → ℕ → (Behaviour → Option Move) → Behaviour → Option Move
 value_move setting leaves next moves (choose_value x b) =
-    option_map (after_leaf x.sort) (moves (with_values (binding_of (x ∷ []) (setting.form (leaves next x.sort) ∷ [])) b))
+    option_map (after_leaf x.sort) (moves (with_values (binding_of (x ∷ []) (setting.represent (leaves next x.sort) ∷ [])) b))
 value_move setting leaves next moves _ = None
 
 abbrev pub gate_move : ℕ → (Behaviour → Option Move) → Behaviour → Option Move
@@ -168,7 +168,7 @@ abbrev pub called_move : Setting → (Behaviour → Option Move) → Behaviour �
 called_move setting moves (call number gates arguments) =
     option_and_then
     (λ (process : Process). option_map (relabelling (zip process.gates gates))
-    (moves (with_values (binding_of process.parameters (map setting.form arguments)) process.body)))
+    (moves (with_values (binding_of process.parameters (map setting.represent arguments)) process.body)))
     (slice_get setting.processes number)
 called_move setting moves _ = None
 

@@ -7,44 +7,46 @@ use Rattle.term_algebra.specs.Sorting.{sort_of, IsGroundOf}
 use Rattle.term_algebra.specs.Equation.{Data}
 use Rattle.term_algebra.specs.Equality.{Equal}
 use Rattle.term_algebra.specs.Substitution.{Substitution, is_listed}
-use Rattle.behaviour_semantics.specs.Behaviour.{Behaviour, stop, parallel, disable, Test, Offer, give, ask, ExitValue, exit_value, any_of, Meet, no_gates, all_gates, at_gates}
+use Rattle.behaviour_semantics.specs.Behaviour.{Behaviour, stop, parallel, disable, Test, Offer, give, ask, ExitValue, exit_value, any_of, SynchronisationSet, no_gates, all_gates, at_gates}
 use Rattle.behaviour_semantics.specs.Label.{Label, inner_event, gate_event, exit_event, under}
 use Rattle.behaviour_semantics.specs.Replacement.{test_with}
 
--- A value as it is given: no canonical form is taken.
+-- A value is represented by the term that is given; no canonical form is taken.
 abbrev pub as_given : Term → Term
 as_given t = t
 
--- The values of an action's label: each given one, and for each `?x` the next leaf, in the form that is taken.
+-- The values of an action's label: each given one, and for each `?x` the next leaf, each as the term that
+-- represents it.
 abbrev pub offered : (Term → Term) → List Offer → List Term → List Term
-offered form [] leaves = []
-offered form (give t ∷ offers) leaves = form t ∷ offered form offers leaves
-offered form (ask x ∷ offers) [] = []
-offered form (ask x ∷ offers) (leaf ∷ leaves) = form leaf ∷ offered form offers leaves
+offered represent [] leaves = []
+offered represent (give t ∷ offers) leaves = represent t ∷ offered represent offers leaves
+offered represent (ask x ∷ offers) [] = []
+offered represent (ask x ∷ offers) (leaf ∷ leaves) = represent leaf ∷ offered represent offers leaves
 
--- The values of an `exit`: each given one, and for each `any` the next leaf, in the form that is taken.
+-- The values of an `exit`: each given one, and for each `any` the next leaf, each as the term that
+-- represents it.
 abbrev pub results_of : (Term → Term) → List ExitValue → List Term → List Term
-results_of form [] leaves = []
-results_of form (exit_value t ∷ results) leaves = form t ∷ results_of form results leaves
-results_of form (any_of s ∷ results) [] = []
-results_of form (any_of s ∷ results) (leaf ∷ leaves) = form leaf ∷ results_of form results leaves
+results_of represent [] leaves = []
+results_of represent (exit_value t ∷ results) leaves = represent t ∷ results_of represent results leaves
+results_of represent (any_of s ∷ results) [] = []
+results_of represent (any_of s ∷ results) (leaf ∷ leaves) = represent leaf ∷ results_of represent results leaves
 
 -- The test of an action, if it has one, with the terms put in.
 abbrev pub tests_of : Substitution → Option Test → List Test
 tests_of values None = []
 tests_of values (Some test) = test_with values test ∷ []
 
--- The gate is one at which the two sides of a parallel meet.
-abbrev pub is_met : Meet → ℕ → Bool
-is_met no_gates g = Bool.false
-is_met all_gates g = Bool.true
-is_met (at_gates gates) g = is_listed gates g
+-- The gate is one at which the two sides of a parallel synchronise.
+abbrev pub synchronises : SynchronisationSet → ℕ → Bool
+synchronises no_gates g = Bool.false
+synchronises all_gates g = Bool.true
+synchronises (at_gates gates) g = is_listed gates g
 
--- A side of a parallel moves alone with the inner event and at a gate where the sides do not meet, and never ends
+-- A side of a parallel moves alone with the inner event and at a gate where the sides do not synchronise, and never ends
 -- alone.
-abbrev pub moves_alone : Meet → Label → Bool
+abbrev pub moves_alone : SynchronisationSet → Label → Bool
 moves_alone meet inner_event = Bool.true
-moves_alone meet (gate_event g values) = not (is_met meet g)
+moves_alone meet (gate_event g values) = not (synchronises meet g)
 moves_alone meet (exit_event values) = Bool.false
 
 -- Two sorts that are known, and the same.
@@ -66,8 +68,8 @@ have_same_sorts signature _ _ = Bool.false
 
 -- Both sides of a parallel move together: at one gate where they meet, or both ending, with equally many values of
 -- the same sorts.
-abbrev pub move_together : Signature → Meet → Label → Label → Bool
-move_together signature meet (gate_event g us) (gate_event h vs) = nat_eq g h && is_met meet g && have_same_sorts signature us vs
+abbrev pub move_together : Signature → SynchronisationSet → Label → Label → Bool
+move_together signature meet (gate_event g us) (gate_event h vs) = nat_eq g h && synchronises meet g && have_same_sorts signature us vs
 move_together signature meet (exit_event us) (exit_event vs) = have_same_sorts signature us vs
 move_together signature meet _ _ = Bool.false
 
@@ -99,13 +101,13 @@ abbrev pub still_disabled : Label → Behaviour → Behaviour → Behaviour
 still_disabled label target c = if is_exit label then target else disable target c
 
 -- Behaviours side by side, grouped to the right. One alone stands alone.
-abbrev pub side_by_side : Meet → List Behaviour → Behaviour
+abbrev pub side_by_side : SynchronisationSet → List Behaviour → Behaviour
 side_by_side meet [] = stop
 side_by_side meet (b ∷ []) = b
 side_by_side meet (b ∷ c ∷ bs) = parallel meet b (side_by_side meet (c ∷ bs))
 
 -- The copies of the body of a gate `par`, each relabelled by one gate of the list, side by side.
-abbrev pub copies : ℕ → List ℕ → Meet → Behaviour → Behaviour
+abbrev pub copies : ℕ → List ℕ → SynchronisationSet → Behaviour → Behaviour
 copies g gates meet b = side_by_side meet (map (λ (a : ℕ). under b ((g, a) ∷ [])) gates)
 
 -- The test holds: the data derive its equation.

@@ -7,12 +7,12 @@ use Rattle.behaviour_semantics.specs.Label.{Label}
 use Rattle.behaviour_semantics.specs.Shape.{Derivation}
 use Rattle.behaviour_semantics.specs.Derives.{GivesMove}
 
-module _ (data_ : Data) (form : Term → Term) (processes : List Process) where
-  -- From the first behaviour the derivations lead to the last one, with values put in the form on the way.
+module _ (data_ : Data) (represent : Term → Term) (processes : List Process) where
+  -- From the first behaviour the derivations lead to the last one, with values represented by these terms on the way.
   pub data Reaches : Behaviour → List Derivation → Behaviour → Type 0 where
     at_start : {b : Behaviour} → Reaches b [] b
     one_move :
         {b next target : Behaviour} {d : Derivation} {ds : List Derivation} {label : Label} →
-        GivesMove data_ form processes b d label next →
+        GivesMove data_ represent processes b d label next →
         Reaches next ds target →
         Reaches b (d ∷ ds) target

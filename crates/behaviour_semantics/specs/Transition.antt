@@ -7,10 +7,10 @@ use Rattle.term_algebra.specs.Term.{Term}
 use Rattle.term_algebra.specs.Sorting.{IsGroundOf}
 use Rattle.term_algebra.specs.Equation.{Data, Variable}
 use Rattle.term_algebra.specs.Substitution.{is_listed}
-use Rattle.behaviour_semantics.specs.Behaviour.{Behaviour, stop, exit_with, action, inner_action, guard, choice, parallel, hide, enable, disable, let_be, choose_value, choose_gate, par_gate, call, relabel, Test, Offer, ExitValue, Meet, Process, Relabelling, asked_variables, open_sorts, sorts_of, let_variables, let_terms}
+use Rattle.behaviour_semantics.specs.Behaviour.{Behaviour, stop, exit_with, action, inner_action, guard, choice, parallel, hide, enable, disable, let_be, choose_value, choose_gate, par_gate, call, relabel, Test, Offer, ExitValue, SynchronisationSet, Process, Relabelling, asked_variables, open_sorts, sorts_of, let_variables, let_terms}
 use Rattle.behaviour_semantics.specs.Label.{Label, inner_event, gate_event, exit_event, label_under, under}
 use Rattle.behaviour_semantics.specs.Replacement.{with_values, binding_of}
-use Rattle.behaviour_semantics.specs.Rule.{as_given, offered, results_of, tests_of, is_met, moves_alone, have_sorts, have_same_sorts, pairwise, is_exit, copies, Holds, AllHold, AreValues}
+use Rattle.behaviour_semantics.specs.Rule.{as_given, offered, results_of, tests_of, synchronises, moves_alone, have_sorts, have_same_sorts, pairwise, is_exit, copies, Holds, AllHold, AreValues}
 
 module _ (data_ : Data) (processes : List Process) where
   pub data Transition : Behaviour → Label → Behaviour → Type 0 where
@@ -46,27 +46,27 @@ module _ (data_ : Data) (processes : List Process) where
         Transition (choice b c) label target
     -- `B |[..]| C`: the inner event, and an event at a gate outside the set, by one side alone
     left_alone :
-        {meet : Meet} {b c target : Behaviour} {label : Label} →
+        {meet : SynchronisationSet} {b c target : Behaviour} {label : Label} →
         Transition b label target →
         moves_alone meet label ≡ Bool.true →
         Transition (parallel meet b c) label (parallel meet target c)
     right_alone :
-        {meet : Meet} {b c target : Behaviour} {label : Label} →
+        {meet : SynchronisationSet} {b c target : Behaviour} {label : Label} →
         Transition c label target →
         moves_alone meet label ≡ Bool.true →
         Transition (parallel meet b c) label (parallel meet b target)
     -- an event at a gate in the set by both, with equal values of the same sorts
     both_act :
-        {meet : Meet} {b c left right : Behaviour} {g : ℕ} {us vs : List Term} →
+        {meet : SynchronisationSet} {b c left right : Behaviour} {g : ℕ} {us vs : List Term} →
         Transition b (gate_event g us) left →
         Transition c (gate_event g vs) right →
-        is_met meet g ≡ Bool.true →
+        synchronises meet g ≡ Bool.true →
         have_same_sorts data_.signature us vs ≡ Bool.true →
         AllHold data_ (pairwise us vs) →
         Transition (parallel meet b c) (gate_event g us) (parallel meet left right)
     -- successful termination by both, with equal values of the same sorts
     both_exit :
-        {meet : Meet} {b c left right : Behaviour} {us vs : List Term} →
+        {meet : SynchronisationSet} {b c left right : Behaviour} {us vs : List Term} →
         Transition b (exit_event us) left →
         Transition c (exit_event vs) right →
         have_same_sorts data_.signature us vs ≡ Bool.true →
@@ -137,7 +137,7 @@ module _ (data_ : Data) (processes : List Process) where
         Transition (choose_gate g gates b) (label_under ((g, a) ∷ []) label) (under target ((g, a) ∷ []))
     -- `par g in [..] op B`: its relabelled copies side by side
     par_copies :
-        {g : ℕ} {gates : List ℕ} {meet : Meet} {b target : Behaviour} {label : Label} →
+        {g : ℕ} {gates : List ℕ} {meet : SynchronisationSet} {b target : Behaviour} {label : Label} →
         Transition (copies g gates meet b) label target →
         Transition (par_gate g gates meet b) label target
     -- a call: the body with the values for the parameters, labels relabelled from formal to actual gates

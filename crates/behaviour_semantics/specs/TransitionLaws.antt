@@ -15,8 +15,10 @@ TransitionsAreDerived =
     Transition data_ processes b label target ↔ ((d : Derivation) × Derives data_ processes b d label target)
 
 -- A behaviour and a derivation determine label, target, the equations that are asked and the sorts of the leaves,
--- in whatever form values are put.
-pub record SameMove (data_ : Data) (form : Term → Term) (processes : List Process) (b : Behaviour) (d : Derivation) (label other : Label) (target another : Behaviour) (m : GivesMove data_ form processes b d label target) (n : GivesMove data_ form processes b d other another) : Type 0 where
+-- whatever terms represent values.
+pub record SameMove (data_ : Data) (represent : Term → Term) (processes : List Process) (b : Behaviour) (d : Derivation)
+    (label other : Label) (target another : Behaviour) (m : GivesMove data_ represent processes b d label target)
+    (n : GivesMove data_ represent processes b d other another) : Type 0 where
   pub labels : label ≡ other
   pub targets : target ≡ another
   pub asked : m.asked ≡ n.asked
@@ -24,5 +26,7 @@ pub record SameMove (data_ : Data) (form : Term → Term) (processes : List Proc
 
 abbrev pub MovesAreDetermined : Type 0
 MovesAreDetermined =
-    (data_ : Data) (form : Term → Term) (processes : List Process) (b : Behaviour) (d : Derivation) (label other : Label) (target another : Behaviour) (m : GivesMove data_ form processes b d label target) (n : GivesMove data_ form processes b d other another) →
-    SameMove data_ form processes b d label other target another m n
+    (data_ : Data) (represent : Term → Term) (processes : List Process) (b : Behaviour) (d : Derivation) (label other : Label)
+    (target another : Behaviour) (m : GivesMove data_ represent processes b d label target)
+    (n : GivesMove data_ represent processes b d other another) →
+    SameMove data_ represent processes b d label other target another m n

@@ -5,7 +5,7 @@ use Rattle.term_algebra.specs.Term.{Term}
 use Rattle.term_algebra.specs.Sorting.{HasSort, IsGroundOf, Occurs}
 use Rattle.term_algebra.specs.Equation.{Data, Variable}
 use Rattle.term_algebra.specs.Canon.{IsCanon}
-use Rattle.behaviour_semantics.specs.Behaviour.{Behaviour, stop, exit_with, action, inner_action, guard, choice, parallel, hide, enable, disable, let_be, choose_value, choose_gate, par_gate, call, relabel, Test, Offer, give, ask, ExitValue, exit_value, any_of, Meet, no_gates, all_gates, at_gates, Process, Specification, Relabelling, asked_variables, numbers_of, let_variables, let_terms}
+use Rattle.behaviour_semantics.specs.Behaviour.{Behaviour, stop, exit_with, action, inner_action, guard, choice, parallel, hide, enable, disable, let_be, choose_value, choose_gate, par_gate, call, relabel, Test, Offer, give, ask, ExitValue, exit_value, any_of, SynchronisationSet, no_gates, all_gates, at_gates, Process, Specification, Relabelling, asked_variables, numbers_of, let_variables, let_terms}
 use Rattle.behaviour_semantics.specs.Label.{Label, inner_event, gate_event, exit_event, formals_of}
 
 -- Each member of the list has the property.
@@ -60,11 +60,11 @@ IsExitValue signature scope (any_of s) = IsSort signature s
 abbrev pub AreGates : ℕ → List ℕ → Type 0
 AreGates names gates = Every (λ g. g < names) gates
 
--- The gates at which sides meet have names.
-abbrev pub IsMeet : ℕ → Meet → Type 0
-IsMeet names no_gates = Unit {0}
-IsMeet names all_gates = Unit {0}
-IsMeet names (at_gates gates) = AreGates names gates
+-- The gates at which sides synchronise have names.
+abbrev pub IsSynchronisationSet : ℕ → SynchronisationSet → Type 0
+IsSynchronisationSet names no_gates = Unit {0}
+IsSynchronisationSet names all_gates = Unit {0}
+IsSynchronisationSet names (at_gates gates) = AreGates names gates
 
 -- The call's process exists and is given its number of gates and values of its parameters' sorts.
 pub record IsCall (signature : Signature) (processes : List Process) (scope : List Variable) (number : ℕ) (gates : List ℕ) (arguments : List Term) : Type 0 where
@@ -88,7 +88,8 @@ IsBehaviour signature names processes scope (action g offers test b) =
 IsBehaviour signature names processes scope (inner_action b) = IsBehaviour signature names processes scope b
 IsBehaviour signature names processes scope (guard test b) = IsTestIn signature scope test × IsBehaviour signature names processes scope b
 IsBehaviour signature names processes scope (choice b c) = IsBehaviour signature names processes scope b × IsBehaviour signature names processes scope c
-IsBehaviour signature names processes scope (parallel meet b c) = IsMeet names meet × IsBehaviour signature names processes scope b × IsBehaviour signature names processes scope c
+IsBehaviour signature names processes scope (parallel meet b c) = IsSynchronisationSet names meet
+    × IsBehaviour signature names processes scope b × IsBehaviour signature names processes scope c
 IsBehaviour signature names processes scope (hide gates b) = AreGates names gates × IsBehaviour signature names processes scope b
 IsBehaviour signature names processes scope (enable b variables c) =
     IsBehaviour signature names processes scope b × AreBinders signature variables × IsBehaviour signature names processes (variables ++ scope) c
@@ -97,7 +98,8 @@ IsBehaviour signature names processes scope (let_be bindings b) =
     AreBinders signature (let_variables bindings) × AreTermsIn signature scope (let_variables bindings) (let_terms bindings) × IsBehaviour signature names processes (let_variables bindings ++ scope) b
 IsBehaviour signature names processes scope (choose_value x b) = IsSort signature x.sort × IsBehaviour signature names processes (x ∷ scope) b
 IsBehaviour signature names processes scope (choose_gate g gates b) = (g < names) × AreGates names gates × IsBehaviour signature names processes scope b
-IsBehaviour signature names processes scope (par_gate g gates meet b) = (g < names) × (gates ≢ []) × AreGates names gates × IsMeet names meet × IsBehaviour signature names processes scope b
+IsBehaviour signature names processes scope (par_gate g gates meet b) = (g < names) × (gates ≢ []) × AreGates names gates
+    × IsSynchronisationSet names meet × IsBehaviour signature names processes scope b
 IsBehaviour signature names processes scope (call number gates arguments) = AreGates names gates × IsCall signature processes scope number gates arguments
 IsBehaviour signature names processes scope (relabel pairs b) = IsRelabelling names pairs × IsBehaviour signature names processes scope b
 

@@ -15,3 +15,6 @@ pub mod Verdicts
 pub mod Walks
 pub mod Exactness
 pub mod Uniqueness
+pub mod KeptSets
+pub mod WrittenTables
+pub mod OnlyRows

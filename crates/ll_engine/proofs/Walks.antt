@@ -14,7 +14,7 @@ use Rattle.ll_engine.specs.Prediction.{MayFollow, ends, before, behind, IsPredic
 use Rattle.ll_engine.specs.View.{is_in_range, is_well_formed}
 use Rattle.ll_engine.specs.Walk.{next_token, AreFollowed, IsReached}
 use Rattle.ll_engine.proofs.Forests.{beside, leaves-beside, leftmost-beside, Derives-beside, Splits-from_append, leaves-Splits}
-use Rattle.ll_engine.proofs.Ranges.{RowsInRange-well_formed, left-below, right-InRange, start-below, list_all-join, trees_of}
+use Rattle.ll_engine.proofs.Ranges.{RowsInRange-well_formed, right-InRange, start-below, list_all-join, trees_of}
 
 -- the token that comes first, or the end, predicts the row that derives it
 pub IsPredictedBy-node : (g : ContextFree) (r : ℕ) (row : Production) (p : ℕ) (below : Forest) (after : List ℕ) → slice_get g.rows r ≡ Some row → row.left ≡ p → Derives g.rows below row.right →
@@ -157,9 +157,10 @@ module _ (g : ContextFree) (well_formed : is_well_formed g ≡ true) (list : Lis
       ]
 
   module _ (predictive : IsPredictive g) (at : ℕ) (rows : List ℕ) where
-    pub IsReached-row : (p : ℕ) (stack : List Symbol) (r : ℕ) (row : Production) → slice_get g.rows r ≡ Some row → row.left ≡ p → slice_index_or list at g.tokens ≤ g.tokens →
-        IsPredictedBy g row (slice_index_or list at g.tokens) → IsReached g list at rows (Part p ∷ stack) → IsReached g list at (rows ++ r ∷ []) (row.right ++ stack)
-    IsReached-row p stack r row is left le predicted reached = record {
+    pub IsReached-row : (p : ℕ) (stack : List Symbol) (r : ℕ) (row : Production) → slice_get g.rows r ≡ Some row → row.left ≡ p →
+        ((number : ℕ) (other : Production) → slice_get g.rows number ≡ Some other → other.left ≡ p → IsPredictedBy g other (slice_index_or list at g.tokens) → number ≡ r) →
+        IsReached g list at rows (Part p ∷ stack) → IsReached g list at (rows ++ r ∷ []) (row.right ++ stack)
+    IsReached-row p stack r row is left only reached = record {
       in_range = reached.in_range;
       symbols_in_range =
           list_all-join (is_in_range g.parts g.tokens) row.right stack (right-InRange (RowsInRange-well_formed g well_formed) r row is)
@@ -186,8 +187,7 @@ module _ (g : ContextFree) (well_formed : is_well_formed g ≡ true) (list : Lis
         by_tree (node i below trees) rest d e same =
             let token : next_token g (leaves below ++ leaves trees) ≡ slice_index_or list at g.tokens = ap (next_token g) e ∙ next_token-same g rest list at same in
             let other = subst (IsPredictedBy g d.0) token (IsPredictedBy-node g i d.0 p below (leaves trees) d.1 d.2 d.3 (reached.followed.0 trees d.4)) in
-            let below_parts : p < g.parts = let b = left-below (RowsInRange-well_formed g well_formed) r row is in omega arith in
-            let number : i ≡ r = one_row g predictive p (slice_index_or list at g.tokens) i r d.0 row below_parts le d.1 is d.2 left other predicted in
+            let number : i ≡ r = only i d.0 d.1 d.2 other in
             let row_same : d.0 ≡ row = let a : slice_get g.rows i ≡ Some row = ap (slice_get g.rows) number ∙ is in cc in (
               beside below trees,
               Derives-beside g.rows below trees row.right stack (subst (λ (x : Production). Derives g.rows below x.right) row_same d.3) d.4,

@@ -7,5 +7,8 @@ pub mod Answers
 pub mod Related
 pub mod Table
 pub mod Checked
+pub mod PredictionSets
+pub mod WrittenTable
+pub mod Grammar
 pub mod Walk
 pub mod Laws

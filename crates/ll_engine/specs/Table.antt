@@ -1,8 +1,9 @@
 -- The entries of the table, by the tests of the rows.
-use Rattle.std.specs.Prelude.{◌≡◌, ℕ, ◌+◌, ◌*◌, ◌/◌, ◌%◌, ◌<◌, ◌≤◌, Bool, List, length, slice_index}
+use Rattle.std.specs.Prelude.{◌≡◌, ℕ, ◌+◌, ◌*◌, ◌/◌, ◌%◌, ◌<◌, ◌≤◌, ◌==◌, Bool, if◌then◌else◌, List, length, slice_index, Option, Some, None}
 use Rattle.ll_engine.specs.declared.symbol.Row.{Row}
 use Rattle.ll_engine.specs.declared.fault.TableFault.{TableFault}
 use Rattle.ll_engine.specs.declared.fault.TableFault.TheVariants.{Barren, LeftCycle, Conflict, NoMemory}
+use Rattle.ll_engine.specs.declared.table.TheConstants.{NO_ROW}
 use Rattle.ll_engine.specs.Computed.{IsEntry, AreSeveral}
 
 -- a fault says that two rows pass the test of a part and a token
@@ -12,6 +13,13 @@ IsConflictEntry test rows part token fault = (fault ≡ Conflict part token) × 
 -- the columns of the table: one for each token and one for the end
 abbrev pub width_of : ℕ → ℕ
 width_of tokens = tokens + 1
+
+-- the row that the entries name for the part and the token
+abbrev pub row_of_entry : ℕ → Option ℕ
+row_of_entry entry = if entry == NO_ROW then None else Some entry
+
+abbrev pub entry_at : List ℕ → ℕ → ℕ → ℕ → Option ℕ
+entry_at entries tokens part token = row_of_entry (slice_index entries (part * width_of tokens + token))
 
 -- the first n entries are right
 abbrev pub AreEntries : (ℕ → ℕ → Row → Bool) → List Row → ℕ → List ℕ → ℕ → Type 0

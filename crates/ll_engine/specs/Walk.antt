@@ -1,19 +1,26 @@
 -- What the stack of the parser promises: it derives exactly what may still come.
-use Rattle.std.specs.Prelude.{◌≡◌, ℕ, ◌≤◌, List, [], ◌∷◌, ◌++◌, true, slice_get, slice_index_or, length, take, Result, Ok, Err}
+use Rattle.std.specs.Prelude.{◌≡◌, ℕ, ◌≤◌, List, [], ◌∷◌, ◌++◌, true, Some, slice_get, slice_index_or, length, take, Result, Ok, Err}
 use Rattle.std.specs.List.{list_all}
 use Rattle.ll_engine.specs.declared.symbol.Symbol.{Symbol}
 use Rattle.ll_engine.specs.declared.symbol.Symbol.TheVariants.{Token, Part}
 use Rattle.ll_engine.specs.declared.grammar.Tree.{Tree}
 use Rattle.ll_engine.specs.declared.fault.ParseFault.{ParseFault}
 use Rattle.ll_engine.specs.declared.fault.ParseFault.TheVariants.{Unexpected, NoMemory}
-use Rattle.ll_engine.specs.Derivation.{Forest, Derives, leaves, leftmost}
+use Rattle.ll_engine.specs.Derivation.{Production, Forest, Derives, leaves, leftmost}
 use Rattle.ll_engine.specs.Language.{ContextFree, IsLeftmostDerivation, IsUnexpectedAt}
-use Rattle.ll_engine.specs.Prediction.{MayFollow}
+use Rattle.ll_engine.specs.Prediction.{MayFollow, IsPredictedBy}
 use Rattle.ll_engine.specs.View.{is_in_range}
 
 -- the first token of the list, or the end
 abbrev pub next_token : ContextFree → List ℕ → ℕ
 next_token g list = slice_index_or list 0 g.tokens
+
+-- the row with the number is one of the part, and the token predicts no other of the part
+pub record IsOnlyRow (g : ContextFree) (part token r : ℕ) : Type 0 where
+  pub row : Production
+  pub is_row : slice_get g.rows r ≡ Some row
+  pub left_is : row.left ≡ part
+  pub only : (number : ℕ) (other : Production) → slice_get g.rows number ≡ Some other → other.left ≡ part → IsPredictedBy g other token → number ≡ r
 
 -- each part of the stack may be followed by what the symbols behind it begin with
 abbrev pub AreFollowed : ContextFree → List Symbol → Type 0

@@ -1,20 +1,29 @@
 //! Grammars that one token ahead decides, with their tables.
 
-ghost use Rattle.std.specs.Prelude.{◌≡◌, ◌≢◌, ◌⊎◌, ℕ, ◌+◌, ◌<◌, ◌≤◌, ◌++◌, reverse, length, IsTrue, IfOk, IfSome, IfNone, OnOk, MatchOption, Ok, Err, Some, slice_get, slice_index_or};
+ghost use Rattle.std.specs.Prelude.{◌≡◌, ◌≢◌, ◌⊎◌, ℕ, ◌+◌, ◌*◌, ◌<◌, ◌≤◌, ◌++◌, reverse, length, IsTrue, IfOk, IfSome, IfNone, OnOk, MatchOption, option_map, Ok, Err, Some, slice_get, slice_index_or};
 
 use crate::check::checked_table;
 use crate::fault::TableFault;
+use crate::lookup::entry_at;
 use crate::symbol::{Row, Symbol};
-use crate::table::NO_ROW;
+use crate::written::WrittenTable;
 use std::alloc::{AllocError, Global};
 use std::marker::Model;
 
+/// The rows of a grammar with their table.
+#[derive(Drop)]
+enum Rows {
+    /// Rows that were checked, and the entries that were found: for each part and token the row.
+    Checked { rows: Vec<Row>, entries: Vec<u32> },
+    /// A table that stands written.
+    Written(&'static WrittenTable),
+}
+
 /// A grammar that one token ahead decides: no part is barren, none has a left cycle, and no token predicts two rows of
-/// one part. Only [`Grammar::checked`] makes one.
+/// one part. [`Grammar::checked`] makes one of any rows, [`Grammar::written`] one of a table that stands written.
 #[derive(Drop)]
 pub struct Grammar {
-    rows: Vec<Row>,
-    table: Vec<u32>,
+    rows: Rows,
     parts: u16,
     tokens: u16,
     start: u16,
@@ -22,14 +31,13 @@ pub struct Grammar {
 
 impl Model for Grammar {
     ghost use Rattle.ll_engine.specs.Language.{ContextFree};
-    ghost use Rattle.ll_engine.specs.View.{grammar_of};
-    ghost use Rattle.ll_engine.specs.Checked.{IsChecked};
+    ghost use Rattle.ll_engine.specs.Grammar.{viewed, IsTableOf};
 
     ghost Value = { ContextFree };
 
-    ghost view = { λ g. grammar_of g.rows.items g.parts g.tokens g.start };
+    ghost view = { λ g. viewed g.rows g.parts g.tokens g.start };
 
-    ghost invariant = { λ g. IsChecked (grammar_of g.rows.items g.parts g.tokens g.start) g.table.items };
+    ghost invariant = { λ g. IsTableOf g.rows (viewed g.rows g.parts g.tokens g.start) };
 }
 
 impl Grammar {
@@ -37,6 +45,8 @@ impl Grammar {
     ghost use Rattle.ll_engine.specs.View.{grammar_of, is_well_formed};
     ghost use Rattle.ll_engine.specs.Prediction.{IsPredictive, IsPredictedBy, IsFirstBarren, IsFirstLeftCyclic, IsFirstConflict};
     ghost use Rattle.ll_engine.specs.Checked.{ExactlyWhere};
+    ghost use Rattle.ll_engine.specs.Walk.{IsOnlyRow};
+    ghost use Rattle.ll_engine.specs.WrittenTable.{written_grammar, IsWritten};
 
     /// Checks a grammar and makes its table. Parts are the numbers below `parts`, tokens those below `tokens`, and the
     /// number `tokens` stands for the end; `start` derives the sentences.
@@ -61,14 +71,26 @@ impl Grammar {
             (part token : ℕ) → ExactlyWhere (IsFirstConflict g part token) result (Err (TableFault.Conflict part token)) (Err TableFault.NoMemory) }
     {
         match checked_table(alloc, &rows, parts, tokens, start) {
-            Ok(table) => Ok(Grammar {
-                rows,
-                table,
+            Ok(entries) => Ok(Grammar {
+                rows: Rows::Checked { rows, entries },
                 parts,
                 tokens,
                 start,
             }),
             Err(fault) => Err(fault),
+        }
+    }
+
+    /// The grammar of a table that stands written, with a start part. Nothing is copied and nothing is made.
+    pub fn written(table: &'static WrittenTable, start: u16) -> Grammar
+        requires { IsWritten (written_grammar table.now start) table.now }
+        ensures { result ≡ written_grammar table.now start }
+    {
+        Grammar {
+            rows: Rows::Written(table),
+            parts: table.first_rows.len() as u16,
+            tokens: table.tokens,
+            start,
         }
     }
 
@@ -95,27 +117,44 @@ impl Grammar {
         tokens.get(at).copied().unwrap_or(self.tokens)
     }
 
-    /// The row of the part that the token, or the end, predicts.
+    /// The only row of the part that the token, or the end, may predict.
     pub(crate) fn predicted(&self, part: u16, token: u16) -> Option<u32>
         requires part { part < self.now.parts }
         requires token { token ≤ self.now.tokens }
         ensures none { IfNone result ((r : ℕ) (row : Production) → slice_get self.now.rows r ≡ Some row → row.left ≡ part
             → ¬ IsPredictedBy self.now row token) }
-        ensures some { IfSome result (λ r. (row : Production) × (slice_get self.now.rows r ≡ Some row) × (row.left ≡ part)
-            × IsPredictedBy self.now row token) }
+        ensures some { IfSome result (IsOnlyRow self.now part token) }
     {
-        let width = usize::from(self.tokens) + 1;
-        let row = self.table[usize::from(part) * width + usize::from(token)];
-        if row == NO_ROW { None } else { Some(row) }
+        match &self.rows {
+            Rows::Checked { entries, .. } => entry_at(entries, self.tokens, part, token),
+            Rows::Written(table) => table.row_at(part, token),
+        }
+    }
+
+    /// The right side of the row with this number, if there is one.
+    pub fn right_of(&self, row: u32) -> Option<&[Symbol]>
+        ensures { option_map (λ right. right.now) result ≡ option_map (λ row. row.right) (slice_get self.now.rows row) }
+    {
+        match &self.rows {
+            Rows::Checked { rows, .. } => match rows.get(row as usize) {
+                Some(found) => Some(found.right.as_slice()),
+                None => None,
+            },
+            Rows::Written(table) => match table.rows.get(row as usize) {
+                Some(found) => Some(found.right),
+                None => None,
+            },
+        }
     }
 
     /// Puts the row's right side on the stack, so that its first symbol is on top.
     pub(crate) fn push_right(&self, row: u32, stack: &mut Vec<Symbol>) -> Result<(), AllocError>
-        requires { row < length self.now.rows }
         ensures { OnOk result ((production : Production) → slice_get self.now.rows row ≡ Some production
             → reverse stack.new.items ≡ production.right ++ reverse stack.old.items) }
     {
-        let right = self.rows[row as usize].right.as_slice();
+        let Some(right) = self.right_of(row) else {
+            return Ok(());
+        };
         for i in 0..right.len() {
             stack.push(right[right.len() - 1 - i])?;
         }

@@ -1,1 +1,2 @@
 pub mod TextUnder
+mod WrittenLemmas

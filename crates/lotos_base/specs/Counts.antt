@@ -1,4 +1,5 @@
-use Rattle.std.specs.Prelude.{◌≡◌, ℕ, ◌+◌, ◌<◌, ◌⊎◌, cond, nat_lt, List}
+-- Counts of faults and of calls, and which calls of an object in memory fail.
+use Rattle.std.specs.Prelude.{◌≡◌, ℕ, ◌+◌, ◌<◌, ◌⊎◌, if◌then◌else◌, nat_lt, List}
 use Rattle.std.specs.List.{Contains}
 
 -- the last value of a count of faults or of calls
@@ -7,7 +8,7 @@ last_count = 18446744073709551615
 
 -- the count after one more, which stays at the last value
 abbrev pub next_count : ℕ → ℕ
-next_count count = cond (nat_lt count last_count) (count + 1) count
+next_count count = if nat_lt count last_count then count + 1 else count
 
 -- a count of faults rose, or it stands at the last value and cannot
 abbrev pub Rises : ℕ → ℕ → Type 0

@@ -1,6 +1,10 @@
 pub mod Counts
 pub mod Outside
 pub mod Name
+pub mod WrittenTerm
+pub mod WrittenView
+pub mod WrittenLaws
+pub mod Limits
 pub mod MemSource
 pub mod MemSink
 pub mod MemShelf

@@ -1,4 +1,5 @@
-use Rattle.std.specs.Prelude.{◌≡◌, ℕ, ◌<◌, List, [], ◌∷◌, take, length, Some, None, Vec, String, cond, string_bytes}
+-- A shelf in memory as plain values: its texts by name, its counts and the calls that fail.
+use Rattle.std.specs.Prelude.{◌≡◌, ℕ, ◌<◌, List, [], ◌∷◌, take, length, Some, None, Vec, String, if◌then◌else◌, string_bytes}
 use Rattle.std.specs.Str.{bytes_eq}
 use Rattle.std.specs.List.{HoldsAt}
 use Rattle.std.specs.declared.alloc.Global.{Global}
@@ -12,7 +13,7 @@ File = String Global × Vec ℕ Global
 -- the text under a name: of two files with one name the first counts
 abbrev pub text_under : List File → Texts
 text_under [] name = None
-text_under (file ∷ files) name = cond (bytes_eq (string_bytes file.0) name) (Some file.1.items) (text_under files name)
+text_under (file ∷ files) name = if bytes_eq (string_bytes file.0) name then Some file.1.items else text_under files name
 
 -- the file at the index is the first one with the name
 pub record IsFirstNamed (files : List File) (name : List ℕ) (index : ℕ) : Type 0 where

@@ -1,3 +1,4 @@
+-- A sink in memory as plain values: what was written, its room, its counts and the calls that fail.
 use Rattle.std.specs.Prelude.{ℕ, List}
 use Rattle.lotos_base.specs.declared.memory_sink.MemSink.{MemSink}
 

@@ -1,3 +1,4 @@
+-- A source in memory as plain values: what is left, its counts and the calls that fail.
 use Rattle.std.specs.Prelude.{ℕ, List, drop}
 use Rattle.lotos_base.specs.declared.memory_source.MemSource.{MemSource}
 

@@ -1,3 +1,4 @@
+-- What a read, a get and a put of the outside do to what is left, to the texts and to the count of faults.
 use Rattle.std.specs.Prelude.{◌≡◌, ◌≢◌, ℕ, ◌≤◌, ◌↔◌, List, [], take, drop, length, Option, Some, None, IfSome, IsSomeAnd, Result, Ok, Err}
 use Rattle.lotos_base.specs.declared.faults.GetFault.{GetFault}
 use Rattle.lotos_base.specs.declared.faults.GetFault.TheVariants as get_fault
@@ -11,7 +12,7 @@ Texts = List ℕ → Option (List ℕ)
 
 -- a read of `count` bytes moves the first of the bytes left into the buffer; it moves none exactly
 -- where nothing is left
-pub record Reads (left : List ℕ) (left_after : Option (List ℕ)) (buffer : List ℕ) (count : ℕ) : Type 0 where
+pub record MovesInto (left : List ℕ) (left_after : Option (List ℕ)) (buffer : List ℕ) (count : ℕ) : Type 0 where
   pub moved : take count buffer ≡ take count left
   pub rest : left_after ≡ Some (drop count left)
   pub within : count ≤ length left

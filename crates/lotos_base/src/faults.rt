@@ -1,8 +1,22 @@
 //! Why a call on the outside did not do its work.
 
+use std::alloc::{AllocError, AllocFailed};
+
 /// Memory was wanted and not there.
 #[derive(Clone, Copy, Debug, PartialEq, Eq)]
 pub struct NoMemory;
+
+impl From<AllocError> for NoMemory {
+    fn from(_fault: AllocError) -> NoMemory {
+        NoMemory
+    }
+}
+
+impl<T: Drop> From<AllocFailed<T>> for NoMemory {
+    fn from(_fault: AllocFailed<T>) -> NoMemory {
+        NoMemory
+    }
+}
 
 /// The device refused. The object that answers this counted a fault in the same call.
 #[derive(Clone, Copy, Debug, PartialEq, Eq)]

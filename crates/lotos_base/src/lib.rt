@@ -1,10 +1,11 @@
 //! What every crate of `lotos` stands on: the outside (a source, a sink, a shelf of texts) as
 //! traits whose contracts say what each call does, the three objects in memory that meet them, and
-//! places, names and written terms.
+//! places, names, written terms and the limit on texts.
 #![tactic(auto)]
 
 pub mod counts;
 pub mod faults;
+pub mod limits;
 pub mod memory_shelf;
 pub mod memory_sink;
 pub mod memory_source;
@@ -12,10 +13,12 @@ pub mod names;
 pub mod outside;
 pub mod places;
 mod schedule;
+pub mod written_laws;
 pub mod written_terms;
 
 pub use counts::counted;
 pub use faults::{Failed, GetFault, NoMemory, PutFault};
+pub use limits::TEXT_LIMIT;
 pub use memory_shelf::MemShelf;
 pub use memory_sink::MemSink;
 pub use memory_source::MemSource;

@@ -1,6 +1,8 @@
 //! Names as they were spelled. Names that differ in ASCII letter case alone are one name.
 
-ghost use Rattle.std.specs.Prelude.{◌≡◌, ◌↔◌, IsTrue};
+ghost use Rattle.std.specs.Prelude.{◌≡◌, ◌↔◌, IsTrue, IfOk};
+
+use std::alloc::{AllocError, Global};
 
 /// A name, kept as it was spelled.
 #[derive(Debug, Drop)]
@@ -23,6 +25,13 @@ impl Name {
         ensures { result.now ≡ spelling self.now }
     {
         self.spelled.as_slice()
+    }
+
+    /// The same name, spelled the same.
+    pub fn copy(&self, alloc: Global) -> Result<Name, AllocError>
+        ensures { IfOk result (λ copy. spelling copy ≡ spelling self.now) }
+    {
+        Ok(Name::of(Vec::from_slice(alloc, self.spelled())?))
     }
 
     /// Whether the two names are the same without regard to ASCII letter case.

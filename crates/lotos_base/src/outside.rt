@@ -7,7 +7,7 @@
 
 ghost use Rattle.std.specs.Prelude.{◌≡◌, ℕ, ◌<◌, ◌≤◌, ◌++◌, List, [], Option, Some, take, length, IfOk, OnErr, IfSome, IsSomeAnd, MatchResult};
 ghost use Rattle.lotos_base.specs.Counts.{Rises, next_count};
-ghost use Rattle.lotos_base.specs.Outside.{Texts, Reads, GetAnswers, GetCounts, PutLeaves, PutCounts};
+ghost use Rattle.lotos_base.specs.Outside.{Texts, MovesInto, GetAnswers, GetCounts, PutLeaves, PutCounts};
 
 use crate::faults::{Failed, GetFault, PutFault};
 
@@ -23,8 +23,8 @@ pub trait Source {
     fn read(&mut self, buf: &mut [u8]) -> Result<usize, Failed>
         requires { 0 < length buf.old }
         ensures within { IfOk result (λ count. count ≤ length buf.old) }
-        ensures moved { IfOk result (λ count. IfSome (left self.old) (λ bytes. Reads bytes (left self.new) buf.new count)) }
-        ensures kept { OnErr result (left self.new ≡ left self.old) }
+        ensures moved { IfOk result (λ count. IfSome (left self.old) (λ bytes. MovesInto bytes (left self.new) buf.new count)) }
+        ensures kept { OnErr result (IfSome (left self.old) (λ bytes. left self.new ≡ Some bytes)) }
         ensures counts { MatchResult result (λ _. faults self.new ≡ faults self.old) (λ _. Rises (faults self.old) (faults self.new)) };
 }
 
@@ -42,7 +42,7 @@ pub trait Sink {
         ensures moves { IfOk result (λ count. 0 < count) }
         ensures within { IfOk result (λ count. count ≤ length piece.now) }
         ensures appended { IfOk result (λ count. IfSome (written self.old) (λ bytes. written self.new ≡ Some (bytes ++ take count piece.now))) }
-        ensures kept { OnErr result (written self.new ≡ written self.old) }
+        ensures kept { OnErr result (IfSome (written self.old) (λ bytes. written self.new ≡ Some bytes)) }
         ensures counts { MatchResult result (λ _. faults self.new ≡ faults self.old) (λ _. Rises (faults self.old) (faults self.new)) };
 }
 

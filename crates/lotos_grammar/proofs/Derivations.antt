@@ -5,7 +5,7 @@ use Rattle.std.proofs.lemmas.List.{append-nil}
 use Rattle.std.proofs.lemmas.Bool.{ltb-true, lt-ltb}
 use Rattle.lotos_lexer.specs.declared.kinds.TheConstants.{NAME}
 use Rattle.lotos_lexer.specs.declared.tokens.Token.{Token}
-use Rattle.lotos_grammar.specs.declared.TheConstants.{DEPTH_LIMIT}
+use Rattle.lotos_grammar.specs.Limits.{depth_limit}
 use Rattle.lotos_grammar.specs.declared.parts.TheConstants as parts
 use Rattle.lotos_grammar.specs.declared.rows.Build.TheVariants as build
 use Rattle.lotos_grammar.specs.FirstText.{Spelled, Offer, give, Behaviour, choice, action}
@@ -110,10 +110,10 @@ offers_derived no_offers = row no_offers_row _ refl none (λ ahead work. refl)
 offers_derived (more_offers offer rest) = row offers_row _ refl (part (offer_derived offer) (last (offers_derived rest))) (λ ahead work. refl)
 
 -- what holds a behaviour that is too deep is too deep
-pub deeper : (n m : ℕ) → nat_lt DEPTH_LIMIT n ≡ true → n ≤ m → nat_lt DEPTH_LIMIT m ≡ true
-deeper n m over_limit within = let over : DEPTH_LIMIT < n = ltb-true DEPTH_LIMIT n over_limit in lt-ltb DEPTH_LIMIT m (omega arith)
+pub deeper : (n m : ℕ) → nat_lt depth_limit n ≡ true → n ≤ m → nat_lt depth_limit m ≡ true
+deeper n m over_limit within = let over : depth_limit < n = ltb-true depth_limit n over_limit in lt-ltb depth_limit m (omega arith)
 
-action_makes : (gate : Spelled) (offers : List Offer) (next : Behaviour) (deep : Bool) → nat_lt DEPTH_LIMIT (depth next) ≡ deep → (ahead : List Spelled) (work : Work) →
+action_makes : (gate : Spelled) (offers : List Offer) (next : Behaviour) (deep : Bool) → nat_lt depth_limit (depth next) ≡ deep → (ahead : List Spelled) (work : Work) →
     option_and_then (λ built. step build.Action (gate ∷ ahead) built) (option_and_then (with_offers offers) (cond deep None (Some (record work { behaviours = next ∷ work.behaviours }))))
     ≡ keeping ahead (with_body (action gate offers next) work)
 action_makes gate offers next true deep ahead work =
@@ -132,7 +132,7 @@ rest_makes : (deep : Bool) (behaviour : Behaviour) (ahead : List Spelled) (work 
 rest_makes true behaviour ahead work = refl
 rest_makes false behaviour ahead work = refl
 
-choice_makes : (left right : Behaviour) (deep_left deep_right : Bool) → nat_lt DEPTH_LIMIT (depth left) ≡ deep_left → nat_lt DEPTH_LIMIT (depth right) ≡ deep_right →
+choice_makes : (left right : Behaviour) (deep_left deep_right : Bool) → nat_lt depth_limit (depth left) ≡ deep_left → nat_lt depth_limit (depth right) ≡ deep_right →
     (ahead : List Spelled) (work : Work) →
     option_and_then (λ built. step build.Behaviour ahead built)
     (option_and_then (λ (built : Work). cond deep_left None (Some (record built { behaviours = left ∷ built.behaviours })))
@@ -150,16 +150,16 @@ mutual
   pub behaviour_derived : {text : List ℕ} {tokens : List Token} {behaviour : Behaviour} → IsBehaviour text tokens behaviour → DerivedPart text parts.BEHAVIOUR tokens (with_body behaviour)
   behaviour_derived (alone {tokens = tokens} {behaviour = behaviour} is_part) =
       over (append-nil tokens) (row behaviour_row _ refl (part (part_derived is_part) (last (row {after = with_no_rest} no_rest_row _ refl none (λ ahead work. refl))))
-      (λ ahead work. alone_makes (nat_lt DEPTH_LIMIT (depth behaviour)) behaviour ahead work))
+      (λ ahead work. alone_makes (nat_lt depth_limit (depth behaviour)) behaviour ahead work))
   behaviour_derived (choosing {left = left} {right = right} is_part sign rest) =
       row behaviour_row _ refl
       (part (part_derived is_part)
-      (last (row {after = with_rest right} rest_row _ refl (token refl sign (last (behaviour_derived rest))) (λ ahead work. rest_makes (nat_lt DEPTH_LIMIT (depth right)) right ahead work))))
-      (λ ahead work. choice_makes left right (nat_lt DEPTH_LIMIT (depth left)) (nat_lt DEPTH_LIMIT (depth right)) refl refl ahead work)
+      (last (row {after = with_rest right} rest_row _ refl (token refl sign (last (behaviour_derived rest))) (λ ahead work. rest_makes (nat_lt depth_limit (depth right)) right ahead work))))
+      (λ ahead work. choice_makes left right (nat_lt depth_limit (depth left)) (nat_lt depth_limit (depth right)) refl refl ahead work)
 
   pub part_derived : {text : List ℕ} {tokens : List Token} {behaviour : Behaviour} → IsPart text tokens behaviour → DerivedPart text parts.PART tokens (with_body behaviour)
   part_derived (stopping word) = row stop_row _ refl (token refl word none) (λ ahead work. refl)
   part_derived (grouping left inner right) = row group_row _ refl (token refl left (part (behaviour_derived inner) (token refl right none))) (λ ahead work. refl)
   part_derived {text} (acting {gate = gate} {offers = offers} {next = next} is are_offers semicolon rest) =
       row action_row _ refl (name is (part (offers_derived are_offers) (token refl semicolon (last (part_derived rest)))))
-      (λ ahead work. action_makes (spelled text gate) offers next (nat_lt DEPTH_LIMIT (depth next)) refl ahead work)
+      (λ ahead work. action_makes (spelled text gate) offers next (nat_lt depth_limit (depth next)) refl ahead work)

@@ -3,7 +3,6 @@ pub mod RowNumbers
 pub mod Derived
 pub mod Derivations
 pub mod Stands
-pub mod Predictive
 pub mod FirstGrammar
 pub mod Readings
 pub mod TokensOfSentences

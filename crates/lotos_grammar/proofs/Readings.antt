@@ -9,7 +9,8 @@ use Rattle.ll_engine.specs.Language.{IsSentence, IsLeftmostDerivation}
 use Rattle.ll_engine.proofs.Uniqueness.{one_derivation}
 use Rattle.lotos_lexer.specs.declared.tokens.Token.{Token}
 use Rattle.lotos_lexer.specs.Tokens.{Tokens, tokens_of}
-use Rattle.lotos_grammar.specs.declared.TheConstants.{TEXT_LIMIT, DEPTH_LIMIT, NESTING_LIMIT}
+use Rattle.lotos_base.specs.Limits.{text_limit}
+use Rattle.lotos_grammar.specs.Limits.{depth_limit, nesting_limit}
 use Rattle.lotos_grammar.specs.declared.first.FirstFault.{FirstFault}
 use Rattle.lotos_grammar.specs.declared.first.FirstFault.TheVariants.{Unbuilt, NoMemory}
 use Rattle.lotos_grammar.specs.declared.parts.TheConstants as parts
@@ -27,7 +28,7 @@ use Rattle.lotos_grammar.proofs.FirstGrammar.{first_grammar_is_predictive, first
 
 -- the parts, unless their behaviour is too deep
 abbrev pub unless_deep : Text → Option Text
-unless_deep it = cond (nat_lt DEPTH_LIMIT (depth it.body)) None (Some it)
+unless_deep it = cond (nat_lt depth_limit (depth it.body)) None (Some it)
 
 -- a derivation of a specification, which builds it
 record DerivedText (text : List ℕ) (tokens : List Token) (it : Text) : Type 0 where
@@ -68,7 +69,7 @@ unfolding first_grammar
 text_derived {text} {tokens} {it} (specifying is_specification is_name are_gates colon noexit is_type is_word is_body endspec) =
     let all = token refl is_specification (name is_name (part (gates_derived are_gates) (token refl colon (token refl noexit (part (type_derived is_type)
     (part (word_derived is_word) (part (behaviour_derived is_body) (token refl endspec none)))))))) in
-    let deep = nat_lt DEPTH_LIMIT (depth it.body) in
+    let deep = nat_lt depth_limit (depth it.body) in
     let rows = leftmost all.trees in
     record {
       tree = node specification_row all.trees empty;
@@ -99,10 +100,10 @@ builds_it text tokens it is rows given =
     ap (built_from text tokens) same ∙ derived.builds
 
 -- the same of what is not too deep
-pub builds_shallow : (text : List ℕ) (tokens : List Token) (it : Text) → IsSpecification text tokens it → depth it.body ≤ DEPTH_LIMIT → (rows : List ℕ) →
+pub builds_shallow : (text : List ℕ) (tokens : List Token) (it : Text) → IsSpecification text tokens it → depth it.body ≤ depth_limit → (rows : List ℕ) →
     IsLeftmostDerivation first_grammar rows (kinds_of tokens) → built_from text tokens rows ≡ Some it
 builds_shallow text tokens it is shallow rows given =
-    builds_it text tokens it is rows given ∙ ap (λ (deep : Bool). cond deep None (Some it)) (le-ltb DEPTH_LIMIT (depth it.body) shallow)
+    builds_it text tokens it is rows given ∙ ap (λ (deep : Bool). cond deep None (Some it)) (le-ltb depth_limit (depth it.body) shallow)
 
 unless_deep-some : (deep : Bool) (it built : Text) → cond deep None (Some it) ≡ Some built → (deep ≡ false) × (it ≡ built)
 unless_deep-some true it built e = absurd (cc)
@@ -110,13 +111,13 @@ unless_deep-some false it built e = (refl, cc)
 
 -- what the rows of a derivation build is a specification that is not too deep
 pub built_is : (text : List ℕ) (tokens : List Token) (rows : List ℕ) (built : Text) → IsLeftmostDerivation first_grammar rows (kinds_of tokens) →
-    built_from text tokens rows ≡ Some built → IsSpecification text tokens built × (depth built.body ≤ DEPTH_LIMIT)
+    built_from text tokens rows ≡ Some built → IsSpecification text tokens built × (depth built.body ≤ depth_limit)
 unfolding first_grammar
 built_is text tokens rows built given builds =
     let found = specification_of text given.0 tokens given.1 given.2 in
-    let fits = unless_deep-some (nat_lt DEPTH_LIMIT (depth found.0.body)) found.0 built (sym (builds_it text tokens found.0 found.1 rows given) ∙ builds) in (
+    let fits = unless_deep-some (nat_lt depth_limit (depth found.0.body)) found.0 built (sym (builds_it text tokens found.0 found.1 rows given) ∙ builds) in (
       subst (IsSpecification text tokens) fits.1 found.1,
-      subst (λ (it : Text). depth it.body ≤ DEPTH_LIMIT) fits.1 (ltb-false DEPTH_LIMIT (depth found.0.body) fits.0),
+      subst (λ (it : Text). depth it.body ≤ depth_limit) fits.1 (ltb-false depth_limit (depth found.0.body) fits.0),
     )
 
 pub one_list : (text : List ℕ) (tokens others : List Token) → tokens_of 0 text ≡ Tokens tokens → tokens_of 0 text ≡ Tokens others → tokens ≡ others
@@ -151,8 +152,8 @@ fault_of_rows text tokens rows Unbuilt cut given stuck = λ parts reads.
     cc
 fault_of_rows text tokens rows NoMemory cut given stuck = tt
 
-pub reads_built : (text : List ℕ) (tokens : List Token) (rows : List ℕ) (built : Text) → length text ≤ TEXT_LIMIT → tokens_of 0 text ≡ Tokens tokens →
-    nesting tokens ≤ NESTING_LIMIT → IsLeftmostDerivation first_grammar rows (kinds_of tokens) → built_from text tokens rows ≡ Some built → Reads text built
+pub reads_built : (text : List ℕ) (tokens : List Token) (rows : List ℕ) (built : Text) → length text ≤ text_limit → tokens_of 0 text ≡ Tokens tokens →
+    nesting tokens ≤ nesting_limit → IsLeftmostDerivation first_grammar rows (kinds_of tokens) → built_from text tokens rows ≡ Some built → Reads text built
 reads_built text tokens rows built short cut nested given builds =
     let is = built_is text tokens rows built given builds in
     record { short = short; tokens = tokens; cut_into = cut; sentence = is.0; shallow = is.1; nested = nested }

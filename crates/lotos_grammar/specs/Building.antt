@@ -1,17 +1,17 @@
 -- How the parts of a sentence are built from the rows of its derivation: from the last row to the first,
 -- so that what the parts of a row built is there when the row comes. Each row says what is built.
-use Rattle.std.specs.Prelude.{◌≡◌, ℕ, ◌++◌, Bool, true, false, cond, List, [], ◌∷◌, map, reverse, nat_lt, ◌==◌, Option, Some, None, option_and_then, slice_get}
+use Rattle.std.specs.Prelude.{◌≡◌, ℕ, ◌++◌, Bool, true, false, if◌then◌else◌, List, [], ◌∷◌, map, reverse, nat_lt, ◌==◌, Option, Some, None, option_and_then, slice_get}
 use Rattle.lotos_lexer.specs.declared.tokens.Token.{Token}
 use Rattle.lotos_base.specs.declared.names.Name.{Name}
 use Rattle.lotos_base.specs.Name.{spelling}
 use Rattle.lotos_lexer.specs.declared.kinds.TheConstants.{NAME}
-use Rattle.lotos_grammar.specs.declared.TheConstants.{DEPTH_LIMIT}
+use Rattle.lotos_grammar.specs.Limits.{depth_limit}
 use Rattle.lotos_grammar.specs.declared.first.FirstFault.{FirstFault}
 use Rattle.lotos_grammar.specs.declared.first.FirstFault.TheVariants.{Unbuilt, NoMemory}
 use Rattle.lotos_grammar.specs.declared.rows.Build.{Build}
 use Rattle.lotos_grammar.specs.declared.rows.Build.TheVariants as build
 use Rattle.lotos_grammar.specs.declared.building.Building.{Building}
-use Rattle.lotos_grammar.specs.FirstText.{Spelled, Offer, give, ask, Behaviour, stop, choice, action, Text, offer_of, behaviour_of}
+use Rattle.lotos_grammar.specs.FirstText.{Spelled, Offer, give, ask, Behaviour, stop, choice, action, Text, offer_text_of, behaviour_text_of}
 use Rattle.lotos_grammar.specs.Sentences.{spelled, each_of}
 use Rattle.lotos_grammar.specs.Reading.{depth}
 use Rattle.lotos_grammar.specs.Table.{Line, lines}
@@ -37,10 +37,14 @@ state ahead work = record { ahead = ahead; work = work }
 abbrev pub nothing_built : Work
 nothing_built = record { names = []; sorts = []; constants = []; choices = []; offers = []; behaviours = [] }
 
+-- a behaviour in front
+abbrev pub work_with : Behaviour → List Behaviour → Work → Work
+work_with behaviour behaviours work = record work { behaviours = behaviour ∷ behaviours }
+
 -- a behaviour in front, unless it is too deep
 abbrev pub with_behaviour : Behaviour → List Behaviour → Work → Option Work
 with_behaviour behaviour behaviours work =
-    cond (nat_lt DEPTH_LIMIT (depth behaviour)) None (Some (record work { behaviours = behaviour ∷ behaviours }))
+    if nat_lt depth_limit (depth behaviour) then None else Some (work_with behaviour behaviours work)
 
 abbrev pub add_name : List Spelled → List (List Spelled) → Work → Option State
 add_name (name ∷ ahead) (names ∷ rest) work = Some (state ahead (record work { names = (name ∷ names) ∷ rest }))
@@ -135,7 +139,7 @@ finished built = parts_of built.ahead built.work.names built.work.constants buil
 -- the names among the tokens of a text
 abbrev pub names_among : List ℕ → List Token → List Spelled
 names_among text [] = []
-names_among text (token ∷ rest) = cond (token.kind == NAME) (spelled text token ∷ names_among text rest) (names_among text rest)
+names_among text (token ∷ rest) = if token.kind == NAME then spelled text token ∷ names_among text rest else names_among text rest
 
 -- the parts that are built from the rows of a derivation of the tokens
 abbrev pub built_from : List ℕ → List Token → List ℕ → Option Text
@@ -153,8 +157,8 @@ state_of building = record {
     sorts = from_last spelling building.sorts.items;
     constants = from_last pair_of building.constants.items;
     choices = from_last (λ mark. mark) building.choices.items;
-    offers = from_last (λ offers. from_last offer_of offers.items) building.offers.items;
-    behaviours = from_last (λ built. behaviour_of built.tree) building.behaviours.items;
+    offers = from_last (λ offers. from_last offer_text_of offers.items) building.offers.items;
+    behaviours = from_last (λ built. behaviour_text_of built.tree) building.behaviours.items;
   };
 }
 

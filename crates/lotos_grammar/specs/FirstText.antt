@@ -1,3 +1,4 @@
+-- What is written in a specification of the forms that are read so far, as plain values.
 use Rattle.std.specs.Prelude.{ℕ, List, map}
 use Rattle.lotos_base.specs.Name.{spelling}
 use Rattle.lotos_grammar.specs.declared.first.FirstOffer.{FirstOffer}
@@ -29,14 +30,14 @@ pub record Text : Type 0 where
   pub body : Behaviour
 
 -- what the code's trees are as plain values
-abbrev pub offer_of : FirstOffer → Offer
-offer_of (Give name) = give (spelling name)
-offer_of (Ask variable sort) = ask (spelling variable) (spelling sort)
+abbrev pub offer_text_of : FirstOffer → Offer
+offer_text_of (Give name) = give (spelling name)
+offer_text_of (Ask variable sort) = ask (spelling variable) (spelling sort)
 
-abbrev pub behaviour_of : FirstBeh → Behaviour
-behaviour_of Stop = stop
-behaviour_of (Choice' _ left _ right) = choice (behaviour_of left) (behaviour_of right)
-behaviour_of (Action' gate offers _ next) = action (spelling gate) (map offer_of offers.items) (behaviour_of next)
+abbrev pub behaviour_text_of : FirstBeh → Behaviour
+behaviour_text_of Stop = stop
+behaviour_text_of (Choice' _ left _ right) = choice (behaviour_text_of left) (behaviour_text_of right)
+behaviour_text_of (Action' gate offers _ next) = action (spelling gate) (map offer_text_of offers.items) (behaviour_text_of next)
 
 abbrev pub text_of : FirstText → Text
 text_of text = record {
@@ -44,5 +45,5 @@ text_of text = record {
   gates = map spelling text.gates.items;
   sorts = map spelling text.sorts.items;
   constants = map (λ pair. (spelling pair.0, spelling pair.1)) text.constants.items;
-  body = behaviour_of text.body;
+  body = behaviour_text_of text.body;
 }

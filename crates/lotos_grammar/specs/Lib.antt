@@ -1,4 +1,5 @@
 pub mod FirstText
+pub mod Limits
 pub mod Sentences
 pub mod Reading
 pub mod Table

@@ -3,7 +3,7 @@
 ghost use Rattle.std.specs.Prelude.{◌≡◌, ◌≤◌, All, IfOk, MatchResult, OnOk, map, option_map, reverse, slice_get, ◌++◌};
 ghost use Rattle.lotos_base.specs.Name.{spelling};
 ghost use Rattle.lotos_lexer.specs.Tokens.{IsTokenOf};
-ghost use Rattle.lotos_grammar.specs.FirstText.{text_of, behaviour_of, offer_of};
+ghost use Rattle.lotos_grammar.specs.FirstText.{text_of, behaviour_text_of, offer_text_of};
 ghost use Rattle.lotos_grammar.specs.Sentences.{spelled, each_of};
 ghost use Rattle.lotos_grammar.specs.Table.{lines_of};
 ghost use Rattle.lotos_grammar.specs.Building.{pair_of, state, state_of, nothing_built, step_from, run, finished, asked, names_among, built_from, IsStuck};
@@ -35,13 +35,6 @@ pub struct Building {
     pub offers: Vec<Vec<FirstOffer>>,
     /// Behaviours.
     pub behaviours: Vec<Built>,
-}
-
-/// A copy of a name.
-fn copy_of(alloc: Global, name: &Name) -> Result<Name, AllocError>
-    ensures { IfOk result (λ copy. spelling copy ≡ spelling name.now) }
-{
-    Ok(Name::of(Vec::from_slice(alloc, name.spelled())?))
 }
 
 /// The name that a token of the text is.
@@ -78,7 +71,7 @@ fn add_constants(
         ≡ each_of (spelling sort.now) (from_last spelling names.items) ++ from_last pair_of constants.old.items) }
 {
     for name in names {
-        constants.push((name, copy_of(alloc, sort)?))?;
+        constants.push((name, sort.copy(alloc)?))?;
     }
     Ok(())
 }
@@ -91,13 +84,13 @@ fn add_questions(
     sort: &Name,
     offers: &mut Vec<FirstOffer>,
 ) -> Result<(), AllocError>
-    ensures { OnOk result (from_last offer_of offers.new.items
-        ≡ asked (spelling sort.now) (from_last spelling names.items) ++ from_last offer_of offers.old.items) }
+    ensures { OnOk result (from_last offer_text_of offers.new.items
+        ≡ asked (spelling sort.now) (from_last spelling names.items) ++ from_last offer_text_of offers.old.items) }
 {
     for name in names {
         offers.push(FirstOffer::Ask {
             variable: name,
-            sort: copy_of(alloc, sort)?,
+            sort: sort.copy(alloc)?,
         })?;
     }
     Ok(())

@@ -2,8 +2,8 @@
 
 ghost use Rattle.std.specs.Prelude.{◌≡◌, ◌≤◌, MatchResult};
 ghost use Rattle.lotos_base.specs.Name.{spelling};
-ghost use Rattle.lotos_grammar.specs.declared.TheConstants.{DEPTH_LIMIT};
-ghost use Rattle.lotos_grammar.specs.FirstText.{stop, choice, action, behaviour_of, offer_of};
+ghost use Rattle.lotos_grammar.specs.Limits.{depth_limit};
+ghost use Rattle.lotos_grammar.specs.FirstText.{stop, choice, action, behaviour_text_of, offer_text_of};
 ghost use Rattle.lotos_grammar.specs.Reading.{depth, IsTooDeep};
 ghost use Rattle.lotos_grammar.specs.Stacks.{from_last};
 
@@ -19,14 +19,14 @@ pub struct Built {
     pub tree: FirstBeh,
     /// How deep its deepest node is, at most the limit; its root is at 1.
     pub levels: u16,
-    ghost counted: { levels ≡ depth (behaviour_of tree) },
-    ghost shallow: { levels ≤ DEPTH_LIMIT },
+    ghost counted: { levels ≡ depth (behaviour_text_of tree) },
+    ghost shallow: { levels ≤ depth_limit },
 }
 
 impl Built {
     /// `stop`.
     pub fn stop() -> Built
-        ensures { behaviour_of result.tree ≡ stop }
+        ensures { behaviour_text_of result.tree ≡ stop }
     {
         Built {
             tree: FirstBeh::Stop,
@@ -37,8 +37,8 @@ impl Built {
     /// A choice of two behaviours, or `Unbuilt` where it is too deep.
     pub fn choice(alloc: Global, left: Built, right: Built) -> Result<Built, FirstFault>
         ensures { MatchResult result
-            (λ built. behaviour_of built.tree ≡ choice (behaviour_of left.tree) (behaviour_of right.tree))
-            (IsTooDeep (choice (behaviour_of left.tree) (behaviour_of right.tree))) }
+            (λ built. behaviour_text_of built.tree ≡ choice (behaviour_text_of left.tree) (behaviour_text_of right.tree))
+            (IsTooDeep (choice (behaviour_text_of left.tree) (behaviour_text_of right.tree))) }
     {
         let levels = left.levels.max(right.levels);
         if levels >= DEPTH_LIMIT {
@@ -60,8 +60,8 @@ impl Built {
         next: Built,
     ) -> Result<Built, FirstFault>
         ensures { MatchResult result
-            (λ built. behaviour_of built.tree ≡ action (spelling gate) (from_last offer_of offers.items) (behaviour_of next.tree))
-            (IsTooDeep (action (spelling gate) (from_last offer_of offers.items) (behaviour_of next.tree))) }
+            (λ built. behaviour_text_of built.tree ≡ action (spelling gate) (from_last offer_text_of offers.items) (behaviour_text_of next.tree))
+            (IsTooDeep (action (spelling gate) (from_last offer_text_of offers.items) (behaviour_text_of next.tree))) }
     {
         if next.levels >= DEPTH_LIMIT {
             return Err(FirstFault::Unbuilt);

@@ -14,9 +14,6 @@ mod rows;
 pub use first::{FirstBeh, FirstFault, FirstOffer, FirstText};
 pub use reading::read_first;
 
-/// How many bytes a specification, an order file or a library text may have.
-pub const TEXT_LIMIT: usize = 1_048_576;
-
 /// How deep a node of a behaviour may be; its root is at 1.
 pub const DEPTH_LIMIT: u16 = 500;
 

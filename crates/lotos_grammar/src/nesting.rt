@@ -1,15 +1,15 @@
 //! How deep brackets are nested.
 
 ghost use Rattle.std.specs.Prelude.{◌≡◌, ◌+◌, ◌<◌, ◌^◌};
-ghost use Rattle.lotos_grammar.specs.Reading.{open_behind, nesting};
+ghost use Rattle.lotos_grammar.specs.Reading.{brackets_behind, nesting};
 
 use lotos_lexer::Token;
 use lotos_lexer::kinds::{LEFT_PARENTHESIS, RIGHT_PARENTHESIS};
 
 /// How many brackets are open behind a token, given how many are open before it.
-fn open_behind(count: usize, token: Token) -> usize
+fn brackets_behind(count: usize, token: Token) -> usize
     requires { count + 1 < 2 ^ 64 }
-    ensures { result ≡ open_behind count token }
+    ensures { result ≡ brackets_behind count token }
 {
     match token.kind {
         LEFT_PARENTHESIS => count + 1,
@@ -26,7 +26,7 @@ pub fn nesting(tokens: &[Token]) -> usize
     let mut most: usize = 0;
     for token in tokens {
         most = most.max(count);
-        count = open_behind(count, *token);
+        count = brackets_behind(count, *token);
     }
     most.max(count)
 }

@@ -6,11 +6,12 @@ ghost use Rattle.lotos_grammar.specs.FirstText.{text_of};
 ghost use Rattle.lotos_grammar.specs.Reading.{Reads, IsReadFault};
 ghost use Rattle.lotos_grammar.specs.Building.{built_from, IsStuck};
 
+use crate::NESTING_LIMIT;
 use crate::building::build;
 use crate::derivation::derivation;
 use crate::first::{FirstFault, FirstText};
 use crate::nesting::nesting;
-use crate::{NESTING_LIMIT, TEXT_LIMIT};
+use lotos_base::TEXT_LIMIT;
 use lotos_lexer::{LexFault, lex};
 use std::alloc::Global;
 

@@ -8,7 +8,7 @@ use Rattle.lotos_lexer.specs.declared.tokens.Token.{Token}
 use Rattle.lotos_lexer.specs.declared.pieces.Piece.TheVariants as piece
 use Rattle.lotos_lexer.specs.Bytes.{IsSpan}
 use Rattle.lotos_lexer.specs.Pieces.{piece_at}
-use Rattle.lotos_lexer.specs.Tokens.{Lexed, Tokens, BadByte, OpenComment, with_token, behind, behind_all, place_at, token_at, open_behind, cut}
+use Rattle.lotos_lexer.specs.Tokens.{Lexed, Tokens, BadByte, OpenComment, with_token, behind, behind_all, place_at, token_at, list_open_behind, cut}
 use Rattle.lotos_lexer.specs.Cutting.{with_tokens}
 
 pub with_tokens-added : (tokens : List Token) (token : Token) (lexed : Lexed) → with_tokens (tokens ++ token ∷ []) lexed ≡ with_tokens tokens (with_token token lexed)
@@ -57,10 +57,10 @@ cut-comment number count open_list position (byte ∷ rest) span comment = rw (c
 pub cut-token : (number : ℕ) (lexeme : Lexeme) (open_list : Bool) (position : Position) (bytes : List ℕ) → IsSpan lexeme.length bytes → piece_at open_list bytes ≡ piece.Token lexeme
     → cut number 0 open_list position bytes
     ≡ with_token (token_at number position lexeme)
-    (cut number 0 (open_behind lexeme.kind open_list) (behind_all (take lexeme.length bytes) position) (drop lexeme.length bytes))
+    (cut number 0 (list_open_behind lexeme.kind open_list) (behind_all (take lexeme.length bytes) position) (drop lexeme.length bytes))
 cut-token number lexeme open_list position [] span token = absurd (omega (arith, span))
 cut-token number lexeme open_list position (byte ∷ rest) span token =
-    rw (token, cut) (ap (with_token (token_at number position lexeme)) (cut-passed number lexeme.length (open_behind lexeme.kind open_list) position byte rest span))
+    rw (token, cut) (ap (with_token (token_at number position lexeme)) (cut-passed number lexeme.length (list_open_behind lexeme.kind open_list) position byte rest span))
 
 pub cut-unclosed : (number : ℕ) (open_list : Bool) (position : Position) (bytes : List ℕ) → 0 < length bytes → piece_at open_list bytes ≡ piece.Unclosed
     → cut number 0 open_list position bytes ≡ OpenComment (place_at number position)

@@ -3,3 +3,4 @@ pub mod Tables
 pub mod Comments
 pub mod Spans
 pub mod CuttingLemmas
+mod KindLemmas

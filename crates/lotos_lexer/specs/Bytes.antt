@@ -1,6 +1,6 @@
+-- Bytes by their part in the lexical rules, and what a list of bytes begins with.
 use Rattle.std.specs.Prelude.{ℕ, ◌<◌, ◌≤◌, length, Bool, false, ◌||◌, List, [], ◌∷◌, codes, nat_eq, ◌==◌}
 use Rattle.std.specs.List.{list_any, starts_with}
-use Rattle.std.specs.Char.{is_ascii_alphanumeric}
 
 -- space, tab, line feed and carriage return
 abbrev pub is_blank : ℕ → Bool
@@ -9,10 +9,6 @@ is_blank byte = list_any (λ blank. blank == byte) (codes " \t\n\r")
 -- the bytes of a run of signs
 abbrev pub is_sign : ℕ → Bool
 is_sign byte = list_any (λ sign. sign == byte) (codes "#%&*+-./<=>@\\^~{}")
-
--- letters, digits and underscores
-abbrev pub is_word_byte : ℕ → Bool
-is_word_byte byte = is_ascii_alphanumeric byte || (byte == 95)
 
 -- the first byte is there and passes the test
 abbrev pub first_is : (ℕ → Bool) → List ℕ → Bool

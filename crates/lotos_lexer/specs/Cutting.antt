@@ -1,3 +1,4 @@
+-- A text that is cut up to a position: its tokens so far, and what the rest is cut into.
 use Rattle.std.specs.Prelude.{ℕ, ◌≤◌, List, [], ◌∷◌, drop, length}
 use Rattle.lotos_lexer.specs.declared.tokens.Token.{Token}
 use Rattle.lotos_lexer.specs.declared.lexing.Cutting.{Cutting}

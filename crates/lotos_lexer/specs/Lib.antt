@@ -1,5 +1,6 @@
 pub mod Bytes
 pub mod Cutting
+pub mod Kinds
 pub mod Lexemes
 pub mod Pieces
 pub mod Spellings

@@ -1,4 +1,5 @@
-use Rattle.std.specs.Prelude.{ℕ, zero, suc, ◌≡◌, ◌<◌, ◌≤◌, length, ◌+◌, ◌-◌, Bool, true, false, ◌||◌, cond, List, [], ◌∷◌, ◌==◌}
+-- The tokens of a text with their places, or the first fault of the text.
+use Rattle.std.specs.Prelude.{ℕ, zero, suc, ◌≡◌, ◌<◌, ◌≤◌, length, ◌+◌, ◌-◌, Bool, true, false, ◌||◌, if◌then◌else◌, List, [], ◌∷◌, ◌==◌}
 use Rattle.lotos_base.specs.declared.places.Place.{Place}
 use Rattle.lotos_lexer.specs.declared.kinds.TheConstants.{GATES_OPEN, GATES_CLOSE, CHOICE_SIGN, RIGHT_BRACKET}
 use Rattle.lotos_lexer.specs.declared.lexemes.Lexeme.{Lexeme}
@@ -13,11 +14,17 @@ use Rattle.lotos_lexer.specs.Pieces.{piece_at}
 abbrev pub start : Position
 start = record { offset = 0; line = 1; column = 1 }
 
+-- the position at the start of the next line
+abbrev pub at_next_line : Position → Position
+at_next_line position = record { offset = position.offset + 1; line = position.line + 1; column = 1 }
+
+-- the position one column further on
+abbrev pub at_next_column : Position → Position
+at_next_column position = record { offset = position.offset + 1; line = position.line; column = position.column + 1 }
+
 -- the position behind one more byte: a line feed ends a line
 abbrev pub behind : ℕ → Position → Position
-behind byte position = cond (byte == 10)
-    (record { offset = position.offset + 1; line = position.line + 1; column = 1 })
-    (record { offset = position.offset + 1; line = position.line; column = position.column + 1 })
+behind byte position = if byte == 10 then at_next_line position else at_next_column position
 
 -- the position behind more bytes
 abbrev pub behind_all : List ℕ → Position → Position
@@ -54,10 +61,11 @@ token_at number position lexeme = record {
 }
 
 -- whether a gate list is open behind a token: `|[` opens one, and each token with a `]` closes it
-abbrev pub open_behind : ℕ → Bool → Bool
-open_behind kind open_list =
-    cond (kind == GATES_OPEN) true
-    (cond (((kind == GATES_CLOSE) || (kind == RIGHT_BRACKET)) || (kind == CHOICE_SIGN)) false open_list)
+abbrev pub list_open_behind : ℕ → Bool → Bool
+list_open_behind kind open_list =
+    if kind == GATES_OPEN then true
+    else if ((kind == GATES_CLOSE) || (kind == RIGHT_BRACKET)) || (kind == CHOICE_SIGN) then false
+    else open_list
 
 -- what the rest of a text is cut into. The first `inside` bytes of the rest belong to the piece
 -- that began before them; behind them the next piece begins
@@ -68,7 +76,7 @@ cut number zero open_list position (byte ∷ rest) =
     elim (piece_at open_list (byte ∷ rest)) [
       | piece.Blank ↦ cut number 0 open_list (behind byte position) rest
       | piece.Comment length ↦ cut number (length - 1) open_list (behind byte position) rest
-      | piece.Token lexeme ↦ with_token (token_at number position lexeme) (cut number (lexeme.length - 1) (open_behind lexeme.kind open_list) (behind byte position) rest)
+      | piece.Token lexeme ↦ with_token (token_at number position lexeme) (cut number (lexeme.length - 1) (list_open_behind lexeme.kind open_list) (behind byte position) rest)
       | piece.Unclosed ↦ OpenComment (place_at number position)
       | piece.Nothing ↦ BadByte (place_at number position)
     ]

@@ -1,7 +1,7 @@
 //! The cutting of a text into its tokens.
 
 ghost use Rattle.std.specs.Prelude.{◌≡◌, ◌+◌, ◌<◌, ◌≤◌, ◌^◌, length, drop, MatchResult, OnOk, IfOk, IfErr, All};
-ghost use Rattle.lotos_lexer.specs.Tokens.{Tokens, tokens_of, IsFaultOf, IsTokenOf, IsOfText, open_behind, token_at};
+ghost use Rattle.lotos_lexer.specs.Tokens.{Tokens, tokens_of, IsFaultOf, IsTokenOf, IsOfText, list_open_behind, token_at};
 ghost use Rattle.lotos_lexer.specs.Cutting.{cut_by, IsInside};
 
 use crate::kinds;
@@ -95,7 +95,7 @@ fn make_token(number: u32, position: Position, lexeme: Lexeme) -> Token
 
 /// Whether a gate list is open behind a token of this kind.
 fn is_open_behind(kind: u16, open_list: bool) -> bool
-    ensures { result ≡ open_behind kind open_list }
+    ensures { result ≡ list_open_behind kind open_list }
 {
     match kind {
         kinds::GATES_OPEN => true,

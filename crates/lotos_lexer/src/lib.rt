@@ -2,6 +2,7 @@
 #![tactic(auto)]
 
 pub mod kinds;
+pub mod laws;
 mod lexemes;
 mod lexing;
 mod pieces;

@@ -241,3 +241,28 @@ fn the_earlier_fault_counts(rt: HostRuntime) -> Result<(), Fail> {
     );
     Ok(())
 }
+
+/// Every token, in the order of the kinds' numbers but for the two signs round a gate list.
+const EVERY_TOKEN: &[u8] = b"accept actualizedby any behavior behaviour choice endlib endproc
+    endspec endtype eqns exit for forall formaleqns formalopns formalsorts hide i in is let library
+    noexit of ofsort opnnames opns par process renamedby sortnames sorts specification stop type
+    using where stopper 0x + ||| || [] [> := = => -> >> ( ) [ ] , ; : ! ? _ |[ ]|";
+
+#[test]
+fn each_kind_is_that_of_a_token(rt: HostRuntime) -> Result<(), Fail> {
+    let alloc = rt.alloc();
+    let mut kinds = Vec::new(alloc);
+    for token in lex(alloc, EVERY_TOKEN, 0)? {
+        kinds.push(token.kind)?;
+    }
+    let mut expected = Vec::new(alloc);
+    for kind in 0..COUNT {
+        if kind != GATES_OPEN && kind != GATES_CLOSE {
+            expected.push(kind)?;
+        }
+    }
+    expected.push(GATES_OPEN)?;
+    expected.push(GATES_CLOSE)?;
+    assert_eq!(rt; kinds, expected);
+    Ok(())
+}

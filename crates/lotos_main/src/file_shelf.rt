@@ -1,10 +1,10 @@
 //! The real shelf: files by their paths.
 
-ghost use Rattle.std.specs.Prelude.{◌≡◌, ◌≤◌, None, [], length, vec_len};
+ghost use Rattle.std.specs.Prelude.{◌≡◌, None};
 
+use crate::loops::{read_up_to, write_all_of};
 use lotos_base::{GetFault, PutFault, Shelf, counted};
 use std::fs;
-use std::io::{Read, Write};
 use std::rt::Files;
 
 /// A shelf whose names are paths of files. It tells no content, so a missing file is a fault.
@@ -17,7 +17,10 @@ pub struct FileShelf<'a, R: Files> {
 
 impl<'a, R: Files> FileShelf<'a, R> {
     /// A shelf over these files, with no call made and no fault counted.
-    pub fn new(files: &'a R) -> FileShelf<'a, R> {
+    pub fn new(files: &'a R) -> FileShelf<'a, R>
+        ensures calls { result.calls ≡ 0 }
+        ensures faults { result.faults ≡ 0 }
+    {
         FileShelf {
             files,
             calls: 0,
@@ -66,36 +69,4 @@ impl<R: Files> Shelf for FileShelf<'_, R> {
         }
         Ok(())
     }
-}
-
-/// Reads up to `limit` bytes, or to the end of the file.
-fn read_up_to<F: Read>(file: &mut F, limit: usize, into: &mut Vec<u8>) -> Result<(), GetFault>
-    requires { into.old.items ≡ [] }
-    ensures { length into.new.items ≤ limit }
-{
-    let mut piece = [0u8; 4096];
-    while into.len() < limit {
-        let wanted = (limit - into.len()).min(piece.len());
-        let count = match file.read(&mut piece[..wanted]) {
-            Ok(0) => break,
-            Ok(count) => count,
-            Err(_) => return Err(GetFault::Failed),
-        };
-        if into.extend_from_slice(&piece[..count]).is_err() {
-            return Err(GetFault::NoMemory);
-        }
-    }
-    Ok(())
-}
-
-/// Writes all the bytes.
-fn write_all_of<F: Write>(file: &mut F, bytes: &[u8]) -> Result<(), PutFault> {
-    let mut written = 0;
-    while written < bytes.len() {
-        match file.write(&bytes[written..]) {
-            Ok(count) if count > 0 => written += count,
-            _ => return Err(PutFault::Failed),
-        }
-    }
-    Ok(())
 }

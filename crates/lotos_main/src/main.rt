@@ -3,19 +3,21 @@
 
 mod file_shelf;
 mod in_source;
+mod loops;
 mod out_sink;
 
 use file_shelf::FileShelf;
 use in_source::InSource;
 use lotos_top::{Ended, run};
 use out_sink::OutSink;
+use std::alloc::AllocError;
 use std::process::ExitCode;
 use std::{env, io};
 
 fn main(rt: HostRuntime) -> ExitCode {
     let words = match words(&rt) {
         Ok(words) => words,
-        Err(ended) => return ExitCode::from(ended as u8),
+        Err(_) => return ExitCode::from(Ended::NoMemory.status()),
     };
     let mut shelf = FileShelf::new(&rt);
     let mut input = InSource::new(rt.reader());
@@ -27,23 +29,15 @@ fn main(rt: HostRuntime) -> ExitCode {
         &mut input,
         &mut output,
     );
-    ExitCode::from(ended as u8)
+    ExitCode::from(ended.status())
 }
 
 /// The words behind the program's name; none where one of them is not UTF-8.
-fn words(rt: &HostRuntime) -> Result<Vec<String>, Ended> {
-    let mut words = Vec::new(rt.alloc());
+fn words(rt: &HostRuntime) -> Result<Vec<String>, AllocError> {
     match env::args(rt) {
-        Ok(args) => {
-            for word in args.skip(1) {
-                if words.push(word).is_err() {
-                    return Err(Ended::NoMemory);
-                }
-            }
-            Ok(words)
-        }
-        Err(error) if error.kind() == io::ErrorKind::InvalidData => Ok(words),
-        Err(_) => Err(Ended::NoMemory),
+        Ok(args) => args.skip(1).collect(rt.alloc()),
+        Err(error) if error.kind() == io::ErrorKind::InvalidData => Ok(Vec::new(rt.alloc())),
+        Err(_) => Err(AllocError),
     }
 }
 

@@ -8,7 +8,7 @@ use Rattle.behaviour_semantics.specs.Behaviour.{Behaviour}
 use Rattle.behaviour_semantics.specs.Menu.{Exact, IsEntry}
 use Rattle.behaviour_semantics.proofs.MenuLemmas.{same_members}
 use Rattle.term_algebra.specs.Equation.{Data}
-use Rattle.lotos_grammar.specs.declared.TheConstants.{TEXT_LIMIT}
+use Rattle.lotos_base.specs.Limits.{text_limit}
 use Rattle.lotos_grammar.specs.FirstText.{Text}
 use Rattle.lotos_grammar.specs.Reading.{Reads}
 use Rattle.lotos_grammar.proofs.Readings.{one_reading}
@@ -53,17 +53,17 @@ got_or_long text limit = elim (cases_lt limit (length text)) [
   | inr short ↦ inl (take_all (limit + 1) text (omega arith))
 ]
 
-too_long : (text : List ℕ) (parts : Text) → TEXT_LIMIT < length text → Reads text parts → ⊥
+too_long : (text : List ℕ) (parts : Text) → text_limit < length text → Reads text parts → ⊥
 too_long text parts long reads = omega (arith, reads.short, long)
 
 -- what is to be found in a text is to be found in what was got of it
-pub finding_of_got : (text : List ℕ) (finding : Finding) → IsFinding text finding → IsFinding (take (TEXT_LIMIT + 1) text) finding
-finding_of_got text finding found = by_length (got_or_long text TEXT_LIMIT) finding found
+pub finding_of_got : (text : List ℕ) (finding : Finding) → IsFinding text finding → IsFinding (take (text_limit + 1) text) finding
+finding_of_got text finding found = by_length (got_or_long text text_limit) finding found
   where
-    by_length : (take (TEXT_LIMIT + 1) text ≡ text) ⊎ ((TEXT_LIMIT < length text) × (TEXT_LIMIT < length (take (TEXT_LIMIT + 1) text)))
-        → (it : Finding) → IsFinding text it → IsFinding (take (TEXT_LIMIT + 1) text) it
+    by_length : (take (text_limit + 1) text ≡ text) ⊎ ((text_limit < length text) × (text_limit < length (take (text_limit + 1) text)))
+        → (it : Finding) → IsFinding text it → IsFinding (take (text_limit + 1) text) it
     by_length (inl whole) it is_it = rw whole is_it
-    by_length (inr long) refused is_it = λ parts resolved reads stands. too_long (take (TEXT_LIMIT + 1) text) parts long.1 reads
+    by_length (inr long) refused is_it = λ parts resolved reads stands. too_long (take (text_limit + 1) text) parts long.1 reads
     by_length (inr long) (accepted resolved entries) is_it = absurd (too_long text is_it.parts long.0 is_it.read)
 
 -- the parts that a text reads as say what is to be found in it

@@ -6,7 +6,7 @@ use Rattle.term_algebra.specs.Equation.{Variable}
 use Rattle.behaviour_semantics.specs.Behaviour.{Offer, give, ask, asked_variables}
 use Rattle.lotos_top.specs.declared.scopes.Bound.{Bound}
 use Rattle.lotos_top.specs.declared.scopes.ActionOffers.{ActionOffers}
-use Rattle.lotos_top.specs.Numbering.{numbered}
+use Rattle.lotos_top.specs.Numbering.{names_numbered}
 use Rattle.lotos_grammar.specs.FirstText as written
 use Rattle.lotos_top.specs.Resolution.{Scope, seen, are_new, all_folded, asked_names, offers_in, action_offers}
 use Rattle.lotos_top.specs.Scopes.{bound_as, offers_of, offers_with}
@@ -49,11 +49,17 @@ frame_asked old new name bound adds frame =
     record {
       variables = rw (asked, adds.names, adds.variables)
           (seen-append (asked_variables (offers_of old)) (x ∷ [])
-          ∙ (ap (λ it. it ++ seen (x ∷ [])) frame.variables ∙ sym (bound_as-added (numbered old.names) old.variables.items (folded name) bound frame.names)));
+          ∙ (ap (λ it. it ++ seen (x ∷ [])) frame.variables ∙ sym (bound_as-added (names_numbered old.names) old.variables.items
+          (folded name) bound frame.names)));
       count = rw (asked, adds.variables)
           (omega (arith, length-append old.variables.items (bound ∷ []), length-append (asked_variables (offers_of old)) (x ∷ []), frame.count));
       names = rw (adds.names, adds.variables)
-          (omega (arith, length-append (numbered old.names) (folded name ∷ []), length-append old.variables.items (bound ∷ []), frame.names));
+          (omega (
+            arith,
+            length-append (names_numbered old.names) (folded name ∷ []),
+            length-append old.variables.items (bound ∷ []),
+            frame.names,
+          ));
     }
 
 some_same : (offers : Option (List Offer)) → option_map (λ more. [] ++ more) offers ≡ offers
@@ -62,7 +68,7 @@ some_same (Some offers) = refl
 
 -- nothing is resolved yet
 pub offers_with-none : (scope : Scope) (visible : List Variable) (next : ℕ) (action : ActionOffers) (rest : List written.Offer)
-    → action.offers.items ≡ [] → numbered action.names ≡ [] → action.variables.items ≡ []
+    → action.offers.items ≡ [] → names_numbered action.names ≡ [] → action.variables.items ≡ []
     → offers_with scope visible next action rest ≡ action_offers scope visible next rest
 offers_with-none scope visible next action rest offers names variables =
     let zero_more : next + 0 ≡ next = omega arith in

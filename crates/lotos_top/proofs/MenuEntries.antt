@@ -15,8 +15,7 @@ use Rattle.behaviour_semantics.specs.Draft.{Draft, draft_of, draft_by, first_apa
 use Rattle.behaviour_semantics.specs.Solving.{Entry, SolvesTo, unsolvable, settled, replacing, tidied, variables_left, place_of, has_closed, differing, test_in, first_replacement}
 use Rattle.behaviour_semantics.specs.Solving as solving
 use Rattle.behaviour_semantics.specs.WellFormed.{IsOffer, Every}
-use Rattle.behaviour_semantics.proofs.FineDrafts.{Own}
-use Rattle.behaviour_semantics.proofs.OwnLeaves.{left_over, same_left}
+use Rattle.behaviour_semantics.proofs.OwnLeaves.{Own, left_over, same_left}
 use Rattle.behaviour_semantics.proofs.OptionLemmas.{some_value}
 use Rattle.lotos_top.proofs.MenuActions.{Action, action_at, action_move, move_at, entry_at, IsPlain}
 use Rattle.lotos_top.proofs.MenuValues.{taken-substituted, taken-agree, offered-substituted, all_given, all_stay}
@@ -26,7 +25,7 @@ sorts_at a = sorts_of (asked_variables a.offers)
 
 -- the move of an action, with values as they are given
 abbrev pub given : Data → List Process → Setting
-given data_ processes = record { signature = data_.signature; form = as_given; processes = processes }
+given data_ processes = record { signature = data_.signature; represent = as_given; processes = processes }
 
 abbrev pub own_move : Substitution → Action → Move
 own_move leaves a =

@@ -2,10 +2,10 @@
 use Rattle.std.proofs.Common.{◌≡◌, ℕ, ◌+◌, ◌<◌, ◌⊎◌, inl, inr, List, [], take, Option, Some, None, IfSome, IsSomeAnd, refl, sym, ap, ◌∙◌, arith}
 use Rattle.lotos_base.specs.Counts.{Rises}
 use Rattle.lotos_base.specs.Outside.{Texts, Gets}
-use Rattle.lotos_grammar.specs.declared.TheConstants.{TEXT_LIMIT}
+use Rattle.lotos_base.specs.Limits.{text_limit}
 use Rattle.lotos_top.specs.declared.ended.Ended.{Ended}
 use Rattle.lotos_top.specs.declared.ended.Ended.TheVariants.{Done, SpecRefused, WordsRefused, FileFault, InputFault, OutputFault, NoMemory, InputTooLong}
-use Rattle.lotos_top.specs.Words.{Line, check}
+use Rattle.lotos_top.specs.Words.{CommandLine, check}
 use Rattle.lotos_top.specs.Report.{Finding, refused, accepted, IsFinding, Outcome, no_line, unread, checked, report_of, status_of, check_text, check_status}
 use Rattle.lotos_top.specs.Outcomes.{IsCheck, IsOutcome, IsAnswer, IsWritten, Came, Ran, EndsWith, Completes}
 use Rattle.lotos_top.specs.Writing.{WritesAll}
@@ -36,12 +36,13 @@ output_fault outcome before after NoMemory answered rose = absurd answered
 output_fault outcome before after InputTooLong answered rose = absurd answered
 
 -- words that are no line have one outcome
-no_line-only : (line : Option Line) (told : Option Texts) (before after : ℕ) (outcome : Outcome) → IsOutcome line told before after outcome → line ≡ None → outcome ≡ no_line
+no_line-only : (line : Option CommandLine) (told : Option Texts) (before after : ℕ) (outcome : Outcome)
+    → IsOutcome line told before after outcome → line ≡ None → outcome ≡ no_line
 no_line-only line told before after no_line possible none = refl
 no_line-only line told before after (unread name) possible none = absurd (let no : None ≡ Some (check name None []) = sym none ∙ possible.0 in cc)
 no_line-only line told before after (checked name text finding) possible none = absurd (let no : None ≡ Some (check name None []) = sym none ∙ possible.0 in cc)
 
-same_name : (line : Option Line) (one other : List ℕ) → IsCheck line one → IsCheck line other → one ≡ other
+same_name : (line : Option CommandLine) (one other : List ℕ) → IsCheck line one → IsCheck line other → one ≡ other
 same_name line one other is_one is_other = let same : Some (check one None []) ≡ Some (check other None []) = sym is_one ∙ is_other in cc
 
 not_missing : (told : Option Texts) (name got : List ℕ) (limit : ℕ) → IsSomeAnd told (λ texts. texts name ≡ None) → IfSome told (λ texts. Gets texts name limit got) → ⊥
@@ -49,13 +50,13 @@ not_missing None name got limit missing gets = missing
 not_missing (Some texts) name got limit missing gets = rw missing at gets
 
 -- a file that could not be got has one outcome
-unread-only : (line : Option Line) (told : Option Texts) (before after : ℕ) (outcome : Outcome) (name : List ℕ)
+unread-only : (line : Option CommandLine) (told : Option Texts) (before after : ℕ) (outcome : Outcome) (name : List ℕ)
     → IsOutcome line told before after outcome → IsCheck line name → (before < after) ⊎ IsSomeAnd told (λ texts. texts name ≡ None) → outcome ≡ unread name
 unread-only line told before after no_line name possible is_check lost = absurd (let no : None ≡ Some (check name None []) = sym possible.0 ∙ is_check in cc)
 unread-only line told before after (unread other) name possible is_check lost = ap (λ it. unread it) (same_name line other name possible.0 is_check)
 unread-only line told before after (checked other text finding) name possible is_check (inl rose) = absurd (omega (arith, possible.1, rose))
 unread-only line told before after (checked other text finding) name possible is_check (inr missing) =
-    absurd (not_missing told name text (TEXT_LIMIT + 1) missing (rw (same_name line name other is_check possible.0) possible.2))
+    absurd (not_missing told name text (text_limit + 1) missing (rw (same_name line name other is_check possible.0) possible.2))
 
 -- a name has not both a text and none
 held_not_missing : (told : Option Texts) (one other text : List ℕ) → one ≡ other → IsSomeAnd told (λ texts. texts one ≡ None) → IsSomeAnd told (λ texts. texts other ≡ Some text) → ⊥
@@ -70,7 +71,8 @@ held_gets None one other text got limit same held gets = absurd held
 held_gets (Some texts) one other text got limit same held gets = rw (ap texts same ∙ held) at gets
 
 -- a text that the shelf tells is read, where the shelf counted no fault: the report is that of the text
-checked-only : (line : Option Line) (told : Option Texts) (before after : ℕ) (outcome : Outcome) (name text : List ℕ) (finding : Finding)
+checked-only : (line : Option CommandLine) (told : Option Texts) (before after : ℕ) (outcome : Outcome) (name text : List ℕ)
+    (finding : Finding)
     → IsOutcome line told before after outcome → IsCheck line name → IsSomeAnd told (λ texts. texts name ≡ Some text)
     → IsFinding text finding → ¬ Rises before after
     → (status_of outcome ≡ check_status finding) × (report_of outcome ≡ check_text name finding)
@@ -83,7 +85,7 @@ checked-only line told before after (unread other) name text finding possible is
     ])
 checked-only line told before after (checked other got made) name text finding possible is_check held found steady =
     let same : other ≡ name = same_name line other name possible.0 is_check in
-    let got_is : got ≡ take (TEXT_LIMIT + 1) text = held_gets told other name text got (TEXT_LIMIT + 1) same held possible.2 in
+    let got_is : got ≡ take (text_limit + 1) text = held_gets told other name text got (text_limit + 1) same held possible.2 in
     let one : made ≡ finding = one_finding got made finding possible.3 (rw got_is (finding_of_got text finding found)) in
     (ap check_status one, ap (λ it. check_text it made) same ∙ ap (check_text name) one)
 
@@ -93,7 +95,7 @@ ends_as : (status status' : Ended) (report report' : List ℕ) (before after : O
 ends_as status status' report report' before after answer same_status same_report ends = rw (sym same_status, sym same_report) ends
 
 -- every answer of a run that came to an outcome comes where its cause stands
-came_completes : (line : Option Line) (told : Option Texts) (shelf_before shelf_after output_before output_after : ℕ)
+came_completes : (line : Option CommandLine) (told : Option Texts) (shelf_before shelf_after output_before output_after : ℕ)
     (written_before written_after : Option (List ℕ)) (answer : Ended)
     → Came line told shelf_before shelf_after output_before output_after written_before written_after answer
     → Completes line told shelf_before shelf_after output_before output_after written_before written_after answer
@@ -114,7 +116,7 @@ came_completes line told sb sa ob oa wb wa answer came = record {
     ends steady = determined came.outcome ob oa wb wa answer came.answered came.written steady
 
 -- every answer of a run comes where its cause stands
-pub completes : (line : Option Line) (told : Option Texts) (shelf_before shelf_after output_before output_after : ℕ)
+pub completes : (line : Option CommandLine) (told : Option Texts) (shelf_before shelf_after output_before output_after : ℕ)
     (written_before written_after : Option (List ℕ)) (answer : Ended)
     → Ran line told shelf_before shelf_after output_before output_after written_before written_after answer
     → Completes line told shelf_before shelf_after output_before output_after written_before written_after answer
@@ -133,7 +135,7 @@ completes line told sb sa ob oa wb wa NoMemory ran = record {
 completes line told sb sa ob oa wb wa InputTooLong ran = came_completes line told sb sa ob oa wb wa InputTooLong ran
 
 -- a run that came to an outcome with the outcome's status
-pub ran_with : (line : Option Line) (told : Option Texts) (shelf_before shelf_after output_before output_after : ℕ)
+pub ran_with : (line : Option CommandLine) (told : Option Texts) (shelf_before shelf_after output_before output_after : ℕ)
     (written_before written_after : Option (List ℕ)) (answer : Ended) (outcome : Outcome)
     → answer ≡ status_of outcome → IsOutcome line told shelf_before shelf_after outcome → output_after ≡ output_before
     → WritesAll written_before written_after (report_of outcome)

@@ -1,15 +1,6 @@
-use Rattle.std.proofs.Common.{◌≡◌, ℕ, zero, suc, ◌+◌, ◌-◌, ◌≤◌, List, [], ◌∷◌, ◌++◌, take, drop, length, Option, Some, None, IfSome, refl, sym, ap, ◌∙◌, arith, append_assoc, zero-add}
-use Rattle.std.proofs.Math.Seq.{take-length}
+use Rattle.std.proofs.Common.{◌≡◌, ℕ, ◌+◌, ◌-◌, ◌≤◌, List, ◌++◌, take, drop, length, Option, Some, None, IfSome, sym, ap, ◌∙◌, arith, append_assoc}
+use Rattle.std.proofs.Math.Seq.{take-add, take-length}
 use Rattle.std.proofs.lemmas.List.{length-drop}
-
--- a beginning of a list, in two parts
-pub take-add : (count more : ℕ) (text : List ℕ) → take (count + more) text ≡ take count text ++ take more (drop count text)
-take-add zero more text = rw zero-add refl
-take-add (suc count) zero [] = let sum : suc count + 0 ≡ suc count = omega arith in rw sum refl
-take-add (suc count) (suc more) [] = let sum : suc count + suc more ≡ suc (count + suc more) = omega arith in rw sum refl
-take-add (suc count) more (byte ∷ rest) =
-    let sum : suc count + more ≡ suc (count + more) = omega arith in
-    rw sum (ap (λ it. byte ∷ it) (take-add count more rest))
 
 -- the rest of a text, as the code takes it
 rest_from : (text : List ℕ) (count : ℕ) → take (length text - count) (drop count text) ≡ drop count text

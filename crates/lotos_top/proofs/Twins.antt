@@ -1,5 +1,5 @@
 -- Constants of a resolved text have different names, so none needs its sort to be told apart.
-use Rattle.std.proofs.Common.{◌≡◌, ℕ, zero, suc, Bool, true, false, ◌&&◌, not, nat_eq, List, [], ◌∷◌, length, slice_get, Option, Some, option_map, option_and_then, refl, sym, ap, ◌∙◌, subst}
+use Rattle.std.proofs.Common.{◌≡◌, ℕ, zero, suc, Bool, true, false, ◌&&◌, not, nat_eq, List, [], ◌∷◌, slice_get, Option, Some, option_map, option_and_then, refl, sym, ap, ◌∙◌, subst}
 use Rattle.std.proofs.lemmas.Slice.Eq.{bytes_eq-Decides}
 use Rattle.std.proofs.lemmas.Option.{slice_get-map}
 use Rattle.std.proofs.lemmas.Bool.{eq-eqb}
@@ -8,6 +8,7 @@ use Rattle.std.specs.Str.{bytes_eq}
 use Rattle.lotos_base.specs.Name.{folded}
 use Rattle.lotos_grammar.specs.FirstText as written
 use Rattle.term_algebra.specs.Signature.{Operation}
+use Rattle.term_algebra.specs.Twins.{form_eq}
 use Rattle.behaviour_semantics.specs.Behaviour.{Behaviour}
 use Rattle.behaviour_semantics.proofs.OptionLemmas.{some_value, mapped, chained}
 use Rattle.lotos_top.specs.Resolution.{Resolved, are_distinct, all_folded, scope_of, is_distinct, constants_in, behaviour_in, resolved_of, resolved_with}
@@ -23,11 +24,13 @@ none_passes test (first ∷ rest) fails =
     let head : test first ≡ false = fails zero first refl in
     rw head (none_passes test rest (λ place it at_place. fails (suc place) it at_place))
 
--- the test for a twin, by its three parts
-no_twin_test : (same_name bare same_sort : Bool) → (same_name ≡ true → same_sort ≡ true) → same_name && bare && not same_sort ≡ false
-no_twin_test false bare same_sort sorts = refl
-no_twin_test true false same_sort sorts = refl
-no_twin_test true true same_sort sorts = rw (sorts refl) refl
+-- the test of twins, by its four parts
+no_twin_test : (same_name same_form same_arguments same_sort : Bool) → (same_name ≡ true → same_sort ≡ true)
+    → (same_name && same_form) && (same_arguments && not same_sort) ≡ false
+no_twin_test false same_form same_arguments same_sort sorts = refl
+no_twin_test true false same_arguments same_sort sorts = refl
+no_twin_test true true false same_sort sorts = refl
+no_twin_test true true true same_sort sorts = rw (sorts refl) refl
 
 apart : (sorts : List (List ℕ)) (constants : List (List ℕ × List ℕ)) (operations : List Operation)
     → are_distinct (all_folded (names_of constants)) ≡ true → constants_in sorts constants ≡ Some operations
@@ -51,8 +54,9 @@ no_twins_with text operations b distinct given = λ place operation at_place.
     let names : are_distinct (all_folded (names_of text.constants)) ≡ true =
     (both_true (are_distinct (scope_of text).gates && are_distinct (scope_of text).sorts) (are_distinct (scope_of text).constants) distinct).1 in
     none_passes _ operations (λ j other at_j.
-    no_twin_test (bytes_eq (folded other.name) (folded operation.name)) (nat_eq (length other.arguments) 0) (nat_eq other.result operation.result)
-    (apart (all_folded text.sorts) text.constants operations names given place j operation other at_place at_j))
+    no_twin_test (bytes_eq (folded operation.name) (folded other.name)) (form_eq operation.form other.form)
+    (bytes_eq operation.arguments other.arguments) (nat_eq operation.result other.result)
+    (apart (all_folded text.sorts) text.constants operations names given j place other operation at_j at_place))
 
 -- no constant of a resolved text shares its name with one of another sort
 pub no_twins : (text : written.Text) (r : Resolved) → resolved_of text ≡ Some r → HasNoTwins r.data_.signature

@@ -9,7 +9,7 @@ use Rattle.behaviour_semantics.proofs.OptionLemmas.{some_value, mapped, chained}
 use Rattle.lotos_top.specs.Numbering.{place_in}
 use Rattle.lotos_top.specs.Resolved.{sort_of, constant_of}
 use Rattle.lotos_top.specs.Resolution.{are_distinct, all_folded, constants_in}
-use Rattle.lotos_top.proofs.WellFormedNames.{place_in-below, one_place}
+use Rattle.lotos_top.proofs.WellFormedNames.{place_in-below, one_name_place}
 
 -- the names of constants
 abbrev pub names_of : List (List ℕ × List ℕ) → List (List ℕ)
@@ -86,10 +86,9 @@ signature_well_formed sorts constants operations distinct_sorts distinct_constan
           let none : slice_get [] i ≡ Some s = subst (λ (it : List ℕ). slice_get it i ≡ Some s) (constant f o at_place).arguments argument in
           absurd (cc);
       sort_names = λ i j s t at_i at_j same.
-          one_place sorts i j s.name distinct_sorts (sort_named sorts i s at_i) (sort_named sorts j t at_j ∙ ap (λ (it : List ℕ). Some it) (sym same));
+          one_name_place sorts i j s.name t.name distinct_sorts (sort_named sorts i s at_i) (sort_named sorts j t at_j) same;
       profiles = λ f g o p at_f at_g same _ _ _.
-          one_place (names_of constants) f g o.name distinct_constants (constant f o at_f).named
-          ((constant g p at_g).named ∙ ap (λ (it : List ℕ). Some it) (sym same));
+          one_name_place (names_of constants) f g o.name p.name distinct_constants (constant f o at_f).named (constant g p at_g).named same;
     }
   where
     sort_within : (sorts : List (List ℕ)) (sort : ℕ) → sort < length (all_folded sorts) → sort < length (map sort_of sorts)

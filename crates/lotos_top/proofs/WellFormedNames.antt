@@ -90,13 +90,13 @@ pub folded_one_place : (names : List (List ℕ)) (i j : ℕ) (name : List ℕ) �
     → slice_get names i ≡ Some name → slice_get names j ≡ Some name → i ≡ j
 folded_one_place names i j name distinct at_i at_j = new_one_place [] names i j name distinct at_i at_j
 
--- names whose folded forms are distinct are distinct
-pub one_place : (names : List (List ℕ)) (i j : ℕ) (name : List ℕ) → are_distinct (all_folded names) ≡ true
-    → slice_get names i ≡ Some name → slice_get names j ≡ Some name → i ≡ j
-one_place names i j name distinct at_i at_j =
+-- where the folded forms are distinct, two spellings of one name stand at one place
+pub one_name_place : (names : List (List ℕ)) (i j : ℕ) (name other : List ℕ) → are_distinct (all_folded names) ≡ true
+    → slice_get names i ≡ Some name → slice_get names j ≡ Some other → folded name ≡ folded other → i ≡ j
+one_name_place names i j name other distinct at_i at_j same =
     new_one_place [] (all_folded names) i j (folded name) distinct
     (slice_get-map folded names i ∙ ap (λ it. option_map folded it) at_i)
-    (slice_get-map folded names j ∙ ap (λ it. option_map folded it) at_j)
+    (slice_get-map folded names j ∙ ap (λ it. option_map folded it) at_j ∙ ap (λ (it : List ℕ). Some it) (sym same))
 
 -- a number stands at its place
 number_at : (first : ℕ) (names : List (List ℕ)) (place number : ℕ) → slice_get (numbers_from first names) place ≡ Some number → number ≡ first + place

@@ -1,10 +1,11 @@
 -- The line that the words of a command are.
 use Rattle.std.proofs.Common.{◌≡◌, ℕ, Bool, true, false, cond, List, [], ◌∷◌, Option, Some, None, not, ◌&&◌, codes, sym, ap, ◌∙◌}
 use Rattle.std.specs.Str.{bytes_eq}
-use Rattle.lotos_top.specs.Words.{Line, check, command_line, words_line, two_words, are_within}
+use Rattle.lotos_top.specs.Words.{CommandLine, check, command_line, words_line, two_words, are_within}
 
 -- the line of two words is the check of the second
-two_words-check : (verb spec : List ℕ) (line : Line) → two_words verb spec ≡ Some line → (name : List ℕ) × (line ≡ check name None [])
+two_words-check : (verb spec : List ℕ) (line : CommandLine) → two_words verb spec ≡ Some line → (name : List ℕ)
+    × (line ≡ check name None [])
 two_words-check verb spec line is = go (bytes_eq verb (codes "check") && not (bytes_eq spec (codes "with"))) is
   where
     go : (test : Bool) → cond test (Some (check spec None [])) None ≡ Some line → (name : List ℕ) × (line ≡ check name None [])
@@ -12,7 +13,8 @@ two_words-check verb spec line is = go (bytes_eq verb (codes "check") && not (by
     go false same = absurd (let no : None ≡ Some line = same in cc)
 
 -- a line of words is the check of some specification
-words_line-check : (words : List (List ℕ)) (line : Line) → words_line words ≡ Some line → (name : List ℕ) × (line ≡ check name None [])
+words_line-check : (words : List (List ℕ)) (line : CommandLine) → words_line words ≡ Some line → (name : List ℕ)
+    × (line ≡ check name None [])
 words_line-check [] line is = absurd (let no : None ≡ Some line = is in cc)
 words_line-check (verb ∷ []) line is = absurd (let no : None ≡ Some line = is in cc)
 words_line-check (verb ∷ spec ∷ []) line is = two_words-check verb spec line is

@@ -1,4 +1,5 @@
 pub mod Apart
+pub mod Limits
 pub mod MenuExamples
 pub mod MenuReport
 pub mod MenuSteps
@@ -12,5 +13,6 @@ pub mod ResolutionLaws
 pub mod Resolved
 pub mod Resolving
 pub mod Scopes
+pub mod Status
 pub mod Words
 pub mod Writing

@@ -1,3 +1,4 @@
+-- What is prepared before anything is written: a status and a report.
 use Rattle.std.specs.Prelude.{◌≡◌, ℕ, List, [], Option, Some, None}
 use Rattle.behaviour_semantics.specs.Rule.{as_given}
 use Rattle.behaviour_semantics.specs.Solving.{Entry}
@@ -5,13 +6,13 @@ use Rattle.behaviour_semantics.specs.Menu.{Exact}
 use Rattle.lotos_grammar.specs.FirstText.{Text}
 use Rattle.lotos_base.specs.Outside.{Texts}
 use Rattle.lotos_top.specs.declared.running.Answer.{Answer}
-use Rattle.lotos_top.specs.Words.{Line}
+use Rattle.lotos_top.specs.Words.{CommandLine}
 use Rattle.lotos_top.specs.Resolution.{Resolved, resolved_of}
 use Rattle.lotos_top.specs.Report.{Finding, refused, accepted, IsFinding, Outcome, report_of, status_of, check_text, check_status}
 use Rattle.lotos_top.specs.Outcomes.{IsOutcome}
 
 -- an answer to the words: its status and its report are those of an outcome
-pub record IsPrepared (line : Option Line) (told : Option Texts) (before after : ℕ) (answer : Answer) : Type 0 where
+pub record IsPrepared (line : Option CommandLine) (told : Option Texts) (before after : ℕ) (answer : Answer) : Type 0 where
   pub outcome : Outcome
   pub possible : IsOutcome line told before after outcome
   pub ended : answer.ended ≡ status_of outcome

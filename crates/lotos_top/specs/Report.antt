@@ -1,3 +1,4 @@
+-- What is to be found in a text, what may come of the words, and the report of each.
 use Rattle.std.specs.Prelude.{◌≡◌, ℕ, List, [], ◌++◌, length, codes, Some}
 use Rattle.report_text.specs.Texts.{head_text, menu_text}
 use Rattle.behaviour_semantics.specs.Rule.{as_given}

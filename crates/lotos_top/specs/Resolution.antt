@@ -1,6 +1,6 @@
 -- What a specification as it is written stands for: its data, and its behaviour with gates, sorts, constants and
 -- variables by number. Names are compared without regard to letter case.
-use Rattle.std.specs.Prelude.{ℕ, suc, ◌+◌, Bool, true, ◌&&◌, not, cond, List, [], ◌∷◌, ◌++◌, map, length, Option, Some, None, option_map, option_and_then}
+use Rattle.std.specs.Prelude.{ℕ, suc, ◌+◌, Bool, true, ◌&&◌, not, if◌then◌else◌, List, [], ◌∷◌, ◌++◌, map, length, Option, Some, None, option_map, option_and_then}
 use Rattle.std.specs.Option.{option_or}
 use Rattle.std.specs.Str.{bytes_eq}
 use Rattle.lotos_base.specs.Name.{folded}
@@ -37,7 +37,7 @@ seen variables = map (λ x. record { name = folded x.name; number = x.number; so
 -- the variable of this name among those that are seen, the innermost first
 abbrev pub variable_named : List Variable → List ℕ → Option Term
 variable_named [] name = None
-variable_named (x ∷ rest) name = cond (bytes_eq (folded name) x.name) (Some (variable x.number x.sort)) (variable_named rest name)
+variable_named (x ∷ rest) name = if bytes_eq (folded name) x.name then Some (variable x.number x.sort) else variable_named rest name
 
 -- the constant of this name
 abbrev pub constant_named : Scope → List ℕ → Option Term
@@ -68,7 +68,8 @@ asked_names (written.ask name sort ∷ offers) = name ∷ asked_names offers
 
 -- the offers of an action, if its variables are distinct
 abbrev pub action_offers : Scope → List Variable → ℕ → List written.Offer → Option (List Offer)
-action_offers scope visible next offers = cond (are_distinct (all_folded (asked_names offers))) (offers_in scope visible next offers) None
+action_offers scope visible next offers = if are_distinct (all_folded (asked_names offers)) then
+    offers_in scope visible next offers else None
 
 -- an action at a gate with its offers, and what it makes of the behaviour behind it
 abbrev pub action_at : ℕ → List Offer → Behaviour × ℕ → Behaviour × ℕ
@@ -132,8 +133,8 @@ resolved_with text operations body = record {
 -- what a specification stands for, if it keeps the rules on names
 abbrev pub resolved_of : written.Text → Option Resolved
 resolved_of text =
-    cond (is_distinct (scope_of text))
-    (option_and_then (λ (operations : List Operation).
+    if is_distinct (scope_of text)
+    then option_and_then (λ (operations : List Operation).
     option_map (λ (b : Behaviour × ℕ). resolved_with text operations b.0) (behaviour_in (scope_of text) [] 0 text.body))
-    (constants_in (all_folded text.sorts) text.constants))
-    None
+    (constants_in (all_folded text.sorts) text.constants)
+    else None

@@ -1,3 +1,4 @@
+-- What the code's resolved trees are as plain values.
 use Rattle.std.specs.Prelude.{ℕ, List, [], map, None}
 use Rattle.lotos_base.specs.Name.{spelling}
 use Rattle.term_algebra.specs.Signature as signatures

@@ -1,3 +1,4 @@
+-- What the steps of the resolution of names promise.
 use Rattle.std.specs.Prelude.{◌≡◌, ℕ, List, [], ◌∷◌, ◌++◌, map, length, Bool, true, false, Option, None}
 use Rattle.lotos_base.specs.declared.names.Name as declared_name
 use Rattle.lotos_base.specs.Name.{spelling, folded}
@@ -13,7 +14,7 @@ use Rattle.lotos_top.specs.declared.scopes.ActionOffers.{ActionOffers}
 use Rattle.lotos_top.specs.declared.scopes.Scope as code_scope
 use Rattle.lotos_top.specs.declared.resolving.Unresolved.{Unresolved}
 use Rattle.lotos_top.specs.declared.resolving.Unresolved.TheVariants.{Name, NoMemory}
-use Rattle.lotos_top.specs.Numbering.{numbered, is_among}
+use Rattle.lotos_top.specs.Numbering.{names_numbered, is_among}
 use Rattle.lotos_top.specs.Resolution.{Scope, Resolved, seen, all_folded, are_distinct, is_distinct, scope_of}
 use Rattle.lotos_top.specs.Resolved.{constant_of, data_of, gate_names_of, behaviour_of}
 use Rattle.lotos_top.specs.Scopes.{bound_as, declared_by, offers_of, offers_with}
@@ -25,27 +26,27 @@ IsUnresolved resolved NoMemory = Unit {0}
 
 -- the names and the variables of an action are those that its offers ask for
 pub record IsFrame (action : ActionOffers) : Type 0 where
-  pub variables : seen (plain.asked_variables (offers_of action)) ≡ bound_as (numbered action.names) action.variables.items
+  pub variables : seen (plain.asked_variables (offers_of action)) ≡ bound_as (names_numbered action.names) action.variables.items
   pub count : length action.variables.items ≡ length (plain.asked_variables (offers_of action))
-  pub names : length (numbered action.names) ≡ length action.variables.items
+  pub names : length (names_numbered action.names) ≡ length action.variables.items
 
 -- one more offer that gives a value
 pub record AddsGiven (old new : ActionOffers) (offer : plain.Offer) : Type 0 where
   pub offers : offers_of new ≡ offers_of old ++ offer ∷ []
-  pub names : numbered new.names ≡ numbered old.names
+  pub names : names_numbered new.names ≡ names_numbered old.names
   pub variables : new.variables.items ≡ old.variables.items
 
 -- one more offer that asks for a value
 pub record AddsAsked (old new : ActionOffers) (name : List ℕ) (bound : Bound) : Type 0 where
-  pub is_new : is_among (numbered old.names) (folded name) ≡ false
+  pub is_new : is_among (names_numbered old.names) (folded name) ≡ false
   pub offers : offers_of new ≡ offers_of old ++ plain.ask (record { name = name; number = bound.number; sort = bound.sort }) ∷ []
-  pub names : numbered new.names ≡ numbered old.names ++ folded name ∷ []
+  pub names : names_numbered new.names ≡ names_numbered old.names ++ folded name ∷ []
   pub variables : new.variables.items ≡ old.variables.items ++ bound ∷ []
 
 -- the variable is added where its name is new, and else the name is one of those before it
 abbrev pub AddsIfNew : Bool → ActionOffers → ActionOffers → List ℕ → Bound → Type 0
 AddsIfNew true old new name bound = AddsAsked old new name bound
-AddsIfNew false old new name bound = is_among (numbered old.names) (folded name) ≡ true
+AddsIfNew false old new name bound = is_among (names_numbered old.names) (folded name) ≡ true
 
 -- what was resolved of an action goes on with what is left, one offer later
 abbrev pub Continues : Scope → List Variable → ℕ → ActionOffers → ActionOffers → written.Offer → Type 0
@@ -71,7 +72,7 @@ constants_folded constants = all_folded (map (λ constant. constant.0) (constant
 
 -- the names are distinct, and are numbered in their order; or they are not distinct
 abbrev pub IsNumberingOf : List (List ℕ) → Numbering → Type 0
-IsNumberingOf names numbering = (are_distinct names ≡ true) × (numbered numbering ≡ names)
+IsNumberingOf names numbering = (are_distinct names ≡ true) × (names_numbered numbering ≡ names)
 
 abbrev pub IsRepeated : List (List ℕ) → Unresolved → Type 0
 IsRepeated names Name = are_distinct names ≡ false

@@ -1,7 +1,8 @@
-use Rattle.std.specs.Prelude.{ℕ, ◌+◌, Bool, ◌&&◌, not, List, [], ◌∷◌, map, length, codes, cond, nat_le, Option, Some, None, option_map, String, string_bytes}
+-- The lines of words that the program takes.
+use Rattle.std.specs.Prelude.{ℕ, ◌+◌, Bool, ◌&&◌, not, List, [], ◌∷◌, map, length, codes, if◌then◌else◌, nat_le, Option, Some, None, option_map, String, string_bytes}
 use Rattle.std.specs.Str.{bytes_eq}
 use Rattle.std.specs.declared.alloc.Global.{Global}
-use Rattle.lotos_top.specs.declared.TheConstants.{WORDS_LIMIT, WORD_BYTES_LIMIT}
+use Rattle.lotos_top.specs.Limits.{words_limit, word_bytes_limit}
 use Rattle.lotos_top.specs.declared.commands.Command.{Command}
 use Rattle.lotos_top.specs.declared.commands.Command.TheVariants.{Check, Run, Demo}
 
@@ -10,13 +11,13 @@ abbrev pub words_of : List (String Global) → List (List ℕ)
 words_of words = map string_bytes words
 
 -- a line of words
-pub data Line : Type 0 where
-  check : (spec : List ℕ) (order : Option (List ℕ)) (values : List (List ℕ)) → Line
-  session : (spec : List ℕ) (order : Option (List ℕ)) (values : List (List ℕ)) → Line
-  demonstration : (cells : ℕ) → Line
+pub data CommandLine : Type 0 where
+  check : (spec : List ℕ) (order : Option (List ℕ)) (values : List (List ℕ)) → CommandLine
+  session : (spec : List ℕ) (order : Option (List ℕ)) (values : List (List ℕ)) → CommandLine
+  demonstration : (cells : ℕ) → CommandLine
 
 -- what a command of the code is as a line
-abbrev pub line_of : Command → Line
+abbrev pub line_of : Command → CommandLine
 line_of (Check spec order values) = check spec.now (option_map (λ name. name.now) order) (words_of values.now)
 line_of (Run spec order values) = session spec.now (option_map (λ name. name.now) order) (words_of values.now)
 line_of (Demo cells) = demonstration cells
@@ -28,17 +29,18 @@ total_length (word ∷ words) = length word + total_length words
 
 -- the words are within the limits on their number and on their bytes
 abbrev pub are_within : List (List ℕ) → Bool
-are_within words = nat_le (length words) WORDS_LIMIT && nat_le (total_length words) WORD_BYTES_LIMIT
+are_within words = nat_le (length words) words_limit && nat_le (total_length words) word_bytes_limit
 
 -- two words are a line where they are `check SPEC`, and SPEC is not `with`
-abbrev pub two_words : List ℕ → List ℕ → Option Line
-two_words verb spec = cond (bytes_eq verb (codes "check") && not (bytes_eq spec (codes "with"))) (Some (check spec None [])) None
+abbrev pub two_words : List ℕ → List ℕ → Option CommandLine
+two_words verb spec =
+    if bytes_eq verb (codes "check") && not (bytes_eq spec (codes "with")) then Some (check spec None []) else None
 
 -- the line that the words are, if they are one
-abbrev pub words_line : List (List ℕ) → Option Line
+abbrev pub words_line : List (List ℕ) → Option CommandLine
 words_line (verb ∷ spec ∷ []) = two_words verb spec
 words_line _ = None
 
 -- the line that the words of a command are, if they are one and within the limits
-abbrev pub command_line : List (List ℕ) → Option Line
-command_line words = cond (are_within words) (words_line words) None
+abbrev pub command_line : List (List ℕ) → Option CommandLine
+command_line words = if are_within words then words_line words else None

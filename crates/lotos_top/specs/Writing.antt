@@ -1,3 +1,4 @@
+-- A text that is written whole, or in part, behind what was written.
 use Rattle.std.specs.Prelude.{◌≡◌, ℕ, ◌<◌, List, ◌++◌, take, length, Option, Some, IfSome}
 
 -- the whole text is written behind what was written, where the output tells it

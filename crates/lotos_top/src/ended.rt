@@ -1,22 +1,43 @@
 //! How a run ends.
 
-/// How a run ends. The number of each is the status of the program.
+ghost use Rattle.std.specs.Prelude.{◌≡◌};
+ghost use Rattle.lotos_top.specs.Status.{status_number};
+
+/// How a run ends.
 #[derive(Clone, Copy, Debug, PartialEq, Eq)]
 pub enum Ended {
     /// The work is done, and the whole report is written.
-    Done = 0,
+    Done,
     /// The specification was refused, and the line of the refusal is written.
-    SpecRefused = 1,
+    SpecRefused,
     /// The words are no line of the usage, and the usage line is written.
-    WordsRefused = 2,
+    WordsRefused,
     /// A file could not be got, and the line that names it is written.
-    FileFault = 3,
+    FileFault,
     /// The input failed.
-    InputFault = 4,
+    InputFault,
     /// The output failed. What is written is the beginning of the report.
-    OutputFault = 5,
-    /// Memory was wanted and not there. What is written is the beginning of the report.
-    NoMemory = 6,
+    OutputFault,
+    /// Memory was wanted and not there. The output is as before.
+    NoMemory,
     /// The input has more than 16,777,216 bytes.
-    InputTooLong = 7,
+    InputTooLong,
+}
+
+impl Ended {
+    /// The number that the program ends with: 0 to 7, in the order of the variants.
+    pub fn status(self) -> u8
+        ensures { result ≡ status_number self }
+    {
+        match self {
+            Ended::Done => 0,
+            Ended::SpecRefused => 1,
+            Ended::WordsRefused => 2,
+            Ended::FileFault => 3,
+            Ended::InputFault => 4,
+            Ended::OutputFault => 5,
+            Ended::NoMemory => 6,
+            Ended::InputTooLong => 7,
+        }
+    }
 }

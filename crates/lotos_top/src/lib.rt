@@ -6,19 +6,20 @@ mod ended;
 pub mod laws;
 pub mod menu_examples;
 mod menu_report;
-mod menus;
+pub mod menus;
 mod numbering;
 mod reports;
 pub mod resolved;
 mod resolving;
 mod running;
 mod scopes;
-mod specification;
+pub mod specification;
 mod texts;
 mod writing;
 
 pub use commands::{Command, parse_command};
 pub use ended::Ended;
+pub use resolving::Unresolved;
 pub use running::run;
 
 /// How many words a command line may have.
@@ -26,12 +27,3 @@ pub const WORDS_LIMIT: usize = 65_536;
 
 /// How many bytes the words of a command line may have together.
 pub const WORD_BYTES_LIMIT: usize = 1_048_576;
-
-#[cfg(test)]
-mod check_tests;
-#[cfg(test)]
-mod menus_tests;
-#[cfg(test)]
-mod resolving_tests;
-#[cfg(test)]
-mod tests;

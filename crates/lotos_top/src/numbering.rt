@@ -15,11 +15,11 @@ pub struct Numbering {
 }
 
 impl Numbering {
-    ghost use Rattle.lotos_top.specs.Numbering.{numbered, place_in, is_among};
+    ghost use Rattle.lotos_top.specs.Numbering.{names_numbered, place_in, is_among};
 
     /// No names.
     pub fn new(alloc: Global) -> Numbering
-        ensures { numbered result ≡ [] }
+        ensures { names_numbered result ≡ [] }
     {
         Numbering {
             names: IndexSet::new(alloc),
@@ -28,8 +28,8 @@ impl Numbering {
 
     /// Adds a name at the end, and answers whether it is new. A name that is there stays alone.
     pub fn add(&mut self, alloc: Global, name: &Name) -> Result<bool, AllocError>
-        ensures new { IfOk result (λ new. new ≡ not (is_among (numbered self.old) (folded (spelling name.now)))) }
-        ensures names { IfOk result (λ new. numbered self.new ≡ (if new then numbered self.old ++ folded (spelling name.now) ∷ [] else numbered self.old)) }
+        ensures new { IfOk result (λ new. new ≡ not (is_among (names_numbered self.old) (folded (spelling name.now)))) }
+        ensures names { IfOk result (λ new. names_numbered self.new ≡ (if new then names_numbered self.old ++ folded (spelling name.now) ∷ [] else names_numbered self.old)) }
     {
         let (_, new) = self.names.insert_full(fold_case(alloc, name)?)?;
         Ok(new)
@@ -37,7 +37,7 @@ impl Numbering {
 
     /// The number of a name, if it is there.
     pub fn number(&self, alloc: Global, name: &Name) -> Result<Option<usize>, AllocError>
-        ensures { IfOk result (λ number. number ≡ place_in (numbered self.now) (folded (spelling name.now))) }
+        ensures { IfOk result (λ number. number ≡ place_in (names_numbered self.now) (folded (spelling name.now))) }
     {
         let key = fold_case(alloc, name)?;
         Ok(self.names.get_index_of(key.as_slice()))

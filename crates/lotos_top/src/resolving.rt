@@ -4,7 +4,7 @@ ghost use Rattle.std.specs.Prelude.{◌≡◌, ◌+◌, ◌++◌, None, Some, []
 ghost use Rattle.lotos_base.specs.Name.{spelling, folded};
 ghost use Rattle.lotos_grammar.specs.FirstText as written;
 ghost use Rattle.behaviour_semantics.specs.Behaviour.{give};
-ghost use Rattle.lotos_top.specs.Numbering.{numbered};
+ghost use Rattle.lotos_top.specs.Numbering.{names_numbered};
 ghost use Rattle.lotos_top.specs.Resolved.{term_of, offer_of, behaviour_of};
 ghost use Rattle.lotos_top.specs.Resolution.{action_offers, behaviour_in, are_new, all_folded};
 ghost use Rattle.lotos_top.specs.Scopes.{visible_of, declared_by, offers_of, offers_with};
@@ -36,13 +36,6 @@ impl From<AllocError> for Unresolved {
     }
 }
 
-/// The same name.
-pub fn copy_name(alloc: Global, name: &Name) -> Result<Name, AllocError>
-    ensures { IfOk result (λ copy. spelling copy ≡ spelling name.now) }
-{
-    Ok(Name::of(Vec::from_slice(alloc, name.spelled())?))
-}
-
 /// Adds an offer that gives a value.
 fn add_given(action: &mut ActionOffers, value: Value) -> Result<(), AllocError>
     ensures { OnOk result (AddsGiven action.old action.new (give (term_of value))) }
@@ -61,7 +54,7 @@ fn add_asked(
     ensures { IfOk result (λ new. AddsIfNew new action.old action.new (spelling variable.now) bound) }
 {
     let offer = Offer::Ask {
-        variable: copy_name(alloc, variable)?,
+        variable: variable.copy(alloc)?,
         number: bound.number,
         sort: bound.sort,
     };
@@ -85,8 +78,8 @@ fn resolve_offer(
     requires { IsFrame action.old }
     ensures frame { OnOk result (IsFrame action.new) }
     ensures exact { MatchResult result
-        (λ _. Continues (declared_by scope.now) (visible_of visible.now) next action.old action.new (written.offer_of offer.now))
-        (Breaks (declared_by scope.now) (visible_of visible.now) next action.old (written.offer_of offer.now)) }
+        (λ _. Continues (declared_by scope.now) (visible_of visible.now) next action.old action.new (written.offer_text_of offer.now))
+        (Breaks (declared_by scope.now) (visible_of visible.now) next action.old (written.offer_text_of offer.now)) }
 {
     match offer {
         FirstOffer::Give(name) => {
@@ -124,8 +117,8 @@ fn resolve_offers(
 ) -> Result<ActionOffers, Unresolved>
     ensures frame { IfOk result IsFrame }
     ensures exact { MatchResult result
-        (λ action. action_offers (declared_by scope.now) (visible_of visible.now) next (map written.offer_of offers.now) ≡ Some (offers_of action))
-        (IsUnresolved (action_offers (declared_by scope.now) (visible_of visible.now) next (map written.offer_of offers.now))) }
+        (λ action. action_offers (declared_by scope.now) (visible_of visible.now) next (map written.offer_text_of offers.now) ≡ Some (offers_of action))
+        (IsUnresolved (action_offers (declared_by scope.now) (visible_of visible.now) next (map written.offer_text_of offers.now))) }
 {
     let mut action = ActionOffers {
         offers: Vec::new(alloc),
@@ -155,8 +148,8 @@ pub fn resolve_behaviour(
     behaviour: &FirstBeh,
 ) -> Result<(Behaviour, u32), Unresolved>
     ensures { MatchResult result
-        (λ resolved. behaviour_in (declared_by scope.now) (visible_of visible.now) next (written.behaviour_of behaviour.now) ≡ Some (behaviour_of resolved.0, resolved.1))
-        (IsUnresolved (behaviour_in (declared_by scope.now) (visible_of visible.now) next (written.behaviour_of behaviour.now))) }
+        (λ resolved. behaviour_in (declared_by scope.now) (visible_of visible.now) next (written.behaviour_text_of behaviour.now) ≡ Some (behaviour_of resolved.0, resolved.1))
+        (IsUnresolved (behaviour_in (declared_by scope.now) (visible_of visible.now) next (written.behaviour_text_of behaviour.now))) }
 {
     match behaviour {
         FirstBeh::Stop => Ok((Behaviour::Stop, next)),

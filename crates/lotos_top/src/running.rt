@@ -15,8 +15,8 @@ use crate::reports::{accepted_report, refused_report, unread_report, usage_repor
 use crate::resolving::Unresolved;
 use crate::specification::resolve;
 use crate::writing::write_whole;
-use lotos_base::{Failed, GetFault, Shelf, Sink, Source};
-use lotos_grammar::{FirstFault, FirstText, TEXT_LIMIT, read_first};
+use lotos_base::{Failed, GetFault, Shelf, Sink, Source, TEXT_LIMIT};
+use lotos_grammar::{FirstFault, FirstText, read_first};
 use std::alloc::{AllocError, Global};
 
 /// Does what the words ask for: gets the files from the shelf and writes the report to the output.

@@ -2,7 +2,7 @@
 
 ghost use Rattle.std.specs.Prelude.{◌≡◌, IfOk, option_map};
 ghost use Rattle.lotos_base.specs.Name.{spelling, folded};
-ghost use Rattle.lotos_top.specs.Numbering.{numbered, place_in};
+ghost use Rattle.lotos_top.specs.Numbering.{names_numbered, place_in};
 ghost use Rattle.lotos_top.specs.Resolved.{term_of};
 ghost use Rattle.lotos_top.specs.Resolution.{variable_named, value_named};
 ghost use Rattle.lotos_top.specs.Scopes.{bound_at, visible_of, declared_by};
@@ -82,7 +82,7 @@ fn find_bound(
     variables: &[Bound],
     name: &Name,
 ) -> Result<Option<Bound>, AllocError>
-    ensures { IfOk result (λ found. found ≡ bound_at (numbered names.now) variables.now (folded (spelling name.now))) }
+    ensures { IfOk result (λ found. found ≡ bound_at (names_numbered names.now) variables.now (folded (spelling name.now))) }
 {
     match names.number(alloc, name)? {
         Some(place) => Ok(variables.get(place).copied()),

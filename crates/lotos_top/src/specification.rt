@@ -3,14 +3,14 @@
 ghost use Rattle.std.specs.Prelude.{◌≡◌, ◌++◌, [], ◌∷◌, Some, IfOk, OnOk, MatchResult, map};
 ghost use Rattle.lotos_base.specs.Name.{spelling};
 ghost use Rattle.lotos_grammar.specs.FirstText.{text_of};
-ghost use Rattle.lotos_top.specs.Numbering.{numbered};
+ghost use Rattle.lotos_top.specs.Numbering.{names_numbered};
 ghost use Rattle.lotos_top.specs.Resolved.{behaviour_of};
 ghost use Rattle.lotos_top.specs.Resolution.{resolved_of, resolved_with, constants_in};
 ghost use Rattle.lotos_top.specs.Resolving.{IsUnresolved, IsNumberingOf, IsRepeated, names_folded, constants_folded, constant_pairs, operations_of, resolved_as, IsScopeOf, IsRepeatedIn};
 
 use crate::numbering::Numbering;
 use crate::resolved::{Behaviour, Constant, Specification};
-use crate::resolving::{Unresolved, copy_name, resolve_behaviour};
+use crate::resolving::{Unresolved, resolve_behaviour};
 use crate::scopes::{Scope, Visible, to_number};
 use lotos_base::Name;
 use lotos_grammar::FirstText;
@@ -66,7 +66,7 @@ fn named(
     ensures { IfOk result (λ specification. resolved_as specification ≡ resolved_with (text_of text.now) (operations_of constants.items) (behaviour_of body)) }
 {
     Ok(Specification {
-        name: copy_name(alloc, &text.name)?,
+        name: text.name.copy(alloc)?,
         gates: copy_names(alloc, text.gates.as_slice())?,
         sorts: copy_names(alloc, text.sorts.as_slice())?,
         constants,
@@ -80,7 +80,7 @@ fn copy_names(alloc: Global, names: &[Name]) -> Result<Vec<Name>, AllocError>
 {
     let mut copies = Vec::new(alloc);
     for name in names {
-        add_name(&mut copies, copy_name(alloc, name)?)?;
+        add_name(&mut copies, name.copy(alloc)?)?;
     }
     Ok(copies)
 }
@@ -126,8 +126,8 @@ fn resolve_constants(
     constants: &[(Name, Name)],
 ) -> Result<Vec<Constant>, Unresolved>
     ensures { MatchResult result
-        (λ resolved. constants_in (numbered sorts.now) (constant_pairs constants.now) ≡ Some (operations_of resolved.items))
-        (IsUnresolved (constants_in (numbered sorts.now) (constant_pairs constants.now))) }
+        (λ resolved. constants_in (names_numbered sorts.now) (constant_pairs constants.now) ≡ Some (operations_of resolved.items))
+        (IsUnresolved (constants_in (names_numbered sorts.now) (constant_pairs constants.now))) }
 {
     let mut resolved = Vec::new(alloc);
     for constant in constants {
@@ -138,7 +138,7 @@ fn resolve_constants(
         add_constant(
             &mut resolved,
             Constant {
-                name: copy_name(alloc, &constant.0)?,
+                name: constant.0.copy(alloc)?,
                 sort,
             },
         )?;

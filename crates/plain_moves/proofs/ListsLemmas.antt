@@ -4,7 +4,7 @@ use Rattle.std.proofs.lemmas.List.{append-nil}
 use Rattle.std.proofs.Math.Seq.{drop-cons}
 use Rattle.std.proofs.Math.Numerals.{add-one}
 use Rattle.term_algebra.specs.Signature.{Signature}
-use Rattle.behaviour_semantics.specs.Behaviour.{Meet}
+use Rattle.behaviour_semantics.specs.Behaviour.{SynchronisationSet}
 use Rattle.behaviour_semantics.specs.Listing.{ShapedMove, one_behind, each_below, both_below, at_gates_below}
 use Rattle.behaviour_semantics.specs.Move.{together, relabelling}
 use Rattle.behaviour_semantics.specs.Shape.{both_sides, at_gate}
@@ -30,7 +30,8 @@ left_item : {X : Type 0} (xs : List X) (i : ℕ) (x d : X) → i < length xs →
 left_item {X} xs i x d h e = drop-cons xs i d h ∙ ap (λ (y : X). y ∷ drop (suc i) xs) (sym e) ∙ ap (λ n. x ∷ drop n xs) (sym (add-one i))
 
 -- one left move more
-pub both_more : (signature : Signature) (meet : Meet) (next : ℕ) (rights : ℕ → Option (List ShapedMove)) (xs : List PlainMove) (i : ℕ) (x : PlainMove) (made here new : Option (List ShapedMove)) →
+pub both_more : (signature : Signature) (meet : SynchronisationSet) (next : ℕ) (rights : ℕ → Option (List ShapedMove))
+    (xs : List PlainMove) (i : ℕ) (x : PlainMove) (made here new : Option (List ShapedMove)) →
     i < length xs → x ≡ get_or xs i x →
     one_behind made (both_below signature meet next rights (map shaped_of (drop i xs))) ≡ both_below signature meet next rights (map shaped_of xs) →
     here ≡ each_below (both_sides (shaped_of x).shape) (together signature meet (shaped_of x).move) (rights (next + 0)) → new ≡ one_behind made here →

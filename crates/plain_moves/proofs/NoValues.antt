@@ -3,13 +3,14 @@ use Rattle.std.proofs.Common.{◌≡◌, [], refl}
 use Rattle.term_algebra.specs.Substitution.{Substitution, without}
 use Rattle.behaviour_semantics.specs.Replacement.{with_values}
 use Rattle.plain_moves.specs.declared.behaviour.PlainBehaviour.{PlainBehaviour, Stop, Exit, Action', Inner', Choice', Parallel', Hide', Enable', Disable', ChooseGate', ParGate', Call, Relabel'}
-use Rattle.plain_moves.specs.View.{behaviour_of}
+use Rattle.plain_moves.specs.View.{without_values}
 
 -- no value occurs, so nothing is put in
-pub same_with_values : (values : Substitution) (b : PlainBehaviour) → with_values values (behaviour_of b) ≡ behaviour_of b
+pub same_with_values : (values : Substitution) (b : PlainBehaviour) → with_values values (without_values b) ≡ without_values b
 same_with_values values Stop = refl
 same_with_values values Exit = refl
-same_with_values values (Action' gate _ next) = let same : with_values (without [] values) (behaviour_of next) ≡ behaviour_of next = same_with_values (without [] values) next in cc
+same_with_values values (Action' gate _ next) = let same : with_values (without [] values) (without_values next) ≡ without_values next =
+    same_with_values (without [] values) next in cc
 same_with_values values (Inner' _ next) = cc (same_with_values values next)
 same_with_values values (Choice' _ left _ right) = cc (same_with_values values left, same_with_values values right)
 same_with_values values (Parallel' meet _ left _ right) = cc (same_with_values values left, same_with_values values right)

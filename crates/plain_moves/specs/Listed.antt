@@ -6,22 +6,22 @@ use Rattle.term_algebra.specs.Substitution.{Substitution}
 use Rattle.behaviour_semantics.specs.Behaviour.{Behaviour, Process}
 use Rattle.behaviour_semantics.specs.Listing.{ShapedMove, listed_moves, moves_by_form}
 use Rattle.behaviour_semantics.specs.Move.{Setting}
-use Rattle.plain_moves.specs.View.{behaviour_of}
+use Rattle.plain_moves.specs.View.{without_values}
 use Rattle.plain_moves.specs.declared.listing.PlainProcess.{PlainProcess}
 
 -- a process without values
 abbrev pub process_of : PlainProcess → Process
-process_of p = record { name = []; gates = p.gates.items; parameters = []; exit = None; body = behaviour_of p.body }
+process_of p = record { name = []; gates = p.gates.items; parameters = []; exit = None; body = without_values p.body }
 
 -- whatever signature, form of values and leaves: no value occurs
 abbrev pub IsListed : List Process → ℕ → Behaviour → Option (List ShapedMove) → Type 0
 IsListed processes depth b moves =
-    (signature : Signature) (form : Term → Term) (leaves : Substitution) (next : ℕ) →
-    listed_moves (record { signature = signature; form = form; processes = processes }) leaves depth next b ≡ moves
+    (signature : Signature) (represent : Term → Term) (leaves : Substitution) (next : ℕ) →
+    listed_moves (record { signature = signature; represent = represent; processes = processes }) leaves depth next b ≡ moves
 
 -- the same by the form of the behaviour, whose parts are listed to the depth
 abbrev pub IsListedByForm : List Process → ℕ → Behaviour → Option (List ShapedMove) → Type 0
 IsListedByForm processes depth b moves =
-    (signature : Signature) (form : Term → Term) (leaves : Substitution) (next : ℕ) →
-    let setting : Setting = record { signature = signature; form = form; processes = processes } in
+    (signature : Signature) (represent : Term → Term) (leaves : Substitution) (next : ℕ) →
+    let setting : Setting = record { signature = signature; represent = represent; processes = processes } in
     moves_by_form setting leaves next (listed_moves setting leaves depth) b ≡ moves

@@ -2,14 +2,14 @@
 use Rattle.std.specs.Prelude.{List, [], map, Option, option_map, Vec}
 use Rattle.std.specs.declared.alloc.Global.{Global}
 use Rattle.behaviour_semantics.specs.Listing.{ShapedMove}
-use Rattle.plain_moves.specs.View.{behaviour_of, label_of, shape_of}
+use Rattle.plain_moves.specs.View.{without_values, label_of, shape_of}
 use Rattle.plain_moves.specs.declared.rule.PlainMove.{PlainMove}
 
 -- a move, which asks nothing and has no leaves
 abbrev pub shaped_of : PlainMove → ShapedMove
 shaped_of m = record {
   shape = shape_of m.shape;
-  move = record { label = label_of m.label; target = behaviour_of m.target; asked = []; sorts = [] };
+  move = record { label = label_of m.label; target = without_values m.target; asked = []; sorts = [] };
 }
 
 -- a list, where there is one

@@ -1,7 +1,7 @@
 -- What the program's values stand for.
 use Rattle.std.specs.Prelude.{[], None}
 use Rattle.behaviour_semantics.specs.Behaviour as plain
-use Rattle.behaviour_semantics.specs.Behaviour.{Behaviour, Meet, no_gates, all_gates, at_gates}
+use Rattle.behaviour_semantics.specs.Behaviour.{Behaviour, SynchronisationSet, no_gates, all_gates, at_gates}
 use Rattle.behaviour_semantics.specs.Label.{Label, inner_event, gate_event, exit_event}
 use Rattle.behaviour_semantics.specs.Shape.{Shape, act, quit, inner_step, left_side, right_side, both_sides, hidden, enabled, passed, at_gate, called, relabelled}
 use Rattle.plain_moves.specs.declared.behaviour.PlainMeet.{PlainMeet}
@@ -12,26 +12,26 @@ use Rattle.plain_moves.specs.declared.label.PlainLabel.TheVariants as label
 use Rattle.plain_moves.specs.declared.shape.PlainShape as shapes
 
 -- the gates of a parallel
-abbrev pub meet_of : PlainMeet → Meet
+abbrev pub meet_of : PlainMeet → SynchronisationSet
 meet_of Nothing = no_gates
 meet_of Everything = all_gates
 meet_of (Gates gates) = at_gates gates.items
 
 -- a behaviour, with no values anywhere
-abbrev pub behaviour_of : PlainBehaviour → Behaviour
-behaviour_of Stop = plain.stop
-behaviour_of Exit = plain.exit_with []
-behaviour_of (Action' gate _ next) = plain.action gate [] None (behaviour_of next)
-behaviour_of (Inner' _ next) = plain.inner_action (behaviour_of next)
-behaviour_of (Choice' _ left _ right) = plain.choice (behaviour_of left) (behaviour_of right)
-behaviour_of (Parallel' meet _ left _ right) = plain.parallel (meet_of meet) (behaviour_of left) (behaviour_of right)
-behaviour_of (Hide' gates _ body) = plain.hide gates.items (behaviour_of body)
-behaviour_of (Enable' _ left _ right) = plain.enable (behaviour_of left) [] (behaviour_of right)
-behaviour_of (Disable' _ left _ right) = plain.disable (behaviour_of left) (behaviour_of right)
-behaviour_of (ChooseGate' gate gates _ body) = plain.choose_gate gate gates.items (behaviour_of body)
-behaviour_of (ParGate' gate gates meet _ body) = plain.par_gate gate gates.items (meet_of meet) (behaviour_of body)
-behaviour_of (Call process gates) = plain.call process gates.items []
-behaviour_of (Relabel' pairs _ body) = plain.relabel pairs.items (behaviour_of body)
+abbrev pub without_values : PlainBehaviour → Behaviour
+without_values Stop = plain.stop
+without_values Exit = plain.exit_with []
+without_values (Action' gate _ next) = plain.action gate [] None (without_values next)
+without_values (Inner' _ next) = plain.inner_action (without_values next)
+without_values (Choice' _ left _ right) = plain.choice (without_values left) (without_values right)
+without_values (Parallel' meet _ left _ right) = plain.parallel (meet_of meet) (without_values left) (without_values right)
+without_values (Hide' gates _ body) = plain.hide gates.items (without_values body)
+without_values (Enable' _ left _ right) = plain.enable (without_values left) [] (without_values right)
+without_values (Disable' _ left _ right) = plain.disable (without_values left) (without_values right)
+without_values (ChooseGate' gate gates _ body) = plain.choose_gate gate gates.items (without_values body)
+without_values (ParGate' gate gates meet _ body) = plain.par_gate gate gates.items (meet_of meet) (without_values body)
+without_values (Call process gates) = plain.call process gates.items []
+without_values (Relabel' pairs _ body) = plain.relabel pairs.items (without_values body)
 
 -- a label without values
 abbrev pub label_of : labels.PlainLabel → Label

@@ -1,7 +1,7 @@
 //! Behaviours without values: basic LOTOS (ISO 8807:1989, behaviour expressions).
 
 ghost use Rattle.std.specs.Prelude.{◌≡◌, IfOk};
-ghost use Rattle.plain_moves.specs.View.{behaviour_of, meet_of};
+ghost use Rattle.plain_moves.specs.View.{without_values, meet_of};
 
 use std::alloc::{AllocError, Global};
 
@@ -70,7 +70,7 @@ pub fn boxed(alloc: Global, behaviour: PlainBehaviour) -> Result<Box<PlainBehavi
 impl PlainBehaviour {
     /// The same behaviour.
     pub fn copy(&self, alloc: Global) -> Result<PlainBehaviour, AllocError>
-        ensures { IfOk result (λ copy. behaviour_of copy ≡ behaviour_of self.now) }
+        ensures { IfOk result (λ copy. without_values copy ≡ without_values self.now) }
     {
         match self {
             PlainBehaviour::Stop => Ok(PlainBehaviour::Stop),

@@ -5,7 +5,7 @@ ghost use Rattle.behaviour_semantics.specs.Behaviour as plain;
 ghost use Rattle.behaviour_semantics.specs.Move as table;
 ghost use Rattle.plain_moves.specs.Listed.{IsListed, IsListedByForm, process_of};
 ghost use Rattle.plain_moves.specs.MoveView.{list_of};
-ghost use Rattle.plain_moves.specs.View.{behaviour_of};
+ghost use Rattle.plain_moves.specs.View.{without_values};
 
 use crate::behaviour::PlainBehaviour;
 use crate::label::PlainLabel;
@@ -32,7 +32,7 @@ pub fn moves(
     body: &PlainBehaviour,
 ) -> Result<Option<Vec<PlainMove>>, AllocError>
     ensures { IfOk result
-        (λ o. IsListed (map process_of processes.now) depth (behaviour_of body.now) (list_of o)) }
+        (λ o. IsListed (map process_of processes.now) depth (without_values body.now) (list_of o)) }
 {
     if depth == 0 {
         return Ok(None);
@@ -43,7 +43,7 @@ pub fn moves(
 
 /// The behaviour, where a gate `par` is opened into its copies.
 pub fn opened(alloc: Global, body: &PlainBehaviour) -> Result<PlainBehaviour, AllocError>
-    ensures { IfOk result (λ made. behaviour_of made ≡ table.opened (behaviour_of body.now)) }
+    ensures { IfOk result (λ made. without_values made ≡ table.opened (without_values body.now)) }
 {
     match body {
         PlainBehaviour::ParGate(gate, gates, meet, part) => copies(alloc, *gate, gates, meet, part),
@@ -60,7 +60,7 @@ fn by_form(
     body: &PlainBehaviour,
 ) -> Result<Option<Vec<PlainMove>>, AllocError>
     ensures { IfOk result
-        (λ o. IsListedByForm (map process_of processes.now) depth (behaviour_of body.now) (list_of o)) }
+        (λ o. IsListedByForm (map process_of processes.now) depth (without_values body.now) (list_of o)) }
 {
     match body {
         PlainBehaviour::Stop | PlainBehaviour::ParGate(..) => Ok(Some(Vec::new(alloc))),

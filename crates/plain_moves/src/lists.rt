@@ -8,7 +8,7 @@ ghost use Rattle.behaviour_semantics.specs.Shape as shapes;
 ghost use Rattle.term_algebra.specs.Signature.{Signature};
 ghost use Rattle.plain_moves.specs.MoveView.{list_of, shaped_of};
 ghost use Rattle.plain_moves.specs.Taken.{taken_of};
-ghost use Rattle.plain_moves.specs.View.{behaviour_of, label_of, meet_of, shape_of};
+ghost use Rattle.plain_moves.specs.View.{without_values, label_of, meet_of, shape_of};
 
 use crate::behaviour::{PlainBehaviour, PlainMeet};
 use crate::label::PlainLabel;
@@ -27,7 +27,7 @@ pub fn single(
       shape = shape_of shape;
       move = record {
         label = label_of label;
-        target = behaviour_of target;
+        target = without_values target;
         asked = [];
         sorts = [];
       };
@@ -96,7 +96,7 @@ pub fn in_disable(
     rights: &Option<Vec<PlainMove>>,
 ) -> Result<Option<Vec<PlainMove>>, AllocError>
     ensures { IfOk result (λ o. list_of o ≡ listing.one_behind
-        (listing.each_below shapes.left_side (λ m. Some (table.disabling (behaviour_of right.now) m)) (list_of lefts.now))
+        (listing.each_below shapes.left_side (λ m. Some (table.disabling (without_values right.now) m)) (list_of lefts.now))
         (listing.each_below shapes.right_side (λ m. Some m) (list_of rights.now))) }
 {
     let first = each_of(alloc, &Rule::Disabling(right), lefts)?;
@@ -115,10 +115,10 @@ pub fn in_parallel(
 ) -> Result<Option<Vec<PlainMove>>, AllocError>
     ensures { IfOk result (λ o. (signature : Signature) (next : ℕ) → list_of o ≡ listing.one_behind
         (listing.each_below shapes.left_side (table.alone (meet_of meet.now)
-        (λ target. plain.parallel (meet_of meet.now) target (behaviour_of right.now))) (list_of lefts.now))
+        (λ target. plain.parallel (meet_of meet.now) target (without_values right.now))) (list_of lefts.now))
         (listing.one_behind
         (listing.each_below shapes.right_side (table.alone (meet_of meet.now)
-        (λ target. plain.parallel (meet_of meet.now) (behaviour_of left.now) target)) (list_of rights.now))
+        (λ target. plain.parallel (meet_of meet.now) (without_values left.now) target)) (list_of rights.now))
         (option_and_then (listing.both_below signature (meet_of meet.now) next (λ k. list_of rights.now))
         (list_of lefts.now)))) }
 {

@@ -22,8 +22,8 @@ pub fn is_listed(gates: &[u32], gate: u32) -> bool
 }
 
 /// Whether the two sides meet at the gate.
-pub fn is_met(meet: &PlainMeet, gate: u32) -> bool
-    ensures { result ≡ rules_of.is_met (meet_of meet.now) gate }
+pub fn synchronises(meet: &PlainMeet, gate: u32) -> bool
+    ensures { result ≡ rules_of.synchronises (meet_of meet.now) gate }
 {
     match meet {
         PlainMeet::Nothing => false,
@@ -38,7 +38,7 @@ pub fn moves_alone(meet: &PlainMeet, label: PlainLabel) -> bool
 {
     match label {
         PlainLabel::Inner => true,
-        PlainLabel::Gate(gate) => !is_met(meet, gate),
+        PlainLabel::Gate(gate) => !synchronises(meet, gate),
         PlainLabel::Exit => false,
     }
 }
@@ -49,7 +49,8 @@ pub fn move_together(meet: &PlainMeet, left: PlainLabel, right: PlainLabel) -> b
         → result ≡ rules_of.move_together signature (meet_of meet.now) (label_of left) (label_of right) }
 {
     match (left, right) {
-        (PlainLabel::Gate(gate), PlainLabel::Gate(other)) => gate == other && is_met(meet, gate),
+        (PlainLabel::Gate(gate), PlainLabel::Gate(other)) => gate == other
+            && synchronises(meet, gate),
         (PlainLabel::Exit, PlainLabel::Exit) => true,
         _ => false,
     }

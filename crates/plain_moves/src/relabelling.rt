@@ -4,7 +4,7 @@ ghost use Rattle.std.specs.Prelude.{◌≡◌, IfOk, filter, map, not, zip};
 ghost use Rattle.behaviour_semantics.specs.Label as labels;
 ghost use Rattle.behaviour_semantics.specs.Rule as rules_of;
 ghost use Rattle.term_algebra.specs.Substitution.{is_listed};
-ghost use Rattle.plain_moves.specs.View.{behaviour_of, label_of, meet_of};
+ghost use Rattle.plain_moves.specs.View.{without_values, label_of, meet_of};
 
 use crate::behaviour::{PlainBehaviour, PlainMeet, boxed};
 use crate::label::PlainLabel;
@@ -119,7 +119,7 @@ pub fn under(
     body: PlainBehaviour,
     pairs: &[(u32, u32)],
 ) -> Result<PlainBehaviour, AllocError>
-    ensures { IfOk result (λ made. behaviour_of made ≡ labels.under (behaviour_of body) pairs.now) }
+    ensures { IfOk result (λ made. without_values made ≡ labels.under (without_values body) pairs.now) }
 {
     match body {
         PlainBehaviour::Stop => Ok(PlainBehaviour::Stop),
@@ -144,8 +144,8 @@ pub fn copies(
     meet: &PlainMeet,
     body: &PlainBehaviour,
 ) -> Result<PlainBehaviour, AllocError>
-    ensures { IfOk result (λ made. behaviour_of made
-        ≡ rules_of.copies gate gates.now (meet_of meet.now) (behaviour_of body.now)) }
+    ensures { IfOk result (λ made. without_values made
+        ≡ rules_of.copies gate gates.now (meet_of meet.now) (without_values body.now)) }
 {
     let [first, rest @ ..] = gates else {
         return Ok(PlainBehaviour::Stop);

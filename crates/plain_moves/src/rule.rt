@@ -6,7 +6,7 @@ ghost use Rattle.behaviour_semantics.specs.Rule as rules_of;
 ghost use Rattle.term_algebra.specs.Signature.{Signature};
 ghost use Rattle.plain_moves.specs.Taken.{taken_of};
 ghost use Rattle.plain_moves.specs.MoveView.{shaped_of};
-ghost use Rattle.plain_moves.specs.View.{behaviour_of, label_of, meet_of, shape_of};
+ghost use Rattle.plain_moves.specs.View.{without_values, label_of, meet_of, shape_of};
 ghost use Rattle.behaviour_semantics.specs.Behaviour as plain;
 
 use crate::behaviour::{PlainBehaviour, PlainMeet, boxed};
@@ -126,7 +126,7 @@ impl<'a> Rule<'a> {
     /// The target of that move.
     pub fn target(&self, alloc: Global, part: &PlainMove) -> Result<PlainBehaviour, AllocError>
         ensures { IfOk result (λ b. (signature : Signature)
-            → IfSome (taken_of signature self.now (shaped_of part.now)) (λ x. x.move.target ≡ behaviour_of b)) }
+            → IfSome (taken_of signature self.now (shaped_of part.now)) (λ x. x.move.target ≡ without_values b)) }
     {
         let target = part.target.copy(alloc)?;
         match self {
@@ -153,8 +153,8 @@ fn parallel(
     left: PlainBehaviour,
     right: PlainBehaviour,
 ) -> Result<PlainBehaviour, AllocError>
-    ensures { IfOk result (λ b. behaviour_of b
-        ≡ plain.parallel (meet_of meet.now) (behaviour_of left) (behaviour_of right)) }
+    ensures { IfOk result (λ b. without_values b
+        ≡ plain.parallel (meet_of meet.now) (without_values left) (without_values right)) }
 {
     let meet = meet.copy(alloc)?;
     Ok(PlainBehaviour::Parallel(meet, boxed(alloc, left)?, boxed(alloc, right)?))
@@ -167,8 +167,8 @@ fn after_enable(
     target: PlainBehaviour,
     right: &PlainBehaviour,
 ) -> Result<PlainBehaviour, AllocError>
-    ensures { IfOk result (λ b. behaviour_of b ≡ (if rules_of.is_exit (label_of label)
-        then behaviour_of right.now else plain.enable (behaviour_of target) [] (behaviour_of right.now))) }
+    ensures { IfOk result (λ b. without_values b ≡ (if rules_of.is_exit (label_of label)
+        then without_values right.now else plain.enable (without_values target) [] (without_values right.now))) }
 {
     let right = right.copy(alloc)?;
     if is_exit(label) {
@@ -184,8 +184,8 @@ fn after_disable(
     target: PlainBehaviour,
     right: &PlainBehaviour,
 ) -> Result<PlainBehaviour, AllocError>
-    ensures { IfOk result (λ b. behaviour_of b
-        ≡ rules_of.still_disabled (label_of label) (behaviour_of target) (behaviour_of right.now)) }
+    ensures { IfOk result (λ b. without_values b
+        ≡ rules_of.still_disabled (label_of label) (without_values target) (without_values right.now)) }
 {
     if is_exit(label) {
         return Ok(target);

@@ -1,9 +1,7 @@
 -- The printed texts of terms, labels, entries and menus, and the head of a report.
-use Rattle.std.specs.Prelude.{ℕ, suc, ◌+◌, Bool, ◌&&◌, not, nat_eq, cond, List, [], ◌∷◌, ◌++◌, length, slice_get, codes, decimal, Option, Some, None}
-use Rattle.std.specs.List.{list_any}
-use Rattle.std.specs.Str.{bytes_eq}
-use Rattle.lotos_base.specs.Name.{folded}
+use Rattle.std.specs.Prelude.{ℕ, ◌+◌, if◌then◌else◌, List, [], ◌∷◌, ◌++◌, length, slice_get, codes, decimal, Option, Some, None}
 use Rattle.term_algebra.specs.Signature.{Signature, Sort, Operation}
+use Rattle.term_algebra.specs.Twins.{has_twin}
 use Rattle.term_algebra.specs.Term.{Term, Terms, variable, node, no_terms, term_then}
 use Rattle.behaviour_semantics.specs.Behaviour.{Test}
 use Rattle.behaviour_semantics.specs.Label.{Label, inner_event, gate_event, exit_event}
@@ -17,16 +15,11 @@ sort_name (Some sort) = sort.name
 abbrev pub sort_text : Signature → ℕ → List ℕ
 sort_text signature number = sort_name (slice_get signature.sorts number)
 
--- another constant has this name, and another result sort. A constant is a prefix operation without arguments
-abbrev pub has_twin : Signature → Operation → Bool
-has_twin signature operation =
-    list_any (λ (other : Operation). bytes_eq (folded other.name) (folded operation.name) && nat_eq (length other.arguments) 0 && not (nat_eq other.result operation.result)) signature.operations
-
--- a constant: its name, and its sort where another constant has the name
+-- a constant: its name, and its sort where the signature has a twin of it
 abbrev pub constant_text : Signature → Option Operation → List ℕ
 constant_text signature None = []
 constant_text signature (Some operation) =
-    cond (has_twin signature operation) (operation.name ++ codes " of " ++ sort_text signature operation.result) operation.name
+    if has_twin signature operation then operation.name ++ codes " of " ++ sort_text signature operation.result else operation.name
 
 -- a variable of an entry: `$1` is the first
 abbrev pub variable_text : ℕ → List ℕ

@@ -4,12 +4,13 @@ use Rattle.std.specs.Prelude.{Some, slice_get}
 use Rattle.std.proofs.lemmas.Option.{none-some}
 use Rattle.term_algebra.specs.Signature.{Signature}
 use Rattle.term_algebra.specs.Term.{Term, variable}
-use Rattle.term_algebra.specs.Sorting.{IsTermOf, IsGround, IsGroundOf}
+use Rattle.term_algebra.specs.Sorting.{HasSort, IsTermOf, IsGround, IsGroundOf}
 use Rattle.term_algebra.specs.Substitution.{Substitution, substituted, renaming, KeepsSorts, IsGrounding}
 use Rattle.term_algebra.specs.Equation.{Equation, Data}
 use Rattle.term_algebra.specs.Equality.{Link, Equal, same_term, link_then}
 use Rattle.term_algebra.specs.Canon.{KeepsApart, IsCanon}
-use Rattle.term_algebra.proofs.SubstitutionLemmas.{substituted_variables, ground_no_variable, no_variable_ground}
+use Rattle.term_algebra.specs.CanonLaws.{HaveSameEquality}
+use Rattle.term_algebra.proofs.SubstitutionLemmas.{substituted_variables, ground_no_variable, no_variable_ground, ground_instance}
 use Rattle.term_algebra.proofs.EqualityLemmas.{equal_then, equal_back, equal_same}
 
 pub no_link : (data_ : Data) (t u : Term) → data_.equations ≡ [] → Link data_ t u → ⊥
@@ -72,3 +73,32 @@ pub canon_renamed : (data_ : Data) (canon : Term → Term) (t : Term) (number : 
     → IsTermOf data_.signature t → KeepsApart number t → canon t ≡ t
     → canon (substituted (renaming number) t) ≡ substituted (renaming number) t
 canon_renamed data_ canon t number c h k e = c.renames t number h k ∙ ap (substituted (renaming number)) e
+
+-- a canon of data is one of other data with that signature and that equality
+pub canon_of_other : (data_ other : Data) (canon : Term → Term) → data_.signature ≡ other.signature
+    → HaveSameEquality data_ other → IsCanon data_ canon → IsCanon other canon
+canon_of_other data_ other canon same equal c = record {
+  sorts = λ t s h. subst (λ (g : Signature). HasSort g (canon t) s) same (c.sorts t s (sorted t s h));
+  instances = λ t values h g.
+      let grounds = grounding t values g in
+      let sort = sorted t h.0 h.1 in
+      (equal (substituted values (canon t)) (substituted values t) h.0
+      (ground_instance data_.signature values (canon t) h.0 (c.sorts t h.0 sort) (λ n s o. grounds n s (c.occurring t n s (h.0, sort) o)))
+      (ground_instance data_.signature values t h.0 sort grounds)).0
+      (c.instances t values (h.0, sort) grounds);
+  decides = λ t u s h k e. c.decides t u s (ground t s h) (ground u s k) ((equal t u s (ground t s h) (ground u s k)).1 e);
+  settled = λ t h. c.settled t (h.0, sorted t h.0 h.1);
+  occurring = λ t n s h o. c.occurring t n s (h.0, sorted t h.0 h.1) o;
+  variables = c.variables;
+  substitutes = λ t values h k. c.substitutes t values (h.0, sorted t h.0 h.1) (λ n s o. sorted (values n s) s (k n s o));
+  renames = λ t number h k. c.renames t number (h.0, sorted t h.0 h.1) k;
+}
+  where
+    sorted : (t : Term) (s : ℕ) → HasSort other.signature t s → HasSort data_.signature t s
+    sorted t s h = subst (λ (g : Signature). HasSort g t s) (sym same) h
+
+    ground : (t : Term) (s : ℕ) → IsGroundOf other.signature s t → IsGroundOf data_.signature s t
+    ground t s h = subst (λ (g : Signature). IsGroundOf g s t) (sym same) h
+
+    grounding : (t : Term) (values : Substitution) → IsGrounding other.signature t values → IsGrounding data_.signature t values
+    grounding t values g = λ n s o. ground (values n s) s (g n s o)

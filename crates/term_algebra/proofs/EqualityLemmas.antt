@@ -1,10 +1,11 @@
 -- Derivable equality: an equivalence, a congruence, holding every ground instance, and the least such relation.
-use Rattle.std.proofs.Common.{◌≡◌, ℕ, suc, List, [], ◌∷◌, ◌++◌, refl, ap, sym, ◌∙◌, subst}
+use Rattle.std.proofs.Common.{◌≡◌, ℕ, suc, List, [], ◌∷◌, ◌++◌, refl, ap, sym, ◌∙◌, subst, inl, inr}
 use Rattle.std.specs.Prelude.{Some}
 use Rattle.std.proofs.lemmas.Option.{same_Some}
-use Rattle.term_algebra.specs.Term.{Term, node, Terms, no_terms, term_then}
+use Rattle.term_algebra.specs.Term.{Term, variable, node, Terms, no_terms, term_then}
+use Rattle.term_algebra.specs.Sorting.{Occurs, OccursAmong}
 use Rattle.term_algebra.specs.Path.{argument_at, with_argument, subterm, put_at}
-use Rattle.term_algebra.specs.Substitution.{Substitution, substituted}
+use Rattle.term_algebra.specs.Substitution.{Substitution, substituted, all_substituted}
 use Rattle.term_algebra.specs.Equation.{Equation, Data, IsEquation, IsGroundInstance}
 use Rattle.term_algebra.specs.Equality.{Direction, forward, backward, old_side, new_side, Link, Equal, same_term, link_then, AllEqual}
 use Rattle.term_algebra.specs.EqualityLaws.{IsCongruence}
@@ -115,6 +116,22 @@ equal_onto data_ f rs (term_then t ts) (term_then u us) h =
 -- a congruence under each operation
 pub equal_under : (data_ : Data) (f : ℕ) (ts us : Terms) → AllEqual data_ ts us → Equal data_ (node f ts) (node f us)
 equal_under data_ f ts us h = equal_onto data_ f no_terms ts us h
+
+mutual
+  -- values that are equal one by one give equal instances
+  pub equal_values : (data_ : Data) (values others : Substitution) (t : Term)
+      → ((n s : ℕ) → Occurs n s t → Equal data_ (values n s) (others n s))
+      → Equal data_ (substituted values t) (substituted others t)
+  equal_values data_ values others (variable n s) h = h n s (refl, refl)
+  equal_values data_ values others (node f ts) h =
+      equal_under data_ f (all_substituted values ts) (all_substituted others ts) (all_equal_values data_ values others ts h)
+
+  all_equal_values : (data_ : Data) (values others : Substitution) (ts : Terms)
+      → ((n s : ℕ) → OccursAmong n s ts → Equal data_ (values n s) (others n s))
+      → AllEqual data_ (all_substituted values ts) (all_substituted others ts)
+  all_equal_values data_ values others no_terms h = tt
+  all_equal_values data_ values others (term_then t ts) h =
+      (equal_values data_ values others t (λ n s o. h n s (inl o)), all_equal_values data_ values others ts (λ n s o. h n s (inr o)))
 
 -- each ground instance of each equation holds
 pub equal_instance : (data_ : Data) (equation : Equation) (values : Substitution) → IsEquation data_ equation

@@ -1,7 +1,11 @@
 -- What the computed cases need: members of short lists, ill-sorted operations, values for the variables of a term.
-use Rattle.std.proofs.Common.{◌≡◌, ℕ, zero, suc, List, [], ◌∷◌, refl, ap, sym, ◌∙◌, subst, inl, inr, eq-eqb, nat_eq, true, false}
-use Rattle.std.specs.Prelude.{Some, slice_get}
+use Rattle.std.proofs.Common.{◌≡◌, ℕ, zero, suc, Bool, true, false, ◌&&◌, not, List, [], ◌∷◌, refl, ap, sym, ◌∙◌, subst, inl, inr}
+use Rattle.std.specs.Prelude.{◌||◌, Some, slice_get}
+use Rattle.std.specs.List.{list_any}
+use Rattle.std.specs.Str.{bytes_eq}
+use Rattle.std.proofs.lemmas.Slice.Eq.{bytes_eq-Decides}
 use Rattle.std.proofs.lemmas.Option.{same_Some}
+use Rattle.term_algebra.specs.Names.{folded, AreOneName}
 use Rattle.term_algebra.specs.Signature.{Signature, Operation, IsOperation}
 use Rattle.term_algebra.specs.Term.{Term, variable, node, Terms, no_terms, term_then}
 use Rattle.term_algebra.specs.Sorting.{HaveSorts, IsTermOf, IsGroundOf, OccursAmong}
@@ -41,16 +45,47 @@ pub unfit : (signature : Signature) (f : ℕ) (ts : Terms) (o : Operation) → I
 unfit signature f ts o is bad h =
     bad (subst (λ (p : Operation). HaveSorts signature ts p.arguments) (same_Some h.1.0 o (sym h.1.1 ∙ is)) h.1.3)
 
--- the first byte of a name
-abbrev pub first_byte : List ℕ → ℕ
-first_byte [] = 0
-first_byte (b ∷ bs) = b
+-- whether no two members have one name
+abbrev pub are_named_apart : {X : Type 0} → (X → List ℕ) → List X → Bool
+are_named_apart name [] = true
+are_named_apart name (x ∷ xs) = not (list_any (λ y. bytes_eq (folded (name x)) (folded (name y))) xs) && are_named_apart name xs
 
--- names with different first bytes differ
-pub names_differ : (xs ys : List ℕ) → nat_eq (first_byte xs) (first_byte ys) ≡ false → xs ≡ ys → ⊥
-names_differ xs ys different e =
-    let same : nat_eq (first_byte xs) (first_byte ys) ≡ true = eq-eqb (first_byte xs) (first_byte ys) (ap first_byte e) in
+-- a member that passes a test, where none does
+passes_none : {X : Type 0} (test : X → Bool) (xs : List X) (i : ℕ) (x : X) → list_any test xs ≡ false
+    → slice_get xs i ≡ Some x → test x ≡ true → ⊥
+passes_none test [] i x none at passes = cc
+passes_none test (y ∷ ys) zero x none at passes =
+    let first : test y ≡ true = subst (λ z. test z ≡ true) (sym (same_Some y x at)) passes in
+    let any : list_any test (y ∷ ys) ≡ true = rw first refl in
     cc
+passes_none test (y ∷ ys) (suc i) x none at passes = passes_none test ys i x (later (test y) none) at passes
+  where
+    later : (b : Bool) → b || list_any test ys ≡ false → list_any test ys ≡ false
+    later true h = cc
+    later false h = h
+
+-- the first member has a name of its own, and so have the others among themselves
+first_apart : {X : Type 0} (name : X → List ℕ) (x : X) (xs : List X) → are_named_apart name (x ∷ xs) ≡ true
+    → (list_any (λ y. bytes_eq (folded (name x)) (folded (name y))) xs ≡ false) × (are_named_apart name xs ≡ true)
+first_apart name x xs h = parts (list_any (λ y. bytes_eq (folded (name x)) (folded (name y))) xs) (are_named_apart name xs) h
+  where
+    parts : (a b : Bool) → not a && b ≡ true → (a ≡ false) × (b ≡ true)
+    parts true b h = cc
+    parts false b h = (refl, h)
+
+-- so two members of one name stand at one position
+pub one_named : {X : Type 0} (name : X → List ℕ) (xs : List X) (i j : ℕ) (x y : X) → are_named_apart name xs ≡ true
+    → slice_get xs i ≡ Some x → slice_get xs j ≡ Some y → AreOneName (name x) (name y) → i ≡ j
+one_named name [] i j x y apart e d same = cc
+one_named name (z ∷ zs) zero zero x y apart e d same = refl
+one_named name (z ∷ zs) zero (suc j) x y apart e d same =
+    absurd (passes_none (λ w. bytes_eq (folded (name z)) (folded (name w))) zs j y (first_apart name z zs apart).0 d
+    ((bytes_eq-Decides (folded (name z)) (folded (name y))).1 (subst (λ w. AreOneName (name w) (name y)) (sym (same_Some z x e)) same)))
+one_named name (z ∷ zs) (suc i) zero x y apart e d same =
+    absurd (passes_none (λ w. bytes_eq (folded (name z)) (folded (name w))) zs i x (first_apart name z zs apart).0 e
+    ((bytes_eq-Decides (folded (name z)) (folded (name x))).1 (sym (subst (λ w. AreOneName (name x) (name w)) (sym (same_Some z y d)) same))))
+one_named name (z ∷ zs) (suc i) (suc j) x y apart e d same =
+    ap (λ (k : ℕ). suc k) (one_named name zs i j x y (first_apart name z zs apart).1 e d same)
 
 abbrev mutual
   -- the values of the variables that occur are ground terms of their sorts, one by one

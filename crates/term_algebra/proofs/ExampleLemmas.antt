@@ -7,7 +7,7 @@ use Rattle.term_algebra.specs.Term.{no_terms, term_then}
 use Rattle.term_algebra.specs.Equation.{Variable, IsEquationOver, IsWellFormedData}
 use Rattle.term_algebra.specs.SmallData.{natural_signature, natural_data, nought_law, successor_law, natural_variables, nought, successor, plus, x_natural, idle_signature, idle_data, idle_law, b_term}
 use Rattle.term_algebra.specs.Examples.{SortingExamples, PathExamples, SubstitutionExamples}
-use Rattle.term_algebra.proofs.ExampleHelpers.{each_member, one_position, unfit, names_differ}
+use Rattle.term_algebra.proofs.ExampleHelpers.{each_member, one_position, one_named, unfit}
 use Rattle.term_algebra.proofs.SortLemmas.{one_sort}
 use Rattle.term_algebra.proofs.TestLemmas.{Decides-occurs}
 
@@ -21,9 +21,8 @@ natural_fine = record {
       ((λ i s d. each_member (IsSort natural_signature) (0 ∷ 0 ∷ []) i s (omega arith, (omega arith, tt)) d), tt),
     ),
   ) e i s d;
-  sort_names = λ i j s t e d a. one_position (λ (s t : Sort). s.name ≡ t.name) natural_signature.sorts i j s t (tt, tt) e d a;
-  profiles = λ f g o p e d name form arguments result. one_position (λ (o p : Operation). o.name ≡ p.name) natural_signature.operations f g o p
-      (((names_differ _ _ refl, names_differ _ _ refl), ((names_differ _ _ refl, names_differ _ _ refl), tt)), (((names_differ _ _ refl, names_differ _ _ refl), tt), (tt, tt))) e d name;
+  sort_names = λ i j s t e d a. one_named (λ (s : Sort). s.name) natural_signature.sorts i j s t refl e d a;
+  profiles = λ f g o p e d name form arguments result. one_named (λ (o : Operation). o.name) natural_signature.operations f g o p refl e d name;
 }
 
 natural_variable : (v : Variable) (n s : ℕ) → v.number ≡ n → v.sort ≡ s → v.sort ≡ 0 → IsSort natural_signature s
@@ -68,10 +67,8 @@ idle_fine = record {
   results = λ f o e. each_member (λ (o : Operation). IsSort idle_signature o.result) idle_signature.operations f o (omega arith, (omega arith, (omega arith, tt))) e;
   arguments = λ f i s o e d. each_member (λ (o : Operation). (i s : ℕ) → slice_get o.arguments i ≡ Some s → IsSort idle_signature s) idle_signature.operations f o
       ((λ i s d. cc), ((λ i s d. cc), ((λ i s d. each_member (IsSort idle_signature) (0 ∷ []) i s (omega arith, tt) d), tt))) e i s d;
-  sort_names = λ i j s t e d a. one_position (λ (s t : Sort). s.name ≡ t.name) idle_signature.sorts i j s t
-      (((names_differ _ _ refl, names_differ _ _ refl), ((names_differ _ _ refl, names_differ _ _ refl), tt)), (((names_differ _ _ refl, names_differ _ _ refl), tt), (tt, tt))) e d a;
-  profiles = λ f g o p e d name form arguments result. one_position (λ (o p : Operation). o.name ≡ p.name) idle_signature.operations f g o p
-      (((names_differ _ _ refl, names_differ _ _ refl), ((names_differ _ _ refl, names_differ _ _ refl), tt)), (((names_differ _ _ refl, names_differ _ _ refl), tt), (tt, tt))) e d name;
+  sort_names = λ i j s t e d a. one_named (λ (s : Sort). s.name) idle_signature.sorts i j s t refl e d a;
+  profiles = λ f g o p e d name form arguments result. one_named (λ (o : Operation). o.name) idle_signature.operations f g o p refl e d name;
 }
 
 idle_law_fine : IsEquationOver idle_signature idle_law

@@ -1,3 +1,4 @@
+pub mod SignatureLemmas
 pub mod TermLemmas
 pub mod PathLemmas
 pub mod SubstitutionLemmas

@@ -1,11 +1,13 @@
 -- The cases of signatures and equations, well formed and not.
-use Rattle.std.proofs.Common.{◌≡◌, ℕ, ◌<◌, List, [], ◌∷◌, refl, arith, inl}
+use Rattle.std.proofs.Common.{◌≡◌, ℕ, ◌<◌, List, [], ◌∷◌, refl, sym, ◌∙◌, arith, inl, inr}
 use Rattle.std.specs.Prelude.{Some, slice_get}
 use Rattle.std.proofs.lemmas.Option.{none-some}
 use Rattle.term_algebra.specs.Signature.{Sort, Operation, prefix_form, infix_form, IsSort, IsWellFormedSignature}
-use Rattle.term_algebra.specs.SmallData.{idle_signature, a_term, b_term}
-use Rattle.term_algebra.specs.Examples.{overloaded_signature, SignatureExamples}
-use Rattle.term_algebra.proofs.ExampleHelpers.{each_member, one_position, names_differ}
+use Rattle.term_algebra.specs.Term.{variable}
+use Rattle.term_algebra.specs.Equation.{OccursIn, HasOneSort, HasOneSortPerNumber}
+use Rattle.term_algebra.specs.SmallData.{equation_of, idle_signature, a_term, b_term, f_term}
+use Rattle.term_algebra.specs.Examples.{overloaded_signature, undeclared_x, two_sorts_of_x, SignatureExamples, TwinExamples, SortedDataExamples}
+use Rattle.term_algebra.proofs.ExampleHelpers.{each_member, one_position, one_named}
 use Rattle.term_algebra.proofs.SortLemmas.{one_sort}
 
 -- the operations have one form and one profile
@@ -25,8 +27,7 @@ overloaded_fine = record {
       ),
     ),
   ) e i s d;
-  sort_names = λ i j s t e d a. one_position (λ (s t : Sort). s.name ≡ t.name) overloaded_signature.sorts i j s t
-      (((names_differ _ _ refl, names_differ _ _ refl), tt), (tt, tt)) e d a;
+  sort_names = λ i j s t e d a. one_named (λ (s : Sort). s.name) overloaded_signature.sorts i j s t refl e d a;
   profiles = λ f g o p e d name form arguments result. one_position Alike overloaded_signature.operations f g o p (
     (
       ((λ h. let r : ◌≡◌ {A = ℕ} 0 1 = h.2 in cc), (λ h. let r : ◌≡◌ {A = ℕ} 1 0 = h.2 in cc)),
@@ -50,6 +51,8 @@ signature_examples = record {
   overloaded = overloaded_fine;
   sort_twice = λ h. let same : ◌≡◌ {A = ℕ} 0 1 = h.sort_names 0 1 _ _ refl refl refl in cc;
   operation_twice = λ h. let same : ◌≡◌ {A = ℕ} 0 1 = h.profiles 0 1 _ _ refl refl refl refl refl refl in cc;
+  sort_in_two_cases = λ h. let same : ◌≡◌ {A = ℕ} 0 1 = h.sort_names 0 1 _ _ refl refl refl in cc;
+  operation_in_two_cases = λ h. let same : ◌≡◌ {A = ℕ} 0 1 = h.profiles 0 1 _ _ refl refl refl refl refl refl in cc;
   no_result = λ h. let below : 1 < 1 = h.results 0 _ refl in absurd (omega arith);
   no_argument = λ h. let below : 1 < 1 = h.arguments 0 0 1 _ refl refl in absurd (omega arith);
   two_sorts = λ h.
@@ -60,4 +63,38 @@ signature_examples = record {
   undeclared_right = λ h. let declared = h.right_declared 0 0 (inl (refl, refl)) in none-some declared.1 declared.2;
   no_sort = λ h. let below : 3 < 3 = h.variable_sorts 0 3 (0, _, refl, refl, refl) in absurd (omega arith);
   declared_twice = λ h. let same : ◌≡◌ {A = ℕ} 0 1 = h.numbers 0 1 _ _ refl refl refl in cc;
+}
+
+pub twin_examples : TwinExamples
+twin_examples = record {
+  twins = refl;
+  two_forms = refl;
+  one_result = refl;
+  other_arguments = refl;
+  other_name = refl;
+  first_constant = refl;
+  prefix_operation = refl;
+}
+
+-- x occurs in f(x) = x with the sort 0 alone
+x_of_one_sort : (n s : ℕ) → OccursIn (equation_of [] (f_term (variable 0 0)) (variable 0 0)) n s → 0 ≡ s
+x_of_one_sort n s (inl (inl o)) = o.1
+x_of_one_sort n s (inl (inr o)) = absurd o
+x_of_one_sort n s (inr o) = o.1
+
+pub sorted_data_examples : SortedDataExamples
+sorted_data_examples = record {
+  undeclared = record {
+    sides = λ e is. each_member (HasOneSort idle_signature) undeclared_x.equations is.0 e
+        (record { sort = 0; left = (_, refl, refl, ((refl, omega arith), tt)); right = (refl, omega arith) }, tt) is.1;
+    numbers = λ e is. each_member HasOneSortPerNumber undeclared_x.equations is.0 e
+        ((λ n r s o p. sym (x_of_one_sort n r o) ∙ x_of_one_sort n s p), tt) is.1;
+  };
+  undeclared_not_well_formed = λ h.
+      let over = h.equations _ (0, refl) in
+      let declared = over.left_declared 0 0 (inl (refl, refl)) in none-some declared.1 declared.2;
+  two_sorts = λ e is. each_member (HasOneSort two_sorts_of_x.signature) two_sorts_of_x.equations is.0 e
+      (record { sort = 0; left = (_, refl, refl, ((refl, omega arith), ((refl, omega arith), tt))); right = (refl, omega arith) }, tt) is.1;
+  two_sorts_not_sorted = λ h.
+      let same : ◌≡◌ {A = ℕ} 0 1 = h.numbers _ (0, refl) 0 0 1 (inr (refl, refl)) (inl (inr (inl (refl, refl)))) in cc;
 }

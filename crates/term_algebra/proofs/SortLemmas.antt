@@ -1,13 +1,13 @@
 -- Links and chains keep terms ground and of their sort.
-use Rattle.std.proofs.Common.{◌≡◌, ℕ, zero, suc, List, [], ◌∷◌, ap, sym, ◌∙◌, subst}
-use Rattle.std.specs.Prelude.{Some}
+use Rattle.std.proofs.Common.{◌≡◌, ℕ, zero, suc, List, [], ◌∷◌, ap, sym, ◌∙◌, subst, inl, inr}
+use Rattle.std.specs.Prelude.{Some, slice_get}
 use Rattle.std.proofs.lemmas.Option.{same_Some}
 use Rattle.term_algebra.specs.Signature.{Signature, Operation}
 use Rattle.term_algebra.specs.Term.{Term, variable, node, Terms, no_terms, term_then}
 use Rattle.term_algebra.specs.Sorting.{HasSort, HaveSorts, sort_of, IsGround, AreGround}
 use Rattle.term_algebra.specs.Path.{argument_at, with_argument, subterm, put_at}
 use Rattle.term_algebra.specs.Substitution.{Substitution, substituted}
-use Rattle.term_algebra.specs.Equation.{Equation, Data, HasOneSort, HasSortedSides, IsWellFormedData, IsGroundInstance}
+use Rattle.term_algebra.specs.Equation.{Variable, Equation, Data, IsEquation, IsDeclared, OccursIn, HasOneSort, HasSortedSides, HasOneSortPerNumber, AreSortedData, IsEquationOver, IsWellFormedData, IsGroundInstance}
 use Rattle.term_algebra.specs.Equality.{Direction, forward, backward, old_side, new_side, Link, Equal, same_term, link_then}
 use Rattle.term_algebra.proofs.PathLemmas.{subterm_below, put_below}
 use Rattle.term_algebra.proofs.SubstitutionLemmas.{substituted_sort, instance_ground}
@@ -118,6 +118,23 @@ subterm_sort signature (k ∷ path) (node f ts) part s h e =
 -- in well-formed data the two sides of each equation have one sort
 pub well_formed_sides : (data_ : Data) → IsWellFormedData data_ → HasSortedSides data_
 well_formed_sides data_ fine equation is = let over = fine.equations equation is in record { sort = over.sort; left = over.left_sort; right = over.right_sort }
+
+-- and a variable number has one sort in an equation, since it is declared once
+pub well_formed_sorted : (data_ : Data) → IsWellFormedData data_ → AreSortedData data_
+well_formed_sorted data_ fine = record { sides = well_formed_sides data_ fine; numbers = numbers }
+  where
+    declared : (equation : Equation) → IsEquationOver data_.signature equation → (n s : ℕ) → OccursIn equation n s → IsDeclared equation n s
+    declared equation over n s (inl o) = over.left_declared n s o
+    declared equation over n s (inr o) = over.right_declared n s o
+
+    numbers : (equation : Equation) → IsEquation data_ equation → HasOneSortPerNumber equation
+    numbers equation is n r s o p =
+        let over = fine.equations equation is in
+        let one = declared equation over n r o in
+        let other = declared equation over n s p in
+        let same : one.0 ≡ other.0 = over.numbers one.0 other.0 one.1 other.1 one.2 other.2 (one.3 ∙ sym other.3) in
+        let v : one.1 ≡ other.1 = same_Some one.1 other.1 (sym one.2 ∙ (ap (λ i. slice_get equation.variables i) same ∙ other.2)) in
+        sym one.4 ∙ (ap (λ (v : Variable). v.sort) v ∙ other.4)
 
 -- both sides of a ground instance have the equation's sort
 pub side_sorts : (signature : Signature) (equation : Equation) (values : Substitution) (direction : Direction) (one : HasOneSort signature equation)

@@ -4,9 +4,9 @@ use Rattle.std.specs.Prelude.{Some, map}
 use Rattle.std.specs.Option.{option_map}
 use Rattle.term_algebra.specs.Signature.{Signature}
 use Rattle.term_algebra.specs.Term.{Term, variable, node, Terms, no_terms, term_then, list_of}
-use Rattle.term_algebra.specs.Sorting.{HasSort, HaveSorts, IsGround, AreGround, Occurs, OccursAmong}
+use Rattle.term_algebra.specs.Sorting.{HasSort, HaveSorts, IsGround, AreGround, IsGroundOf, Occurs, OccursAmong}
 use Rattle.term_algebra.specs.Path.{argument_at, with_argument, subterm, put_at}
-use Rattle.term_algebra.specs.Substitution.{Substitution, substituted, all_substituted, followed_by, renaming, KeepsSorts}
+use Rattle.term_algebra.specs.Substitution.{Substitution, substituted, all_substituted, followed_by, renaming, KeepsSorts, IsGrounding}
 use Rattle.term_algebra.proofs.PathLemmas.{subterm_below, subterm_under, put_below, put_under}
 
 -- the members of substituted arguments
@@ -219,3 +219,11 @@ mutual
       let first : t ≡ u = renamed_same number t u (λ n m s o p. apart n m s (inl o) (inl p)) cc in
       let rest : ts ≡ us = all_renamed_same number ts us (λ n m s o p. apart n m s (inr o) (inr p)) cc in
       λ i. term_then (first i) (rest i)
+
+-- so an instance with ground terms of the right sorts is a ground term of the term's sort
+pub ground_instance : (signature : Signature) (values : Substitution) (t : Term) (sort : ℕ)
+    → HasSort signature t sort → IsGrounding signature t values → IsGroundOf signature sort (substituted values t)
+ground_instance signature values t sort h g = record {
+  ground = instance_ground values t (λ n s o. (g n s o).ground);
+  sorted = substituted_sort signature values t sort h (λ n s o. (g n s o).sorted);
+}

@@ -37,3 +37,13 @@ abbrev pub RenamedCanonsAreCanons : Type 0
 RenamedCanonsAreCanons = (data_ : Data) (canon : Term → Term) (t : Term) (number : ℕ → ℕ → ℕ)
     → IsCanon data_ canon → IsTermOf data_.signature t → KeepsApart number t → canon t ≡ t
     → canon (substituted (renaming number) t) ≡ substituted (renaming number) t
+
+-- two data call the same ground terms of a sort equal
+abbrev pub HaveSameEquality : Data → Data → Type 0
+HaveSameEquality data_ other = (t u : Term) (s : ℕ) → IsGroundOf data_.signature s t → IsGroundOf data_.signature s u
+    → Equal data_ t u ↔ Equal other t u
+
+-- a canon of data is one of any data with the same signature and the same equality
+abbrev pub CanonsHangOnEqualityAlone : Type 0
+CanonsHangOnEqualityAlone = (data_ other : Data) (canon : Term → Term) → data_.signature ≡ other.signature
+    → HaveSameEquality data_ other → IsCanon data_ canon → IsCanon other canon

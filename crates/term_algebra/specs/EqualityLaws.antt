@@ -1,10 +1,10 @@
 -- Laws of derivable equality: it is the least congruence that holds every ground instance of every equation.
 use Rattle.std.specs.Prelude.{◌≡◌, ℕ, List, Some}
 use Rattle.term_algebra.specs.Term.{Term, node, Terms}
-use Rattle.term_algebra.specs.Sorting.{HasSort, IsGround}
+use Rattle.term_algebra.specs.Sorting.{HasSort, IsGround, Occurs}
 use Rattle.term_algebra.specs.Path.{put_at}
 use Rattle.term_algebra.specs.Substitution.{Substitution, substituted}
-use Rattle.term_algebra.specs.Equation.{Equation, Data, IsEquation, HasSortedSides, IsGroundInstance}
+use Rattle.term_algebra.specs.Equation.{Equation, Data, IsEquation, HasSortedSides, AreSortedData, IsWellFormedData, IsGroundInstance}
 use Rattle.term_algebra.specs.Equality.{Link, Equal, AllEqual}
 
 -- each term is equal to itself
@@ -29,11 +29,21 @@ abbrev pub EqualityHoldsUnderOperations : Type 0
 EqualityHoldsUnderOperations = (data_ : Data) (operation : ℕ) (ts us : Terms) → AllEqual data_ ts us
     → Equal data_ (node operation ts) (node operation us)
 
+-- values that are equal one by one, at the variables that occur, give equal instances of a term
+abbrev pub EqualValuesGiveEqualInstances : Type 0
+EqualValuesGiveEqualInstances = (data_ : Data) (values others : Substitution) (t : Term)
+    → ((n s : ℕ) → Occurs n s t → Equal data_ (values n s) (others n s))
+    → Equal data_ (substituted values t) (substituted others t)
+
 -- the two sides of each ground instance of each equation are equal
 abbrev pub EquationsHold : Type 0
 EquationsHold = (data_ : Data) (equation : Equation) (values : Substitution) → IsEquation data_ equation
     → IsGroundInstance data_.signature equation values
     → Equal data_ (substituted values equation.left) (substituted values equation.right)
+
+-- what is well formed has sorted sides, with one sort for each variable number of an equation
+abbrev pub WellFormedDataAreSorted : Type 0
+WellFormedDataAreSorted = (data_ : Data) → IsWellFormedData data_ → AreSortedData data_
 
 -- what is equal to a ground term is ground, so a chain from a ground term has ground terms alone
 abbrev pub EqualityKeepsGround : Type 0

@@ -1,5 +1,5 @@
 -- Equations and data: ISO 8807's data part after flattening.
-use Rattle.std.specs.Prelude.{◌≡◌, ℕ, List, Some, slice_get}
+use Rattle.std.specs.Prelude.{◌≡◌, ℕ, List, Some, slice_get, ◌⊎◌}
 use Rattle.term_algebra.specs.Signature.{Signature, IsSort, IsWellFormedSignature}
 use Rattle.term_algebra.specs.Term.{Term}
 use Rattle.term_algebra.specs.Sorting.{HasSort, Occurs}
@@ -47,6 +47,20 @@ pub record HasOneSort (signature : Signature) (equation : Equation) : Type 0 whe
 -- The two sides of each equation of the data have one sort.
 abbrev pub HasSortedSides : Data → Type 0
 HasSortedSides data_ = (equation : Equation) → IsEquation data_ equation → HasOneSort data_.signature equation
+
+-- The variable with this number and sort occurs in a side of the equation.
+abbrev pub OccursIn : Equation → ℕ → ℕ → Type 0
+OccursIn equation n s = Occurs n s equation.left ⊎ Occurs n s equation.right
+
+-- A variable number has one sort in the equation.
+abbrev pub HasOneSortPerNumber : Equation → Type 0
+HasOneSortPerNumber equation = (n r s : ℕ) → OccursIn equation n r → OccursIn equation n s → r ≡ s
+
+-- What each call that is given data may count on: the sides of each equation are terms of the signature and have one
+-- sort, and a variable number has one sort in an equation. Nothing is asked of names, nor of what is declared.
+pub record AreSortedData (data_ : Data) : Type 0 where
+  pub sides : HasSortedSides data_
+  pub numbers : (equation : Equation) → IsEquation data_ equation → HasOneSortPerNumber equation
 
 -- An equation is well formed over a signature: its two sides have one sort, its variables have sorts of the
 -- signature and different numbers, and each variable that occurs in a side is declared.

@@ -1,13 +1,14 @@
 -- Computed cases, which show that the definitions say what a textbook says.
-use Rattle.std.specs.Prelude.{◌≡◌, ℕ, zero, suc, List, [], ◌∷◌, None, Some, codes, slice_get}
+use Rattle.std.specs.Prelude.{◌≡◌, ℕ, zero, suc, true, false, List, [], ◌∷◌, None, Some, codes, slice_get}
 use Rattle.std.proofs.Common.{refl, sym, ◌∙◌, ap, subst, zero-add, suc-add}
 use Rattle.std.proofs.lemmas.Option.{same_Some, none-some}
-use Rattle.term_algebra.specs.Signature.{Signature, Operation, prefix_form, infix_form, IsWellFormedSignature}
+use Rattle.term_algebra.specs.Signature.{Signature, Operation, Form, prefix_form, infix_form, IsWellFormedSignature}
+use Rattle.term_algebra.specs.Twins.{are_twins, has_twin}
 use Rattle.term_algebra.specs.Term.{Term, variable, node, no_terms, term_then, terms_of}
 use Rattle.term_algebra.specs.Sorting.{HasSort, IsTermOf, sort_of, IsGround, IsGroundOf, Occurs}
 use Rattle.term_algebra.specs.Path.{subterm, put_at, AreParallel}
 use Rattle.term_algebra.specs.Substitution.{Substitution, substituted, followed_by, binding, without}
-use Rattle.term_algebra.specs.Equation.{Equation, IsEquationOver, IsWellFormedData, IsGroundInstance}
+use Rattle.term_algebra.specs.Equation.{Equation, Data, HasSortedSides, AreSortedData, IsEquationOver, IsWellFormedData, IsGroundInstance}
 use Rattle.term_algebra.specs.Equality.{Equal}
 use Rattle.term_algebra.specs.EqualityLaws.{IsCongruence}
 use Rattle.term_algebra.specs.Meaning.{MeetsEquations, meaning_is_congruence}
@@ -57,6 +58,16 @@ overloaded_signature = record {
 abbrev pub one_name_twice : Signature
 one_name_twice = record { sorts = sort_named (codes "A") ∷ sort_named (codes "A") ∷ []; operations = [] }
 
+abbrev pub one_name_in_two_cases : Signature
+one_name_in_two_cases = record { sorts = sort_named (codes "A") ∷ sort_named (codes "a") ∷ []; operations = [] }
+
+-- the operation And from two arguments of sort 0 to this sort, in this form
+abbrev pub and_to : Form → ℕ → Operation
+and_to form result = operation_named (codes "And") form (0 ∷ 0 ∷ []) result
+
+abbrev pub AND_to : Form → ℕ → Operation
+AND_to form result = operation_named (codes "AND") form (0 ∷ 0 ∷ []) result
+
 -- the constant c of sort A, and the operation c with an argument of a sort that is not there
 abbrev pub constant_c : Operation
 constant_c = operation_named (codes "c") prefix_form [] 0
@@ -70,6 +81,9 @@ pub record SignatureExamples : Type 0 where
   -- two sorts of one name, two operations alike in all, a result and an argument of no sort
   pub sort_twice : ¬ IsWellFormedSignature one_name_twice
   pub operation_twice : ¬ IsWellFormedSignature (with_operations (constant_c ∷ constant_c ∷ []))
+  -- spellings that differ in letter case alone are one name
+  pub sort_in_two_cases : ¬ IsWellFormedSignature one_name_in_two_cases
+  pub operation_in_two_cases : ¬ IsWellFormedSignature (with_operations (and_to infix_form 0 ∷ AND_to infix_form 0 ∷ []))
   pub no_result : ¬ IsWellFormedSignature (with_operations (operation_named (codes "c") prefix_form [] 1 ∷ []))
   pub no_argument : ¬ IsWellFormedSignature (with_operations (operation_c ∷ []))
   -- a = b has sides of two sorts; f(x) = f(x) needs x declared, with a sort of the signature, and once
@@ -79,6 +93,38 @@ pub record SignatureExamples : Type 0 where
   pub no_sort : ¬ IsEquationOver idle_signature (equation_of (variable_named (codes "x") 0 3 ∷ []) a_term a_term)
   pub declared_twice : ¬ IsEquationOver idle_signature
       (equation_of (variable_named (codes "x") 0 0 ∷ variable_named (codes "y") 0 1 ∷ []) a_term a_term)
+
+-- sorts A and B, and p with an argument of each; p(x, x) = x, with x of sort A and of sort B under one number
+abbrev pub two_sorts_of_x : Data
+two_sorts_of_x = record {
+  signature = record {
+    sorts = sort_named (codes "A") ∷ sort_named (codes "B") ∷ [];
+    operations = operation_named (codes "p") prefix_form (0 ∷ 1 ∷ []) 0 ∷ [];
+  };
+  equations = equation_of [] (node 0 (term_then (variable 0 0) (term_then (variable 0 1) no_terms))) (variable 0 0) ∷ [];
+}
+
+-- f(x) = x, with x not declared
+abbrev pub undeclared_x : Data
+undeclared_x = record { signature = idle_signature; equations = equation_of [] (f_term (variable 0 0)) (variable 0 0) ∷ [] }
+
+pub record SortedDataExamples : Type 0 where
+  -- a variable need not be declared for data to be sorted, and its number must have one sort
+  pub undeclared : AreSortedData undeclared_x
+  pub undeclared_not_well_formed : ¬ IsWellFormedData undeclared_x
+  pub two_sorts : HasSortedSides two_sorts_of_x
+  pub two_sorts_not_sorted : ¬ AreSortedData two_sorts_of_x
+
+pub record TwinExamples : Type 0 where
+  -- and of two results; in two forms, and with itself, no twins; nor with other arguments or another name
+  pub twins : are_twins (and_to infix_form 0) (AND_to infix_form 1) ≡ true
+  pub two_forms : are_twins (and_to infix_form 0) (AND_to prefix_form 1) ≡ false
+  pub one_result : are_twins (and_to infix_form 0) (AND_to infix_form 0) ≡ false
+  pub other_arguments : are_twins constant_c (operation_named (codes "c") prefix_form (0 ∷ []) 1) ≡ false
+  pub other_name : are_twins constant_c (operation_named (codes "d") prefix_form [] 1) ≡ false
+  -- of the four operations c the constants alone have a twin
+  pub first_constant : has_twin overloaded_signature constant_c ≡ true
+  pub prefix_operation : has_twin overloaded_signature (operation_named (codes "c") prefix_form (0 ∷ 0 ∷ []) 0) ≡ false
 
 pub record SortingExamples : Type 0 where
   -- 0 + Succ(x) is a term of sort Nat

@@ -1,4 +1,7 @@
+pub mod Names
 pub mod Signature
+pub mod Twins
+pub mod SignatureLaws
 pub mod Term
 pub mod Sorting
 pub mod Tests

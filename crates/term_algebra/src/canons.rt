@@ -3,6 +3,7 @@
 ghost use Rattle.term_algebra.specs.CanonLaws.{
   CanonsAreEqualToTheirTerms,
   CanonsDecideEquality,
+  CanonsHangOnEqualityAlone,
   CanonsPassThroughInstances,
   RenamedCanonsAreCanons,
   WithoutEquationsEqualIsIdentical,
@@ -25,4 +26,9 @@ pub fn canons_pass_through_instances()
 pub fn without_equations_equality_is_identity()
     ensures identity { WithoutEquationsEqualIsIdentical }
     ensures canon { WithoutEquationsIdentityIsCanon }
+{}
+
+/// A canon of data is one of any data with the same signature and the same equality, whatever its equations.
+pub fn canons_hang_on_equality_alone()
+    ensures { CanonsHangOnEqualityAlone }
 {}

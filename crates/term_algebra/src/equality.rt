@@ -10,9 +10,11 @@ ghost use Rattle.term_algebra.specs.EqualityLaws.{
   EqualityIsTransitive,
   EqualityKeepsGround,
   EqualityKeepsSorts,
+  EqualValuesGiveEqualInstances,
   EquationsHold,
   IsCongruence,
   IsContained,
+  WellFormedDataAreSorted,
 };
 ghost use Rattle.term_algebra.specs.Equation.{Data};
 ghost use Rattle.term_algebra.specs.Term.{Term};
@@ -24,10 +26,16 @@ pub fn equality_is_an_equivalence()
     ensures transitive { EqualityIsTransitive }
 {}
 
-/// Equality is a congruence, at each path and under each operation.
+/// Equality is a congruence, at each path and under each operation, so that equal values give equal instances.
 pub fn equality_is_a_congruence()
     ensures inside { EqualityHoldsInside }
     ensures under_operations { EqualityHoldsUnderOperations }
+    ensures instances { EqualValuesGiveEqualInstances }
+{}
+
+/// Well-formed data have what is asked of the data that a call is given.
+pub fn well_formed_data_are_sorted()
+    ensures { WellFormedDataAreSorted }
 {}
 
 /// Each ground instance of each equation holds.

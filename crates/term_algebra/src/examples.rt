@@ -9,8 +9,10 @@ ghost use Rattle.term_algebra.specs.Examples.{
   EqualityExamples,
   PathExamples,
   SignatureExamples,
+  SortedDataExamples,
   SortingExamples,
   SubstitutionExamples,
+  TwinExamples,
   identity_is_congruence,
   natural_meaning_is_congruence,
 };
@@ -20,6 +22,16 @@ use crate::equality::{Congruence, equality_is_least};
 /// Signatures and equations, well formed and not.
 pub fn signature_examples()
     ensures { SignatureExamples }
+{}
+
+/// Twins, and operations that differ in more or in less than their result.
+pub fn twin_examples()
+    ensures { TwinExamples }
+{}
+
+/// Data whose equations have sorted sides, with and without one sort for each variable number.
+pub fn sorted_data_examples()
+    ensures { SortedDataExamples }
 {}
 
 /// Well-sorted and ill-sorted terms, ground terms, variables that occur, well-formed data.

@@ -9,5 +9,6 @@ pub mod equality;
 pub mod examples;
 pub mod paths;
 pub mod plain;
+pub mod signatures;
 pub mod substitutions;
 pub mod terms;

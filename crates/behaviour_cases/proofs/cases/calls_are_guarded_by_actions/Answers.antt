@@ -33,11 +33,18 @@ no_cycle from (to ∷ rest) h = no_edge from to h.0.0
 abbrev left_list : Option (List ShapedMove) → Option (List ShapedMove)
 left_list o = each_below left_side (λ m. Some m) o
 
-no_list : (leaves : Substitution) (depth next : ℕ) → listed_moves (record { signature = sample_signature; form = sample_canon; processes = at_once ∷ [] }) leaves depth next again ≡ None
+no_list : (leaves : Substitution) (depth next : ℕ) → listed_moves (record {
+  signature = sample_signature;
+  represent = sample_canon;
+  processes = at_once ∷ [];
+}) leaves depth next again ≡ None
 no_list leaves zero next = refl
 no_list leaves (suc zero) next = refl
 no_list leaves (suc (suc depth)) next =
-    ap (λ (o : Option (List ShapedMove)). each_below called (λ m. Some (relabelling [] m)) (one_behind (left_list o) (each_below right_side (λ m. Some m) (listed_moves (record { signature = sample_signature; form = sample_canon; processes = at_once ∷ [] }) leaves depth next (event gate_a stop)))))
+    ap (λ (o : Option (List ShapedMove)). each_below called (λ m. Some (relabelling [] m))
+    (one_behind (left_list o) (each_below right_side (λ m. Some m)
+    (listed_moves (record { signature = sample_signature; represent = sample_canon; processes = at_once ∷ [] }) leaves depth next
+    (event gate_a stop)))))
     (no_list leaves depth next)
 
 pub returns : goal.returns

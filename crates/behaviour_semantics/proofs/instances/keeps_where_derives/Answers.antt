@@ -9,25 +9,31 @@ use Rattle.behaviour_semantics.specs.Derives.{Derives, Keeps, GivesMove, leaves_
 use Rattle.behaviour_semantics.specs.Draft.{above, above_processes, first_apart}
 use Rattle.behaviour_semantics.specs.WellFormed.{AreOver}
 use Rattle.behaviour_semantics.specs.InstanceLaws.{Kept, Derived}
-use Rattle.behaviour_semantics.proofs.RelatedTerms.{IsForm, canon_form, given_form}
+use Rattle.behaviour_semantics.proofs.RelatedTerms.{IsRepresenting, canon_represents, given_represents}
 use Rattle.behaviour_semantics.proofs.SameBehaviours.{low_nothing, same_beside, turned_beside}
 use Rattle.behaviour_semantics.proofs.InstanceLemmas.{plain, turned_labels}
 use Rattle.behaviour_semantics.proofs.AlikeLemmas.{alike_labels, alike_behaviours}
 use Rattle.behaviour_semantics.proofs.FollowingMoves.{Another, another}
 use Rattle.behaviour_semantics.proofs.instances.keeps_where_derives.Goals as goal
 
-other_form : (data_ : Data) (canon form other : Term → Term) (specification : Specification) (b : Behaviour) → AreOver data_ canon specification b → IsForm data_ form → IsForm data_ other → (d : Derivation) (label : Label) (target : Behaviour) → GivesMove data_ form specification.processes b d label target → Another data_ (first_apart specification.processes b) form other specification.processes b d label target
-other_form data_ canon form other specification b over f g d label target moves =
+other_represent : (data_ : Data) (canon represent other : Term → Term) (specification : Specification) (b : Behaviour)
+    → AreOver data_ canon specification b → IsRepresenting data_ represent → IsRepresenting data_ other
+    → (d : Derivation) (label : Label) (target : Behaviour) → GivesMove data_ represent specification.processes b d label target
+    → Another data_ (first_apart specification.processes b) represent other specification.processes b d label target
+other_represent data_ canon represent other specification b over f g d label target moves =
     let base : ℕ = first_apart specification.processes b in
     let le_processes : above_processes specification.processes ≤ base = omega arith in
     let le_b : above b ≤ base = omega arith in
-    another data_ base form other specification b b over.well_formed le_processes f g d
-    (same_beside data_ base (plain form (leaves_in d.leaves)) (plain other (leaves_in d.leaves)) _ specification.processes [] b (low_nothing data_ base) le_b over.closed) label target moves
+    another data_ base represent other specification b b over.well_formed le_processes f g d
+    (same_beside data_ base (plain represent (leaves_in d.leaves)) (plain other (leaves_in d.leaves)) _ specification.processes [] b
+    (low_nothing data_ base) le_b over.closed) label target moves
 
 kept : (data_ : Data) (canon : Term → Term) (specification : Specification) (b : Behaviour) → AreOver data_ canon specification b → (d : Derivation) (label : Label) (target : Behaviour) → Derives data_ specification.processes b d label target → Kept data_ canon specification.processes b d label target
 kept data_ canon specification b over d label target derives =
     let base : ℕ = first_apart specification.processes b in
-    let a : Another data_ base as_given canon specification.processes b d label target = other_form data_ canon as_given canon specification b over (given_form data_) (canon_form data_ canon over.is_canon) d label target derives in
+    let a : Another data_ base as_given canon specification.processes b d label target =
+    other_represent data_ canon as_given canon specification b over (given_represents data_)
+    (canon_represents data_ canon over.is_canon) d label target derives in
     record {
       kept_label = a.move.label;
       kept_target = a.move.target;
@@ -39,7 +45,9 @@ kept data_ canon specification b over d label target derives =
 derived : (data_ : Data) (canon : Term → Term) (specification : Specification) (b : Behaviour) → AreOver data_ canon specification b → (d : Derivation) (label : Label) (target : Behaviour) → Keeps data_ canon specification.processes b d label target → Derived data_ canon specification.processes b d label target
 derived data_ canon specification b over d label target keeps =
     let base : ℕ = first_apart specification.processes b in
-    let a : Another data_ base canon as_given specification.processes b d label target = other_form data_ canon canon as_given specification b over (canon_form data_ canon over.is_canon) (given_form data_) d label target keeps in
+    let a : Another data_ base canon as_given specification.processes b d label target =
+    other_represent data_ canon canon as_given specification b over (canon_represents data_ canon over.is_canon)
+    (given_represents data_) d label target keeps in
     record {
       derived_label = a.move.label;
       derived_target = a.move.target;

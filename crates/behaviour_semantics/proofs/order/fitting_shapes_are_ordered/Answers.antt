@@ -12,7 +12,7 @@ use Rattle.behaviour_semantics.proofs.order.fitting_shapes_are_ordered.Goals as 
 ordered : (data_ : Data) (canon : Term → Term) (processes : List Process) (b : Behaviour) (s t : Shape) → Fits data_ canon processes b s → Fits data_ canon processes b t → Ordered s t
 ordered data_ canon processes b s t f g =
     let base : ℕ = first_apart processes b in
-    let setting : Setting = record { signature = data_.signature; form = canon; processes = processes } in
+    let setting : Setting = record { signature = data_.signature; represent = canon; processes = processes } in
     let m : _ = mapped (draft_by s base) (move_of setting (leaves_from base) s 0 b) f.1 in
     let n : _ = mapped (draft_by t base) (move_of setting (leaves_from base) t 0 b) g.1 in
     comparable setting (leaves_from base) s t 0 b m.0 n.0 m.1 n.1

@@ -11,14 +11,16 @@ use Rattle.behaviour_semantics.proofs.ClosedTargets.{KeepsGround, closed_move}
 use Rattle.behaviour_semantics.proofs.targets.targets_are_well_formed.Goals as goal
 
 -- What stands over the data stays so along a run.
-run_over : (data_ : Data) (canon form : Term → Term) (specification : Specification) → KeepsGround data_.signature form → {b target : Behaviour} {ds : List Derivation} → AreOver data_ canon specification b → Reaches data_ form specification.processes b ds target → AreOver data_ canon specification target
-run_over data_ canon form specification keeps over at_start = over
-run_over data_ canon form specification keeps over (one_move {b = b} {next = next} {d = d} {label = label} m rest) =
-    run_over data_ canon form specification keeps (record {
+run_over : (data_ : Data) (canon represent : Term → Term) (specification : Specification) → KeepsGround data_.signature represent
+    → {b target : Behaviour} {ds : List Derivation} → AreOver data_ canon specification b
+    → Reaches data_ represent specification.processes b ds target → AreOver data_ canon specification target
+run_over data_ canon represent specification keeps over at_start = over
+run_over data_ canon represent specification keeps over (one_move {b = b} {next = next} {d = d} {label = label} m rest) =
+    run_over data_ canon represent specification keeps (record {
       signature = over.signature;
       is_canon = over.is_canon;
       well_formed = over.well_formed;
-      closed = (closed_move data_ specification form over.well_formed keeps b over.closed d label next m).1;
+      closed = (closed_move data_ specification represent over.well_formed keeps b over.closed d label next m).1;
     }) rest
 
 pub returns : goal.returns

@@ -4,7 +4,7 @@ use Rattle.behaviour_semantics.proofs.OptionLemmas.{some_value}
 use Rattle.behaviour_semantics.proofs.transition.moves_are_determined.Goals as goal
 
 pub returns : goal.returns
-returns c = λ data_ form processes b d label other target another m n.
+returns c = λ data_ represent processes b d label other target another m n.
     let e : _ ≡ _ = some_value (sym m.move ∙ n.move) in
     record {
       labels = ap (λ (x : Move). x.label) e;

@@ -1,12 +1,11 @@
 use Rattle.std.proofs.Common.{◌≡◌, ◌∙◌, ℕ, List, ◌++◌, ◌∷◌, [], sym, ap, subst, arith, reverse}
 use Rattle.std.specs.Prelude.{Some, slice_get}
-use Rattle.std.proofs.lemmas.Option.{slice_get_within}
 use Rattle.ll_engine.specs.declared.symbol.Symbol.{Symbol}
 use Rattle.ll_engine.specs.declared.symbol.Symbol.TheVariants.{Token, Part}
 use Rattle.ll_engine.specs.Derivation.{Production}
 use Rattle.ll_engine.specs.Prediction.{IsPredictedBy}
 use Rattle.ll_engine.specs.Walk.{IsReached}
-use Rattle.ll_engine.proofs.Walks.{IsReached-start, IsReached-next, IsReached-row, IsReached-top, IsReached-empty, place-below, next-le, IsUnexpectedAt-other, IsUnexpectedAt-part, IsUnexpectedAt-more, IsLeftmostDerivation-end}
+use Rattle.ll_engine.proofs.Walks.{IsReached-start, IsReached-next, IsReached-row, IsReached-top, IsReached-empty, place-below, IsUnexpectedAt-other, IsUnexpectedAt-part, IsUnexpectedAt-more, IsLeftmostDerivation-end}
 use Rattle.ll_engine.proofs.parser.derivation.Goals as goal
 use Rattle.ll_engine.proofs.parser.derivation.Goals.{In-Token, In-Part, In_default}
 
@@ -57,18 +56,15 @@ returns-in_default-predicted c =
     (subst (λ (t : ℕ). (r : ℕ) (row : Production) → slice_get c.args.grammar.now.rows r ≡ Some row → row.left ≡ c.in-Part.part → ¬ IsPredictedBy c.args.grammar.now row t)
     c.token_at-next.ensures c.in_default-predicted.ensures.none)
 
-pub push_right-requires : goal.push_right-requires
-push_right-requires c = slice_get_within c.args.grammar.now.rows c.in-Some-predicted.row c.in-Some-predicted.ensures.some.0 c.in-Some-predicted.ensures.some.1
-
 pub loop-symbol-preserved : goal.loop-symbol-preserved
 loop-symbol-preserved c =
-    let row = c.in-Some-predicted.ensures.some in
-    let next = subst (IsPredictedBy c.args.grammar.now row.0) c.token_at-next.ensures row.3 in
+    let found = c.in-Some-predicted.ensures.some in
+    let only = subst (λ (t : ℕ). (number : ℕ) (other : Production) → slice_get c.args.grammar.now.rows number ≡ Some other → other.left ≡ c.in-Part.part →
+    IsPredictedBy c.args.grammar.now other t → number ≡ c.in-Some-predicted.row) c.token_at-next.ensures found.only in
     let reached = IsReached-row c.args.grammar.now c.start.ensures.well_formed c.args.tokens.now c.start.ensures.predictive c.loop-symbol.at c.loop-symbol.rows.items
-    c.in-Part.part (reverse c.pop.new.self.items) c.in-Some-predicted.row row.0 row.1 row.2
-    (next-le c.args.grammar.now c.start.ensures.well_formed c.args.tokens.now c.requires c.loop-symbol.at) next (part_on_top (goal.at.loop-symbol-preserved c).In-Part) in
+    c.in-Part.part (reverse c.pop.new.self.items) c.in-Some-predicted.row found.row found.is_row found.left_is only (part_on_top (goal.at.loop-symbol-preserved c).In-Part) in
     subst (λ (rows : List ℕ). IsReached c.args.grammar.now c.args.tokens.now c.loop-symbol.at rows (reverse c.push_right.new.stack.items)) (sym c.in_ok-push-in-Part.ensures.items)
-    (subst (IsReached c.args.grammar.now c.args.tokens.now c.loop-symbol.at (c.loop-symbol.rows.items ++ c.in-Some-predicted.row ∷ [])) (sym (c.in_ok-push_right-in-Part.ensures row.0 row.1)) reached)
+    (subst (IsReached c.args.grammar.now c.args.tokens.now c.loop-symbol.at (c.loop-symbol.rows.items ++ c.in-Some-predicted.row ∷ [])) (sym (c.in_ok-push_right-in-Part.ensures found.row found.is_row)) reached)
 
 pub returns-then-at-tokens : goal.returns-then-at-tokens
 returns-then-at-tokens c =

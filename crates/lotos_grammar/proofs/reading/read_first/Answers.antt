@@ -3,7 +3,7 @@ use Rattle.std.proofs.lemmas.Result.{err_from_is_err_and}
 use Rattle.std.specs.Prelude.{MatchResult}
 use Rattle.ll_engine.specs.Language.{IsLeftmostDerivation}
 use Rattle.lotos_lexer.specs.declared.tokens.Token.{Token}
-use Rattle.lotos_grammar.specs.declared.TheConstants.{NESTING_LIMIT}
+use Rattle.lotos_grammar.specs.Limits.{nesting_limit}
 use Rattle.lotos_grammar.specs.FirstText.{text_of}
 use Rattle.lotos_grammar.specs.Reading.{nesting}
 use Rattle.lotos_grammar.specs.Table.{first_grammar}
@@ -27,7 +27,7 @@ returns c =
     let given = subst (λ (ts : List Token). IsLeftmostDerivation first_grammar rows (kinds_of ts)) c.as_slice-2.ensures.value c.in_ok-rows.ensures in
     let built = subst (λ (ts : List Token). MatchResult c.build.result (λ parts. built_from text ts rows ≡ Some (text_of parts)) (IsStuck (built_from text ts rows)))
     c.as_slice-3.ensures.value c.build.ensures in
-    let nested : nesting tokens ≤ NESTING_LIMIT = let same = c.nesting.ensures ∙ ap nesting c.as_slice.ensures.value in omega arith in
+    let nested : nesting tokens ≤ nesting_limit = let same = c.nesting.ensures ∙ ap nesting c.as_slice.ensures.value in omega arith in
     answered c.build.result
     (λ parts. reads_built text tokens rows (text_of parts) c.if-text-gt-TEXT_LIMIT.false c.in-Ok.ensures.exact nested given)
     (λ fault. fault_of_rows text tokens rows fault c.in-Ok.ensures.exact given)

@@ -9,5 +9,5 @@ use Rattle.lotos_top.proofs.resolving.resolve_offers.Given as goal
 abbrev pub invariant-loop-offer : goal.invariant-loop-offer
 invariant-loop-offer l =
     IsFrame l.action
-    × (offers_with (declared_by l.scope) (visible_of l.visible) l.next l.action (map written.offer_of (drop l.offer-index l.offers))
-    ≡ action_offers (declared_by l.scope) (visible_of l.visible) l.next (map written.offer_of l.offers))
+    × (offers_with (declared_by l.scope) (visible_of l.visible) l.next l.action (map written.offer_text_of (drop l.offer-index l.offers))
+    ≡ action_offers (declared_by l.scope) (visible_of l.visible) l.next (map written.offer_text_of l.offers))

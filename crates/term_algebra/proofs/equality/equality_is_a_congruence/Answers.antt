@@ -1,5 +1,5 @@
 -- By recursion on the chain.
-use Rattle.term_algebra.proofs.EqualityLemmas.{equal_inside, equal_under}
+use Rattle.term_algebra.proofs.EqualityLemmas.{equal_inside, equal_under, equal_values}
 use Rattle.term_algebra.proofs.equality.equality_is_a_congruence.Goals as goal
 
 pub returns-clause-inside : goal.returns-clause-inside
@@ -7,3 +7,6 @@ returns-clause-inside c = λ data_ path t u whole before after e h k. equal_insi
 
 pub returns-clause-under_operations : goal.returns-clause-under_operations
 returns-clause-under_operations c = equal_under
+
+pub returns-clause-instances : goal.returns-clause-instances
+returns-clause-instances c = equal_values

@@ -1,15 +1,12 @@
 -- By recursion on the term.
-use Rattle.term_algebra.proofs.SubstitutionLemmas.{substituted_sort, instance_ground, substituted_occurs, occurs_substituted}
+use Rattle.term_algebra.proofs.SubstitutionLemmas.{substituted_sort, ground_instance, substituted_occurs, occurs_substituted}
 use Rattle.term_algebra.proofs.substitutions.instances_keep_sorts.Goals as goal
 
 pub returns-clause-sorts : goal.returns-clause-sorts
 returns-clause-sorts c = substituted_sort
 
 pub returns-clause-ground : goal.returns-clause-ground
-returns-clause-ground c = λ signature values t sort h g. record {
-  ground = instance_ground values t (λ n s o. (g n s o).ground);
-  sorted = substituted_sort signature values t sort h (λ n s o. (g n s o).sorted);
-}
+returns-clause-ground c = ground_instance
 
 pub returns-clause-variables : goal.returns-clause-variables
 returns-clause-variables c = λ n s values t. (

@@ -11,7 +11,7 @@ fault_of c = subst (λ (rows : List Row). IsFaultOf (grammar_of rows c.args.part
 
 pub returns-in-Ok-clause-barren : goal.returns-in-Ok-clause-barren
 returns-in-Ok-clause-barren c =
-    let is = subst (λ (rows : List Row). IsChecked (grammar_of rows c.args.parts c.args.tokens c.args.start) c.in-Ok.table.items) c.deref.ensures.value c.in-Ok.ensures in
+    let is = subst (λ (rows : List Row). IsChecked (grammar_of rows c.args.parts c.args.tokens c.args.start) c.in-Ok.entries.items) c.deref.ensures.value c.in-Ok.ensures in
     λ part. exact_barren-ok (grammar_of c.args.rows.items c.args.parts c.args.tokens c.args.start) (grammar_of c.args.rows.items c.args.parts c.args.tokens c.args.start) is.predictive part
 
 pub returns-in-Err-clause-ok : goal.returns-in-Err-clause-ok

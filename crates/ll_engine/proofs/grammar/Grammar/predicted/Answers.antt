@@ -1,32 +1,47 @@
-use Rattle.std.proofs.Common.{◌≡◌, ◌∙◌, ℕ, ◌+◌, ◌*◌, ◌<◌, ◌≤◌, length, get_or, subst, sym, ap, refl, arith}
-use Rattle.std.proofs.lemmas.List.{get_or_read}
+use Rattle.std.proofs.Common.{◌≡◌, ◌∙◌, ℕ, List, subst, sym, ap, arith}
+use Rattle.std.specs.Prelude.{IfSome, IfNone, Option, Some, slice_get}
+use Rattle.ll_engine.specs.Derivation.{Production}
 use Rattle.ll_engine.specs.Language.{ContextFree}
-use Rattle.ll_engine.specs.Table.{width_of}
-use Rattle.ll_engine.specs.View.{grammar_of}
-use Rattle.ll_engine.specs.Checked.{IsPrediction}
-use Rattle.ll_engine.proofs.Verdicts.{cell-below}
+use Rattle.ll_engine.specs.Prediction.{IsPredictedBy}
+use Rattle.ll_engine.specs.Table.{entry_at}
+use Rattle.ll_engine.specs.Walk.{IsOnlyRow}
+use Rattle.ll_engine.specs.Checked.{IsChecked}
+use Rattle.ll_engine.proofs.OnlyRows.{checked_at, written_at, entry_none, entry_some, row_some}
 use Rattle.ll_engine.proofs.grammar.Grammar.predicted.Goals as goal
-use Rattle.ll_engine.proofs.grammar.Grammar.predicted.Goals.{After-index-row}
+use Rattle.ll_engine.proofs.grammar.Grammar.predicted.Goals.{After-entry_at}
 
-prediction : (c : After-index-row) → IsPrediction c.args.self.now c.args.part c.args.token c.index-row.result.now
-prediction c =
+checked : (c : After-entry_at) → IsChecked c.args.self.now c.in-Checked.entries.items
+checked c =
     let i = c.self.inside in
-    let parts_are : i.parts ≡ c.args.self.now.parts = ap (λ (g : ContextFree). g.parts) c.self.view_is in
-    let tokens_are : i.tokens ≡ c.args.self.now.tokens = ap (λ (g : ContextFree). g.tokens) c.self.view_is in
-    let part : c.args.part < i.parts = omega (arith, c.requires.part) in
-    let token : c.args.token ≤ i.tokens = omega (arith, c.requires.token) in
-    let place : c.from.result * (c.from-width.result + 1) + c.from-2.result ≡ c.args.part * width_of i.tokens + c.args.token = rw (c.from.ensures, c.from-width.ensures, c.from-2.ensures) refl in
-    let below = cell-below c.args.part (width_of i.tokens) c.args.token i.parts part (omega arith) in
-    let within : c.args.part * width_of i.tokens + c.args.token < length i.table.items = let len = c.self.invariant.one_each in omega arith in
-    let read : c.index-row.result.now ≡ get_or i.table.items (c.args.part * width_of i.tokens + c.args.token) 0 =
-    get_or_read i.table.items (c.args.part * width_of i.tokens + c.args.token) c.index-row.result.now within
-    (c.index-row.ensures ∙ ap (λ (k : ℕ). get_or i.table.items k c.index-row.result.now) place) 0 in
-    let entry = c.self.invariant.entries c.args.part c.args.token part token in
-    subst (λ (g : ContextFree). IsPrediction g c.args.part c.args.token c.index-row.result.now) c.self.view_is
-    (subst (IsPrediction (grammar_of i.rows.items i.parts i.tokens i.start) c.args.part c.args.token) (sym read) entry)
+    checked_at i.rows i.parts i.tokens i.start c.in-Checked.rows c.in-Checked.entries c.args.self.now c.self.invariant c.in-Checked.is c.self.view_is
 
-pub returns-then-row-clause-none : goal.returns-then-row-clause-none
-returns-then-row-clause-none c = (prediction (goal.at.returns-then-row-clause-none c).After-index-row).none c.if-row.true
+entry_is : (c : After-entry_at) → c.entry_at.result ≡ entry_at c.in-Checked.entries.items c.args.self.now.tokens c.args.part c.args.token
+entry_is c =
+    c.entry_at.ensures
+    ∙ ap (λ (list : List ℕ). entry_at list c.self.inside.tokens c.args.part c.args.token) c.deref.ensures.value
+    ∙ ap (λ (g : ContextFree). entry_at c.in-Checked.entries.items g.tokens c.args.part c.args.token) c.self.view_is
 
-pub returns-else-row-clause-some : goal.returns-else-row-clause-some
-returns-else-row-clause-some c = (prediction (goal.at.returns-else-row-clause-some c).After-index-row).some c.if-row.false
+pub returns-in-Checked-clause-none : goal.returns-in-Checked-clause-none
+returns-in-Checked-clause-none c =
+    let P = (r : ℕ) (row : Production) → slice_get c.args.self.now.rows r ≡ Some row → row.left ≡ c.args.part → ¬ IsPredictedBy c.args.self.now row c.args.token in
+    subst (λ (found : Option ℕ). IfNone found P) (sym (entry_is c))
+    (entry_none c.args.self.now c.in-Checked.entries.items c.args.part c.args.token (checked c) c.requires.part c.requires.token)
+
+pub returns-in-Checked-clause-some : goal.returns-in-Checked-clause-some
+returns-in-Checked-clause-some c =
+    subst (λ (found : Option ℕ). IfSome found (IsOnlyRow c.args.self.now c.args.part c.args.token)) (sym (entry_is c))
+    (entry_some c.args.self.now c.in-Checked.entries.items c.args.part c.args.token (checked c) c.requires.part c.requires.token)
+
+pub row_at-requires-clause-part : goal.row_at-requires-clause-part
+row_at-requires-clause-part c =
+    let i = c.self.inside in
+    let written = written_at i.rows i.parts i.tokens i.start c.in-Written.table c.args.self.now c.self.invariant c.in-Written.is c.self.view_is in
+    omega (arith, c.requires.part, written.0.one_each)
+
+pub returns-in-Written-clause-some : goal.returns-in-Written-clause-some
+returns-in-Written-clause-some c =
+    let i = c.self.inside in
+    let written = written_at i.rows i.parts i.tokens i.start c.in-Written.table c.args.self.now c.self.invariant c.in-Written.is c.self.view_is in
+    let found = row_some c.args.self.now c.in-Written.table.now c.args.part c.args.token written.0 written.1 c.requires.token in
+    subst (λ (row : Option ℕ). IfSome row (IsOnlyRow c.args.self.now c.args.part c.args.token))
+    (sym c.row_at.ensures) found

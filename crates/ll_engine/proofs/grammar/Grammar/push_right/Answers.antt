@@ -1,18 +1,15 @@
-use Rattle.std.proofs.Common.{◌≡◌, ◌∙◌, ◌-◌, List, ◌++◌, ◌∷◌, [], ◌<◌, refl, sym, ap, arith, length, reverse, take, get_or}
-use Rattle.std.specs.Prelude.{slice_get}
-use Rattle.std.proofs.lemmas.List.{take_more, get_or-reverse, length-reverse, length-map, append_assoc, reverse-append, reverse-reverse, take_all}
-use Rattle.std.proofs.lemmas.Option.{slice_get_read}
+use Rattle.std.proofs.Common.{◌≡◌, ◌∙◌, ◌-◌, List, ◌++◌, ◌∷◌, [], ◌<◌, sym, ap, arith, length, reverse, take, get_or}
+use Rattle.std.proofs.lemmas.List.{take_more, get_or-reverse, length-reverse, append_assoc, reverse-append, reverse-reverse, take_all}
 use Rattle.ll_engine.specs.declared.symbol.Symbol.{Symbol}
 use Rattle.ll_engine.specs.declared.symbol.Symbol.TheVariants.{Token}
+use Rattle.std.specs.Prelude.{Some, option_map}
+use Rattle.std.proofs.Common.{Bor}
 use Rattle.ll_engine.specs.Derivation.{Production}
-use Rattle.ll_engine.specs.Language.{ContextFree}
-use Rattle.ll_engine.specs.View.{production_of}
-use Rattle.ll_engine.proofs.Lists.{slice_get-to_map}
 use Rattle.ll_engine.proofs.grammar.Grammar.push_right.Goals as goal
 
 pub loop-i-preserved : goal.loop-i-preserved
 loop-i-preserved c =
-    let right = c.as_slice-right.result.now in
+    let right = c.in-Some.right.now in
     let i = c.loop-i.i in
     let old = c.args.stack.now.items in
     let within : i < length (reverse right) = let len = length-reverse right in omega arith in
@@ -24,15 +21,11 @@ loop-i-preserved c =
 
 pub returns : goal.returns
 returns c = λ production is.
-    let right = c.as_slice-right.result.now in
+    let right = c.in-Some.right.now in
     let old = c.args.stack.now.items in
-    let rows_are = ap (λ (g : ContextFree). g.rows) c.self.view_is in
-    let within : c.args.row < length c.self.inside.rows.items =
-    let len = ap length rows_are in let mapped = length-map c.self.inside.rows.items production_of in omega (arith, c.requires) in
-    let row = slice_get_read c.self.inside.rows.items (length c.self.inside.rows.items) c.args.row c.index.result.now refl within c.index.ensures in
-    let at = slice_get-to_map production_of c.self.inside.rows.items c.args.row c.index.result.now row in
-    let same : production_of c.index.result.now ≡ production = let e = ap (λ (xs : List Production). slice_get xs c.args.row) rows_are in cc in
-    let right_is : right ≡ production.right = c.as_slice-right.ensures.value ∙ ap (λ (p : Production). p.right) same in
+    let found : Some right ≡ Some production.right =
+    sym (ap (option_map (λ (r : Bor (List Symbol)). r.now)) c.in-Some.is) ∙ c.right_of.ensures ∙ ap (option_map (λ (p : Production). p.right)) is in
+    let right_is : right ≡ production.right = cc in
     let whole = take_all c.loop-i.i (reverse right) (let len = length-reverse right in omega arith) in
     ap reverse (c.loop-i.invariant ∙ ap (λ (xs : List Symbol). old ++ xs) whole)
     ∙ reverse-append old (reverse right)

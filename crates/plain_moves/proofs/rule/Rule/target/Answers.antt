@@ -10,7 +10,7 @@ use Rattle.behaviour_semantics.specs.Rule.{is_exit}
 use Rattle.behaviour_semantics.specs.Shape.{Shape}
 use Rattle.plain_moves.specs.MoveView.{shaped_of}
 use Rattle.plain_moves.specs.Taken.{taken_of}
-use Rattle.plain_moves.specs.View.{behaviour_of, label_of}
+use Rattle.plain_moves.specs.View.{without_values, label_of}
 use Rattle.plain_moves.specs.declared.behaviour.PlainBehaviour.{PlainBehaviour}
 use Rattle.plain_moves.specs.declared.label.PlainLabel.{PlainLabel}
 use Rattle.plain_moves.specs.declared.label.PlainLabel.TheVariants as label
@@ -20,14 +20,20 @@ use Rattle.plain_moves.proofs.rule.Rule.target.Goals as goal
 
 -- the target of a left side of `>>`
 enabled_target : (signature : Signature) (shape : Shape) (l : PlainLabel) (target b : Behaviour) (right : PlainBehaviour) →
-    b ≡ (if is_exit (label_of l) then behaviour_of right else plain.enable target [] (behaviour_of right)) →
-    IfSome (below_enable signature [] (behaviour_of right) (record { shape = shape; move = record { label = label_of l; target = target; asked = []; sorts = [] } })) (λ x. x.move.target ≡ b)
+    b ≡ (if is_exit (label_of l) then without_values right else plain.enable target [] (without_values right)) →
+    IfSome (below_enable signature [] (without_values right) (record {
+      shape = shape;
+      move =
+          record { label = label_of l; target = target; asked = []; sorts = [] };
+    })) (λ x. x.move.target ≡ b)
 enabled_target signature shape label.Inner target b right e = sym e
 enabled_target signature shape (label.Gate gate) target b right e = sym e
 enabled_target signature shape label.Exit target b right e = same_with_values (binding_of [] []) right ∙ sym e
 
 pub returns-in-Enabling : goal.returns-in-Enabling
 returns-in-Enabling c =
-    IfOk-weaker c.after_enable.result _ _ (λ b e signature. subst (λ (r : Rule). IfSome (taken_of signature r (shaped_of c.args.part.now)) (λ x. x.move.target ≡ behaviour_of b)) (sym c.in-Enabling.is)
-    (enabled_target signature _ c.args.part.now.label (behaviour_of c.args.part.now.target) (behaviour_of b) c.in-Enabling.right.now (let same : behaviour_of c.in_ok-target.target ≡ behaviour_of c.args.part.now.target = c.in_ok-target.ensures in cc)))
+    IfOk-weaker c.after_enable.result _ _ (λ b e signature. subst (λ (r : Rule). IfSome
+    (taken_of signature r (shaped_of c.args.part.now)) (λ x. x.move.target ≡ without_values b)) (sym c.in-Enabling.is)
+    (enabled_target signature _ c.args.part.now.label (without_values c.args.part.now.target) (without_values b) c.in-Enabling.right.now
+    (let same : without_values c.in_ok-target.target ≡ without_values c.args.part.now.target = c.in_ok-target.ensures in cc)))
     c.after_enable.ensures

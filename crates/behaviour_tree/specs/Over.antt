@@ -1,0 +1,27 @@
+-- Specifications and states over a signature: the plain values are well formed, and each operation in a term has the
+-- profile that the signature gives it.
+use Rattle.std.specs.Prelude.{List}
+use Rattle.term_algebra.specs.Signature.{Signature}
+use Rattle.behaviour_semantics.specs.WellFormed.{Every, IsSpecification, IsClosedBehaviour}
+use Rattle.sort_terms.specs.ProfiledTerm.{ProfiledTerm, IsOf}
+use Rattle.behaviour_tree.specs.BehaviourTerms.{profiles_in}
+use Rattle.behaviour_tree.specs.DefinitionView.{specification_of}
+use Rattle.behaviour_tree.specs.StateView.{node_profiles, state_of}
+use Rattle.behaviour_tree.specs.declared.definitions.Process.{Process}
+use Rattle.behaviour_tree.specs.declared.definitions.Spec.{Spec}
+use Rattle.behaviour_tree.specs.declared.states.State.{State}
+
+-- The terms are of the signature, and so carry its profiles.
+abbrev pub AreTermsOf : Signature → List ProfiledTerm → Type 0
+AreTermsOf signature terms = Every (IsOf signature) terms
+
+-- The specification is well formed over the signature.
+pub record IsSpecOver (signature : Signature) (spec : Spec) : Type 0 where
+  pub well_formed : IsSpecification signature (specification_of spec)
+  pub body : AreTermsOf signature (profiles_in spec.body)
+  pub bodies : Every (λ (p : Process). AreTermsOf signature (profiles_in p.body)) spec.processes.items
+
+-- The state is of the specification: the closed behaviour that it stands for is well formed over it.
+pub record IsStateOf (signature : Signature) (spec : Spec) (state : State) : Type 0 where
+  pub closed : IsClosedBehaviour signature (specification_of spec) (state_of state)
+  pub terms : AreTermsOf signature (node_profiles state.node)

@@ -1,0 +1,10 @@
+-- How one shape stands to another.
+use Rattle.behaviour_semantics.specs.Shape.{Shape, Agree, Before}
+use Rattle.behaviour_tree.specs.declared.order.Standing.{Standing}
+use Rattle.behaviour_tree.specs.declared.order.Standing.TheVariants as standing
+
+-- What the answer says of two shapes: the first comes before the second, they agree, or neither.
+abbrev pub Tells : Standing → Shape → Shape → Type 0
+Tells standing.Before s t = Before s t
+Tells standing.Agreeing s t = Agree s t
+Tells standing.Otherwise s t = (Before s t → ⊥) × (Agree s t → ⊥)

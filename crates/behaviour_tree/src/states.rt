@@ -1,0 +1,156 @@
+//! States: closed behaviours that share the behaviours of the specification, with environments for
+//! their free variables.
+
+ghost use Rattle.behaviour_tree.specs.Closed.{IsClosedNode};
+ghost use Rattle.behaviour_tree.specs.StateView.{
+  environment_of,
+  node_profiles,
+  pair_profile,
+  stands_for,
+  state_of,
+};
+ghost use Rattle.std.specs.Prelude.{◌≡◌, IfOk, map};
+
+use crate::behaviours::{Beh, Meet};
+use crate::boxes::boxed;
+use crate::copies::{term_copies, variable_copies};
+use lotos_base::NoMemory;
+use sort_terms::{Sorted, Variable};
+use std::alloc::Global;
+
+/// A closed behaviour, or a part of one. The pairs of an environment are variables by their numbers
+/// with ground values.
+#[derive(Debug, Drop)]
+pub enum Node {
+    /// `stop`.
+    Stop,
+    /// A behaviour with values for its free variables.
+    Part(Box<Beh>, Vec<(u64, Sorted)>),
+    /// A call of a process.
+    Call {
+        /// The process.
+        process: u32,
+        /// The actual gates.
+        gates: Vec<u32>,
+        /// The actual values.
+        values: Vec<Sorted>,
+    },
+    /// `B |[..]| C`.
+    Parallel(Meet, Box<Node>, Box<Node>),
+    /// `hide .. in B`.
+    Hide(Vec<u32>, Box<Node>),
+    /// `B >> accept .. in C`, with values for the free variables of `C` other than the accepted.
+    Enable(Box<Node>, Vec<Variable>, Box<Beh>, Vec<(u64, Sorted)>),
+    /// `B [> C`.
+    Disable(Box<Node>, Box<Node>),
+    /// `B` under a relabelling: pairs of a formal and an actual gate, with distinct formal gates.
+    Relabel(Vec<(u32, u32)>, Box<Node>),
+}
+
+/// A state of a specification.
+#[derive(Debug, Drop)]
+pub struct State {
+    node: Node,
+}
+
+impl State {
+    /// The state that this node is.
+    pub fn of(node: Node) -> State
+        requires { IsClosedNode node }
+        ensures { result.node ≡ node }
+    {
+        State { node }
+    }
+
+    /// The node that the state is.
+    pub fn node(&self) -> &Node
+        ensures { result.now ≡ self.now.node }
+    {
+        &self.node
+    }
+
+    /// The same state.
+    pub fn copy(&self, alloc: Global) -> Result<State, NoMemory>
+        ensures same { IfOk result (λ s. state_of s ≡ state_of self.now) }
+        ensures terms { IfOk result (λ s. node_profiles s.node ≡ node_profiles self.now.node) }
+    {
+        Ok(State {
+            node: self.node.copy(alloc)?,
+        })
+    }
+}
+
+// The same pairs.
+fn environment_copy(
+    alloc: Global,
+    environment: &Vec<(u64, Sorted)>,
+) -> Result<Vec<(u64, Sorted)>, NoMemory>
+    ensures same { IfOk result (λ made. environment_of made.items
+        ≡ environment_of environment.now.items) }
+    ensures terms { IfOk result (λ made. map pair_profile made.items
+        ≡ map pair_profile environment.now.items) }
+{
+    let mut made = Vec::with_capacity(alloc, environment.len())?;
+    for pair in environment {
+        let value = pair.1.copy()?;
+        made.push((pair.0, value))?;
+    }
+    Ok(made)
+}
+
+impl Node {
+    /// The same node.
+    pub fn copy(&self, alloc: Global) -> Result<Node, NoMemory>
+        ensures same { IfOk result (λ n. stands_for n ≡ stands_for self.now) }
+        ensures terms { IfOk result (λ n. node_profiles n ≡ node_profiles self.now) }
+    {
+        match self {
+            Node::Stop => Ok(Node::Stop),
+            Node::Part(behaviour, environment) => {
+                let behaviour = boxed(alloc, behaviour.copy(alloc)?)?;
+                Ok(Node::Part(behaviour, environment_copy(alloc, environment)?))
+            }
+            Node::Call {
+                process,
+                gates,
+                values,
+            } => {
+                let gates = Vec::from_slice(alloc, gates)?;
+                let values = term_copies(alloc, values)?;
+                Ok(Node::Call {
+                    process: *process,
+                    gates,
+                    values,
+                })
+            }
+            Node::Parallel(meet, left, right) => {
+                let meet = meet.copy(alloc)?;
+                let left = boxed(alloc, left.copy(alloc)?)?;
+                Ok(Node::Parallel(meet, left, boxed(alloc, right.copy(alloc)?)?))
+            }
+            Node::Hide(gates, part) => {
+                let gates = Vec::from_slice(alloc, gates)?;
+                Ok(Node::Hide(gates, boxed(alloc, part.copy(alloc)?)?))
+            }
+            Node::Enable(left, variables, right, environment) => {
+                let left = boxed(alloc, left.copy(alloc)?)?;
+                let variables = variable_copies(alloc, variables)?;
+                let right = boxed(alloc, right.copy(alloc)?)?;
+                Ok(Node::Enable(
+                    left,
+                    variables,
+                    right,
+                    environment_copy(alloc, environment)?,
+                ))
+            }
+            Node::Disable(left, right) => {
+                let left = boxed(alloc, left.copy(alloc)?)?;
+                Ok(Node::Disable(left, boxed(alloc, right.copy(alloc)?)?))
+            }
+            Node::Relabel(pairs, part) => {
+                let pairs = Vec::from_slice(alloc, pairs)?;
+                Ok(Node::Relabel(pairs, boxed(alloc, part.copy(alloc)?)?))
+            }
+        }
+    }
+}

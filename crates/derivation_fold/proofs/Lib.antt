@@ -1,0 +1,5 @@
+pub mod Folding
+pub mod Running
+pub mod Values
+pub mod Stacks
+pub mod Steps

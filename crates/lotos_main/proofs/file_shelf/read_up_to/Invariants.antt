@@ -1,9 +1,0 @@
-use Rattle.std.proofs.Common.{length, vec_len, ◌-◌, ◌≤◌, ◌≡◌}
-use Rattle.lotos_main.proofs.file_shelf.read_up_to.Given as goal
-
--- what is read is within the limit
-abbrev pub invariant-loop-piece : goal.invariant-loop-piece
-invariant-loop-piece g l = (length l.into.items ≤ l.limit) × (vec_len l.into ≡ length l.into.items)
-
-abbrev pub decreases-loop-piece : goal.decreases-loop-piece
-decreases-loop-piece g l = l.limit - vec_len l.into

@@ -1,0 +1,12 @@
+pub mod Row
+pub mod NamesRows
+pub mod TermsRows
+pub mod TypesRows
+pub mod EquationsRows
+pub mod RenamingsRows
+pub mod BehavioursRows
+pub mod DefinitionsRows
+pub mod SpecificationRows
+pub mod StartsRows
+pub mod Rows
+pub mod Kept

@@ -1,0 +1,15 @@
+-- The number that the program ends with, for each way that a run ends.
+use Rattle.std.specs.Prelude.{ℕ}
+use Rattle.lotos_top.specs.declared.ended.Ended.{Ended}
+use Rattle.lotos_top.specs.declared.ended.Ended.TheVariants.{Done, SpecRefused, WordsRefused, FileFault, InputFault, OutputFault, NoMemory, InputTooLong}
+
+-- the status of the program
+abbrev pub status_number : Ended → ℕ
+status_number Done = 0
+status_number SpecRefused = 1
+status_number WordsRefused = 2
+status_number FileFault = 3
+status_number InputFault = 4
+status_number OutputFault = 5
+status_number NoMemory = 6
+status_number InputTooLong = 7

@@ -1,0 +1,13 @@
+use Rattle.std.proofs.Common.{◌≡◌, take}
+use Rattle.sort_terms.specs.TermView.{term_of, terms_of}
+use Rattle.term_algebra.specs.Term.{node}
+use Rattle.path_order.specs.ComparedView.{all_tables, tables_behind}
+use Rattle.path_order.specs.Comparison.{IsToldOf, all_compared}
+use Rattle.path_order.specs.PrecedenceView.{precedence_of}
+use Rattle.path_order.proofs.comparing.+over.Given as goal
+
+abbrev pub invariant-loop-position : goal.invariant-loop-position
+invariant-loop-position l =
+    IsToldOf (precedence_of l.precedence) (terms_of l.arguments.items) (term_of l.other) (tables_behind l.rows)
+    → all_tables l.below.items
+    ≡ all_compared (precedence_of l.precedence) (node l.op (terms_of l.arguments.items)) (terms_of (take l.position l.others.items))

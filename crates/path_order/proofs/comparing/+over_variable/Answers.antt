@@ -1,0 +1,27 @@
+use Rattle.std.proofs.Common.{◌≡◌, List, length, take, ap, ◌∙◌, arith}
+use Rattle.sort_terms.specs.TermView.{term_of, terms_of}
+use Rattle.sort_terms.specs.declared.terms.Term.{Term}
+use Rattle.term_algebra.specs.Term.{variable}
+use Rattle.path_order.specs.Comparison.{all_compared}
+use Rattle.path_order.specs.PrecedenceView.{precedence_of}
+use Rattle.path_order.proofs.CodeLemmas.{tables_more, variable_node, term_of-Node, take_whole}
+use Rattle.path_order.proofs.comparing.+over_variable.Goals as goal
+
+pub loop-argument-preserved : goal.loop-argument-preserved
+loop-argument-preserved t c =
+    tables_more (precedence_of c.args.precedence.now) (variable c.args.number c.args.sort) c.deref-argument-items.result.now
+    c.loop-argument.below.items c.push.new.self.items c.loop-argument.argument-index c.argument-item.result
+    c.in_ok-over_variable.field-0
+    c.loop-argument-test.true c.argument-item.is c.in_ok-push.ensures.items c.loop-argument.invariant c.in_ok-over_variable.ensures
+
+pub returns : goal.returns
+returns t c =
+    let p = precedence_of c.args.precedence.now in
+    let end : c.loop-argument.argument-index ≡ length c.deref-argument-items.result.now =
+    omega (arith, c.loop-argument-test.false, c.loop-argument.auto.argument-index-end) in
+    let whole : take c.loop-argument.argument-index c.deref-argument-items.result.now ≡ c.in-Node.arguments.items =
+    take_whole c.deref-argument-items.result.now c.loop-argument.argument-index end ∙ c.deref-argument-items.ensures.value in
+    variable_node p c.args.number c.args.sort c.in-Node.op (terms_of c.in-Node.arguments.items) c.loop-argument.below
+    (term_of c.args.other.now)
+    (ap term_of c.in-Node.is ∙ term_of-Node c.in-Node.op c.in-Node.profile c.in-Node.arguments)
+    (c.loop-argument.invariant ∙ ap (λ (xs : List Term). all_compared p (variable c.args.number c.args.sort) (terms_of xs)) whole)

@@ -1,0 +1,12 @@
+use Rattle.std.proofs.Common.{◌≡◌, take}
+use Rattle.sort_terms.specs.TermView.{terms_of}
+use Rattle.term_algebra.specs.Term.{variable}
+use Rattle.path_order.specs.ComparedView.{all_tables}
+use Rattle.path_order.specs.Comparison.{all_compared}
+use Rattle.path_order.specs.PrecedenceView.{precedence_of}
+use Rattle.path_order.proofs.comparing.+over_variable.Given as goal
+
+abbrev pub invariant-loop-argument : goal.invariant-loop-argument
+invariant-loop-argument l =
+    all_tables l.below.items ≡ all_compared (precedence_of l.precedence) (variable l.number l.sort)
+    (terms_of (take l.argument-index l.argument-items))

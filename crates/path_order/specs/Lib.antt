@@ -1,0 +1,3 @@
+pub mod PrecedenceView
+pub mod Comparison
+pub mod ComparedView

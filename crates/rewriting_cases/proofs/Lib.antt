@@ -1,0 +1,4 @@
+pub mod UnifyTests
+pub mod NumberingTests
+pub mod PairTests
+pub mod PairCaseLemmas

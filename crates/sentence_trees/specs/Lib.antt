@@ -1,0 +1,11 @@
+pub mod PartSentences
+pub mod NamesSentences
+pub mod TermsSentences
+pub mod EquationsSentences
+pub mod RenamingsSentences
+pub mod TypesSentences
+pub mod BehavioursSentences
+pub mod DefinitionsSentences
+pub mod StartsSentences
+pub mod Sentences
+pub mod Laws

@@ -1,0 +1,85 @@
+-- Lists of terms and what they stand for, member by member.
+use Rattle.std.proofs.Common.{◌≡◌, ℕ, zero, suc, ◌+◌, ◌<◌, List, [], ◌∷◌, ◌++◌, length, get_or, take, refl, ap, sym, ◌∙◌, subst, arith}
+use Rattle.std.proofs.lemmas.List.{take_more}
+use Rattle.term_algebra.specs.Term.{Term as PlainTerm, Terms, no_terms, term_then}
+use Rattle.term_algebra.specs.Sorting.{IsGround, AreGround}
+use Rattle.sort_terms.specs.ProfiledTerm.{ProfiledTerm, ProfiledTerms, no_profiled_terms, profiled_term_then}
+use Rattle.sort_terms.specs.TermView.{profiled_of, all_profiled, term_of, terms_of}
+use Rattle.sort_terms.specs.declared.terms.Term.{Term}
+
+-- one member more
+take_item : (xs : List Term) (i : ℕ) (x : Term) → i < length xs → x ≡ get_or xs i x
+    → take (i + 1) xs ≡ take i xs ++ x ∷ []
+take_item xs i x h e = take_more xs i x h ∙ ap (λ (y : Term). take i xs ++ y ∷ []) (sym e)
+
+AreGround-append : (xs : List Term) (x : Term) → AreGround (terms_of xs) → IsGround (term_of x)
+    → AreGround (terms_of (xs ++ x ∷ []))
+AreGround-append [] x h g = (g, tt)
+AreGround-append (y ∷ ys) x h g = (h.0, AreGround-append ys x h.1 g)
+
+pub ground_more : (xs : List Term) (i : ℕ) (x : Term) → i < length xs → x ≡ get_or xs i x
+    → AreGround (terms_of (take i xs)) → IsGround (term_of x) → AreGround (terms_of (take (i + 1) xs))
+ground_more xs i x h e all g =
+    subst (λ ys. AreGround (terms_of ys)) (sym (take_item xs i x h e)) (AreGround-append (take i xs) x all g)
+
+pub ground_at : (xs : List Term) (i : ℕ) (x : Term) → i < length xs → x ≡ get_or xs i x
+    → AreGround (terms_of xs) → IsGround (term_of x)
+ground_at [] i x h e all = absurd (omega arith)
+ground_at (y ∷ ys) zero x h e all = subst (λ (z : Term). IsGround (term_of z)) (sym e) all.0
+ground_at (y ∷ ys) (suc i) x h e all = ground_at ys i x (omega arith) e all.1
+
+pub same_length : (xs ys : List Term) → terms_of xs ≡ terms_of ys → length xs ≡ length ys
+same_length [] [] e = refl
+same_length [] (y ∷ ys) e = cc
+same_length (x ∷ xs) [] e = cc
+same_length (x ∷ xs) (y ∷ ys) e =
+    let rest : terms_of xs ≡ terms_of ys = cc in
+    ap (λ (n : ℕ). suc n) (same_length xs ys rest)
+
+pub same_at : (xs ys : List Term) (i : ℕ) (x y : Term) → i < length xs → x ≡ get_or xs i x
+    → y ≡ get_or ys i y → terms_of xs ≡ terms_of ys → term_of x ≡ term_of y
+same_at [] ys i x y h ex ey e = absurd (omega arith)
+same_at (x' ∷ xs) [] i x y h ex ey e = cc
+same_at (x' ∷ xs) (y' ∷ ys) zero x y h ex ey e =
+    let first : term_of x' ≡ term_of y' = cc in
+    ap term_of ex ∙ first ∙ sym (ap term_of ey)
+same_at (x' ∷ xs) (y' ∷ ys) (suc i) x y h ex ey e =
+    let rest : terms_of xs ≡ terms_of ys = cc in
+    same_at xs ys i x y (omega arith) ex ey rest
+
+-- one term more at the end
+abbrev pub with_last : Terms → PlainTerm → Terms
+with_last no_terms u = term_then u no_terms
+with_last (term_then t ts) u = term_then t (with_last ts u)
+
+pub terms_of-append : (xs : List Term) (x : Term) → terms_of (xs ++ x ∷ []) ≡ with_last (terms_of xs) (term_of x)
+terms_of-append [] x = refl
+terms_of-append (y ∷ ys) x = ap (λ ts. term_then (term_of y) ts) (terms_of-append ys x)
+
+pub same_more : (xs ys : List Term) (i : ℕ) (x y : Term) → i < length xs → i < length ys
+    → x ≡ get_or xs i x → y ≡ get_or ys i y → terms_of (take i xs) ≡ terms_of (take i ys)
+    → term_of x ≡ term_of y → terms_of (take (i + 1) xs) ≡ terms_of (take (i + 1) ys)
+same_more xs ys i x y hx hy ex ey e is =
+    ap terms_of (take_item xs i x hx ex) ∙ terms_of-append (take i xs) x
+    ∙ ap (λ (ts : Terms). with_last ts (term_of x)) e ∙ ap (λ (t : PlainTerm). with_last (terms_of (take i ys)) t) is
+    ∙ sym (ap terms_of (take_item ys i y hy ey) ∙ terms_of-append (take i ys) y)
+
+-- one term with profiles more at the end
+abbrev pub with_last_profiled : ProfiledTerms → ProfiledTerm → ProfiledTerms
+with_last_profiled no_profiled_terms u = profiled_term_then u no_profiled_terms
+with_last_profiled (profiled_term_then t ts) u = profiled_term_then t (with_last_profiled ts u)
+
+pub all_profiled-append : (xs : List Term) (x : Term)
+    → all_profiled (xs ++ x ∷ []) ≡ with_last_profiled (all_profiled xs) (profiled_of x)
+all_profiled-append [] x = refl
+all_profiled-append (y ∷ ys) x = ap (λ ts. profiled_term_then (profiled_of y) ts) (all_profiled-append ys x)
+
+-- a list that one more copy was added to
+pub copied_more : (xs made new : List Term) (i : ℕ) (x y : Term) → i < length xs → x ≡ get_or xs i x
+    → new ≡ made ++ y ∷ [] → all_profiled made ≡ all_profiled (take i xs) → profiled_of y ≡ profiled_of x
+    → all_profiled new ≡ all_profiled (take (i + 1) xs)
+copied_more xs made new i x y h e is so_far copy =
+    ap all_profiled is ∙ all_profiled-append made y
+    ∙ ap (λ (ts : ProfiledTerms). with_last_profiled ts (profiled_of y)) so_far
+    ∙ ap (λ (t : ProfiledTerm). with_last_profiled (all_profiled (take i xs)) t) copy
+    ∙ sym (ap all_profiled (take_item xs i x h e) ∙ all_profiled-append (take i xs) x)

@@ -1,0 +1,8 @@
+use Rattle.std.proofs.Common.{◌≡◌, ◌++◌, map, drop, length}
+use Rattle.sort_terms.specs.Operations.{sort_of}
+use Rattle.sort_terms.proofs.signatures.sort_copies.Given as goal
+
+abbrev pub invariant-loop-sort : goal.invariant-loop-sort
+invariant-loop-sort l =
+    (map sort_of l.made.items ++ map sort_of (drop l.sort-index l.sort-items) ≡ map sort_of l.sort-items)
+    × (length l.made.items ≡ l.sort-index)

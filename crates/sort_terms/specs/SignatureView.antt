@@ -1,0 +1,8 @@
+-- The signature that a signature of the code stands for.
+use Rattle.term_algebra.specs.Signature.{Signature as PlainSignature}
+use Rattle.sort_terms.specs.Operations.{signature_listing}
+use Rattle.sort_terms.specs.declared.signatures.Signature.{Signature}
+
+-- the signature
+abbrev pub signature_of : Signature → PlainSignature
+signature_of signature = signature_listing signature.sorts.items signature.ops.items

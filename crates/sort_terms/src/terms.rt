@@ -1,0 +1,140 @@
+//! Terms over the operations of a signature.
+
+ghost use Rattle.sort_terms.specs.ProfiledTerm.{head_sort};
+ghost use Rattle.sort_terms.specs.TermView.{all_profiled, profiled_of, term_of, terms_of};
+ghost use Rattle.std.specs.Prelude.{◌≡◌, ◌↔◌, IfOk, IsTrue};
+ghost use Rattle.term_algebra.specs.Sorting.{AreGround, IsGround};
+
+use crate::operations::Op;
+use lotos_base::NoMemory;
+use std::rc::Rc;
+
+/// A term.
+#[derive(Debug, Drop)]
+pub enum Term {
+    /// A variable.
+    Var {
+        /// Its number.
+        number: u64,
+        /// The number of its sort.
+        sort: u32,
+    },
+    /// An operation with its arguments.
+    Node {
+        /// The number of the operation in the signature.
+        op: u32,
+        /// The operation, shared by all terms that have it.
+        profile: Rc<Op>,
+        /// The arguments in order.
+        arguments: Vec<Term>,
+    },
+}
+
+impl Term {
+    /// The sort that the head of the term tells: that of the variable, or the result of the
+    /// operation.
+    pub fn sort(&self) -> u32
+        ensures { result ≡ head_sort (profiled_of self.now) }
+    {
+        match self {
+            Term::Var { sort, .. } => *sort,
+            Term::Node { profile, .. } => profile.result,
+        }
+    }
+
+    /// Whether the two terms are identical: variables of one number and sort, or operations of one
+    /// number with identical arguments.
+    #[cycle(identity)]
+    pub fn same(&self, other: &Term) -> bool
+        ensures { IsTrue result ↔ (term_of self.now ≡ term_of other.now) }
+    {
+        match (self, other) {
+            (Term::Var { number, sort }, Term::Var { number: n, sort: s }) => {
+                *number == *n && *sort == *s
+            }
+            (
+                Term::Node { op, arguments, .. },
+                Term::Node {
+                    op: f,
+                    arguments: others,
+                    ..
+                },
+            ) => *op == *f && all_same(arguments, others),
+            (Term::Var { .. }, Term::Node { .. }) | (Term::Node { .. }, Term::Var { .. }) => false,
+        }
+    }
+
+    /// Whether the term has no variable.
+    #[cycle(ground)]
+    pub fn is_ground(&self) -> bool
+        ensures { IsTrue result ↔ IsGround (term_of self.now) }
+    {
+        match self {
+            Term::Var { .. } => false,
+            Term::Node { arguments, .. } => are_ground(arguments),
+        }
+    }
+
+    /// The same term, with the same profiles.
+    #[cycle(copies)]
+    pub fn copy(&self) -> Result<Term, NoMemory>
+        ensures { IfOk result (λ t. profiled_of t ≡ profiled_of self.now) }
+    {
+        match self {
+            Term::Var { number, sort } => Ok(Term::Var {
+                number: *number,
+                sort: *sort,
+            }),
+            Term::Node {
+                op,
+                profile,
+                arguments,
+            } => Ok(Term::Node {
+                op: *op,
+                profile: profile.clone()?,
+                arguments: copies(arguments)?,
+            }),
+        }
+    }
+}
+
+// Whether the lists are identical.
+#[cycle(identity)]
+fn all_same(terms: &Vec<Term>, others: &Vec<Term>) -> bool
+    ensures { IsTrue result ↔ (terms_of terms.now.items ≡ terms_of others.now.items) }
+{
+    if terms.len() != others.len() {
+        return false;
+    }
+    for i in 0..terms.len() {
+        if !terms[i].same(&others[i]) {
+            return false;
+        }
+    }
+    true
+}
+
+// Whether no term of the list has a variable.
+#[cycle(ground)]
+fn are_ground(terms: &Vec<Term>) -> bool
+    ensures { IsTrue result ↔ AreGround (terms_of terms.now.items) }
+{
+    for term in terms {
+        if !term.is_ground() {
+            return false;
+        }
+    }
+    true
+}
+
+/// The same terms, with the same profiles.
+#[cycle(copies)]
+pub fn copies(terms: &Vec<Term>) -> Result<Vec<Term>, NoMemory>
+    ensures { IfOk result (λ ts. all_profiled ts.items ≡ all_profiled terms.now.items) }
+{
+    let mut made = Vec::with_capacity(*terms.allocator(), terms.len())?;
+    for term in terms {
+        made.push(term.copy()?)?;
+    }
+    Ok(made)
+}

@@ -1,0 +1,14 @@
+pub mod WrittenVariable
+pub mod WrittenEquation
+pub mod WrittenItem
+pub mod WrittenBehaviour
+pub mod WrittenDefinition
+pub mod TreeViews
+pub mod Strength
+pub mod Grouping
+pub mod Waiting
+pub mod LeftGrouping
+pub mod GroupingLaws
+pub mod NodePlaces
+pub mod Depth
+pub mod DepthExamples

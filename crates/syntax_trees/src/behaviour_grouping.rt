@@ -1,0 +1,69 @@
+//! Grouping of behaviours.
+
+ghost use Rattle.std.specs.Prelude.{◌≡◌, ◌+◌, IfOk, Some, length, map};
+ghost use Rattle.syntax_trees.specs.Grouping.{IsGrouped, grouped};
+ghost use Rattle.syntax_trees.specs.Strength.{PlacedSign, joined, strength_of};
+ghost use Rattle.syntax_trees.specs.TreeViews.{behaviour_of, placed_sign_of};
+ghost use Rattle.syntax_trees.specs.WrittenBehaviour.{WrittenBehaviour};
+
+use crate::behaviours::{BehForm, BehText, Sign};
+use crate::grouping::{Operand, group_operands};
+use lotos_base::Place;
+use std::alloc::{AllocError, Global};
+
+impl Operand for BehText {
+    type Sign = (Place, Sign);
+
+    ghost Plain = { WrittenBehaviour };
+
+    ghost PlainSign = { PlacedSign };
+
+    ghost plain = { behaviour_of };
+
+    ghost plain_sign = { placed_sign_of };
+
+    ghost binds = { strength_of };
+
+    ghost joined = { joined };
+
+    fn strength(sign: &(Place, Sign)) -> u8
+        ensures { result ≡ strength_of (placed_sign_of sign.now) }
+    {
+        match sign.1 {
+            Sign::Enable(_) => 0,
+            Sign::Disable => 1,
+            Sign::Interleave | Sign::Full | Sign::Gates(_) => 2,
+            Sign::Choice => 3,
+        }
+    }
+
+    fn join(
+        alloc: Global,
+        sign: (Place, Sign),
+        left: BehText,
+        right: BehText,
+    ) -> Result<BehText, AllocError>
+        ensures { IfOk result (λ tree. behaviour_of tree ≡ joined (placed_sign_of sign) (behaviour_of left) (behaviour_of right)) }
+    {
+        let form = BehForm::Binary(sign.1, Box::new(alloc, left)?, Box::new(alloc, right)?);
+        Ok(BehText {
+            place: sign.0,
+            form,
+        })
+    }
+}
+
+/// The behaviour of the operands with the signs between them. The list is split at its first sign of the weakest strength,
+/// and both parts are grouped likewise; from the weakest the signs are `>>`, `[>`, the parallel ones and `[]`
+/// (ISO 8807:1989, behaviour expressions). Nothing recurses. Only want of memory may come instead.
+pub fn group(
+    alloc: Global,
+    operands: Vec<BehText>,
+    signs: Vec<(Place, Sign)>,
+) -> Result<BehText, AllocError>
+    requires { length operands.items ≡ length signs.items + 1 }
+    ensures computed { IfOk result (λ tree. grouped strength_of joined (map behaviour_of operands.items) (map placed_sign_of signs.items) ≡ Some (behaviour_of tree)) }
+    ensures split { IfOk result (λ tree. IsGrouped strength_of joined (map behaviour_of operands.items) (map placed_sign_of signs.items) (behaviour_of tree)) }
+{
+    group_operands(alloc, operands, signs)
+}

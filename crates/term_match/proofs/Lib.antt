@@ -1,0 +1,5 @@
+pub mod InstanceLemmas
+pub mod PathLemmas
+pub mod DistinctLemmas
+pub mod SearchLemmas
+pub mod MatchLemmas

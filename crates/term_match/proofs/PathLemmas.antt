@@ -1,0 +1,269 @@
+-- Subterms and replacements in terms with profiles.
+use Rattle.std.proofs.Common.{◌≡◌, ℕ, zero, suc, ◌-◌, ◌<◌, ◌≤◌, List, [], ◌∷◌, length, get_or, take, drop, set, refl, ap, sym, ◌∙◌, subst, arith, rules, Vec, Global, Bor, ltb, ltb-true, ltb-false, Bool, true, false, nat_eq}
+use Rattle.std.specs.Prelude.{Option, Some, None, is_some, IfSome, if◌then◌else◌}
+use Rattle.std.specs.Option.{option_map, option_and_then}
+use Rattle.std.specs.declared.rc.Rc.{Rc}
+use Rattle.std.proofs.Math.Seq.{take-length}
+use Rattle.std.proofs.lemmas.Option.{same_Some}
+use Rattle.std.proofs.lemmas.Bool.Decides.{Decides-eqb}
+use Rattle.term_algebra.specs.Signature.{Signature, Operation}
+use Rattle.term_algebra.specs.Term.{Term as PlainTerm, node, term_then}
+use Rattle.term_algebra.specs.Path.{argument_at, with_argument, subterm, put_at}
+use Rattle.sort_terms.specs.Operations.{operation_of}
+use Rattle.sort_terms.specs.ProfiledTerm.{ProfiledTerm, ProfiledTerms, profiled_variable, profiled_node, no_profiled_terms, profiled_term_then, bare, all_bare, head_sort, FitsProfiles, FitArguments, IsOf, AreOf}
+use Rattle.sort_terms.specs.TermView.{profiled_of, all_profiled}
+use Rattle.sort_terms.specs.declared.operations.Op.{Op}
+use Rattle.sort_terms.specs.declared.terms.Term.{Term, Node, the_lemmas}
+use Rattle.term_match.specs.ProfiledPath.{profiled_argument_at, with_profiled_argument, profiled_subterm, profiled_put_at, replaced}
+
+-- ---- Without profiles
+
+argument_bare : (k : ℕ) (ts : ProfiledTerms) → option_map bare (profiled_argument_at k ts) ≡ argument_at k (all_bare ts)
+argument_bare k no_profiled_terms = refl
+argument_bare zero (profiled_term_then t ts) = refl
+argument_bare (suc k) (profiled_term_then t ts) = argument_bare k ts
+
+with_argument_bare : (k : ℕ) (part : ProfiledTerm) (ts : ProfiledTerms)
+    → all_bare (with_profiled_argument k part ts) ≡ with_argument k (bare part) (all_bare ts)
+with_argument_bare k part no_profiled_terms = refl
+with_argument_bare zero part (profiled_term_then t ts) = refl
+with_argument_bare (suc k) part (profiled_term_then t ts) = ap (λ us. term_then (bare t) us) (with_argument_bare k part ts)
+
+pub subterm_bare : (path : List ℕ) (t : ProfiledTerm) → option_map bare (profiled_subterm path t) ≡ subterm path (bare t)
+subterm_bare [] t = refl
+subterm_bare (k ∷ path) (profiled_variable n s) = refl
+subterm_bare (k ∷ path) (profiled_node f operation ts) =
+    go (profiled_argument_at k ts) (argument_at k (all_bare ts)) (argument_bare k ts) (λ t. subterm_bare path t)
+  where
+    go : (o : Option ProfiledTerm) (p : Option PlainTerm) → option_map bare o ≡ p
+        → ((t : ProfiledTerm) → option_map bare (profiled_subterm path t) ≡ subterm path (bare t))
+        → option_map bare (option_and_then (λ t. profiled_subterm path t) o) ≡ option_and_then (λ t. subterm path t) p
+    go None p e below = subst (λ (q : Option PlainTerm). None ≡ option_and_then (λ t. subterm path t) q) e refl
+    go (Some t) p e below =
+        subst (λ (q : Option PlainTerm). option_map bare (profiled_subterm path t) ≡ option_and_then (λ u. subterm path u) q) e (below t)
+
+pub put_bare : (path : List ℕ) (part t : ProfiledTerm)
+    → option_map bare (profiled_put_at path part t) ≡ put_at path (bare part) (bare t)
+put_bare [] part t = refl
+put_bare (k ∷ path) part (profiled_variable n s) = refl
+put_bare (k ∷ path) part (profiled_node f operation ts) =
+    go (profiled_argument_at k ts) (argument_at k (all_bare ts)) (argument_bare k ts) (λ t. put_bare path part t)
+  where
+    inner : (o : Option ProfiledTerm) (p : Option PlainTerm) → option_map bare o ≡ p
+        → option_map bare (option_map (λ t. profiled_node f operation (with_profiled_argument k t ts)) o)
+        ≡ option_map (λ t. node f (with_argument k t (all_bare ts))) p
+    inner None p e = subst (λ (q : Option PlainTerm). None ≡ option_map (λ t. node f (with_argument k t (all_bare ts))) q) e refl
+    inner (Some t) p e =
+        subst (λ (q : Option PlainTerm). Some (node f (all_bare (with_profiled_argument k t ts))) ≡ option_map
+        (λ u. node f (with_argument k u (all_bare ts))) q) e
+        (ap (λ us. Some (node f us)) (with_argument_bare k t ts))
+
+    go : (o : Option ProfiledTerm) (p : Option PlainTerm) → option_map bare o ≡ p
+        → ((t : ProfiledTerm) → option_map bare (profiled_put_at path part t) ≡ put_at path (bare part) (bare t))
+        → option_map bare (option_map (λ t. profiled_node f operation (with_profiled_argument k t ts))
+        (option_and_then (λ t. profiled_put_at path part t) o))
+        ≡ option_map (λ t. node f (with_argument k t (all_bare ts))) (option_and_then (λ t. put_at path (bare part) t) p)
+    go None p e below = subst (λ (q : Option PlainTerm). None ≡ option_map (λ t. node f (with_argument k t (all_bare ts)))
+        (option_and_then (λ t. put_at path (bare part) t) q)) e refl
+    go (Some t) p e below =
+        subst (λ (q : Option PlainTerm). option_map bare (option_map (λ u. profiled_node f operation (with_profiled_argument k u ts))
+        (profiled_put_at path part t))
+        ≡ option_map (λ u. node f (with_argument k u (all_bare ts))) (option_and_then (λ u. put_at path (bare part) u) q)) e
+        (inner (profiled_put_at path part t) (put_at path (bare part) (bare t)) (below t))
+
+-- ---- Signatures and profiles are kept
+
+argument_of : (signature : Signature) (k : ℕ) (ts : ProfiledTerms) (t : ProfiledTerm) → AreOf signature ts
+    → profiled_argument_at k ts ≡ Some t → IsOf signature t
+argument_of signature k no_profiled_terms t h e = cc
+argument_of signature zero (profiled_term_then u us) t h e = subst (λ (v : ProfiledTerm). IsOf signature v) (same_Some _ _ e) h.0
+argument_of signature (suc k) (profiled_term_then u us) t h e = argument_of signature k us t h.1 e
+
+argument_fits : (k : ℕ) (ts : ProfiledTerms) (sorts : List ℕ) (t : ProfiledTerm) → FitArguments ts sorts
+    → profiled_argument_at k ts ≡ Some t → FitsProfiles t
+argument_fits k no_profiled_terms sorts t h e = cc
+argument_fits k (profiled_term_then u us) [] t h e = absurd h
+argument_fits zero (profiled_term_then u us) (s ∷ ss) t h e = subst (λ (v : ProfiledTerm). FitsProfiles v) (same_Some _ _ e) h.1
+argument_fits (suc k) (profiled_term_then u us) (s ∷ ss) t h e = argument_fits k us ss t h.2 e
+
+-- what a step gives after a first one, taken apart
+pub and_then_some : {A B : Type 0} (f : A → Option B) (o : Option A) (y : B) → option_and_then f o ≡ Some y
+    → (x : A) × (o ≡ Some x) × (f x ≡ Some y)
+and_then_some f None y e = cc
+and_then_some f (Some x) y e = (x, refl, e)
+
+pub map_some : {A B : Type 0} (f : A → B) (o : Option A) (y : B) → option_map f o ≡ Some y → (x : A) × (o ≡ Some x) × (f x ≡ y)
+map_some f None y e = cc
+map_some f (Some x) y e = (x, refl, same_Some _ _ e)
+
+pub subterm_of : (signature : Signature) (path : List ℕ) (t part : ProfiledTerm) → IsOf signature t
+    → profiled_subterm path t ≡ Some part → IsOf signature part
+subterm_of signature [] t part h e = subst (λ (v : ProfiledTerm). IsOf signature v) (same_Some _ _ e) h
+subterm_of signature (k ∷ path) (profiled_variable n s) part h e = cc
+subterm_of signature (k ∷ path) (profiled_node f operation ts) part h e =
+    let found = and_then_some (λ t. profiled_subterm path t) (profiled_argument_at k ts) part e in
+    subterm_of signature path found.0 part (argument_of signature k ts found.0 h.1 found.1) found.2
+
+pub subterm_fits : (path : List ℕ) (t part : ProfiledTerm) → FitsProfiles t → profiled_subterm path t ≡ Some part → FitsProfiles part
+subterm_fits [] t part h e = subst (λ (v : ProfiledTerm). FitsProfiles v) (same_Some _ _ e) h
+subterm_fits (k ∷ path) (profiled_variable n s) part h e = cc
+subterm_fits (k ∷ path) (profiled_node f operation ts) part h e =
+    let found = and_then_some (λ t. profiled_subterm path t) (profiled_argument_at k ts) part e in
+    subterm_fits path found.0 part (argument_fits k ts operation.arguments found.0 h found.1) found.2
+
+with_argument_of : (signature : Signature) (k : ℕ) (part : ProfiledTerm) (ts : ProfiledTerms) → AreOf signature ts
+    → IsOf signature part → AreOf signature (with_profiled_argument k part ts)
+with_argument_of signature k part no_profiled_terms h p = tt
+with_argument_of signature zero part (profiled_term_then t ts) h p = (p, h.1)
+with_argument_of signature (suc k) part (profiled_term_then t ts) h p = (h.0, with_argument_of signature k part ts h.1 p)
+
+pub put_of : (signature : Signature) (path : List ℕ) (part t whole : ProfiledTerm) → IsOf signature t
+    → IsOf signature part → profiled_put_at path part t ≡ Some whole → IsOf signature whole
+put_of signature [] part t whole h p e = subst (λ (v : ProfiledTerm). IsOf signature v) (same_Some _ _ e) p
+put_of signature (k ∷ path) part (profiled_variable n s) whole h p e = cc
+put_of signature (k ∷ path) part (profiled_node f operation ts) whole h p e =
+    let made = map_some (λ t. profiled_node f operation (with_profiled_argument k t ts))
+    (option_and_then (λ t. profiled_put_at path part t) (profiled_argument_at k ts)) whole e in
+    let found = and_then_some (λ t. profiled_put_at path part t) (profiled_argument_at k ts) made.0 made.1 in
+    subst (λ (v : ProfiledTerm). IsOf signature v) made.2 (
+      h.0,
+      with_argument_of signature k made.0 ts h.1 (put_of signature path part found.0 made.0
+          (argument_of signature k ts found.0 h.1 found.1) p found.2),
+    )
+
+with_argument_fits : (k : ℕ) (old part : ProfiledTerm) (ts : ProfiledTerms) (sorts : List ℕ) → FitArguments ts sorts
+    → profiled_argument_at k ts ≡ Some old → head_sort part ≡ head_sort old → FitsProfiles part
+    → FitArguments (with_profiled_argument k part ts) sorts
+with_argument_fits k old part no_profiled_terms sorts h e same p = h
+with_argument_fits k old part (profiled_term_then t ts) [] h e same p = absurd h
+with_argument_fits zero old part (profiled_term_then t ts) (s ∷ ss) h e same p =
+    (same ∙ ap head_sort (sym (same_Some _ _ e)) ∙ h.0, p, h.2)
+with_argument_fits (suc k) old part (profiled_term_then t ts) (s ∷ ss) h e same p =
+    (h.0, h.1, with_argument_fits k old part ts ss h.2 e same p)
+
+-- a part of the same sort keeps the sort, and each operation its arguments
+pub put_fits : (path : List ℕ) (part t old whole : ProfiledTerm) → FitsProfiles t → FitsProfiles part
+    → profiled_subterm path t ≡ Some old → head_sort part ≡ head_sort old → profiled_put_at path part t ≡ Some whole
+    → FitsProfiles whole × (head_sort whole ≡ head_sort t)
+put_fits [] part t old whole h p found same e = (
+  subst (λ (v : ProfiledTerm). FitsProfiles v) (same_Some _ _ e) p,
+  ap head_sort (sym (same_Some _ _ e)) ∙ same ∙ ap head_sort (sym (same_Some _ _ found)),
+)
+put_fits (k ∷ path) part (profiled_variable n s) old whole h p found same e = cc
+put_fits (k ∷ path) part (profiled_node f operation ts) old whole h p found same e =
+    let made = map_some (λ t. profiled_node f operation (with_profiled_argument k t ts))
+    (option_and_then (λ t. profiled_put_at path part t) (profiled_argument_at k ts)) whole e in
+    let into = and_then_some (λ t. profiled_put_at path part t) (profiled_argument_at k ts) made.0 made.1 in
+    let under = and_then_some (λ t. profiled_subterm path t) (profiled_argument_at k ts) old found in
+    let one : under.0 ≡ into.0 = same_Some _ _ (sym under.1 ∙ into.1) in
+    let there : profiled_subterm path into.0 ≡ Some old = subst (λ (v : ProfiledTerm). profiled_subterm path v ≡ Some old) one under.2 in
+    let below = put_fits path part into.0 old made.0 (argument_fits k ts operation.arguments into.0 h into.1) p there same into.2 in (
+      subst (λ (v : ProfiledTerm). FitsProfiles v) made.2 (with_argument_fits k into.0 made.0 ts operation.arguments h into.1 below.1
+          below.0),
+      ap head_sort (sym made.2),
+    )
+
+-- ---- Lists of the code
+
+-- a node stands for the operation on what its arguments stand for
+pub profiled_of-Node : (f : ℕ) (profile : Rc Op Global) (ts : Vec Term Global)
+    → profiled_of (Node f profile ts) ≡ profiled_node f (operation_of profile.value) (all_profiled ts.items)
+profiled_of-Node f profile ts = search (rules, the_lemmas)
+
+pub all_profiled-set : (xs : List Term) (i : ℕ) (y : Term)
+    → all_profiled (set xs i y) ≡ with_profiled_argument i (profiled_of y) (all_profiled xs)
+all_profiled-set [] i y = refl
+all_profiled-set (x ∷ xs) zero y = refl
+all_profiled-set (x ∷ xs) (suc i) y = ap (λ ts. profiled_term_then (profiled_of x) ts) (all_profiled-set xs i y)
+
+pub profiled_length : (xs ys : List Term) → all_profiled xs ≡ all_profiled ys → length xs ≡ length ys
+profiled_length [] [] e = refl
+profiled_length [] (y ∷ ys) e = cc
+profiled_length (x ∷ xs) [] e = cc
+profiled_length (x ∷ xs) (y ∷ ys) e =
+    let rest : all_profiled xs ≡ all_profiled ys = cc in
+    ap (λ (n : ℕ). suc n) (profiled_length xs ys rest)
+
+argument_within : (xs : List Term) (i : ℕ) (x : Term) → i < length xs → x ≡ get_or xs i x
+    → profiled_argument_at i (all_profiled xs) ≡ Some (profiled_of x)
+argument_within [] i x h e = absurd (omega arith)
+argument_within (y ∷ ys) zero x h e = ap (λ (z : Term). Some (profiled_of z)) (sym e)
+argument_within (y ∷ ys) (suc i) x h e = argument_within ys i x (omega arith) e
+
+argument_past : (xs : List Term) (i : ℕ) → length xs ≤ i → profiled_argument_at i (all_profiled xs) ≡ None
+argument_past [] i h = refl
+argument_past (y ∷ ys) zero h = absurd (omega arith)
+argument_past (y ∷ ys) (suc i) h = argument_past ys i (omega arith)
+
+some_or_none : (o : Option ProfiledTerm) → option_and_then (λ (t : ProfiledTerm). Some t) o ≡ o
+some_or_none None = refl
+some_or_none (Some t) = refl
+
+-- what a look-up in the arguments gives is the subterm at that position
+pub argument_found : (f : ℕ) (operation : Operation) (xs : List Term) (i : ℕ) (r : Option (Bor Term))
+    → is_some r ≡ ltb i (length xs) → IfSome r (λ x. x.now ≡ get_or xs i x.now)
+    → option_map (λ t. profiled_of t.now) r ≡ profiled_subterm (i ∷ []) (profiled_node f operation (all_profiled xs))
+argument_found f operation xs i None some is =
+    sym (some_or_none (profiled_argument_at i (all_profiled xs)) ∙ argument_past xs i (ltb-false i (length xs) (sym some)))
+argument_found f operation xs i (Some x) some is =
+    sym (some_or_none (profiled_argument_at i (all_profiled xs)) ∙ argument_within xs i x.now (ltb-true i (length xs) (sym some)) is)
+
+-- a path with a first position
+path_parts : (path : List ℕ) → 1 ≤ length path → path ≡ get_or path 0 0 ∷ take (length path - 1) (drop 1 path)
+path_parts [] h = absurd (omega arith)
+path_parts (k ∷ rest) h =
+    let shorter : suc (length rest) - 1 ≡ length rest = omega arith in
+    ap (λ ks. k ∷ ks) (sym (ap (λ (n : ℕ). take n rest) shorter ∙ take-length rest))
+
+no_put : (k : ℕ) (rest : List ℕ) (part : ProfiledTerm) (f : ℕ) (operation : Operation) (ts : ProfiledTerms)
+    → profiled_argument_at k ts ≡ None
+    → None ≡ profiled_put_at (k ∷ rest) part (profiled_node f operation ts)
+no_put k rest part f operation ts none = rw none refl
+
+put_found : (k : ℕ) (rest : List ℕ) (part : ProfiledTerm) (f : ℕ) (operation : Operation) (ts : ProfiledTerms) (a : ProfiledTerm)
+    (o : Option ProfiledTerm)
+    → profiled_argument_at k ts ≡ Some a → o ≡ profiled_put_at rest part a
+    → option_map (λ (t : ProfiledTerm). profiled_node f operation (with_profiled_argument k t ts)) o
+    ≡ profiled_put_at (k ∷ rest) part (profiled_node f operation ts)
+put_found k rest part f operation ts a o found is =
+    rw found (ap (option_map (λ (t : ProfiledTerm). profiled_node f operation (with_profiled_argument k t ts))) is)
+
+-- there is no argument at the first position
+pub no_put_past : (path : List ℕ) (part : ProfiledTerm) (f : ℕ) (operation : Operation) (xs : List Term) → 1 ≤ length path
+    → length xs ≤ get_or path 0 0 → None ≡ profiled_put_at path part (profiled_node f operation (all_profiled xs))
+no_put_past path part f operation xs h past =
+    subst (λ (p : List ℕ). None ≡ profiled_put_at p part (profiled_node f operation (all_profiled xs))) (sym (path_parts path h))
+    (no_put (get_or path 0 0) (take (length path - 1) (drop 1 path)) part f operation (all_profiled xs)
+    (argument_past xs (get_or path 0 0) past))
+
+-- what is put into the argument at the first position
+pub put_into_argument : (path : List ℕ) (part : ProfiledTerm) (f : ℕ) (operation : Operation) (xs : List Term) (x : Term)
+    (o : Option ProfiledTerm)
+    → 1 ≤ length path → get_or path 0 0 < length xs → x ≡ get_or xs (get_or path 0 0) x
+    → o ≡ profiled_put_at (take (length path - 1) (drop 1 path)) part (profiled_of x)
+    → option_map (λ (t : ProfiledTerm). profiled_node f operation (with_profiled_argument (get_or path 0 0) t (all_profiled xs))) o
+    ≡ profiled_put_at path part (profiled_node f operation (all_profiled xs))
+put_into_argument path part f operation xs x o h within is found =
+    subst (λ (p : List ℕ). option_map (λ (t : ProfiledTerm). profiled_node f operation
+    (with_profiled_argument (get_or path 0 0) t (all_profiled xs))) o
+    ≡ profiled_put_at p part (profiled_node f operation (all_profiled xs))) (sym (path_parts path h))
+    (put_found (get_or path 0 0) (take (length path - 1) (drop 1 path)) part f operation (all_profiled xs) (profiled_of x) o
+    (argument_within xs (get_or path 0 0) x within is) found)
+
+-- ---- Where sorts differ nothing is put, and where they agree what the path leads to
+
+pub not_replaced : (path : List ℕ) (part t old : ProfiledTerm) → profiled_subterm path t ≡ Some old
+    → (head_sort old ≡ head_sort part → ⊥) → None ≡ replaced path part t
+not_replaced path part t old found differ = rw found (go (nat_eq (head_sort old) (head_sort part)) refl)
+  where
+    go : (b : Bool) → nat_eq (head_sort old) (head_sort part) ≡ b → None ≡ (if b then profiled_put_at path part t else None)
+    go true e = absurd (differ ((Decides-eqb (head_sort old) (head_sort part)).0 e))
+    go false e = refl
+
+pub replaced_at : (path : List ℕ) (part t old : ProfiledTerm) → profiled_subterm path t ≡ Some old
+    → head_sort old ≡ head_sort part → profiled_put_at path part t ≡ replaced path part t
+replaced_at path part t old found same =
+    rw (found, (Decides-eqb (head_sort old) (head_sort part)).1 same) refl
+
+pub not_replaced_past : (path : List ℕ) (part t : ProfiledTerm) → profiled_subterm path t ≡ None → None ≡ replaced path part t
+not_replaced_past path part t found = rw found refl

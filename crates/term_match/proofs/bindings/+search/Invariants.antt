@@ -1,0 +1,10 @@
+use Rattle.std.proofs.Common.{◌≡◌, drop}
+use Rattle.sort_terms.specs.TermView.{all_profiled}
+use Rattle.term_match.specs.FoundView.{found_pairs}
+use Rattle.term_match.specs.Search.{all_searched}
+use Rattle.term_match.proofs.bindings.+search.Given as goal
+
+abbrev pub invariant-search_all-loop-i : goal.invariant-search_all-loop-i
+invariant-search_all-loop-i l =
+    all_searched (all_profiled l.patterns.items) (all_profiled l.terms.items) (found_pairs l.fn.found.items)
+    ≡ all_searched (all_profiled (drop l.i l.patterns.items)) (all_profiled (drop l.i l.terms.items)) (found_pairs l.found.items)

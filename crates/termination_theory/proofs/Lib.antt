@@ -1,0 +1,14 @@
+pub mod Accessible
+pub mod Closure
+pub mod StrictLemmas
+pub mod OrderTestLemmas
+pub mod PlaceLemmas
+pub mod OrderLemmas
+pub mod Maximum
+pub mod TerminationLemmas
+pub mod OrientationLemmas
+pub mod CaseLemmas
+pub mod ChosenCanonLemmas
+pub mod CaseTests
+pub mod OrientationCaseLemmas
+pub mod AdditionLemmas

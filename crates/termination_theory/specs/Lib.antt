@@ -1,0 +1,12 @@
+pub mod Precedence
+pub mod PathOrder
+pub mod OrderFamily
+pub mod OrderTest
+pub mod OrderLaws
+pub mod Orientation
+pub mod OrientationLaws
+pub mod Termination
+pub mod ChosenCanonLaws
+pub mod OrderCases
+pub mod OrientationCases
+pub mod CanonCases

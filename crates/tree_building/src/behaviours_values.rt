@@ -1,0 +1,269 @@
+//! What the parts of behaviours are built into. Lists are held from the last member to the first
+//! until they enter a tree.
+
+ghost use Rattle.std.specs.Prelude.{◌≡◌, List, MatchResult, None, Some};
+ghost use Rattle.lotos_base.specs.WrittenTerm.{WrittenTerm};
+ghost use Rattle.syntax_trees.specs.WrittenVariable.{WrittenVariable};
+ghost use Rattle.syntax_trees.specs.WrittenBehaviour.{WrittenBehaviour, WrittenExitValue, WrittenGateChoice, WrittenOffer};
+ghost use Rattle.syntax_trees.specs.Strength.{PlacedSign};
+ghost use Rattle.syntax_trees.specs.TreeViews.{offer_of, exit_value_of, gate_choice_of, behaviour_of, placed_sign_of};
+ghost use Rattle.derivation_fold.specs.Run.{from_last};
+ghost use Rattle.tree_building.specs.Meaning.{PlainActionEnd, PlainCallEnd, PlainFlat, PlainGateChoiceEnd, PlainValueChoiceEnd};
+ghost use Rattle.tree_building.specs.MeaningView.{meaning};
+ghost use Rattle.tree_building.specs.Parts.{operands_in, action_in, call_in, offers_in, exit_values_in, lets_in, gate_choices_in, value_choice_in, gate_choice_in, behaviour_in, sign_in};
+ghost use Rattle.tree_building.specs.BehavioursViews.{action_end_of, call_end_of, flat_of, gate_choice_end_of, let_of, value_choice_end_of};
+
+use crate::value::{Part, Value};
+use lotos_base::{Place, Written};
+use syntax_trees::{BehText, ExitText, GateText, Named, OfferText, Sign, TestText, VarText};
+
+/// A flat list of behaviours with the signs between them, each from the last to the first.
+#[derive(Debug, Drop)]
+pub struct Flat {
+    /// The operands.
+    pub operands: Vec<BehText>,
+    /// The signs.
+    pub signs: Vec<(Place, Sign)>,
+}
+
+/// An action that lacks its gate, and the flat list behind it.
+#[derive(Debug, Drop)]
+pub struct ActionEnd {
+    /// The offers, from the last to the first.
+    pub offers: Vec<OfferText>,
+    /// The selection predicate.
+    pub test: Option<TestText>,
+    /// The flat list.
+    pub behind: Flat,
+}
+
+/// A call that lacks its name, and the tail of the flat list that it begins.
+#[derive(Debug, Drop)]
+pub struct CallEnd {
+    /// The gates, from the last to the first.
+    pub gates: Vec<Named>,
+    /// The values, from the last to the first.
+    pub values: Vec<Written>,
+    /// The tail.
+    pub behind: Flat,
+}
+
+/// A choice of values that lacks its first names.
+#[derive(Debug, Drop)]
+pub struct ValueChoiceEnd {
+    /// The sort of the first names.
+    pub sort: Named,
+    /// Further variables, from the last to the first.
+    pub more: Vec<VarText>,
+    /// The behaviour.
+    pub inside: BehText,
+}
+
+/// A choice of gates that lacks its first names.
+#[derive(Debug, Drop)]
+pub struct GateChoiceEnd {
+    /// The gates that the first names stand for, from the last to the first.
+    pub among: Vec<Named>,
+    /// Further declarations, from the last to the first.
+    pub more: Vec<GateText>,
+    /// The behaviour.
+    pub inside: BehText,
+}
+
+/// A flat list of operands and signs, or its tail.
+impl Part for Flat {
+    ghost Plain = { PlainFlat };
+
+    ghost plain = { λ x. flat_of x };
+
+    ghost found = { operands_in };
+
+    fn of(value: Value) -> Result<Self, Value>
+        ensures { MatchResult result (λ x. operands_in (meaning value) ≡ Some (flat_of x)) (λ other. (operands_in (meaning value) ≡ None) × (other ≡ value)) }
+    {
+        match value {
+            Value::Operands(value) => Ok(value),
+            other => Err(other),
+        }
+    }
+}
+
+/// An action without its gate, before a flat list.
+impl Part for ActionEnd {
+    ghost Plain = { PlainActionEnd };
+
+    ghost plain = { λ x. action_end_of x };
+
+    ghost found = { action_in };
+
+    fn of(value: Value) -> Result<Self, Value>
+        ensures { MatchResult result (λ x. action_in (meaning value) ≡ Some (action_end_of x)) (λ other. (action_in (meaning value) ≡ None) × (other ≡ value)) }
+    {
+        match value {
+            Value::Action(value) => Ok(value),
+            other => Err(other),
+        }
+    }
+}
+
+/// A call without its name, before the tail of a flat list.
+impl Part for CallEnd {
+    ghost Plain = { PlainCallEnd };
+
+    ghost plain = { λ x. call_end_of x };
+
+    ghost found = { call_in };
+
+    fn of(value: Value) -> Result<Self, Value>
+        ensures { MatchResult result (λ x. call_in (meaning value) ≡ Some (call_end_of x)) (λ other. (call_in (meaning value) ≡ None) × (other ≡ value)) }
+    {
+        match value {
+            Value::Call(value) => Ok(value),
+            other => Err(other),
+        }
+    }
+}
+
+/// Offers.
+impl Part for Vec<OfferText> {
+    ghost Plain = { List WrittenOffer };
+
+    ghost plain = { λ x. from_last offer_of x.items };
+
+    ghost found = { offers_in };
+
+    fn of(value: Value) -> Result<Self, Value>
+        ensures { MatchResult result (λ x. offers_in (meaning value) ≡ Some (from_last offer_of x.items)) (λ other. (offers_in (meaning value) ≡ None) × (other ≡ value)) }
+    {
+        match value {
+            Value::Offers(value) => Ok(value),
+            other => Err(other),
+        }
+    }
+}
+
+/// Values of `exit`.
+impl Part for Vec<ExitText> {
+    ghost Plain = { List WrittenExitValue };
+
+    ghost plain = { λ x. from_last exit_value_of x.items };
+
+    ghost found = { exit_values_in };
+
+    fn of(value: Value) -> Result<Self, Value>
+        ensures { MatchResult result (λ x. exit_values_in (meaning value) ≡ Some (from_last exit_value_of x.items)) (λ other. (exit_values_in (meaning value) ≡ None) × (other ≡ value)) }
+    {
+        match value {
+            Value::ExitValues(value) => Ok(value),
+            other => Err(other),
+        }
+    }
+}
+
+/// Declarations of a `let`.
+impl Part for Vec<(VarText, Written)> {
+    ghost Plain = { List (WrittenVariable × WrittenTerm) };
+
+    ghost plain = { λ x. from_last let_of x.items };
+
+    ghost found = { lets_in };
+
+    fn of(value: Value) -> Result<Self, Value>
+        ensures { MatchResult result (λ x. lets_in (meaning value) ≡ Some (from_last let_of x.items)) (λ other. (lets_in (meaning value) ≡ None) × (other ≡ value)) }
+    {
+        match value {
+            Value::Lets(value) => Ok(value),
+            other => Err(other),
+        }
+    }
+}
+
+/// Gates that are declared.
+impl Part for Vec<GateText> {
+    ghost Plain = { List WrittenGateChoice };
+
+    ghost plain = { λ x. from_last gate_choice_of x.items };
+
+    ghost found = { gate_choices_in };
+
+    fn of(value: Value) -> Result<Self, Value>
+        ensures { MatchResult result (λ x. gate_choices_in (meaning value) ≡ Some (from_last gate_choice_of x.items)) (λ other. (gate_choices_in (meaning value) ≡ None) × (other ≡ value)) }
+    {
+        match value {
+            Value::GateChoices(value) => Ok(value),
+            other => Err(other),
+        }
+    }
+}
+
+/// A choice of values without its first names.
+impl Part for ValueChoiceEnd {
+    ghost Plain = { PlainValueChoiceEnd };
+
+    ghost plain = { λ x. value_choice_end_of x };
+
+    ghost found = { value_choice_in };
+
+    fn of(value: Value) -> Result<Self, Value>
+        ensures { MatchResult result (λ x. value_choice_in (meaning value) ≡ Some (value_choice_end_of x)) (λ other. (value_choice_in (meaning value) ≡ None) × (other ≡ value)) }
+    {
+        match value {
+            Value::ValueChoice(value) => Ok(value),
+            other => Err(other),
+        }
+    }
+}
+
+/// A choice of gates without its first names.
+impl Part for GateChoiceEnd {
+    ghost Plain = { PlainGateChoiceEnd };
+
+    ghost plain = { λ x. gate_choice_end_of x };
+
+    ghost found = { gate_choice_in };
+
+    fn of(value: Value) -> Result<Self, Value>
+        ensures { MatchResult result (λ x. gate_choice_in (meaning value) ≡ Some (gate_choice_end_of x)) (λ other. (gate_choice_in (meaning value) ≡ None) × (other ≡ value)) }
+    {
+        match value {
+            Value::GateChoice(value) => Ok(value),
+            other => Err(other),
+        }
+    }
+}
+
+/// A behaviour.
+impl Part for BehText {
+    ghost Plain = { WrittenBehaviour };
+
+    ghost plain = { λ x. behaviour_of x };
+
+    ghost found = { behaviour_in };
+
+    fn of(value: Value) -> Result<Self, Value>
+        ensures { MatchResult result (λ x. behaviour_in (meaning value) ≡ Some (behaviour_of x)) (λ other. (behaviour_in (meaning value) ≡ None) × (other ≡ value)) }
+    {
+        match value {
+            Value::Behaviour(value) => Ok(value),
+            other => Err(other),
+        }
+    }
+}
+
+/// A sign.
+impl Part for (Place, Sign) {
+    ghost Plain = { PlacedSign };
+
+    ghost plain = { λ x. placed_sign_of x };
+
+    ghost found = { sign_in };
+
+    fn of(value: Value) -> Result<Self, Value>
+        ensures { MatchResult result (λ x. sign_in (meaning value) ≡ Some (placed_sign_of x)) (λ other. (sign_in (meaning value) ≡ None) × (other ≡ value)) }
+    {
+        match value {
+            Value::Sign(value) => Ok(value),
+            other => Err(other),
+        }
+    }
+}

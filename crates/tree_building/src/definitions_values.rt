@@ -1,0 +1,102 @@
+//! What the parts of definitions of processes and headings are built into. Lists are held from the last member to the first
+//! until they enter a tree.
+
+ghost use Rattle.std.specs.Prelude.{◌≡◌, List, MatchResult, None, Option, Some, option_map};
+ghost use Rattle.lotos_base.specs.WrittenTerm.{PlacedName};
+ghost use Rattle.syntax_trees.specs.WrittenDefinition.{WrittenHeading, WrittenInner};
+ghost use Rattle.syntax_trees.specs.TreeViews.{inner_of, process_of};
+ghost use Rattle.derivation_fold.specs.Run.{from_last};
+ghost use Rattle.tree_building.specs.MeaningView.{meaning};
+ghost use Rattle.tree_building.specs.Parts.{heading_in, functionality_in, inner_in, process_in};
+ghost use Rattle.tree_building.specs.DefinitionsViews.{plain_heading_of, sorts_of};
+
+use crate::value::{Part, Value};
+use lotos_base::{Name, Place};
+use syntax_trees::{InnerText, Named, ProcessText, VarText};
+
+/// What stands before the body of a specification or a process, in text order.
+#[derive(Debug, Drop)]
+pub struct Heading {
+    /// The place of the name.
+    pub place: Place,
+    /// The name.
+    pub name: Name,
+    /// The formal gates.
+    pub gates: Vec<Named>,
+    /// The formal parameters.
+    pub params: Vec<VarText>,
+    /// The sorts of `exit`, or none for `noexit`.
+    pub func: Option<Vec<Named>>,
+}
+
+/// What stands before a body.
+impl Part for Heading {
+    ghost Plain = { WrittenHeading };
+
+    ghost plain = { λ x. plain_heading_of x };
+
+    ghost found = { heading_in };
+
+    fn of(value: Value) -> Result<Self, Value>
+        ensures { MatchResult result (λ x. heading_in (meaning value) ≡ Some (plain_heading_of x)) (λ other. (heading_in (meaning value) ≡ None) × (other ≡ value)) }
+    {
+        match value {
+            Value::Heading(value) => Ok(value),
+            other => Err(other),
+        }
+    }
+}
+
+/// A functionality.
+impl Part for Option<Vec<Named>> {
+    ghost Plain = { Option (List PlacedName) };
+
+    ghost plain = { λ x. option_map sorts_of x };
+
+    ghost found = { functionality_in };
+
+    fn of(value: Value) -> Result<Self, Value>
+        ensures { MatchResult result (λ x. functionality_in (meaning value) ≡ Some (option_map sorts_of x)) (λ other. (functionality_in (meaning value) ≡ None) × (other ≡ value)) }
+    {
+        match value {
+            Value::Functionality(value) => Ok(value),
+            other => Err(other),
+        }
+    }
+}
+
+/// What a `where` declares.
+impl Part for Vec<InnerText> {
+    ghost Plain = { List WrittenInner };
+
+    ghost plain = { λ x. from_last inner_of x.items };
+
+    ghost found = { inner_in };
+
+    fn of(value: Value) -> Result<Self, Value>
+        ensures { MatchResult result (λ x. inner_in (meaning value) ≡ Some (from_last inner_of x.items)) (λ other. (inner_in (meaning value) ≡ None) × (other ≡ value)) }
+    {
+        match value {
+            Value::Inner(value) => Ok(value),
+            other => Err(other),
+        }
+    }
+}
+
+/// A process.
+impl Part for ProcessText {
+    ghost Plain = { WrittenInner };
+
+    ghost plain = { λ x. process_of x };
+
+    ghost found = { process_in };
+
+    fn of(value: Value) -> Result<Self, Value>
+        ensures { MatchResult result (λ x. process_in (meaning value) ≡ Some (process_of x)) (λ other. (process_in (meaning value) ≡ None) × (other ≡ value)) }
+    {
+        match value {
+            Value::Process(value) => Ok(value),
+            other => Err(other),
+        }
+    }
+}

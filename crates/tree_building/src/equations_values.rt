@@ -1,0 +1,183 @@
+//! What the parts of equations are built into. Lists are held from the last member to the first
+//! until they enter a tree.
+
+ghost use Rattle.std.specs.Prelude.{◌≡◌, List, MatchResult, None, Option, Some, option_map};
+ghost use Rattle.lotos_base.specs.WrittenTerm.{WrittenTerm};
+ghost use Rattle.syntax_trees.specs.WrittenEquation.{WrittenEquation, WrittenGroup, WrittenPremiss};
+ghost use Rattle.lotos_base.specs.WrittenView.{written_term_of};
+ghost use Rattle.syntax_trees.specs.TreeViews.{group_of, equation_of, premiss_of};
+ghost use Rattle.derivation_fold.specs.Run.{from_last};
+ghost use Rattle.tree_building.specs.Meaning.{PlainAfterTerm, PlainConclusion};
+ghost use Rattle.tree_building.specs.MeaningView.{meaning};
+ghost use Rattle.tree_building.specs.Parts.{groups_in, equations_in, equation_in, conclusion_in, maybe_conclusion_in, after_term_in, premiss_in, maybe_term_in};
+ghost use Rattle.tree_building.specs.EquationsViews.{after_term_of, conclusion_of};
+
+use crate::value::{Part, Value};
+use lotos_base::{Place, Written};
+use syntax_trees::{EqText, GroupText, TestText};
+
+/// The end of an equation with premisses: those behind the first one, and the equation behind `=>`.
+#[derive(Debug, Drop)]
+pub struct Conclusion {
+    /// The premisses, from the last to the first.
+    pub premisses: Vec<TestText>,
+    /// The place of `=>`.
+    pub arrow: Place,
+    /// The left side.
+    pub left: Written,
+    /// The right side.
+    pub right: Written,
+}
+
+/// What stands behind the first term of an equation.
+#[derive(Debug, Drop)]
+pub struct AfterTerm {
+    /// The right side of the first pair.
+    pub right: Option<Written>,
+    /// The end of an equation with premisses.
+    pub conclusion: Option<Conclusion>,
+}
+
+/// Groups of equations.
+impl Part for Vec<GroupText> {
+    ghost Plain = { List WrittenGroup };
+
+    ghost plain = { λ x. from_last group_of x.items };
+
+    ghost found = { groups_in };
+
+    fn of(value: Value) -> Result<Self, Value>
+        ensures { MatchResult result (λ x. groups_in (meaning value) ≡ Some (from_last group_of x.items)) (λ other. (groups_in (meaning value) ≡ None) × (other ≡ value)) }
+    {
+        match value {
+            Value::Groups(value) => Ok(value),
+            other => Err(other),
+        }
+    }
+}
+
+/// Equations.
+impl Part for Vec<EqText> {
+    ghost Plain = { List WrittenEquation };
+
+    ghost plain = { λ x. from_last equation_of x.items };
+
+    ghost found = { equations_in };
+
+    fn of(value: Value) -> Result<Self, Value>
+        ensures { MatchResult result (λ x. equations_in (meaning value) ≡ Some (from_last equation_of x.items)) (λ other. (equations_in (meaning value) ≡ None) × (other ≡ value)) }
+    {
+        match value {
+            Value::Equations(value) => Ok(value),
+            other => Err(other),
+        }
+    }
+}
+
+/// An equation.
+impl Part for EqText {
+    ghost Plain = { WrittenEquation };
+
+    ghost plain = { λ x. equation_of x };
+
+    ghost found = { equation_in };
+
+    fn of(value: Value) -> Result<Self, Value>
+        ensures { MatchResult result (λ x. equation_in (meaning value) ≡ Some (equation_of x)) (λ other. (equation_in (meaning value) ≡ None) × (other ≡ value)) }
+    {
+        match value {
+            Value::Equation(value) => Ok(value),
+            other => Err(other),
+        }
+    }
+}
+
+/// The end of an equation with premisses.
+impl Part for Conclusion {
+    ghost Plain = { PlainConclusion };
+
+    ghost plain = { λ x. conclusion_of x };
+
+    ghost found = { conclusion_in };
+
+    fn of(value: Value) -> Result<Self, Value>
+        ensures { MatchResult result (λ x. conclusion_in (meaning value) ≡ Some (conclusion_of x)) (λ other. (conclusion_in (meaning value) ≡ None) × (other ≡ value)) }
+    {
+        match value {
+            Value::Conclusion(value) => Ok(value),
+            other => Err(other),
+        }
+    }
+}
+
+/// The end of an equation with premisses, or nothing.
+impl Part for Option<Conclusion> {
+    ghost Plain = { Option PlainConclusion };
+
+    ghost plain = { λ x. option_map conclusion_of x };
+
+    ghost found = { maybe_conclusion_in };
+
+    fn of(value: Value) -> Result<Self, Value>
+        ensures { MatchResult result (λ x. maybe_conclusion_in (meaning value) ≡ Some (option_map conclusion_of x)) (λ other. (maybe_conclusion_in (meaning value) ≡ None) × (other ≡ value)) }
+    {
+        match value {
+            Value::MaybeConclusion(value) => Ok(value),
+            other => Err(other),
+        }
+    }
+}
+
+/// What stands behind the first term of an equation.
+impl Part for AfterTerm {
+    ghost Plain = { PlainAfterTerm };
+
+    ghost plain = { λ x. after_term_of x };
+
+    ghost found = { after_term_in };
+
+    fn of(value: Value) -> Result<Self, Value>
+        ensures { MatchResult result (λ x. after_term_in (meaning value) ≡ Some (after_term_of x)) (λ other. (after_term_in (meaning value) ≡ None) × (other ≡ value)) }
+    {
+        match value {
+            Value::AfterTerm(value) => Ok(value),
+            other => Err(other),
+        }
+    }
+}
+
+/// A premiss.
+impl Part for TestText {
+    ghost Plain = { WrittenPremiss };
+
+    ghost plain = { λ x. premiss_of x };
+
+    ghost found = { premiss_in };
+
+    fn of(value: Value) -> Result<Self, Value>
+        ensures { MatchResult result (λ x. premiss_in (meaning value) ≡ Some (premiss_of x)) (λ other. (premiss_in (meaning value) ≡ None) × (other ≡ value)) }
+    {
+        match value {
+            Value::Premiss(value) => Ok(value),
+            other => Err(other),
+        }
+    }
+}
+
+/// The right side of a premiss, or nothing.
+impl Part for Option<Written> {
+    ghost Plain = { Option WrittenTerm };
+
+    ghost plain = { λ x. option_map written_term_of x };
+
+    ghost found = { maybe_term_in };
+
+    fn of(value: Value) -> Result<Self, Value>
+        ensures { MatchResult result (λ x. maybe_term_in (meaning value) ≡ Some (option_map written_term_of x)) (λ other. (maybe_term_in (meaning value) ≡ None) × (other ≡ value)) }
+    {
+        match value {
+            Value::MaybeTerm(value) => Ok(value),
+            other => Err(other),
+        }
+    }
+}

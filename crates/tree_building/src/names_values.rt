@@ -1,0 +1,161 @@
+//! What the parts of names and lists of them are built into. Lists are held from the last member to the first
+//! until they enter a tree.
+
+ghost use Rattle.std.specs.Prelude.{◌≡◌, List, MatchResult, None, Option, Some, option_map};
+ghost use Rattle.lotos_base.specs.WrittenTerm.{PlacedName};
+ghost use Rattle.syntax_trees.specs.WrittenVariable.{WrittenVariable};
+ghost use Rattle.lotos_sentences.specs.Names.{NamedOperation, PlacedProfile};
+ghost use Rattle.lotos_base.specs.WrittenView.{placed_name_of};
+ghost use Rattle.syntax_trees.specs.TreeViews.{variable_of};
+ghost use Rattle.derivation_fold.specs.Run.{from_last};
+ghost use Rattle.tree_building.specs.MeaningView.{meaning};
+ghost use Rattle.tree_building.specs.Parts.{name_in, names_in, variables_in, operation_in, operations_in, profile_in, maybe_profile_in};
+ghost use Rattle.tree_building.specs.NamesViews.{named_operation_of, profile_of};
+
+use crate::value::{Part, Value};
+use lotos_base::Form;
+use syntax_trees::{Named, VarText};
+
+/// An operation by its name, with the form that underscores give it.
+#[derive(Debug, Drop)]
+pub struct NamedOp {
+    /// The name.
+    pub name: Named,
+    /// The form.
+    pub form: Form,
+}
+
+/// The sorts of an operation.
+#[derive(Debug, Drop)]
+pub struct OpProfile {
+    /// Those of its arguments, in text order.
+    pub arguments: Vec<Named>,
+    /// That of its result.
+    pub result: Named,
+}
+
+/// A name.
+impl Part for Named {
+    ghost Plain = { PlacedName };
+
+    ghost plain = { λ x. placed_name_of x };
+
+    ghost found = { name_in };
+
+    fn of(value: Value) -> Result<Self, Value>
+        ensures { MatchResult result (λ x. name_in (meaning value) ≡ Some (placed_name_of x)) (λ other. (name_in (meaning value) ≡ None) × (other ≡ value)) }
+    {
+        match value {
+            Value::Name(value) => Ok(value),
+            other => Err(other),
+        }
+    }
+}
+
+/// Names.
+impl Part for Vec<Named> {
+    ghost Plain = { List PlacedName };
+
+    ghost plain = { λ x. from_last placed_name_of x.items };
+
+    ghost found = { names_in };
+
+    fn of(value: Value) -> Result<Self, Value>
+        ensures { MatchResult result (λ x. names_in (meaning value) ≡ Some (from_last placed_name_of x.items)) (λ other. (names_in (meaning value) ≡ None) × (other ≡ value)) }
+    {
+        match value {
+            Value::Names(value) => Ok(value),
+            other => Err(other),
+        }
+    }
+}
+
+/// Variables.
+impl Part for Vec<VarText> {
+    ghost Plain = { List WrittenVariable };
+
+    ghost plain = { λ x. from_last variable_of x.items };
+
+    ghost found = { variables_in };
+
+    fn of(value: Value) -> Result<Self, Value>
+        ensures { MatchResult result (λ x. variables_in (meaning value) ≡ Some (from_last variable_of x.items)) (λ other. (variables_in (meaning value) ≡ None) × (other ≡ value)) }
+    {
+        match value {
+            Value::Variables(value) => Ok(value),
+            other => Err(other),
+        }
+    }
+}
+
+/// An operation by name.
+impl Part for NamedOp {
+    ghost Plain = { NamedOperation };
+
+    ghost plain = { λ x. named_operation_of x };
+
+    ghost found = { operation_in };
+
+    fn of(value: Value) -> Result<Self, Value>
+        ensures { MatchResult result (λ x. operation_in (meaning value) ≡ Some (named_operation_of x)) (λ other. (operation_in (meaning value) ≡ None) × (other ≡ value)) }
+    {
+        match value {
+            Value::Operation(value) => Ok(value),
+            other => Err(other),
+        }
+    }
+}
+
+/// Operations by name.
+impl Part for Vec<NamedOp> {
+    ghost Plain = { List NamedOperation };
+
+    ghost plain = { λ x. from_last named_operation_of x.items };
+
+    ghost found = { operations_in };
+
+    fn of(value: Value) -> Result<Self, Value>
+        ensures { MatchResult result (λ x. operations_in (meaning value) ≡ Some (from_last named_operation_of x.items)) (λ other. (operations_in (meaning value) ≡ None) × (other ≡ value)) }
+    {
+        match value {
+            Value::NamedOperations(value) => Ok(value),
+            other => Err(other),
+        }
+    }
+}
+
+/// The sorts of an operation.
+impl Part for OpProfile {
+    ghost Plain = { PlacedProfile };
+
+    ghost plain = { λ x. profile_of x };
+
+    ghost found = { profile_in };
+
+    fn of(value: Value) -> Result<Self, Value>
+        ensures { MatchResult result (λ x. profile_in (meaning value) ≡ Some (profile_of x)) (λ other. (profile_in (meaning value) ≡ None) × (other ≡ value)) }
+    {
+        match value {
+            Value::Profile(value) => Ok(value),
+            other => Err(other),
+        }
+    }
+}
+
+/// The sorts of an operation, or none.
+impl Part for Option<OpProfile> {
+    ghost Plain = { Option PlacedProfile };
+
+    ghost plain = { λ x. option_map profile_of x };
+
+    ghost found = { maybe_profile_in };
+
+    fn of(value: Value) -> Result<Self, Value>
+        ensures { MatchResult result (λ x. maybe_profile_in (meaning value) ≡ Some (option_map profile_of x)) (λ other. (maybe_profile_in (meaning value) ≡ None) × (other ≡ value)) }
+    {
+        match value {
+            Value::MaybeProfile(value) => Ok(value),
+            other => Err(other),
+        }
+    }
+}

@@ -1,0 +1,69 @@
+//! What the parts of the four texts are built into. Lists are held from the last member to the first
+//! until they enter a tree.
+
+ghost use Rattle.std.specs.Prelude.{◌≡◌, List, MatchResult, None, Some};
+ghost use Rattle.lotos_base.specs.WrittenTerm.{ListedOperation};
+ghost use Rattle.syntax_trees.specs.WrittenDefinition.{WrittenSpecification};
+ghost use Rattle.lotos_base.specs.WrittenView.{listed_operation_of};
+ghost use Rattle.syntax_trees.specs.TreeViews.{specification_of};
+ghost use Rattle.derivation_fold.specs.Run.{from_last};
+ghost use Rattle.tree_building.specs.MeaningView.{meaning};
+ghost use Rattle.tree_building.specs.Parts.{word_in, specification_in, order_items_in};
+
+use crate::value::{Part, Value};
+use lotos_base::OrderItem;
+use syntax_trees::SpecText;
+
+/// A word without a value.
+impl Part for () {
+    ghost Plain = { Unit {0} };
+
+    ghost plain = { λ x. tt };
+
+    ghost found = { word_in };
+
+    fn of(value: Value) -> Result<Self, Value>
+        ensures { MatchResult result (λ x. word_in (meaning value) ≡ Some (tt)) (λ other. (word_in (meaning value) ≡ None) × (other ≡ value)) }
+    {
+        match value {
+            Value::Word(value) => Ok(value),
+            other => Err(other),
+        }
+    }
+}
+
+/// A specification.
+impl Part for SpecText {
+    ghost Plain = { WrittenSpecification };
+
+    ghost plain = { λ x. specification_of x };
+
+    ghost found = { specification_in };
+
+    fn of(value: Value) -> Result<Self, Value>
+        ensures { MatchResult result (λ x. specification_in (meaning value) ≡ Some (specification_of x)) (λ other. (specification_in (meaning value) ≡ None) × (other ≡ value)) }
+    {
+        match value {
+            Value::Specification(value) => Ok(value),
+            other => Err(other),
+        }
+    }
+}
+
+/// Items of an order file.
+impl Part for Vec<OrderItem> {
+    ghost Plain = { List ListedOperation };
+
+    ghost plain = { λ x. from_last listed_operation_of x.items };
+
+    ghost found = { order_items_in };
+
+    fn of(value: Value) -> Result<Self, Value>
+        ensures { MatchResult result (λ x. order_items_in (meaning value) ≡ Some (from_last listed_operation_of x.items)) (λ other. (order_items_in (meaning value) ≡ None) × (other ≡ value)) }
+    {
+        match value {
+            Value::OrderItems(value) => Ok(value),
+            other => Err(other),
+        }
+    }
+}

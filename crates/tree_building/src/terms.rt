@@ -1,0 +1,216 @@
+//! What the rows of terms build.
+
+ghost use Rattle.std.specs.Prelude.{◌≡◌, ◌++◌, IfOk, OnOk, Some, map, option_map, reverse};
+ghost use Rattle.lotos_base.specs.WrittenView.{placed_name_of, written_term_of};
+ghost use Rattle.lotos_sentences.specs.Terms.{applied, infix_term};
+ghost use Rattle.syntax_trees.specs.LeftGrouping.{grouped_left};
+ghost use Rattle.derivation_fold.specs.Run.{from_last};
+ghost use Rattle.tree_building.specs.MeaningView.{meaning};
+ghost use Rattle.tree_building.specs.RowMeaning.{terms_row_means};
+ghost use Rattle.tree_building.specs.TermsMeaning.{applied_factor, bracketed_factor, factor_before_factors, no_factors, no_terms, same_terms, term_before_terms, term_of_factors, with_sorts};
+ghost use Rattle.tree_building.specs.TermsViews.{factor_of};
+
+use crate::names::{Built, empty_names, one_name, turned};
+use crate::terms_values::StartedTerm;
+use crate::value::{Value, take};
+use lotos_base::{Form, Written};
+use lotos_lexer::Token;
+use lotos_rows::terms::TermsRow;
+use std::alloc::{AllocError, Global};
+use syntax_trees::Named;
+
+/// An operation between its arguments.
+fn infix(
+    alloc: Global,
+    operation: Named,
+    left: Written,
+    right: Written,
+) -> Result<Written, AllocError>
+    ensures { IfOk result (λ term. written_term_of term
+        ≡ infix_term (placed_name_of operation) (written_term_of left) (written_term_of right)) }
+{
+    let mut args = Vec::with_capacity(alloc, 2)?;
+    args.push(left)?;
+    args.push(right)?;
+    Ok(Written {
+        place: operation.0,
+        name: operation.1,
+        form: Form::Infix,
+        args,
+        sorts: Vec::new(alloc),
+    })
+}
+
+/// A first factor and those behind it, which are held from the last to the first, grouped to the left.
+#[tactic(auto, using(crate::proofs::FromLast::from_last_more, crate::proofs::FromLast::from_last_none))]
+fn grouped(
+    alloc: Global,
+    first: Written,
+    mut behind: Vec<(Named, Written)>,
+) -> Result<Written, AllocError>
+    ensures { IfOk result (λ term. written_term_of term
+        ≡ grouped_left infix_term (written_term_of first) (from_last factor_of behind.items)) }
+{
+    let mut left = first;
+    while let Some(next) = behind.pop() {
+        left = infix(alloc, next.0, left, next.1)?;
+    }
+    Ok(left)
+}
+
+/// An operation or a variable before its arguments, which are held from the last to the first.
+#[tactic(auto, using(crate::proofs::FromLast::map_reverse))]
+fn application(alloc: Global, name: Named, args: Vec<Written>) -> Written
+    ensures { written_term_of result ≡ applied (placed_name_of name) (from_last written_term_of args.items) }
+{
+    Written {
+        place: name.0,
+        name: name.1,
+        form: Form::Prefix,
+        args: turned(args),
+        sorts: Vec::new(alloc),
+    }
+}
+
+/// The term with the sorts of further `of`s put on it.
+fn marked(term: Written, mark: Vec<Named>) -> Result<Written, AllocError>
+    ensures { IfOk result (λ it. written_term_of it ≡ with_sorts (from_last placed_name_of mark.items) (written_term_of term)) }
+{
+    let Written {
+        place,
+        name,
+        form,
+        args,
+        mut sorts,
+    } = term;
+    sorts.append(&mut turned(mark))?;
+    Ok(Written {
+        place,
+        name,
+        form,
+        args,
+        sorts,
+    })
+}
+
+fn whole_term(alloc: Global, mut parts: Vec<Value>) -> Built
+    ensures { IfOk result (λ built. option_map meaning built ≡ term_of_factors (from_last meaning parts.items)) }
+{
+    let Some(first) = take::<StartedTerm>(&mut parts) else {
+        return Ok(None);
+    };
+    let Some(behind) = take::<Vec<(Named, Written)>>(&mut parts) else {
+        return Ok(None);
+    };
+    Ok(Some(Value::Term(StartedTerm {
+        start: first.start,
+        term: grouped(alloc, first.term, behind)?,
+    })))
+}
+
+#[tactic(auto, using(crate::proofs::FromLast::from_last_none))]
+fn empty_factors(alloc: Global) -> Value
+    ensures { Some (meaning result) ≡ no_factors }
+{
+    Value::Factors(Vec::new(alloc))
+}
+
+#[tactic(auto, using(crate::proofs::FromLast::from_last_more))]
+fn joined_factors(mut parts: Vec<Value>) -> Built
+    ensures { IfOk result (λ built. option_map meaning built ≡ factor_before_factors (from_last meaning parts.items)) }
+{
+    let Some(operation) = take::<Named>(&mut parts) else {
+        return Ok(None);
+    };
+    let Some(factor) = take::<StartedTerm>(&mut parts) else {
+        return Ok(None);
+    };
+    let Some(mut factors) = take::<Vec<(Named, Written)>>(&mut parts) else {
+        return Ok(None);
+    };
+    factors.push((operation, factor.term))?;
+    Ok(Some(Value::Factors(factors)))
+}
+
+fn factor_of_operation(alloc: Global, mut parts: Vec<Value>) -> Built
+    ensures { IfOk result (λ built. option_map meaning built ≡ applied_factor (from_last meaning parts.items)) }
+{
+    let Some(name) = take::<Named>(&mut parts) else {
+        return Ok(None);
+    };
+    let Some(arguments) = take::<Vec<Written>>(&mut parts) else {
+        return Ok(None);
+    };
+    let Some(mark) = take::<Vec<Named>>(&mut parts) else {
+        return Ok(None);
+    };
+    let start = name.0;
+    let term = marked(application(alloc, name, arguments), mark)?;
+    Ok(Some(Value::Term(StartedTerm { start, term })))
+}
+
+fn factor_in_brackets(token: Option<Token>, mut parts: Vec<Value>) -> Built
+    ensures { IfOk result (λ built. option_map meaning built ≡ bracketed_factor token (from_last meaning parts.items)) }
+{
+    let Some(left) = token else {
+        return Ok(None);
+    };
+    let Some(inside) = take::<StartedTerm>(&mut parts) else {
+        return Ok(None);
+    };
+    let Some(mark) = take::<Vec<Named>>(&mut parts) else {
+        return Ok(None);
+    };
+    Ok(Some(Value::Term(StartedTerm {
+        start: left.place,
+        term: marked(inside.term, mark)?,
+    })))
+}
+
+/// No terms.
+#[tactic(auto, using(crate::proofs::FromLast::from_last_none))]
+pub fn empty_terms(alloc: Global) -> Value
+    ensures { Some (meaning result) ≡ no_terms }
+{
+    Value::Terms(Vec::new(alloc))
+}
+
+/// The terms that the part has.
+pub fn the_terms(mut parts: Vec<Value>) -> Option<Value>
+    ensures { option_map meaning result ≡ same_terms (from_last meaning parts.items) }
+{
+    let terms = take::<Vec<Written>>(&mut parts)?;
+    Some(Value::Terms(terms))
+}
+
+#[tactic(auto, using(crate::proofs::FromLast::from_last_more))]
+fn joined_terms(mut parts: Vec<Value>) -> Built
+    ensures { IfOk result (λ built. option_map meaning built ≡ term_before_terms (from_last meaning parts.items)) }
+{
+    let Some(first) = take::<StartedTerm>(&mut parts) else {
+        return Ok(None);
+    };
+    let Some(mut terms) = take::<Vec<Written>>(&mut parts) else {
+        return Ok(None);
+    };
+    terms.push(first.term)?;
+    Ok(Some(Value::Terms(terms)))
+}
+
+/// What a row of terms builds from its token and its parts.
+pub fn build(alloc: Global, row: TermsRow, token: Option<Token>, parts: Vec<Value>) -> Built
+    ensures { IfOk result (λ built. option_map meaning built ≡ terms_row_means row token (from_last meaning parts.items)) }
+{
+    match row {
+        TermsRow::Term => whole_term(alloc, parts),
+        TermsRow::NoMoreFactors => Ok(Some(empty_factors(alloc))),
+        TermsRow::MoreFactors => joined_factors(parts),
+        TermsRow::AppliedFactor => factor_of_operation(alloc, parts),
+        TermsRow::BracketedFactor => factor_in_brackets(token, parts),
+        TermsRow::NoArguments | TermsRow::NoMoreTerms => Ok(Some(empty_terms(alloc))),
+        TermsRow::Arguments | TermsRow::MoreTerms => Ok(the_terms(parts)),
+        TermsRow::NoSortMark => Ok(Some(empty_names(alloc))),
+        TermsRow::SortMark => one_name(alloc, parts),
+        TermsRow::TermList => joined_terms(parts),
+    }
+}

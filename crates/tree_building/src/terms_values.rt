@@ -1,0 +1,78 @@
+//! What the parts of terms are built into. Lists are held from the last member to the first
+//! until they enter a tree.
+
+ghost use Rattle.std.specs.Prelude.{◌≡◌, List, MatchResult, None, Some};
+ghost use Rattle.lotos_base.specs.WrittenTerm.{PlacedName, WrittenTerm};
+ghost use Rattle.lotos_base.specs.WrittenView.{written_term_of};
+ghost use Rattle.derivation_fold.specs.Run.{from_last};
+ghost use Rattle.tree_building.specs.Meaning.{PlainStartedTerm};
+ghost use Rattle.tree_building.specs.MeaningView.{meaning};
+ghost use Rattle.tree_building.specs.Parts.{term_in, factors_in, terms_in};
+ghost use Rattle.tree_building.specs.TermsViews.{factor_of, started_term_of};
+
+use crate::value::{Part, Value};
+use lotos_base::{Place, Written};
+use syntax_trees::Named;
+
+/// A term, and the place of its first token, which may be a bracket.
+#[derive(Debug, Drop)]
+pub struct StartedTerm {
+    /// The place of the first token.
+    pub start: Place,
+    /// The term.
+    pub term: Written,
+}
+
+/// A term, and the place of its first token.
+impl Part for StartedTerm {
+    ghost Plain = { PlainStartedTerm };
+
+    ghost plain = { λ x. started_term_of x };
+
+    ghost found = { term_in };
+
+    fn of(value: Value) -> Result<Self, Value>
+        ensures { MatchResult result (λ x. term_in (meaning value) ≡ Some (started_term_of x)) (λ other. (term_in (meaning value) ≡ None) × (other ≡ value)) }
+    {
+        match value {
+            Value::Term(value) => Ok(value),
+            other => Err(other),
+        }
+    }
+}
+
+/// Factors, each with the operation before it.
+impl Part for Vec<(Named, Written)> {
+    ghost Plain = { List (PlacedName × WrittenTerm) };
+
+    ghost plain = { λ x. from_last factor_of x.items };
+
+    ghost found = { factors_in };
+
+    fn of(value: Value) -> Result<Self, Value>
+        ensures { MatchResult result (λ x. factors_in (meaning value) ≡ Some (from_last factor_of x.items)) (λ other. (factors_in (meaning value) ≡ None) × (other ≡ value)) }
+    {
+        match value {
+            Value::Factors(value) => Ok(value),
+            other => Err(other),
+        }
+    }
+}
+
+/// Terms.
+impl Part for Vec<Written> {
+    ghost Plain = { List WrittenTerm };
+
+    ghost plain = { λ x. from_last written_term_of x.items };
+
+    ghost found = { terms_in };
+
+    fn of(value: Value) -> Result<Self, Value>
+        ensures { MatchResult result (λ x. terms_in (meaning value) ≡ Some (from_last written_term_of x.items)) (λ other. (terms_in (meaning value) ≡ None) × (other ≡ value)) }
+    {
+        match value {
+            Value::Terms(value) => Ok(value),
+            other => Err(other),
+        }
+    }
+}

@@ -1,0 +1,181 @@
+//! What the parts of types are built into. Lists are held from the last member to the first
+//! until they enter a tree.
+
+ghost use Rattle.std.specs.Prelude.{◌≡◌, List, MatchResult, None, Some};
+ghost use Rattle.syntax_trees.specs.WrittenEquation.{WrittenEquations};
+ghost use Rattle.syntax_trees.specs.WrittenItem.{WrittenItem, WrittenOperation, WrittenSections, WrittenTypeBody};
+ghost use Rattle.syntax_trees.specs.TreeViews.{item_of, operation_of, equations_of};
+ghost use Rattle.derivation_fold.specs.Run.{from_last};
+ghost use Rattle.tree_building.specs.Meaning.{PlainAfterBase};
+ghost use Rattle.tree_building.specs.MeaningView.{meaning};
+ghost use Rattle.tree_building.specs.Parts.{item_in, items_in, body_in, after_base_in, sections_in, declared_operations_in, equation_section_in};
+ghost use Rattle.tree_building.specs.TypesViews.{after_base_of, sections_of, type_body_of};
+
+use crate::renamings_values::BothPairs;
+use crate::value::{Part, Value};
+use syntax_trees::{EqnsText, ItemText, Named, OpText};
+
+/// The sections of a type, in text order.
+#[derive(Debug, Drop)]
+pub struct Sections {
+    /// The formal sorts.
+    pub formal_sorts: Vec<Named>,
+    /// The formal operations.
+    pub formal_ops: Vec<OpText>,
+    /// The formal equations.
+    pub formal_equations: EqnsText,
+    /// The sorts.
+    pub sorts: Vec<Named>,
+    /// The operations.
+    pub ops: Vec<OpText>,
+    /// The equations.
+    pub equations: EqnsText,
+}
+
+/// The body of a type. Imports, actual types and pairs are held from the last to the first.
+#[derive(Debug, Drop)]
+pub enum TypeBody {
+    /// Imports and sections.
+    Extends(Vec<Named>, Sections),
+    /// A base and the pairs of its renaming.
+    Renames(Named, BothPairs),
+    /// A base, the actual types and the pairs.
+    Actualises(Named, Vec<Named>, BothPairs),
+}
+
+/// What stands behind the first name of a body. Names are held from the last to the first.
+#[derive(Debug, Drop)]
+pub enum AfterBase {
+    /// The pairs of a renaming.
+    Renamed(BothPairs),
+    /// The actual types and the pairs of an actualisation.
+    Actualised(Vec<Named>, BothPairs),
+    /// Further imports and the sections of an extension.
+    Extended(Vec<Named>, Sections),
+}
+
+/// An item.
+impl Part for ItemText {
+    ghost Plain = { WrittenItem };
+
+    ghost plain = { λ x. item_of x };
+
+    ghost found = { item_in };
+
+    fn of(value: Value) -> Result<Self, Value>
+        ensures { MatchResult result (λ x. item_in (meaning value) ≡ Some (item_of x)) (λ other. (item_in (meaning value) ≡ None) × (other ≡ value)) }
+    {
+        match value {
+            Value::Item(value) => Ok(value),
+            other => Err(other),
+        }
+    }
+}
+
+/// Items.
+impl Part for Vec<ItemText> {
+    ghost Plain = { List WrittenItem };
+
+    ghost plain = { λ x. from_last item_of x.items };
+
+    ghost found = { items_in };
+
+    fn of(value: Value) -> Result<Self, Value>
+        ensures { MatchResult result (λ x. items_in (meaning value) ≡ Some (from_last item_of x.items)) (λ other. (items_in (meaning value) ≡ None) × (other ≡ value)) }
+    {
+        match value {
+            Value::Items(value) => Ok(value),
+            other => Err(other),
+        }
+    }
+}
+
+/// The body of a type.
+impl Part for TypeBody {
+    ghost Plain = { WrittenTypeBody };
+
+    ghost plain = { λ x. type_body_of x };
+
+    ghost found = { body_in };
+
+    fn of(value: Value) -> Result<Self, Value>
+        ensures { MatchResult result (λ x. body_in (meaning value) ≡ Some (type_body_of x)) (λ other. (body_in (meaning value) ≡ None) × (other ≡ value)) }
+    {
+        match value {
+            Value::Body(value) => Ok(value),
+            other => Err(other),
+        }
+    }
+}
+
+/// What stands behind the first name of a body.
+impl Part for AfterBase {
+    ghost Plain = { PlainAfterBase };
+
+    ghost plain = { λ x. after_base_of x };
+
+    ghost found = { after_base_in };
+
+    fn of(value: Value) -> Result<Self, Value>
+        ensures { MatchResult result (λ x. after_base_in (meaning value) ≡ Some (after_base_of x)) (λ other. (after_base_in (meaning value) ≡ None) × (other ≡ value)) }
+    {
+        match value {
+            Value::AfterBase(value) => Ok(value),
+            other => Err(other),
+        }
+    }
+}
+
+/// The sections of a type.
+impl Part for Sections {
+    ghost Plain = { WrittenSections };
+
+    ghost plain = { λ x. sections_of x };
+
+    ghost found = { sections_in };
+
+    fn of(value: Value) -> Result<Self, Value>
+        ensures { MatchResult result (λ x. sections_in (meaning value) ≡ Some (sections_of x)) (λ other. (sections_in (meaning value) ≡ None) × (other ≡ value)) }
+    {
+        match value {
+            Value::Sections(value) => Ok(value),
+            other => Err(other),
+        }
+    }
+}
+
+/// Operations with their sorts.
+impl Part for Vec<OpText> {
+    ghost Plain = { List WrittenOperation };
+
+    ghost plain = { λ x. from_last operation_of x.items };
+
+    ghost found = { declared_operations_in };
+
+    fn of(value: Value) -> Result<Self, Value>
+        ensures { MatchResult result (λ x. declared_operations_in (meaning value) ≡ Some (from_last operation_of x.items)) (λ other. (declared_operations_in (meaning value) ≡ None) × (other ≡ value)) }
+    {
+        match value {
+            Value::DeclaredOperations(value) => Ok(value),
+            other => Err(other),
+        }
+    }
+}
+
+/// A section of equations.
+impl Part for EqnsText {
+    ghost Plain = { WrittenEquations };
+
+    ghost plain = { λ x. equations_of x };
+
+    ghost found = { equation_section_in };
+
+    fn of(value: Value) -> Result<Self, Value>
+        ensures { MatchResult result (λ x. equation_section_in (meaning value) ≡ Some (equations_of x)) (λ other. (equation_section_in (meaning value) ≡ None) × (other ≡ value)) }
+    {
+        match value {
+            Value::EquationSection(value) => Ok(value),
+            other => Err(other),
+        }
+    }
+}
