@@ -1,1 +1,4 @@
+pub mod EnvironmentLemmas
+pub mod FreeLemmas
+pub mod StartLemmas
 pub mod StandingLemmas

@@ -2,9 +2,13 @@
 -- profile that the signature gives it.
 use Rattle.std.specs.Prelude.{List}
 use Rattle.term_algebra.specs.Signature.{Signature}
+use Rattle.behaviour_semantics.specs.Behaviour.{sorts_of}
+use Rattle.behaviour_semantics.specs.Rule.{AreValues}
 use Rattle.behaviour_semantics.specs.WellFormed.{Every, IsSpecification, IsClosedBehaviour}
 use Rattle.sort_terms.specs.ProfiledTerm.{ProfiledTerm, IsOf}
-use Rattle.behaviour_tree.specs.BehaviourTerms.{profiles_in}
+use Rattle.sort_terms.specs.declared.sorted.Sorted.{Sorted}
+use Rattle.behaviour_tree.specs.BehaviourView.{terms_of, variables_of}
+use Rattle.behaviour_tree.specs.BehaviourTerms.{profiles_in, profiles_of}
 use Rattle.behaviour_tree.specs.DefinitionView.{specification_of}
 use Rattle.behaviour_tree.specs.StateView.{node_profiles, state_of}
 use Rattle.behaviour_tree.specs.declared.definitions.Process.{Process}
@@ -25,3 +29,10 @@ pub record IsSpecOver (signature : Signature) (spec : Spec) : Type 0 where
 pub record IsStateOf (signature : Signature) (spec : Spec) (state : State) : Type 0 where
   pub closed : IsClosedBehaviour signature (specification_of spec) (state_of state)
   pub terms : AreTermsOf signature (node_profiles state.node)
+
+-- Over some signature the specification is well formed, and the values are ground and of the sorts of its parameters.
+pub record IsStart (spec : Spec) (values : List Sorted) : Type 0 where
+  pub signature : Signature
+  pub over : IsSpecOver signature spec
+  pub fitting : AreValues signature (sorts_of (variables_of spec.parameters.items)) (terms_of values)
+  pub profiles : AreTermsOf signature (profiles_of values)

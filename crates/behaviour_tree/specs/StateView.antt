@@ -1,5 +1,5 @@
 -- The closed behaviours that nodes and states stand for: the values of their environments put in for free variables.
-use Rattle.std.specs.Prelude.{ℕ, List, [], ◌++◌, map}
+use Rattle.std.specs.Prelude.{ℕ, List, [], ◌∷◌, ◌++◌, map, Option, None, Some}
 use Rattle.term_algebra.specs.Term.{Term}
 use Rattle.term_algebra.specs.Substitution.{binding, without}
 use Rattle.behaviour_semantics.specs.Behaviour as plain
@@ -7,11 +7,16 @@ use Rattle.behaviour_semantics.specs.Behaviour.{Behaviour, numbers_of}
 use Rattle.behaviour_semantics.specs.Replacement.{with_values}
 use Rattle.sort_terms.specs.ProfiledTerm.{ProfiledTerm}
 use Rattle.sort_terms.specs.SortedView.{profiled_in, term_in}
+use Rattle.sort_terms.specs.declared.equations.Variable.{Variable}
 use Rattle.sort_terms.specs.declared.sorted.Sorted.{Sorted}
 use Rattle.behaviour_tree.specs.BehaviourView.{behaviour_of, meet_of, terms_of, variables_of}
 use Rattle.behaviour_tree.specs.BehaviourTerms.{profiles_in, profiles_of}
 use Rattle.behaviour_tree.specs.declared.states.Node.{Node, Stop, Part, Call, Parallel', Hide', Enable', Disable', Relabel'}
 use Rattle.behaviour_tree.specs.declared.states.State.{State}
+
+-- the number of a variable
+abbrev pub number_of : Variable → ℕ
+number_of variable = variable.number
 
 -- the variables of an environment by their numbers, with their values
 abbrev pub pair_of : ℕ × Sorted → ℕ × Term
@@ -19,6 +24,11 @@ pair_of pair = (pair.0, term_in pair.1)
 
 abbrev pub environment_of : List (ℕ × Sorted) → List (ℕ × Term)
 environment_of pairs = map pair_of pairs
+
+-- the pair of a variable with its value, if there is one
+abbrev pub pairs_with : ℕ → Option Sorted → List (ℕ × Sorted)
+pairs_with number None = []
+pairs_with number (Some value) = (number, value) ∷ []
 
 -- the value of a pair, with its profiles
 abbrev pub pair_profile : ℕ × Sorted → ProfiledTerm

@@ -1,19 +1,26 @@
 //! States: closed behaviours that share the behaviours of the specification, with environments for
 //! their free variables.
 
+ghost use Rattle.behaviour_semantics.specs.Replacement.{binding_of, with_values};
+ghost use Rattle.behaviour_tree.specs.BehaviourTerms.{profiles_in, profiles_of};
+ghost use Rattle.behaviour_tree.specs.BehaviourView.{behaviour_of, terms_of, variables_of};
 ghost use Rattle.behaviour_tree.specs.Closed.{IsClosedNode};
+ghost use Rattle.behaviour_tree.specs.Over.{IsStart};
 ghost use Rattle.behaviour_tree.specs.StateView.{
   environment_of,
   node_profiles,
+  number_of,
   pair_profile,
+  pairs_with,
   stands_for,
   state_of,
 };
-ghost use Rattle.std.specs.Prelude.{◌≡◌, IfOk, map};
+ghost use Rattle.std.specs.Prelude.{◌≡◌, ◌++◌, IfOk, map, zip};
 
 use crate::behaviours::{Beh, Meet};
 use crate::boxes::boxed;
 use crate::copies::{term_copies, variable_copies};
+use crate::definitions::Spec;
 use lotos_base::NoMemory;
 use sort_terms::{Sorted, Variable};
 use std::alloc::Global;
@@ -54,6 +61,20 @@ pub struct State {
 }
 
 impl State {
+    /// The state in which the specification begins, with these values for its parameters.
+    pub fn start(alloc: Global, spec: &Spec, values: Vec<Sorted>) -> Result<State, NoMemory>
+        requires { IsStart spec.now values.items }
+        ensures begins { IfOk result (λ s. state_of s
+            ≡ with_values (binding_of (variables_of spec.now.parameters.items)
+            (terms_of values.items)) (behaviour_of spec.now.body)) }
+        ensures terms { IfOk result (λ s. node_profiles s.node
+            ≡ profiles_in spec.now.body ++ profiles_of values.items) }
+    {
+        let environment = environment(alloc, &spec.parameters, values)?;
+        let body = boxed(alloc, spec.body.copy(alloc)?)?;
+        Ok(State::of(Node::Part(body, environment)))
+    }
+
     /// The state that this node is.
     pub fn of(node: Node) -> State
         requires { IsClosedNode node }
@@ -77,6 +98,38 @@ impl State {
         Ok(State {
             node: self.node.copy(alloc)?,
         })
+    }
+}
+
+// The variables with their values.
+fn environment(
+    alloc: Global,
+    variables: &Vec<Variable>,
+    values: Vec<Sorted>,
+) -> Result<Vec<(u64, Sorted)>, NoMemory>
+    ensures { IfOk result (λ made. made.items
+        ≡ zip (map number_of variables.now.items) values.items) }
+{
+    let mut made = Vec::with_capacity(alloc, values.len())?;
+    let mut rest = values;
+    rest.reverse();
+    for variable in variables {
+        add_pair(&mut made, variable.number, rest.pop())?;
+    }
+    Ok(made)
+}
+
+// The pairs with one more, where there is a value.
+fn add_pair(
+    pairs: &mut Vec<(u64, Sorted)>,
+    number: u64,
+    value: Option<Sorted>,
+) -> Result<(), NoMemory>
+    ensures { IfOk result (λ _. pairs.new.items ≡ pairs.old.items ++ pairs_with number value) }
+{
+    match value {
+        None => Ok(()),
+        Some(value) => Ok(pairs.push((number, value))?),
     }
 }
 

@@ -11,7 +11,6 @@ pub mod OutcomeLemmas
 pub mod WordLemmas
 pub mod Findings
 pub mod Twins
-pub mod Pieces
 pub mod ResolutionLemmas
 pub mod ScopeLemmas
 pub mod WellFormed

@@ -6,9 +6,9 @@ use Rattle.lotos_base.specs.Limits.{text_limit}
 use Rattle.lotos_top.specs.declared.ended.Ended.{Ended}
 use Rattle.lotos_top.specs.declared.ended.Ended.TheVariants.{Done, SpecRefused, WordsRefused, FileFault, InputFault, OutputFault, NoMemory, InputTooLong}
 use Rattle.lotos_top.specs.Words.{CommandLine, check}
-use Rattle.lotos_top.specs.Report.{Finding, refused, accepted, IsFinding, Outcome, no_line, unread, checked, report_of, status_of, check_text, check_status}
+use Rattle.lotos_top.specs.Report.{Finding, misread, refused, accepted, IsFinding, Outcome, no_line, unread, checked, report_of, status_of, check_text, check_status}
 use Rattle.lotos_top.specs.Outcomes.{IsCheck, IsOutcome, IsAnswer, IsWritten, Came, Ran, EndsWith, Completes}
-use Rattle.lotos_top.specs.Writing.{WritesAll}
+use Rattle.line_server.specs.Writing.{WritesAll}
 use Rattle.lotos_top.proofs.Findings.{one_finding, finding_of_got}
 
 -- where the output counted no fault, the answer and the bytes are those of the outcome
@@ -25,7 +25,8 @@ determined outcome before after wb wa NoMemory answered written steady = absurd 
 determined outcome before after wb wa InputTooLong answered written steady = absurd answered
 
 -- where the output's count rose, the answer says so
-output_fault : (outcome : Outcome) (before after : ℕ) (answer : Ended) → IsAnswer outcome before after answer → before < after → answer ≡ OutputFault
+output_fault : (outcome : Outcome) (before after : ℕ) (answer : Ended) → IsAnswer outcome before after answer → before < after
+    → answer ≡ OutputFault
 output_fault outcome before after Done answered rose = absurd (omega (arith, answered.1))
 output_fault outcome before after SpecRefused answered rose = absurd (omega (arith, answered.1))
 output_fault outcome before after WordsRefused answered rose = absurd (omega (arith, answered.1))
@@ -39,33 +40,41 @@ output_fault outcome before after InputTooLong answered rose = absurd answered
 no_line-only : (line : Option CommandLine) (told : Option Texts) (before after : ℕ) (outcome : Outcome)
     → IsOutcome line told before after outcome → line ≡ None → outcome ≡ no_line
 no_line-only line told before after no_line possible none = refl
-no_line-only line told before after (unread name) possible none = absurd (let no : None ≡ Some (check name None []) = sym none ∙ possible.0 in cc)
-no_line-only line told before after (checked name text finding) possible none = absurd (let no : None ≡ Some (check name None []) = sym none ∙ possible.0 in cc)
+no_line-only line told before after (unread name) possible none = absurd
+    (let no : None ≡ Some (check name None []) = sym none ∙ possible.0 in cc)
+no_line-only line told before after (checked name text finding) possible none = absurd
+    (let no : None ≡ Some (check name None []) = sym none ∙ possible.0 in cc)
 
 same_name : (line : Option CommandLine) (one other : List ℕ) → IsCheck line one → IsCheck line other → one ≡ other
 same_name line one other is_one is_other = let same : Some (check one None []) ≡ Some (check other None []) = sym is_one ∙ is_other in cc
 
-not_missing : (told : Option Texts) (name got : List ℕ) (limit : ℕ) → IsSomeAnd told (λ texts. texts name ≡ None) → IfSome told (λ texts. Gets texts name limit got) → ⊥
+not_missing : (told : Option Texts) (name got : List ℕ) (limit : ℕ) → IsSomeAnd told (λ texts. texts name ≡ None)
+    → IfSome told (λ texts. Gets texts name limit got) → ⊥
 not_missing None name got limit missing gets = missing
 not_missing (Some texts) name got limit missing gets = rw missing at gets
 
 -- a file that could not be got has one outcome
 unread-only : (line : Option CommandLine) (told : Option Texts) (before after : ℕ) (outcome : Outcome) (name : List ℕ)
-    → IsOutcome line told before after outcome → IsCheck line name → (before < after) ⊎ IsSomeAnd told (λ texts. texts name ≡ None) → outcome ≡ unread name
-unread-only line told before after no_line name possible is_check lost = absurd (let no : None ≡ Some (check name None []) = sym possible.0 ∙ is_check in cc)
-unread-only line told before after (unread other) name possible is_check lost = ap (λ it. unread it) (same_name line other name possible.0 is_check)
+    → IsOutcome line told before after outcome → IsCheck line name → (before < after) ⊎ IsSomeAnd told (λ texts. texts name ≡ None)
+    → outcome ≡ unread name
+unread-only line told before after no_line name possible is_check lost = absurd
+    (let no : None ≡ Some (check name None []) = sym possible.0 ∙ is_check in cc)
+unread-only line told before after (unread other) name possible is_check lost = ap (λ it. unread it)
+    (same_name line other name possible.0 is_check)
 unread-only line told before after (checked other text finding) name possible is_check (inl rose) = absurd (omega (arith, possible.1, rose))
 unread-only line told before after (checked other text finding) name possible is_check (inr missing) =
     absurd (not_missing told name text (text_limit + 1) missing (rw (same_name line name other is_check possible.0) possible.2))
 
 -- a name has not both a text and none
-held_not_missing : (told : Option Texts) (one other text : List ℕ) → one ≡ other → IsSomeAnd told (λ texts. texts one ≡ None) → IsSomeAnd told (λ texts. texts other ≡ Some text) → ⊥
+held_not_missing : (told : Option Texts) (one other text : List ℕ) → one ≡ other → IsSomeAnd told (λ texts. texts one ≡ None)
+    → IsSomeAnd told (λ texts. texts other ≡ Some text) → ⊥
 held_not_missing None one other text same missing held = held
 held_not_missing (Some texts) one other text same missing held =
     let no : None ≡ Some text = sym missing ∙ (ap texts same ∙ held) in cc
 
 -- what was got is the text that the shelf tells, cut at the limit
-held_gets : (told : Option Texts) (one other text got : List ℕ) (limit : ℕ) → one ≡ other → IsSomeAnd told (λ texts. texts other ≡ Some text)
+held_gets : (told : Option Texts) (one other text got : List ℕ) (limit : ℕ) → one ≡ other
+    → IsSomeAnd told (λ texts. texts other ≡ Some text)
     → IfSome told (λ texts. Gets texts one limit got) → got ≡ take limit text
 held_gets None one other text got limit same held gets = absurd held
 held_gets (Some texts) one other text got limit same held gets = rw (ap texts same ∙ held) at gets
@@ -90,7 +99,8 @@ checked-only line told before after (checked other got made) name text finding p
     (ap check_status one, ap (λ it. check_text it made) same ∙ ap (check_text name) one)
 
 -- the same with another name for status and report
-ends_as : (status status' : Ended) (report report' : List ℕ) (before after : Option (List ℕ)) (answer : Ended) → status ≡ status' → report ≡ report'
+ends_as : (status status' : Ended) (report report' : List ℕ) (before after : Option (List ℕ)) (answer : Ended) → status ≡ status'
+    → report ≡ report'
     → EndsWith status report before after answer → EndsWith status' report' before after answer
 ends_as status status' report report' before after answer same_status same_report ends = rw (sym same_status, sym same_report) ends
 
@@ -142,13 +152,32 @@ pub ran_with : (line : Option CommandLine) (told : Option Texts) (shelf_before s
     → Ran line told shelf_before shelf_after output_before output_after written_before written_after answer
 ran_with line told sb sa ob oa wb wa answer outcome is possible same whole = rw is (by_outcome outcome possible whole)
   where
-    by_finding : (name text : List ℕ) (finding : Finding) → IsOutcome line told sb sa (checked name text finding) → WritesAll wb wa (check_text name finding)
+    by_finding : (name text : List ℕ) (finding : Finding) → IsOutcome line told sb sa (checked name text finding)
+        → WritesAll wb wa (check_text name finding)
         → Ran line told sb sa ob oa wb wa (check_status finding)
-    by_finding name text refused possible_it whole_it = record { outcome = checked name text refused; possible = possible_it; answered = (refl, same); written = whole_it }
+    by_finding name text (misread fault) possible_it whole_it =
+        record { outcome = checked name text (misread fault); possible = possible_it; answered = (refl, same); written = whole_it }
+    by_finding name text refused
+        possible_it whole_it = record {
+          outcome = checked name text refused;
+          possible = possible_it;
+          answered = (refl, same);
+          written
+              = whole_it;
+        }
     by_finding name text (accepted resolved entries) possible_it whole_it =
-        record { outcome = checked name text (accepted resolved entries); possible = possible_it; answered = (refl, same); written = whole_it }
+        record {
+          outcome = checked name text (accepted resolved entries);
+          possible = possible_it;
+          answered = (refl, same);
+          written
+              = whole_it;
+        }
 
-    by_outcome : (it : Outcome) → IsOutcome line told sb sa it → WritesAll wb wa (report_of it) → Ran line told sb sa ob oa wb wa (status_of it)
-    by_outcome no_line possible_it whole_it = record { outcome = no_line; possible = possible_it; answered = (refl, same); written = whole_it }
-    by_outcome (unread name) possible_it whole_it = record { outcome = unread name; possible = possible_it; answered = (refl, same); written = whole_it }
+    by_outcome : (it : Outcome) → IsOutcome line told sb sa it → WritesAll wb wa (report_of it)
+        → Ran line told sb sa ob oa wb wa (status_of it)
+    by_outcome no_line possible_it
+        whole_it = record { outcome = no_line; possible = possible_it; answered = (refl, same); written = whole_it }
+    by_outcome (unread name)
+        possible_it whole_it = record { outcome = unread name; possible = possible_it; answered = (refl, same); written = whole_it }
     by_outcome (checked name text finding) possible_it whole_it = by_finding name text finding possible_it whole_it

@@ -4,6 +4,7 @@ pub mod MenuExamples
 pub mod MenuReport
 pub mod MenuSteps
 pub mod Menus
+pub mod Misread
 pub mod Numbering
 pub mod Outcomes
 pub mod Prepared
@@ -15,4 +16,3 @@ pub mod Resolving
 pub mod Scopes
 pub mod Status
 pub mod Words
-pub mod Writing

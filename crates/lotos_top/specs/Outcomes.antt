@@ -7,7 +7,7 @@ use Rattle.lotos_top.specs.declared.ended.Ended.{Ended}
 use Rattle.lotos_top.specs.declared.ended.Ended.TheVariants.{Done, SpecRefused, WordsRefused, FileFault, OutputFault, NoMemory}
 use Rattle.lotos_top.specs.Words.{CommandLine, check}
 use Rattle.lotos_top.specs.Report.{Finding, IsFinding, Outcome, no_line, unread, checked, report_of, status_of, usage_text, unread_text, check_text, check_status}
-use Rattle.lotos_top.specs.Writing.{WritesAll, WritesBeginning}
+use Rattle.line_server.specs.Writing.{WritesAll, WritesBeginning}
 
 -- the words are the check of the specification with this name
 abbrev pub IsCheck : Option CommandLine → List ℕ → Type 0

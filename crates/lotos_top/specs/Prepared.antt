@@ -5,10 +5,11 @@ use Rattle.behaviour_semantics.specs.Solving.{Entry}
 use Rattle.behaviour_semantics.specs.Menu.{Exact}
 use Rattle.lotos_grammar.specs.FirstText.{Text}
 use Rattle.lotos_base.specs.Outside.{Texts}
+use Rattle.lotos_reading.specs.declared.fault.ReadFault.{ReadFault}
 use Rattle.lotos_top.specs.declared.running.Answer.{Answer}
 use Rattle.lotos_top.specs.Words.{CommandLine}
 use Rattle.lotos_top.specs.Resolution.{Resolved, resolved_of}
-use Rattle.lotos_top.specs.Report.{Finding, refused, accepted, IsFinding, Outcome, report_of, status_of, check_text, check_status}
+use Rattle.lotos_top.specs.Report.{Finding, misread, refused, accepted, IsFinding, Outcome, report_of, status_of, check_text, check_status}
 use Rattle.lotos_top.specs.Outcomes.{IsOutcome}
 
 -- an answer to the words: its status and its report are those of an outcome
@@ -21,6 +22,10 @@ pub record IsPrepared (line : Option CommandLine) (told : Option Texts) (before 
 -- the answer to a specification that is refused
 abbrev pub IsRefusal : List ℕ → Answer → Type 0
 IsRefusal name answer = (answer.ended ≡ check_status refused) × (answer.report.items ≡ check_text name refused)
+
+-- the answer to a text that is not read, with this fault
+abbrev pub IsMisreading : List ℕ → ReadFault → Answer → Type 0
+IsMisreading name fault answer = (answer.ended ≡ check_status (misread fault)) × (answer.report.items ≡ check_text name (misread fault))
 
 -- the answer is that of what is found in the text
 pub record Checks (name text : List ℕ) (answer : Answer) : Type 0 where

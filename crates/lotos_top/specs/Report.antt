@@ -1,36 +1,53 @@
 -- What is to be found in a text, what may come of the words, and the report of each.
-use Rattle.std.specs.Prelude.{◌≡◌, ℕ, List, [], ◌++◌, length, codes, Some}
+use Rattle.std.specs.Prelude.{◌≡◌, ◌≢◌, ℕ, List, [], ◌++◌, length, codes, Some}
 use Rattle.report_text.specs.Texts.{head_text, menu_text}
 use Rattle.behaviour_semantics.specs.Rule.{as_given}
 use Rattle.behaviour_semantics.specs.Solving.{Entry}
 use Rattle.behaviour_semantics.specs.Menu.{Exact}
 use Rattle.lotos_grammar.specs.FirstText.{Text}
 use Rattle.lotos_grammar.specs.Reading.{Reads}
+use Rattle.lotos_reading.specs.declared.fault.ReadFault.{ReadFault}
+use Rattle.lotos_reading.specs.declared.fault.ReadFault.TheVariants as cause
+use Rattle.lotos_reading.specs.Reading.{IsSpecificationReading, IsSpecificationFault}
+use Rattle.syntax_trees.specs.WrittenDefinition.{WrittenSpecification}
 use Rattle.lotos_top.specs.declared.ended.Ended.{Ended}
 use Rattle.lotos_top.specs.declared.ended.Ended.TheVariants.{Done, SpecRefused, WordsRefused, FileFault}
+use Rattle.lotos_top.specs.Misread.{misread_text}
 use Rattle.lotos_top.specs.Resolution.{Resolved, resolved_of}
 
--- what is found in a specification's text: it is refused, or it is accepted with what it stands for and
--- with its first menu
+-- what is found in a specification's text: it is not read, with the fault of its reading; it is read and refused; or it is
+-- accepted with what it stands for and with its first menu
 pub data Finding : Type 0 where
+  misread : ReadFault → Finding
   refused : Finding
   accepted : Resolved → List Entry → Finding
 
--- the text reads as a specification that keeps the rules on names and stands for this, and the entries
+-- the text is a specification of the whole grammar
+abbrev pub IsSpecificationText : List ℕ → Type 0
+IsSpecificationText text = (tree : WrittenSpecification) × IsSpecificationReading 0 text tree
+
+-- the text reads as a specification of the forms that are built, keeps the rules on names and stands for this, and the entries
 -- are the one exact menu of its behaviour over its data. These have no equations, so a value as it is
 -- given is in canonical form
 pub record IsAccepted (text : List ℕ) (resolved : Resolved) (entries : List Entry) : Type 0 where
+  pub whole : IsSpecificationText text
   pub parts : Text
   pub read : Reads text parts
   pub stands_for : resolved_of parts ≡ Some resolved
   pub menu : Exact resolved.data_ as_given [] resolved.body entries
 
--- the text does not read as a specification that keeps the rules on names
+-- the text is a specification, and has another form or does not keep the rules on names
 abbrev pub IsRefused : List ℕ → Type 0
-IsRefused text = (parts : Text) (resolved : Resolved) → Reads text parts → resolved_of parts ≡ Some resolved → ⊥
+IsRefused text =
+    IsSpecificationText text × ((parts : Text) (resolved : Resolved) → Reads text parts → resolved_of parts ≡ Some resolved → ⊥)
+
+-- the text is not read, with this fault
+abbrev pub IsMisread : List ℕ → ReadFault → Type 0
+IsMisread text fault = IsSpecificationFault 0 text fault × (fault ≢ cause.NoMemory)
 
 -- this is what is to be found in the text
 abbrev pub IsFinding : List ℕ → Finding → Type 0
+IsFinding text (misread fault) = IsMisread text fault
 IsFinding text refused = IsRefused text
 IsFinding text (accepted resolved entries) = IsAccepted text resolved entries
 
@@ -61,6 +78,7 @@ accepted_text resolved entries =
 
 -- the report of what is found in a text
 abbrev pub check_text : List ℕ → Finding → List ℕ
+check_text name (misread fault) = misread_text name fault
 check_text name refused = refused_text name
 check_text name (accepted resolved entries) = accepted_text resolved entries
 
@@ -72,6 +90,7 @@ report_of (checked name text finding) = check_text name finding
 
 -- how the check of a specification ends
 abbrev pub check_status : Finding → Ended
+check_status (misread fault) = SpecRefused
 check_status refused = SpecRefused
 check_status (accepted resolved entries) = Done
 

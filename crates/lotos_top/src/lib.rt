@@ -15,7 +15,6 @@ mod running;
 mod scopes;
 pub mod specification;
 mod texts;
-mod writing;
 
 pub use commands::{Command, parse_command};
 pub use ended::Ended;

@@ -1,2 +1,6 @@
 pub mod TableLemmas
 pub mod CodeLemmas
+pub mod RuleLemmas
+pub mod RulesLemmas
+pub mod OrientLemmas
+pub mod RuleTestLemmas

@@ -1,3 +1,16 @@
-pub mod PrecedenceView
 pub mod Comparison
 pub mod ComparedView
+pub mod PrecedenceView
+pub mod RuleView
+pub mod RuleSides
+pub mod RuleHead
+pub mod MadeRule
+pub mod HeadBelow
+pub mod HeadIndexView
+pub mod RulesView
+pub mod OrientFaultView
+pub mod TurnView
+pub mod Extension
+pub mod RewritingEnd
+pub mod RuleTest
+pub mod OrderedBy

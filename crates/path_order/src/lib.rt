@@ -4,7 +4,20 @@
 
 pub mod compared;
 pub mod comparing;
+pub mod head_index;
+mod indexing;
+pub mod laws;
+pub mod orient_fault;
+pub mod orienting;
 pub mod precedence;
+pub mod rule;
+pub mod rules;
+pub mod turning;
 
 pub use comparing::greater;
+pub use operation_order::OrderFault;
+pub use orient_fault::OrientFault;
+pub use orienting::orient;
 pub use precedence::Precedence;
+pub use rule::Rule;
+pub use rules::Rules;

@@ -1,3 +1,4 @@
 pub mod Groupings
 pub mod Closing
 pub mod GroupingSteps
+mod TakingItems

@@ -12,3 +12,4 @@ pub mod GroupingLaws
 pub mod NodePlaces
 pub mod Depth
 pub mod DepthExamples
+pub mod TakenItems

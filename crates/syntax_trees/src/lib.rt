@@ -13,7 +13,9 @@ pub mod equations;
 pub mod grouping;
 pub mod items;
 pub mod laws;
+mod levels;
 pub mod named;
+mod taking;
 
 pub use behaviour_grouping::group;
 pub use behaviours::{BehForm, BehText, ExitText, GateText, OfferText, Sign};

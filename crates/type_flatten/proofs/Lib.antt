@@ -1,1 +1,1 @@
-pub mod MentionLemmas
+pub mod WithNewLemmas

@@ -10,7 +10,7 @@ use Rattle.term_algebra.specs.Twins.{form_eq}
 use Rattle.syntax_trees.specs.WrittenItem.{WrittenPair, WrittenPairs}
 use Rattle.sort_terms.specs.ReadingOutcome.{one_name}
 use Rattle.type_flatten.specs.Presentation.{Presentation, is_same_sort, is_same_operation, is_same_equation, with_new, first_position, is_marked}
-use Rattle.type_flatten.specs.Images.{operation_image, equation_image}
+use Rattle.type_images.specs.Images.{operation_image, equation_image}
 use Rattle.type_flatten.specs.Union.{Mentioned, sort_in, operation_in}
 use Rattle.type_flatten.specs.Declarations.{sort_numbered}
 use Rattle.type_flatten.specs.Renaming.{pair_for, sort_under, operation_under}

@@ -1,12 +1,13 @@
 -- The flattened data of a list of types: the presentation of each type, after those that it mentions; then the union of those
 -- in which nothing is formal.
-use Rattle.std.specs.Prelude.{◌≡◌, ◌⊎◌, ℕ, List, [], ◌∷◌, ◌++◌, map, None, Some, if◌then◌else◌}
+use Rattle.std.specs.Prelude.{◌≡◌, ◌⊎◌, ℕ, List, [], ◌∷◌, ◌++◌, map, flat_map, None, Some, slice_get, if◌then◌else◌}
+use Rattle.std.specs.Option.{option_to_list}
 use Rattle.lotos_base.specs.WrittenTerm.{PlacedName}
 use Rattle.term_algebra.specs.Equation.{Data}
 use Rattle.syntax_trees.specs.WrittenItem.{WrittenTypeBody, extends, renames, actualises}
 use Rattle.sort_terms.specs.ReadingOutcome.{one_name}
-use Rattle.type_flatten.specs.DeclaredTypes.{DeclaredType}
-use Rattle.type_flatten.specs.FlatteningOrder.{IsFlatteningOrder}
+use Rattle.type_mentions.specs.DeclaredTypes.{DeclaredType, mention_graph}
+use Rattle.type_mentions.specs.FlatteningOrder.{IsFlatteningOrder}
 use Rattle.type_flatten.specs.TypeFault.{TypeFault}
 use Rattle.type_flatten.specs.Presentation.{Presentation, nothing}
 use Rattle.type_flatten.specs.Union.{Mentioned, union_of, union_fault}
@@ -79,24 +80,28 @@ without_formals (t ∷ ts) = if is_formal t.presentation then without_formals ts
 abbrev pub data_of : Presentation → Data
 data_of p = record { signature = p.signature; equations = p.equations }
 
+-- the types of these numbers, in this order
+abbrev pub types_at : List DeclaredType → List ℕ → List DeclaredType
+types_at types order = flat_map (λ (number : ℕ). option_to_list (slice_get types number)) order
+
 -- The types have these data. That their names have no fault is asked before.
 pub record IsFlattening (types : List DeclaredType) (data_ : Data) : Type 0 where
-  pub order : List DeclaredType
-  pub ordered : IsFlatteningOrder types order
+  pub order : List ℕ
+  pub ordered : IsFlatteningOrder (mention_graph types) order
   pub all : List Mentioned
-  pub presented : ArePresented [] order all
+  pub presented : ArePresented [] (types_at types order) all
   pub united : union_fault (without_formals all) ≡ None
   pub answered : data_of (union_of (without_formals all)) ≡ data_
 
 -- The union of the types in which nothing is formal has this fault, at the name of the type that brings it.
 pub record IsFaultOfUnion (types : List DeclaredType) (fault : TypeFault) : Type 0 where
-  pub order : List DeclaredType
-  pub ordered : IsFlatteningOrder types order
+  pub order : List ℕ
+  pub ordered : IsFlatteningOrder (mention_graph types) order
   pub all : List Mentioned
-  pub presented : ArePresented [] order all
+  pub presented : ArePresented [] (types_at types order) all
   pub clash : union_fault (without_formals all) ≡ Some fault
 
 -- This is the first fault of flattening the types: that of a type, or that of the union behind all of them.
 abbrev pub IsFlatteningFault : List DeclaredType → TypeFault → Type 0
 IsFlatteningFault types fault =
-    ((order : List DeclaredType) × IsFlatteningOrder types order × HasFaultyType [] order fault) ⊎ IsFaultOfUnion types fault
+    ((order : List ℕ) × IsFlatteningOrder (mention_graph types) order × HasFaultyType [] (types_at types order) fault) ⊎ IsFaultOfUnion types fault

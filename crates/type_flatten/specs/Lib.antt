@@ -1,11 +1,7 @@
-pub mod DeclaredTypes
-pub mod Mentions
-pub mod MentionFaults
-pub mod FlatteningOrder
 pub mod TypeFault
 pub mod Presentation
-pub mod Images
 pub mod Union
+pub mod UnionLaws
 pub mod UnionExamples
 pub mod Declarations
 pub mod DeclaredEquations

@@ -1,11 +1,12 @@
 -- The presentation of a type: its sorts, operations and equations, and the marks of what is formal. Formal equations are
 -- checked where they stand and are no part of it.
-use Rattle.std.specs.Prelude.{ℕ, suc, Bool, ◌&&◌, ◌||◌, not, nat_eq, nat_lt, List, [], ◌∷◌, ◌++◌, length, if◌then◌else◌}
+use Rattle.std.specs.Prelude.{ℕ, Bool, ◌&&◌, ◌||◌, not, nat_eq, nat_lt, List, [], ◌∷◌, ◌++◌, length, if◌then◌else◌}
 use Rattle.std.specs.List.{list_any}
 use Rattle.term_algebra.specs.Signature.{Signature, Sort, Operation}
 use Rattle.term_algebra.specs.Equation.{Place, Equation}
 use Rattle.term_algebra.specs.Tests.{term_eq}
 use Rattle.sort_terms.specs.ReadingOutcome.{one_name}
+pub use Rattle.type_mentions.specs.FirstPosition.{first_position}
 use Rattle.sort_terms.specs.WellFormedTest.{all_differ, are_one_sort, are_one_operation}
 
 -- Sorts and operations have the numbers of their positions. The marks are the numbers of formal sorts and operations.
@@ -47,11 +48,6 @@ is_same_equation one other =
 abbrev pub with_new : {A : Type 0} → (A → A → Bool) → List A → List A → List A
 with_new same kept [] = kept
 with_new same kept (x ∷ xs) = with_new same (if list_any (same x) kept then kept else kept ++ x ∷ []) xs
-
--- the position of the first member with the property; the length where there is none
-abbrev pub first_position : {A : Type 0} → (A → Bool) → List A → ℕ
-first_position test [] = 0
-first_position test (x ∷ xs) = if test x then 0 else suc (first_position test xs)
 
 -- whether the number is marked
 abbrev pub is_marked : List ℕ → ℕ → Bool

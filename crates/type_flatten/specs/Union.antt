@@ -6,7 +6,7 @@ use Rattle.term_algebra.specs.Equation.{Place, Equation}
 use Rattle.term_algebra.specs.Signature.{Sort, Operation}
 use Rattle.type_flatten.specs.TypeFault.{TypeFault, double_sort, double_operation, too_large, fault_if, first_fault, fault_along}
 use Rattle.type_flatten.specs.Presentation.{Presentation, nothing, is_same_sort, is_same_operation, is_same_equation, with_new, first_position, has_sort_clash, has_operation_clash, is_too_large}
-use Rattle.type_flatten.specs.Images.{operation_image, equation_image}
+use Rattle.type_images.specs.Images.{operation_image, equation_image}
 
 -- where the sort stands in the list
 abbrev pub sort_in : List Sort → Option Sort → ℕ

@@ -119,19 +119,32 @@ fn repeating(
 
 const HEAD: &str = "specification S [g] : noexit behaviour ";
 
-/// How the check of a behaviour ends that has a piece so many times before `stop`.
-fn checked(alloc: Global, piece: &str, times: usize) -> Result<Ended, Fail> {
+/// How the check of a behaviour ends that has a piece so many times before `stop`, and what it writes.
+fn checked(alloc: Global, piece: &str, times: usize) -> Result<(Ended, Vec<u8>), Fail> {
     let text = repeating(alloc, HEAD, piece, times, "stop endspec")?;
-    let (ended, _) = ran(alloc, &["check", "s.lotos"], text.as_str())?;
-    Ok(ended)
+    ran(alloc, &["check", "s.lotos"], text.as_str())
 }
 
+/// The first node that is too deep is the `stop` behind 500 actions, and the last operand but one of
+/// 501 in a choice.
 #[test]
 fn behaviours_are_at_most_500_deep(rt: HostRuntime) -> Result<(), Fail> {
-    assert_eq!(rt; checked(rt.alloc(), "g; ", 499)?, Ended::Done);
-    assert_eq!(rt; checked(rt.alloc(), "g; ", 500)?, Ended::SpecRefused);
-    assert_eq!(rt; checked(rt.alloc(), "stop [] ", 499)?, Ended::Done);
-    assert_eq!(rt; checked(rt.alloc(), "stop [] ", 500)?, Ended::SpecRefused);
+    let (ended, _) = checked(rt.alloc(), "g; ", 499)?;
+    assert_eq!(rt; ended, Ended::Done);
+    let (ended, written) = checked(rt.alloc(), "g; ", 500)?;
+    assert_eq!(rt; ended, Ended::SpecRefused);
+    assert_eq!(rt;
+        written.as_slice(),
+        b"refused 105 TooDeep at s.lotos:1:1540\n".as_slice()
+    );
+    let (ended, _) = checked(rt.alloc(), "stop [] ", 499)?;
+    assert_eq!(rt; ended, Ended::Done);
+    let (ended, written) = checked(rt.alloc(), "stop [] ", 500)?;
+    assert_eq!(rt; ended, Ended::SpecRefused);
+    assert_eq!(rt;
+        written.as_slice(),
+        b"refused 105 TooDeep at s.lotos:1:4032\n".as_slice()
+    );
     Ok(())
 }
 
@@ -143,6 +156,7 @@ fn bracketed(alloc: Global, times: usize) -> Result<Ended, Fail> {
     Ok(ended)
 }
 
+/// Brackets are no nodes of the grammar, but the forms that are built have a limit on them.
 #[test]
 fn brackets_are_nested_at_most_500_deep(rt: HostRuntime) -> Result<(), Fail> {
     assert_eq!(rt; bracketed(rt.alloc(), 500)?, Ended::Done);

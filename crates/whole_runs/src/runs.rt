@@ -14,8 +14,6 @@ const STOP: &str = "specification S : noexit behaviour stop endspec";
 
 const STOP_REPORT: &str = "accepted S\ndata: 0 sorts, 0 operations, 0 equations\nevents 0\n";
 
-const UNBUILT: &str = "refused 100 Unbuilt at s.lotos:1:1\n";
-
 const USAGE: &str =
     "usage: lotos check SPEC [ORDER] [with TERM...] | run SPEC [ORDER] [with TERM...] | demo N\n";
 
@@ -81,26 +79,45 @@ fn a_specification_of_stop_is_accepted(rt: HostRuntime) -> Result<(), Fail> {
     Ok(())
 }
 
+/// Texts that are refused, each with the fault and its place behind a `|`.
+const REFUSED: &str = "|104 Syntax at s.lotos:1:1
+specification S [g] : noexit behaviour i; stop endspec|100 Unbuilt at s.lotos:1:1
+specification S : exit behaviour stop endspec|100 Unbuilt at s.lotos:1:1
+specification S : noexit behaviour stop endspec endspec|104 Syntax at s.lotos:1:49
+specification S : noexit behaviour stop|104 Syntax at s.lotos:1:40
+specification S : noexit behaviour stop (* c *) |104 Syntax at s.lotos:1:49
+specification S noexit behaviour stop endspec|104 Syntax at s.lotos:1:17
+specification stop : noexit behaviour stop endspec|104 Syntax at s.lotos:1:15
+specification 0S : noexit behaviour stop endspec|104 Syntax at s.lotos:1:15
+pecification S : noexit behaviour stop endspec|104 Syntax at s.lotos:1:1
+specification S : noexit behaviour stop endspec (*|102 OpenComment at s.lotos:1:49
+specification S (* x|102 OpenComment at s.lotos:1:17
+specification S : noexit behaviour stop $ endspec|101 BadByte at s.lotos:1:41
+specification $ endspec (*|101 BadByte at s.lotos:1:15
+endspec $|101 BadByte at s.lotos:1:9
+specification S [g] : noexit behaviour choice x [] g; stop endspec|104 Syntax at s.lotos:1:49
+specification S : noexit type T is eqns forall x:T ofsort T x = x ; endtype behaviour stop endspec|100 Unbuilt at s.lotos:1:1";
+
 #[test]
-fn every_other_text_is_refused(rt: HostRuntime) -> Result<(), Fail> {
-    let texts = [
-        "",
-        "specification S [g] : noexit behaviour i; stop endspec",
-        "specification S : noexit behaviour stop endspec endspec",
-        "specification S : noexit behaviour stop",
-        "specification S noexit behaviour stop endspec",
-        "specification stop : noexit behaviour stop endspec",
-        "specification 0S : noexit behaviour stop endspec",
-        "specification S : exit behaviour stop endspec",
-        "specification S : noexit behaviour stop endspec (*",
-        "specification S : noexit behaviour stop $ endspec",
-        "pecification S : noexit behaviour stop endspec",
-    ];
-    for text in texts {
-        let (ended, written) = ran(rt.alloc(), &["check", "s.lotos"], text)?;
+fn every_other_text_is_refused_with_its_fault(rt: HostRuntime) -> Result<(), Fail> {
+    let alloc = rt.alloc();
+    for line in REFUSED.split('\n') {
+        let Some((text, fault)) = line.split_once('|') else {
+            return Err(Fail::new("each line has a text and a fault"));
+        };
+        let mut expected = String::from_str(alloc, "refused ")?;
+        expected.push_str(fault)?;
+        expected.push_str("\n")?;
+        let (ended, written) = ran(alloc, &["check", "s.lotos"], text)?;
         assert_eq!(rt; ended, Ended::SpecRefused);
-        assert_eq!(rt; written.as_slice(), UNBUILT.as_bytes());
+        assert_eq!(rt; written.as_slice(), expected.as_bytes());
     }
+    let two_lines = "specification S : noexit\n behaviour stop\n  stop endspec";
+    let (_, written) = ran(alloc, &["check", "s.lotos"], two_lines)?;
+    assert_eq!(rt;
+        written.as_slice(),
+        b"refused 104 Syntax at s.lotos:3:3\n".as_slice()
+    );
     Ok(())
 }
 
@@ -117,7 +134,10 @@ fn a_text_ends_at_its_limit(rt: HostRuntime) -> Result<(), Fail> {
     text.push_str(" ")?;
     let (ended, written) = ran(alloc, &["check", "s.lotos"], text.as_str())?;
     assert_eq!(rt; ended, Ended::SpecRefused);
-    assert_eq!(rt; written.as_slice(), UNBUILT.as_bytes());
+    assert_eq!(rt;
+        written.as_slice(),
+        b"refused 103 TooLong at s.lotos:1:1\n".as_slice()
+    );
     Ok(())
 }
 

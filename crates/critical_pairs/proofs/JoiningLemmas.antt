@@ -1,0 +1,129 @@
+-- Whether the sides of the listed pairs have one chosen form decides confluence.
+use Rattle.std.proofs.Common.{◌≡◌, ◌<◌, ◌+◌, ℕ, zero, suc, List, [], ◌∷◌, map, length, get_or, refl, ap, sym, ◌∙◌, subst, arith}
+use Rattle.std.specs.Prelude.{Some, None, slice_get}
+use Rattle.std.proofs.lemmas.Option.{same_Some}
+use Rattle.term_algebra.specs.Term.{Term}
+use Rattle.rewriting_theory.specs.Rule.{Rule}
+use Rattle.rewriting_theory.specs.Rewriting.{AreConfluent}
+use Rattle.rewriting_theory.specs.ChosenForm.{Chosen}
+use Rattle.rewriting_theory.specs.CriticalPair.{CriticalPair}
+use Rattle.rewriting_theory.specs.PairList.{IsUnjoined, IsFirstUnjoined}
+use Rattle.rewriting_theory.specs.PairListLaws.{RewritesToTwo}
+use Rattle.rewriting_theory.proofs.PairListLemmas.{NoneUnjoined, agreeing_joined, none_unjoined_confluent, unjoined_not_confluent, unjoined_two}
+use Rattle.termination_theory.specs.Orientation.{NumberedRule, rules_of}
+use Rattle.sort_terms.specs.SortedView.{term_in}
+use Rattle.path_order.specs.RulesView.{rules_in, plain_rules_in}
+use Rattle.path_order.specs.declared.rules.Rules.{Rules}
+use Rattle.path_order.proofs.RulesLemmas.{rules_well_formed, rules_end}
+use Rattle.critical_pairs.specs.Listing.{equation_at, named_by, ListsAll}
+use Rattle.critical_pairs.specs.Joining.{AreUnjoinedBy, NoneUnjoinedAmong, AnswersPair, AnswersFirst}
+use Rattle.critical_pairs.specs.PairView.{pair_of, pairs_in}
+use Rattle.critical_pairs.specs.declared.pair.Pair.{Pair}
+use Rattle.critical_pairs.specs.declared.joining.Unjoined.{Unjoined}
+
+-- a pair whose sides have one chosen form is not unjoined
+pub agreeing_alone : (rules : Rules) (pair : CriticalPair) (left right : Term) → Chosen (plain_rules_in rules) pair.left left
+    → Chosen (plain_rules_in rules) pair.right right → left ≡ right → NoneUnjoinedAmong (plain_rules_in rules) (pair ∷ [])
+agreeing_alone rules pair left right one two same zero other t u is unjoined =
+    agreeing_joined pair left right t u (rules_well_formed rules) one two same
+    (subst (λ (p : CriticalPair). IsUnjoined (plain_rules_in rules) p t u) (sym (same_Some pair other is)) unjoined)
+agreeing_alone rules pair left right one two same (suc k) other t u is unjoined = let none : None ≡ Some other = is in cc
+
+-- the numbers of rules do not matter
+unjoined_plain : {rules : List Rule} (numbered : List NumberedRule) (pair : CriticalPair) (t u : Term)
+    → IsUnjoined rules (named_by numbered pair) t u → IsUnjoined rules pair t u
+unjoined_plain numbered pair t u is = record { is_left = is.is_left; is_right = is.is_right; differ = is.differ }
+
+unjoined_named : {rules : List Rule} (numbered : List NumberedRule) (pair : CriticalPair) (t u : Term)
+    → IsUnjoined rules pair t u → IsUnjoined rules (named_by numbered pair) t u
+unjoined_named numbered pair t u is = record { is_left = is.is_left; is_right = is.is_right; differ = is.differ }
+
+named_there : (numbered : List NumberedRule) (pairs : List CriticalPair) (k : ℕ) (pair : CriticalPair) → slice_get pairs k ≡ Some pair
+    → slice_get (map (named_by numbered) pairs) k ≡ Some (named_by numbered pair)
+named_there numbered [] k pair is = let none : None ≡ Some pair = is in cc
+named_there numbered (p ∷ pairs) zero pair is = ap (λ (q : CriticalPair). Some (named_by numbered q)) (same_Some p pair is)
+named_there numbered (p ∷ pairs) (suc k) pair is = named_there numbered pairs k pair is
+
+-- the pair with the numbers of rules
+record IsNamed (numbered : List NumberedRule) (pairs : List CriticalPair) (k : ℕ) (named : CriticalPair) : Type 0 where
+  pair : CriticalPair
+  is_pair : slice_get pairs k ≡ Some pair
+  same : named_by numbered pair ≡ named
+
+named_back : (numbered : List NumberedRule) (pairs : List CriticalPair) (k : ℕ) (named : CriticalPair)
+    → slice_get (map (named_by numbered) pairs) k ≡ Some named → IsNamed numbered pairs k named
+named_back numbered [] k named is = let none : None ≡ Some named = is in cc
+named_back numbered (p ∷ pairs) zero named is = record { pair = p; is_pair = refl; same = same_Some (named_by numbered p) named is }
+named_back numbered (p ∷ pairs) (suc k) named is =
+    let rest = named_back numbered pairs k named is in
+    record { pair = rest.pair; is_pair = rest.is_pair; same = rest.same }
+
+-- where no listed pair is unjoined, the rules are confluent
+pub joined_rules : (rules : Rules) (found : List Pair) → ListsAll (rules_in rules) (pairs_in found)
+    → NoneUnjoinedAmong (plain_rules_in rules) (pairs_in found) → AreConfluent (plain_rules_in rules)
+joined_rules rules found listed none =
+    none_unjoined_confluent (plain_rules_in rules) listed.plain (rules_well_formed rules) (rules_end rules) listed.all
+    (λ k pair t u is unjoined.
+    none k (named_by (rules_in rules) pair) t u
+    (ap (λ (ps : List CriticalPair). slice_get ps k) (sym listed.named) ∙ named_there (rules_in rules) listed.plain k pair is)
+    (unjoined_named (rules_in rules) pair t u unjoined))
+
+-- where one is, they are not
+pub unjoined_rules : (rules : Rules) (found : List Pair) (answer : Unjoined) → ListsAll (rules_in rules) (pairs_in found)
+    → AnswersFirst (plain_rules_in rules) (pairs_in found) answer
+    → AreUnjoinedBy (rules_in rules) answer.first answer.second (term_in answer.peak) (term_in answer.left) (term_in answer.right)
+unjoined_rules rules found answer listed first =
+    let back = named_back (rules_in rules) listed.plain first.number first.pair
+    (ap (λ (ps : List CriticalPair). slice_get ps first.number) listed.named ∙ first.is_pair) in
+    let unjoined : IsUnjoined (plain_rules_in rules) back.pair (term_in answer.left) (term_in answer.right) =
+    unjoined_plain (rules_in rules) back.pair (term_in answer.left) (term_in answer.right)
+    (subst (λ (p : CriticalPair). IsUnjoined (plain_rules_in rules) p (term_in answer.left) (term_in answer.right)) (sym back.same)
+    first.answers.unjoined) in
+    let critical = listed.all.critical first.number back.pair back.is_pair in
+    let peak : term_in answer.peak ≡ back.pair.peak = first.answers.peak_is ∙ ap (λ (p : CriticalPair). p.peak) (sym back.same) in
+    record {
+      pairs = listed.plain;
+      all = listed.all;
+      number = first.number;
+      is_first = record {
+        pair = back.pair;
+        is_pair = back.is_pair;
+        unjoined = unjoined;
+        is_first = λ k earlier t u less is other.
+            first.none_before k (named_by (rules_in rules) earlier) t u less
+            (ap (λ (ps : List CriticalPair). slice_get ps k) (sym listed.named) ∙ named_there (rules_in rules) listed.plain k earlier is)
+            (unjoined_named (rules_in rules) earlier t u other);
+      };
+      first_is = first.answers.first_is ∙ ap (λ (p : CriticalPair). p.first) (sym back.same);
+      second_is = first.answers.second_is ∙ ap (λ (p : CriticalPair). p.second) (sym back.same);
+      peak_is = peak;
+      rewrites =
+          subst (λ (w : Term). RewritesToTwo (plain_rules_in rules) w (term_in answer.left)
+          (term_in answer.right)) (sym peak)
+          (unjoined_two (plain_rules_in rules) back.pair (term_in answer.left) (term_in answer.right) (rules_well_formed rules) critical unjoined);
+      not_confluent =
+          unjoined_not_confluent (plain_rules_in rules) back.pair (term_in answer.left) (term_in answer.right) (rules_well_formed rules)
+          critical unjoined;
+    }
+
+-- ---- Pairs looked at so far
+
+pub pair_listed : (pairs : List Pair) (k : ℕ) (pair : Pair) → slice_get pairs k ≡ Some pair → slice_get (pairs_in pairs) k ≡ Some (pair_of pair)
+pair_listed [] k pair is = let none : None ≡ Some pair = is in cc
+pair_listed (p ∷ pairs) zero pair is = ap (λ (q : Pair). Some (pair_of q)) (same_Some p pair is)
+pair_listed (p ∷ pairs) (suc k) pair is = pair_listed pairs k pair is
+
+-- a pair of a list of one
+pub alone : (rules : List Rule) (pair other : CriticalPair) (t u : Term) → NoneUnjoinedAmong rules (pair ∷ []) → pair ≡ other
+    → ¬ IsUnjoined rules other t u
+alone rules pair other t u none same = none 0 other t u (ap (λ (p : CriticalPair). Some p) same)
+
+pub item_there : (xs : List Pair) (k : ℕ) (x : Pair) → k < length xs → x ≡ get_or xs k x → slice_get xs k ≡ Some x
+item_there [] k x less e = absurd (omega (arith, less))
+item_there (y ∷ ys) zero x less e = ap (λ (p : Pair). Some p) (sym e)
+item_there (y ∷ ys) (suc k) x less e = item_there ys k x (omega (arith, less)) e
+
+pub listed_within : (xs : List Pair) (k : ℕ) (pair : CriticalPair) → slice_get (pairs_in xs) k ≡ Some pair → k < length xs
+listed_within [] k pair is = let none : None ≡ Some pair = is in cc
+listed_within (x ∷ xs) zero pair is = omega arith
+listed_within (x ∷ xs) (suc k) pair is = let rest = listed_within xs k pair is in omega (arith, rest)

@@ -1,0 +1,7 @@
+pub mod NodePlaceLemmas
+pub mod CandidateLemmas
+pub mod ExtendLemmas
+pub mod SkipLemmas
+pub mod RuleLemmas
+pub mod JoinedLemmas
+pub mod JoiningLemmas

@@ -1,0 +1,31 @@
+use Rattle.std.proofs.Common.{◌≡◌, List, sym, ◌∙◌, ap, subst}
+use Rattle.std.specs.Prelude.{Option, IfNone, IfSome, slice_get}
+use Rattle.path_order.specs.RulesView.{plain_rules_in}
+use Rattle.critical_pairs.specs.Joining.{NoneUnjoinedAmong, AnswersFirst}
+use Rattle.critical_pairs.specs.PairView.{pairs_in}
+use Rattle.critical_pairs.specs.declared.joining.Unjoined.{Unjoined}
+use Rattle.critical_pairs.specs.declared.pair.Pair.{Pair}
+use Rattle.critical_pairs.proofs.JoinedLemmas.{joined_confluent}
+use Rattle.critical_pairs.proofs.JoiningLemmas.{joined_rules, unjoined_rules}
+use Rattle.critical_pairs.proofs.joining.all_join.Goals as goal
+
+pub first_unjoined-requires : goal.first_unjoined-requires
+first_unjoined-requires c = λ k pair is.
+    c.in_ok-found.ensures.is_of k pair (ap (λ (xs : List Pair). slice_get xs k) (sym c.as_slice.ensures.value) ∙ is)
+
+pub of-requires : goal.of-requires
+of-requires c =
+    ∣ joined_rules c.args.rules c.in_ok-found.found.items c.in_ok-found.ensures.listed
+    (subst (λ (xs : List Pair). NoneUnjoinedAmong (plain_rules_in c.args.rules) (pairs_in xs)) c.as_slice.ensures.value
+    (subst (λ (o : Option Unjoined). IfNone o (NoneUnjoinedAmong (plain_rules_in c.args.rules) (pairs_in c.as_slice.result.now)))
+    c.in-None.is c.in_ok-first_unjoined.ensures.none)) ∣₁
+
+pub returns-in-None-clause-confluent : goal.returns-in-None-clause-confluent
+returns-in-None-clause-confluent c = joined_confluent c.of.result
+
+pub returns-in-Some-clause-unjoined : goal.returns-in-Some-clause-unjoined
+returns-in-Some-clause-unjoined c =
+    unjoined_rules c.args.rules c.in_ok-found.found.items c.in-Some.unjoined c.in_ok-found.ensures.listed
+    (subst (λ (xs : List Pair). AnswersFirst (plain_rules_in c.args.rules) (pairs_in xs) c.in-Some.unjoined) c.as_slice.ensures.value
+    (subst (λ (o : Option Unjoined). IfSome o (λ answer. AnswersFirst (plain_rules_in c.args.rules) (pairs_in c.as_slice.result.now) answer))
+    c.in-Some.is c.in_ok-first_unjoined.ensures.some))

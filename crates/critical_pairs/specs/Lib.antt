@@ -1,0 +1,6 @@
+pub mod NodePlaces
+pub mod PairView
+pub mod Candidates
+pub mod Listing
+pub mod Extended
+pub mod Joining

@@ -1,0 +1,16 @@
+//! Critical pairs and confluence (Baader and Nipkow, "Term Rewriting and All That", 6.2).
+#![tactic(auto)]
+
+pub mod candidates;
+pub mod joined;
+pub mod joining;
+pub mod listing;
+pub mod pair;
+pub mod pair_fault;
+pub mod places;
+
+pub use joined::Joined;
+pub use joining::all_join;
+pub use listing::pairs;
+pub use pair::Pair;
+pub use pair_fault::PairFault;

@@ -1,0 +1,178 @@
+//! The list of all critical pairs.
+
+ghost use Rattle.critical_pairs.specs.Extended.{AddsPairsOf, IsHeadIn, IsPairAt};
+ghost use Rattle.critical_pairs.specs.Extended.{paths_in, listed_option};
+ghost use Rattle.critical_pairs.specs.Listing.{AreOver, ListsAll};
+ghost use Rattle.critical_pairs.specs.NodePlaces.{IsHeadAt};
+ghost use Rattle.critical_pairs.specs.PairView.{node_place_of, pairs_in, rule_sides};
+ghost use Rattle.overlap_pairs.specs.OverlapPair.{HaveOneSignature, HaveNoOverlap};
+ghost use Rattle.overlap_pairs.specs.SidesView.{borrowed_sides};
+ghost use Rattle.path_order.specs.RuleHead.{has_head};
+ghost use Rattle.path_order.specs.RulesView.{plain_rules_in, rules_in, signature_in};
+ghost use Rattle.rewriting_theory.specs.Places.{is_root, places_at, places_with};
+ghost use Rattle.rewriting_theory.specs.Rule.{Rule as PlainRule, IsRuleAt};
+ghost use Rattle.sort_terms.specs.SortedView.{term_in};
+ghost use Rattle.sort_terms.specs.TermView.{term_of};
+ghost use Rattle.std.specs.Prelude.{◌≡◌, ◌<◌, ◌∷◌, ◌++◌, ◌&&◌, [], ℕ, IfNone, IfOk, IfSome, Some};
+ghost use Rattle.std.specs.Prelude.{length, nat_eq, slice_get};
+ghost use Rattle.critical_pairs.specs.declared.places.NodePlace.{NodePlace};
+
+use crate::candidates::next_candidate;
+use crate::pair::Pair;
+use crate::places::{NodePlace, places_of};
+use lotos_base::NoMemory;
+use overlap_pairs::{BorrowedRule, overlap};
+use path_order::{Rule, Rules};
+use sort_terms::Term;
+use std::alloc::Global;
+
+/// All critical pairs of the rules: by the first rule, then by the second rule, then by the place in
+/// the left side of the first rule in preorder. A rule with itself at the root is no place.
+pub fn pairs(alloc: Global, rules: &Rules) -> Result<Vec<Pair>, NoMemory>
+    ensures listed { IfOk result (λ found. ListsAll (rules_in rules.now) (pairs_in found.items)) }
+    ensures is_of { IfOk result (λ found. AreOver (signature_in rules.now) found.items) }
+{
+    let mut found = Vec::new(alloc);
+    for first in 0..rules.list().len() {
+        found = pairs_of_first(alloc, rules, first, found)?;
+    }
+    Ok(found)
+}
+
+// The pairs found before and those of this first rule. Second rules are found by the operations in
+// the left side of the first one, so that rules with other heads cost nothing.
+fn pairs_of_first(
+    alloc: Global,
+    rules: &Rules,
+    first: usize,
+    mut found: Vec<Pair>,
+) -> Result<Vec<Pair>, NoMemory>
+    requires { first < length rules.now.rules.items }
+    ensures { IfOk result (λ more. (rule : PlainRule)
+        → IsRuleAt (plain_rules_in rules.now) first rule
+        → AddsPairsOf rules.now (places_with first rule 0 (plain_rules_in rules.now)) found.items
+        more.items) }
+{
+    let places = places_of(alloc, rules.list()[first].left.term())?;
+    let mut next = 0;
+    while let Some(second) = next_candidate(rules, places.as_slice(), next) {
+        found = pairs_of_two(alloc, rules, (first, second), places.as_slice(), found)?;
+        next = second + 1;
+    }
+    Ok(found)
+}
+
+// The pairs found before and those of the two rules with these numbers.
+fn pairs_of_two(
+    alloc: Global,
+    rules: &Rules,
+    numbers: (usize, usize),
+    places: &[NodePlace],
+    mut found: Vec<Pair>,
+) -> Result<Vec<Pair>, NoMemory>
+    requires first { numbers.0 < length rules.now.rules.items }
+    requires second { numbers.1 < length rules.now.rules.items }
+    requires headed { (k : ℕ) (place : NodePlace) → slice_get places.now k ≡ Some place
+        → IsHeadIn (plain_rules_in rules.now) numbers.0 (node_place_of place) }
+    ensures { IfOk result (λ more. AddsPairsOf rules.now
+        (places_at numbers.0 numbers.1 (paths_in places.now)) found.items more.items) }
+{
+    for place in places {
+        found = with_pair_at(alloc, rules, numbers, place, found)?;
+    }
+    Ok(found)
+}
+
+// The pairs found before and that of the two rules at the place, if there is one.
+fn with_pair_at(
+    alloc: Global,
+    rules: &Rules,
+    numbers: (usize, usize),
+    place: &NodePlace,
+    found: Vec<Pair>,
+) -> Result<Vec<Pair>, NoMemory>
+    requires first { numbers.0 < length rules.now.rules.items }
+    requires second { numbers.1 < length rules.now.rules.items }
+    requires headed { IsHeadIn (plain_rules_in rules.now) numbers.0 (node_place_of place.now) }
+    ensures { IfOk result (λ more. AddsPairsOf rules.now
+        (places_at numbers.0 numbers.1 (place.now.path.items ∷ [])) found.items more.items) }
+{
+    if is_same_root(numbers, place) {
+        return Ok(found);
+    }
+    let first = &rules.list()[numbers.0];
+    let second = &rules.list()[numbers.1];
+    with_found(found, pair_at(alloc, first, second, place)?)
+}
+
+// The pairs and one more, if there is one.
+fn with_found(mut found: Vec<Pair>, pair: Option<Pair>) -> Result<Vec<Pair>, NoMemory>
+    ensures { IfOk result (λ more. more.items ≡ found.items ++ listed_option pair) }
+{
+    match pair {
+        None => Ok(found),
+        Some(pair) => {
+            found.push(pair)?;
+            Ok(found)
+        }
+    }
+}
+
+// Whether the numbers are one and the place is the root.
+fn is_same_root(numbers: (usize, usize), place: &NodePlace) -> bool
+    ensures { result ≡ (nat_eq numbers.0 numbers.1 && is_root place.now.path.items) }
+{
+    numbers.0 == numbers.1 && place.path.is_empty()
+}
+
+// The pair of the two rules at the place, if there is one.
+fn pair_at(
+    alloc: Global,
+    first: &Rule,
+    second: &Rule,
+    place: &NodePlace,
+) -> Result<Option<Pair>, NoMemory>
+    requires rules { HaveOneSignature (rule_sides first.now) (rule_sides second.now) }
+    requires headed { IsHeadAt (term_in first.now.left) (node_place_of place.now) }
+    ensures none { IfOk result (λ o. IfNone o
+        (HaveNoOverlap (rule_sides first.now) (rule_sides second.now) place.now.path.items)) }
+    ensures some { IfOk result (λ o. IfSome o (λ pair. IsPairAt first.now second.now
+        place.now.path.items pair)) }
+{
+    if !is_headed(second.left.term(), place.head) {
+        return Ok(None);
+    }
+    let one = sides(first);
+    let two = sides(second);
+    match overlap(alloc, &one, &two, place.path.as_slice())? {
+        None => Ok(None),
+        Some(terms) => Ok(Some(Pair {
+            first: first.equation,
+            second: second.equation,
+            path: Vec::from_slice(alloc, place.path.as_slice())?,
+            peak: terms.peak,
+            left: terms.left,
+            right: terms.right,
+        })),
+    }
+}
+
+// Whether the operation with this number stands at the head of the term.
+fn is_headed(term: &Term, head: u32) -> bool
+    ensures { result ≡ has_head head (term_of term.now) }
+{
+    match term {
+        Term::Var { .. } => false,
+        Term::Node { op, .. } => *op == head,
+    }
+}
+
+// The sides of the rule.
+fn sides(rule: &Rule) -> BorrowedRule<'_>
+    ensures { borrowed_sides result ≡ rule_sides rule.now }
+{
+    BorrowedRule {
+        left: &rule.left,
+        right: &rule.right,
+    }
+}

@@ -1,0 +1,12 @@
+pub mod Inversions
+pub mod Facts
+pub mod NamesDepths
+pub mod TermsDepths
+pub mod TypesDepths
+pub mod EquationsDepths
+pub mod RenamingsDepths
+pub mod BehavioursDepths
+pub mod DefinitionsDepths
+pub mod StartsDepths
+pub mod RowDepths
+pub mod FoldedDepths

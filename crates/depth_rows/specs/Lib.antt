@@ -1,0 +1,4 @@
+pub mod MeaningNodes
+pub mod DepthPart
+pub mod RowDepth
+pub mod DepthRowLaws

@@ -1,0 +1,3 @@
+pub mod RuleView
+pub mod Lists
+pub mod ListLaws

@@ -1,0 +1,13 @@
+//! Lists of drafts: what each rule of the dynamic semantics makes of the drafts of a part, and what
+//! both sides of a parallel make together (ISO 8807:1989, behaviour expressions).
+#![tactic(auto)]
+
+pub mod laws;
+pub mod rule;
+pub mod sides;
+
+pub use rule::Rule;
+pub use sides::both_sides;
+
+#[cfg(test)]
+mod tests;

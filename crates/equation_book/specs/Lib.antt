@@ -1,0 +1,3 @@
+pub mod SortedSides
+pub mod BookCanon
+pub mod Refusal

@@ -1,0 +1,51 @@
+//! Data with the confluent rules of their equations.
+
+ghost use Rattle.equation_book.specs.SortedSides.{AreSortedSides, AreSortedSides-prop};
+ghost use Rattle.path_order.specs.RuleTest.{gives_rules};
+ghost use Rattle.path_order.specs.RulesView.{precedence_in, rules_in, signature_in};
+ghost use Rattle.sort_terms.specs.EquationView.{data_of};
+ghost use Rattle.sort_terms.specs.SignatureView.{signature_of};
+ghost use Rattle.std.specs.Prelude.{◌≡◌, true};
+
+use critical_pairs::Joined;
+use path_order::Rules;
+use sort_terms::Flat;
+
+/// Data, and the rules of their equations, which are confluent.
+#[derive(Drop)]
+pub struct Book {
+    flat: Flat,
+    joined: Joined,
+    pub ghost sides: { AreSortedSides flat } by { AreSortedSides-prop flat },
+    pub ghost oriented: { gives_rules (precedence_in joined.rules) 0 (data_of flat).equations
+        (rules_in joined.rules) ≡ true },
+    pub ghost over: { ∥ signature_in joined.rules ≡ signature_of flat.signature ∥₁ },
+}
+
+impl Book {
+    /// The data with the rules of their equations.
+    pub fn of(flat: Flat, joined: Joined) -> Book
+        requires sides { AreSortedSides flat }
+        requires oriented { gives_rules (precedence_in joined.rules) 0 (data_of flat).equations
+            (rules_in joined.rules) ≡ true }
+        requires over { ∥ signature_in joined.rules ≡ signature_of flat.signature ∥₁ }
+        ensures flat { result.flat ≡ flat }
+        ensures joined { result.joined ≡ joined }
+    {
+        Book { flat, joined }
+    }
+
+    /// The data.
+    pub fn flat(&self) -> &Flat
+        ensures { result.now ≡ self.now.flat }
+    {
+        &self.flat
+    }
+
+    /// The rules.
+    pub fn rules(&self) -> &Rules
+        ensures { result.now ≡ self.now.joined.rules }
+    {
+        self.joined.rules()
+    }
+}

@@ -1,0 +1,48 @@
+//! The equality of a book's data.
+
+ghost use Rattle.equation_book.specs.BookCanon.{book_canon, book_is_canon};
+ghost use Rattle.sort_terms.specs.EquationView.{data_of};
+ghost use Rattle.sort_terms.specs.ProfiledTerm.{IsOf};
+ghost use Rattle.sort_terms.specs.SignatureView.{signature_of};
+ghost use Rattle.sort_terms.specs.SortedView.{profiled_in, term_in};
+ghost use Rattle.std.specs.Prelude.{◌≡◌, ◌↔◌, IfOk, IsTrue};
+ghost use Rattle.term_algebra.specs.Equality.{Equal};
+ghost use Rattle.term_algebra.specs.Sorting.{IsGround};
+
+use crate::book::Book;
+use lotos_base::NoMemory;
+use sort_terms::{Deciding, Sorted};
+use term_rewriter::normalise;
+
+impl Deciding for Book {
+    ghost known_data = { λ it. data_of it.flat };
+
+    ghost canon = { λ it t. book_canon it t };
+
+    ghost is_canon = { λ it. book_is_canon it };
+
+    fn normal(&mut self, term: &Sorted) -> Result<Sorted, NoMemory> {
+        let alloc = *self.flat().equations.allocator();
+        normalise(alloc, self.rules(), term)
+    }
+}
+
+impl Book {
+    /// Whether the equations derive the equality of the two ground terms.
+    pub fn equal(&mut self, left: &Sorted, right: &Sorted) -> Result<bool, NoMemory>
+        requires left { IsOf (signature_of self.old.flat.signature) (profiled_in left.now) }
+        requires right { IsOf (signature_of self.old.flat.signature) (profiled_in right.now) }
+        requires left_ground { IsGround (term_in left.now) }
+        requires right_ground { IsGround (term_in right.now) }
+        requires one_sort { left.now.sort ≡ right.now.sort }
+        ensures exactly { IfOk result (λ equal. IsTrue equal
+            ↔ Equal (data_of self.old.flat) (term_in left.now) (term_in right.now)) }
+        ensures same_data { data_of self.new.flat ≡ data_of self.old.flat }
+        ensures same_canon { book_canon self.new ≡ book_canon self.old }
+    {
+        let alloc = *self.flat().equations.allocator();
+        let one = normalise(alloc, self.rules(), left)?;
+        let other = normalise(alloc, self.rules(), right)?;
+        Ok(one.same(&other))
+    }
+}

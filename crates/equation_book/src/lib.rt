@@ -1,0 +1,11 @@
+//! Data whose equality is decided (ISO 8807:1989, data part: equality; Baader and Nipkow, "Term
+//! Rewriting and All That", chapters 4 and 6).
+#![tactic(auto)]
+
+pub mod book;
+pub mod book_fault;
+pub mod deciding;
+pub mod opening;
+
+pub use book::Book;
+pub use book_fault::{BookFault, NotOpened};

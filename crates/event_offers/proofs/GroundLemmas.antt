@@ -1,0 +1,15 @@
+-- The test of groundness of the code is the one that computes.
+use Rattle.std.proofs.Common.{◌≡◌, Bool, true, false, IsTrue, refl, sym}
+use Rattle.std.specs.Prelude.{◌↔◌}
+use Rattle.term_algebra.specs.Term.{Term}
+use Rattle.term_algebra.specs.Sorting.{IsGround}
+use Rattle.term_algebra.specs.Tests.{is_ground}
+use Rattle.term_algebra.proofs.TestLemmas.{Decides-is_ground}
+
+pub ground_told : (b : Bool) (t : Term) → IsTrue b ↔ IsGround t → b ≡ is_ground t
+ground_told true t h = sym ((Decides-is_ground t).1 (h.0 refl))
+ground_told false t h = by (is_ground t) refl
+  where
+    by : (c : Bool) → is_ground t ≡ c → false ≡ c
+    by true e = h.1 ((Decides-is_ground t).0 e)
+    by false e = refl

@@ -1,0 +1,107 @@
+-- Terms with other terms put for their variables: they fit, and stay of their signature.
+use Rattle.std.proofs.Common.{rules, ◌≡◌, ◌<◌, ◌≤◌, ◌-◌, length, get_or, ap, arith, ℕ, zero, suc, List, [], ◌∷◌, Bool, true, false, nat_eq, slice_get, if◌then◌else◌, refl, sym, ◌∙◌, subst, eqb-true}
+use Rattle.term_algebra.specs.Signature.{Signature, IsSort}
+use Rattle.term_algebra.specs.Sorting.{Occurs}
+use Rattle.term_algebra.specs.Substitution.{substituted, binding}
+use Rattle.behaviour_semantics.specs.Derives.{leaves_in}
+use Rattle.sort_terms.specs.ProfiledTerm.{ProfiledTerm, profiled_variable, bare, head_sort, FitsProfiles, IsOf}
+use Rattle.sort_terms.specs.SortedView.{profiled_in, term_in}
+use Rattle.sort_terms.specs.TermView.{profiled_of}
+use Rattle.sort_terms.specs.declared.terms.Term.{Var, the_lemmas as term_lemmas}
+use Rattle.sort_terms.specs.declared.sorted.Sorted.{Sorted}
+use Rattle.term_match.specs.ProfiledInstance.{profiled_instance, profiled_binding}
+use Rattle.term_match.proofs.InstanceLemmas.{instance_bare, instance_fits, instance_of, binding_fits}
+use Rattle.behaviour_tree.specs.BehaviourTerms.{profiles_of}
+use Rattle.behaviour_tree.specs.BehaviourView.{terms_of}
+use Rattle.behaviour_tree.specs.Over.{AreTermsOf}
+use Rattle.event_offers.specs.Changing.{put_of, PutsSort}
+use Rattle.event_offers.specs.Values.{profiled_listed, profiled_values, values_of, SuitsTerm}
+use Rattle.event_offers.specs.declared.valued.Values.{Values}
+use Rattle.event_offers.specs.declared.valued.Values.TheVariants.{One, Paired, Listed}
+use Rattle.event_offers.proofs.RenamingLemmas.{occurring_sort}
+
+listed_fits : (values : List Sorted) (n s : ℕ) → FitsProfiles (profiled_listed (profiles_of values) n s)
+listed_fits [] n s = tt
+listed_fits (v ∷ values) zero s = v.fits
+listed_fits (v ∷ values) (suc n) s = listed_fits values n s
+
+put_fits : (values : Values) (n s : ℕ) → FitsProfiles (profiled_values values n s)
+put_fits (One number value) n s = binding_fits ((number, value.now) ∷ []) n s
+put_fits (Paired pairs) n s = binding_fits pairs.now n s
+put_fits (Listed values) n s = listed_fits values.now n s
+
+pub valued_fits : (values : Values) (t : Sorted) → SuitsTerm values (profiled_in t)
+    → FitsProfiles (profiled_instance (profiled_values values) (profiled_in t))
+valued_fits values t suits = instance_fits (profiled_values values) (profiled_in t) t.fits (λ n s o. (put_fits values n s, suits n s o))
+
+pub valued_bare : (values : Values) (t : ProfiledTerm) → bare (profiled_instance (profiled_values values) t) ≡ substituted (values_of
+    values) (bare t)
+valued_bare values t = instance_bare (profiled_values values) t
+
+-- one term put for a variable
+one_of : (signature : Signature) (t : ProfiledTerm) (k : ℕ) (u : ProfiledTerm) → IsOf signature t → IsOf signature u → (n s : ℕ) → Occurs
+    n s (bare t)
+    → IsOf signature (profiled_binding ((k, u) ∷ []) n s)
+one_of signature t k u h here n s o = by (nat_eq k n)
+  where
+    by : (b : Bool) → IsOf signature (if b then u else profiled_variable n s)
+    by true = here
+    by false = occurring_sort signature t h n s o
+
+pub one_put_of : (signature : Signature) (t : ProfiledTerm) (k : ℕ) (u : ProfiledTerm) → IsOf signature t → IsOf signature u
+    → IsOf signature (profiled_instance (profiled_binding ((k, u) ∷ [])) t)
+one_put_of signature t k u h here = instance_of signature (profiled_binding ((k, u) ∷ [])) t h (one_of signature t k u h here)
+
+pub one_suits : (found : ℕ × Sorted) (t : ProfiledTerm) → PutsSort found t → (n s : ℕ) → Occurs n s (bare t)
+    → head_sort (profiled_binding ((found.0, profiled_in found.1) ∷ []) n s) ≡ s
+one_suits found t puts n s o = by (nat_eq found.0 n) refl
+  where
+    by : (b : Bool) → nat_eq found.0 n ≡ b → head_sort (if b then profiled_in found.1 else profiled_variable n s) ≡ s
+    by true e = puts s (subst (λ (m : ℕ). Occurs m s (bare t)) (sym (eqb-true found.0 n e)) o)
+    by false e = refl
+
+-- a binding of one pair, without the profiles
+pub one_bare : (found : ℕ × Sorted) (n s : ℕ) → bare (profiled_binding ((found.0, profiled_in found.1) ∷ []) n s) ≡ put_of found n s
+one_bare found n s = by (nat_eq found.0 n)
+  where
+    by : (b : Bool) → bare (if b then profiled_in found.1 else profiled_variable n s) ≡ (if b then term_in found.1 else bare
+        (profiled_variable n s))
+    by true = refl
+    by false = refl
+
+-- values by their numbers
+pub listed_bare : (values : List Sorted) (n s : ℕ) → bare (profiled_listed (profiles_of values) n s) ≡ leaves_in (terms_of values) n s
+listed_bare [] n s = refl
+listed_bare (v ∷ values) zero s = refl
+listed_bare (v ∷ values) (suc n) s = listed_bare values n s
+
+listed_at : (signature : Signature) (values : List Sorted) → AreTermsOf signature (profiles_of values) → (n s : ℕ) → IsSort signature s
+    → IsOf signature (profiled_listed (profiles_of values) n s)
+listed_at signature [] h n s sort = sort
+listed_at signature (v ∷ values) h zero s sort = h.0
+listed_at signature (v ∷ values) h (suc n) s sort = listed_at signature values h.1 n s sort
+
+pub listed_put_of : (signature : Signature) (values : List Sorted) (t : ProfiledTerm) → AreTermsOf signature (profiles_of values) → IsOf
+    signature t
+    → IsOf signature (profiled_instance (profiled_listed (profiles_of values)) t)
+listed_put_of signature values t h k = instance_of signature (profiled_listed (profiles_of values)) t k
+    (λ n s o. listed_at signature values h n s (occurring_sort signature t k n s o))
+
+-- what stands at a number, and past the end
+pub stands_at : (values : List Sorted) (n s : ℕ) (v : Sorted) → n < length values → v ≡ get_or values n v
+    → profiled_in v ≡ profiled_listed (profiles_of values) n s
+stands_at [] n s v lt is = absurd (omega arith)
+stands_at (u ∷ values) zero s v lt is = ap profiled_in is
+stands_at (u ∷ values) (suc n) s v lt is = stands_at values n s v (omega arith) is
+
+pub past_the_end : (values : List Sorted) (n s : ℕ) → length values ≤ n
+    → profiled_variable (n - length values) s ≡ profiled_listed (profiles_of values) n s
+past_the_end [] n s le = ap (λ (m : ℕ). profiled_variable m s) (let e : n - 0 ≡ n = omega arith in e)
+past_the_end (u ∷ values) zero s le = absurd (omega arith)
+past_the_end (u ∷ values) (suc n) s le =
+    ap (λ (m : ℕ). profiled_variable m s) (let e : suc n - suc (length values) ≡ n - length values = omega arith in e)
+    ∙ past_the_end values n s (omega arith)
+
+-- a variable of the code
+pub profiled_of-Var : (n s : ℕ) → profiled_of (Var n s) ≡ profiled_variable n s
+profiled_of-Var n s = search (rules, term_lemmas)

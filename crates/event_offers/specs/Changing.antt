@@ -1,0 +1,44 @@
+-- A step of solving on a term, and what it asks of the term.
+use Rattle.std.specs.Prelude.{◌≡◌, ℕ, List, [], ◌∷◌, Option, None, Some}
+use Rattle.term_algebra.specs.Signature.{Signature}
+use Rattle.term_algebra.specs.Sorting.{Occurs}
+use Rattle.term_algebra.specs.Term.{Term}
+use Rattle.term_algebra.specs.Substitution.{Substitution, substituted, binding}
+use Rattle.behaviour_semantics.specs.WellFormed.{Every}
+use Rattle.sort_terms.specs.ProfiledTerm.{ProfiledTerm, bare, head_sort, IsOf}
+use Rattle.sort_terms.specs.SortedView.{profiled_in, term_in}
+use Rattle.sort_terms.specs.declared.sorted.Sorted.{Sorted}
+
+-- a pair of the code, and the substitution that puts its term for its variable
+abbrev pub found_of : ℕ × Sorted → ℕ × Term
+found_of found = (found.0, term_in found.1)
+
+abbrev pub put_of : ℕ × Sorted → Substitution
+put_of found = binding (found_of found ∷ [])
+
+-- the canonical form of the term, with the pair's term put for its variable before, if there is one
+abbrev pub changed_by : (Term → Term) → Option (ℕ × Sorted) → Term → Term
+changed_by canon None t = canon t
+changed_by canon (Some found) t = canon (substituted (put_of found) t)
+
+-- The pair's term has the sort of its variable, wherever that occurs in the term.
+abbrev pub PutsSort : ℕ × Sorted → ProfiledTerm → Type 0
+PutsSort found t = (s : ℕ) → Occurs found.0 s (bare t) → head_sort (profiled_in found.1) ≡ s
+
+-- A term into which a pair's term is put is in canonical form, and the pair's term is of the signature.
+abbrev pub PutsWell : Signature → (Term → Term) → Option (ℕ × Sorted) → ProfiledTerm → Type 0
+PutsWell signature canon None t = Unit {0}
+PutsWell signature canon (Some found) t = (canon (bare t) ≡ bare t) × IsOf signature (profiled_in found.1) × PutsSort found t
+
+-- The term is of the signature, and what is put into it suits it.
+abbrev pub IsReady : Signature → (Term → Term) → Option (ℕ × Sorted) → ProfiledTerm → Type 0
+IsReady signature canon put t = IsOf signature t × PutsWell signature canon put t
+
+abbrev pub AreReady : Signature → (Term → Term) → Option (ℕ × Sorted) → List ProfiledTerm → Type 0
+AreReady signature canon put ts = Every (IsReady signature canon put) ts
+
+abbrev pub IsReadyPair : Signature → (Term → Term) → Option (ℕ × Sorted) → ProfiledTerm × ProfiledTerm → Type 0
+IsReadyPair signature canon put pair = IsReady signature canon put pair.0 × IsReady signature canon put pair.1
+
+abbrev pub AreReadyPairs : Signature → (Term → Term) → Option (ℕ × Sorted) → List (ProfiledTerm × ProfiledTerm) → Type 0
+AreReadyPairs signature canon put pairs = Every (IsReadyPair signature canon put) pairs

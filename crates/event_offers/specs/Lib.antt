@@ -1,0 +1,10 @@
+pub mod OfferView
+pub mod Renaming
+pub mod Offers
+pub mod Joining
+pub mod Values
+pub mod Changing
+pub mod Finding
+pub mod Variables
+pub mod Instances
+pub mod Lacking

@@ -1,0 +1,138 @@
+//! The draft of both sides of a parallel.
+
+ghost use Rattle.behaviour_semantics.specs.Draft.{draft_with};
+ghost use Rattle.behaviour_semantics.specs.Join.{both_drafts, joined};
+ghost use Rattle.behaviour_semantics.specs.Replacement.{test_with};
+ghost use Rattle.behaviour_semantics.specs.Draft.{label_with};
+ghost use Rattle.behaviour_semantics.specs.Rule.{label_values, pairwise};
+ghost use Rattle.behaviour_tree.specs.BehaviourTerms.{profiles_of};
+ghost use Rattle.behaviour_tree.specs.BehaviourView.{terms_of};
+ghost use Rattle.behaviour_tree.specs.MoveView.{label_of};
+ghost use Rattle.behaviour_tree.specs.Over.{AreTermsOf};
+ghost use Rattle.event_offers.specs.OfferView.{
+  condition_profiles,
+  conditions_of,
+  label_profiles,
+  plain_draft,
+};
+ghost use Rattle.event_offers.specs.Offers.{IsDraftOver};
+ghost use Rattle.event_offers.specs.Renaming.{
+  pair_instance,
+  profiled_renaming_of,
+  renaming_of,
+};
+ghost use Rattle.std.specs.Option.{option_map};
+ghost use Rattle.std.specs.Prelude.{◌≡◌, ◌++◌, IfOk, IfSome, map, zip};
+ghost use Rattle.term_algebra.specs.Signature.{Signature};
+ghost use Rattle.term_algebra.specs.Substitution.{substituted};
+ghost use Rattle.term_match.specs.ProfiledInstance.{profiled_instance};
+
+use crate::drafts::Draft;
+use crate::labels::{alike, condition_copies, equations, label_copy, values};
+use crate::lists::appended;
+use crate::renaming::Renaming;
+use crate::shapes::shape_copy;
+use behaviour_tree::Shape;
+use behaviour_tree::boxes::boxed;
+use behaviour_tree::copies::term_copies;
+use lotos_base::NoMemory;
+use sort_terms::Sorted;
+
+/// The draft of both sides of a parallel, or `None` exactly where their labels differ in kind,
+/// gate, number of values or a value's sort, or are inner events. It has the shape `Both`, the
+/// label of the left side, its leaves and then those of the right, and as conditions those of the
+/// left side, those of the right, and one equation for each pair of values. The numbers of the
+/// right variables are raised by the number of left leaves.
+pub fn join_offers(left: &Draft, right: &Draft) -> Result<Option<Draft>, NoMemory>
+    ensures joined { IfOk result (λ o. (signature : Signature)
+        → AreTermsOf signature (label_profiles left.now.label)
+        → AreTermsOf signature (label_profiles right.now.label)
+        → option_map plain_draft o
+        ≡ joined signature (plain_draft left.now) (plain_draft right.now)) }
+    ensures over { IfOk result (λ o. IfSome o (λ made. (signature : Signature)
+        → IsDraftOver signature left.now → IsDraftOver signature right.now
+        → IsDraftOver signature made)) }
+{
+    if !alike(&left.label, &right.label) {
+        return Ok(None);
+    }
+    let renaming = Renaming::Raised {
+        from: 0,
+        by: left.leaves.len() as u64,
+    };
+    let made = both_sides(left, right, &renaming)?;
+    Ok(Some(made))
+}
+
+/// The draft of both sides, with other numbers for the right variables.
+pub fn both_sides(left: &Draft, right: &Draft, renaming: &Renaming) -> Result<Draft, NoMemory>
+    ensures same { IfOk result (λ made. plain_draft made ≡ both_drafts (plain_draft left.now)
+        (draft_with (renaming_of renaming.now) (plain_draft right.now))) }
+    ensures values { IfOk result
+        (λ made. label_profiles made.label ≡ label_profiles left.now.label) }
+    ensures leaves { IfOk result (λ made. profiles_of made.leaves.items
+        ≡ profiles_of left.now.leaves.items
+        ++ map (profiled_instance (profiled_renaming_of renaming.now))
+        (profiles_of right.now.leaves.items)) }
+    ensures conditions { IfOk result (λ made. condition_profiles made.conditions.items
+        ≡ condition_profiles left.now.conditions.items
+        ++ map (pair_instance (profiled_renaming_of renaming.now))
+        (condition_profiles right.now.conditions.items)
+        ++ zip (label_profiles left.now.label)
+        (map (profiled_instance (profiled_renaming_of renaming.now))
+        (label_profiles right.now.label))) }
+{
+    let alloc = *left.leaves.allocator();
+    let first = boxed(alloc, shape_copy(alloc, &left.shape)?)?;
+    let second = boxed(alloc, shape_copy(alloc, &right.shape)?)?;
+    let label = label_copy(alloc, &left.label)?;
+    let leaves = both_leaves(left, right, renaming)?;
+    let conditions = both_conditions(left, right, renaming)?;
+    Ok(Draft {
+        shape: Shape::Both(first, second),
+        label,
+        leaves,
+        conditions,
+    })
+}
+
+// The leaves of the left side and then those of the right.
+fn both_leaves(left: &Draft, right: &Draft, renaming: &Renaming) -> Result<Vec<Sorted>, NoMemory>
+    ensures same { IfOk result (λ made. terms_of made.items ≡ terms_of left.now.leaves.items
+        ++ map (substituted (renaming_of renaming.now)) (terms_of right.now.leaves.items)) }
+    ensures profiles { IfOk result (λ made. profiles_of made.items
+        ≡ profiles_of left.now.leaves.items
+        ++ map (profiled_instance (profiled_renaming_of renaming.now))
+        (profiles_of right.now.leaves.items)) }
+{
+    let first = term_copies(*left.leaves.allocator(), &left.leaves)?;
+    let second = renaming.terms(&right.leaves)?;
+    appended(first, second)
+}
+
+// The conditions of the left side, those of the right, and one equation for each pair of values.
+fn both_conditions(
+    left: &Draft,
+    right: &Draft,
+    renaming: &Renaming,
+) -> Result<Vec<(Sorted, Sorted)>, NoMemory>
+    ensures same { IfOk result (λ made. conditions_of made.items
+        ≡ conditions_of left.now.conditions.items
+        ++ map (test_with (renaming_of renaming.now)) (conditions_of right.now.conditions.items)
+        ++ pairwise (label_values (label_of left.now.label))
+        (label_values (label_with (renaming_of renaming.now) (label_of right.now.label)))) }
+    ensures profiles { IfOk result (λ made. condition_profiles made.items
+        ≡ condition_profiles left.now.conditions.items
+        ++ map (pair_instance (profiled_renaming_of renaming.now))
+        (condition_profiles right.now.conditions.items)
+        ++ zip (label_profiles left.now.label)
+        (map (profiled_instance (profiled_renaming_of renaming.now))
+        (label_profiles right.now.label))) }
+{
+    let alloc = *left.conditions.allocator();
+    let first = condition_copies(alloc, &left.conditions)?;
+    let second = renaming.conditions(&right.conditions)?;
+    let label = renaming.label(&right.label)?;
+    let met = equations(alloc, values(&left.label), values(&label))?;
+    appended(appended(first, second)?, met)
+}

@@ -1,0 +1,186 @@
+//! Other numbers for the variables of terms, labels and conditions.
+
+ghost use Rattle.behaviour_semantics.specs.Draft.{label_with};
+ghost use Rattle.behaviour_semantics.specs.Replacement.{test_with};
+ghost use Rattle.behaviour_tree.specs.BehaviourView.{terms_of};
+ghost use Rattle.behaviour_tree.specs.BehaviourTerms.{profiles_of};
+ghost use Rattle.behaviour_tree.specs.MoveView.{label_of};
+ghost use Rattle.event_offers.specs.OfferView.{
+  condition_profiles,
+  conditions_of,
+  label_profiles,
+};
+ghost use Rattle.event_offers.specs.Renaming.{
+  number_under,
+  pair_instance,
+  profiled_renaming_of,
+  renaming_of,
+};
+ghost use Rattle.sort_terms.specs.SortedView.{profiled_in, term_in};
+ghost use Rattle.sort_terms.specs.TermView.{all_profiled, profiled_of};
+ghost use Rattle.std.specs.Prelude.{
+  ◌≡◌,
+  ◌+◌,
+  IfOk,
+  if◌then◌else◌,
+  map,
+  nat_lt,
+  slice_get,
+  unwrap_or,
+};
+ghost use Rattle.term_algebra.specs.Substitution.{substituted};
+ghost use Rattle.term_match.specs.ProfiledInstance.{profiled_instance, profiled_instances};
+
+use behaviour_tree::Label;
+use lotos_base::NoMemory;
+use sort_terms::{Sorted, Term};
+
+/// What becomes of the numbers of variables. A number that would pass the last value of a `u64` is
+/// answered as want of memory.
+#[derive(Debug, Drop)]
+pub enum Renaming {
+    /// A number is raised where it is not below the first one.
+    Raised {
+        /// The first number that is raised.
+        from: u64,
+        /// By how much.
+        by: u64,
+    },
+    /// A number is lowered by this much, to 0 at the least.
+    Lowered(u64),
+    /// A number becomes what stands at its position, and stays where nothing stands there.
+    Placed(Vec<u64>),
+}
+
+impl Renaming {
+    /// What the number becomes.
+    pub fn number(&self, number: u64) -> Result<u64, NoMemory>
+        ensures { IfOk result (λ n. n ≡ number_under self.now number) }
+    {
+        match self {
+            Renaming::Raised { from, by } => raised(number, *from, *by),
+            Renaming::Lowered(by) => Ok(number.saturating_sub(*by)),
+            Renaming::Placed(places) => Ok(placed(places, number)),
+        }
+    }
+
+    /// The term with the numbers of its variables changed.
+    pub fn term(&self, term: &Sorted) -> Result<Sorted, NoMemory>
+        ensures same { IfOk result
+            (λ t. term_in t ≡ substituted (renaming_of self.now) (term_in term.now)) }
+        ensures profiles { IfOk result (λ t. profiled_in t
+            ≡ profiled_instance (profiled_renaming_of self.now) (profiled_in term.now)) }
+    {
+        Ok(Sorted::of(renamed(term.term(), self)?))
+    }
+
+    /// The terms with the numbers of their variables changed.
+    pub fn terms(&self, terms: &Vec<Sorted>) -> Result<Vec<Sorted>, NoMemory>
+        ensures same { IfOk result (λ made. terms_of made.items
+            ≡ map (substituted (renaming_of self.now)) (terms_of terms.now.items)) }
+        ensures profiles { IfOk result (λ made. profiles_of made.items
+            ≡ map (profiled_instance (profiled_renaming_of self.now))
+            (profiles_of terms.now.items)) }
+    {
+        let mut made = Vec::with_capacity(*terms.allocator(), terms.len())?;
+        for term in terms {
+            made.push(self.term(term)?)?;
+        }
+        Ok(made)
+    }
+
+    /// The label with the numbers of its variables changed.
+    pub fn label(&self, label: &Label) -> Result<Label, NoMemory>
+        ensures same { IfOk result
+            (λ made. label_of made ≡ label_with (renaming_of self.now) (label_of label.now)) }
+        ensures profiles { IfOk result (λ made. label_profiles made
+            ≡ map (profiled_instance (profiled_renaming_of self.now))
+            (label_profiles label.now)) }
+    {
+        match label {
+            Label::Inner => Ok(Label::Inner),
+            Label::Gate(gate, values) => Ok(Label::Gate(*gate, self.terms(values)?)),
+            Label::Exit(values) => Ok(Label::Exit(self.terms(values)?)),
+        }
+    }
+
+    /// The conditions with the numbers of their variables changed.
+    pub fn conditions(
+        &self,
+        conditions: &Vec<(Sorted, Sorted)>,
+    ) -> Result<Vec<(Sorted, Sorted)>, NoMemory>
+        ensures same { IfOk result (λ made. conditions_of made.items
+            ≡ map (test_with (renaming_of self.now)) (conditions_of conditions.now.items)) }
+        ensures profiles { IfOk result (λ made. condition_profiles made.items
+            ≡ map (pair_instance (profiled_renaming_of self.now))
+            (condition_profiles conditions.now.items)) }
+    {
+        let mut made = Vec::with_capacity(*conditions.allocator(), conditions.len())?;
+        for condition in conditions {
+            let left = self.term(&condition.0)?;
+            let right = self.term(&condition.1)?;
+            made.push((left, right))?;
+        }
+        Ok(made)
+    }
+}
+
+// The number raised where it is not below the first one.
+fn raised(number: u64, from: u64, by: u64) -> Result<u64, NoMemory>
+    ensures { IfOk result (λ n. n ≡ (if nat_lt number from then number else number + by)) }
+{
+    if number < from {
+        return Ok(number);
+    }
+    match number.checked_add(by) {
+        Some(sum) => Ok(sum),
+        None => Err(NoMemory),
+    }
+}
+
+// What stands at the position of the number, or the number itself.
+fn placed(places: &Vec<u64>, number: u64) -> u64
+    ensures { result ≡ unwrap_or (slice_get places.now.items number) number }
+{
+    match places.get(number as usize) {
+        Some(place) => *place,
+        None => number,
+    }
+}
+
+// The term with the numbers of its variables changed.
+#[cycle(renamed)]
+fn renamed(term: &Term, renaming: &Renaming) -> Result<Term, NoMemory>
+    ensures { IfOk result (λ t. profiled_of t
+        ≡ profiled_instance (profiled_renaming_of renaming.now) (profiled_of term.now)) }
+{
+    match term {
+        Term::Var { number, sort } => Ok(Term::Var {
+            number: renaming.number(*number)?,
+            sort: *sort,
+        }),
+        Term::Node {
+            op,
+            profile,
+            arguments,
+        } => Ok(Term::Node {
+            op: *op,
+            profile: profile.clone()?,
+            arguments: all_renamed(arguments, renaming)?,
+        }),
+    }
+}
+
+// The terms with the numbers of their variables changed.
+#[cycle(renamed)]
+fn all_renamed(terms: &Vec<Term>, renaming: &Renaming) -> Result<Vec<Term>, NoMemory>
+    ensures { IfOk result (λ ts. all_profiled ts.items
+        ≡ profiled_instances (profiled_renaming_of renaming.now)
+        (all_profiled terms.now.items)) }
+{
+    let mut made = Vec::with_capacity(*terms.allocator(), terms.len())?;
+    for term in terms {
+        made.push(renamed(term, renaming)?)?;
+    }
+    Ok(made)
+}

@@ -1,0 +1,62 @@
+-- The last line of a session.
+use Rattle.std.proofs.Common.{◌≡◌, ◌≢◌, ℕ, ◌≤◌, List, [], ◌∷◌, Option, refl, sym, subst, arith}
+use Rattle.line_server.specs.Report.{Ending, ended, closing}
+use Rattle.line_server.specs.Machine.{Machine, by_chances}
+use Rattle.line_server.specs.Writing.{IsWritten}
+use Rattle.line_server.specs.Serving.{Serves, moment, Closes}
+use Rattle.line_server.specs.declared.lines.Answer.{Answer}
+use Rattle.line_server.specs.declared.ends.SessionEnd.{SessionEnd}
+use Rattle.line_server.specs.declared.ends.SessionEnd.TheVariants.{Finished, NoMemory}
+use Rattle.line_server.proofs.Counts.{counted_none, writes_none}
+
+-- it is served, where it has a byte
+pub closed_by_last : {State Chance : Type 0} (machine : Machine State Chance) (state state_after : State) (faults faults_after : ℕ)
+    (line : List ℕ) (written written_after : Option (List ℕ)) (answer : Answer) (end : SessionEnd)
+    → Serves machine (state, faults) (state_after, faults_after) line answer → line ≢ []
+    → IsWritten written written_after answer.text.items end
+    → Closes machine (moment state line faults written) ended (moment state_after line faults_after written_after) end
+closed_by_last machine state state_after faults faults_after line written written_after answer end serves some wrote = record {
+  chances = serves.chance ∷ [];
+  rises = serves.rises;
+  counted = serves.counted;
+  written = subst (λ (it : List ℕ). IsWritten written written_after it end) (text_is line some serves.reply.text) wrote;
+}
+  where
+    text_is : (it : List ℕ) → it ≢ [] → answer.text.items ≡ (machine.reply state serves.chance it).text
+        → answer.text.items ≡ closing (by_chances machine) (state, serves.chance ∷ []) it ended
+    text_is [] some_ is = absurd (some_ refl)
+    text_is (byte ∷ bytes) some_ is = is
+
+-- nothing is served, where it has none
+pub closed_empty : {State Chance : Type 0} (machine : Machine State Chance) (state : State) (faults : ℕ) (line : List ℕ)
+    (written : Option (List ℕ)) → line ≡ []
+    → Closes machine (moment state line faults written) ended (moment state line faults written) Finished
+closed_empty machine state faults line written none = record {
+  chances = [];
+  rises = omega arith;
+  counted = counted_none machine faults faults (omega arith);
+  written = rw none (writes_none written written refl);
+}
+
+-- it is not served for want of memory
+pub closed_without_memory : {State Chance : Type 0} (machine : Machine State Chance) (state state_after : State) (faults faults_after : ℕ)
+    (line : List ℕ) (written : Option (List ℕ)) → faults ≤ faults_after
+    → Closes machine (moment state line faults written) ended (moment state_after line faults_after written) NoMemory
+closed_without_memory machine state state_after faults faults_after line written rises = record {
+  chances = [];
+  rises = rises;
+  counted = counted_none machine faults faults_after rises;
+  written = ([], closing (by_chances machine) (state, []) line ended, refl, writes_none written written refl);
+}
+
+-- a closing line is written
+pub closed_by_text : {State Chance : Type 0} (machine : Machine State Chance) (state : State) (faults : ℕ) (line : List ℕ)
+    (written written_after : Option (List ℕ)) (ending : Ending) (text : List ℕ) (end : SessionEnd)
+    → closing (by_chances machine) (state, []) line ending ≡ text → IsWritten written written_after text end
+    → Closes machine (moment state line faults written) ending (moment state line faults written_after) end
+closed_by_text machine state faults line written written_after ending text end is wrote = record {
+  chances = [];
+  rises = omega arith;
+  counted = counted_none machine faults faults (omega arith);
+  written = subst (λ (it : List ℕ). IsWritten written written_after it end) (sym is) wrote;
+}

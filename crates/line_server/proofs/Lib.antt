@@ -1,0 +1,10 @@
+mod Pieces
+mod Bytes
+mod Counts
+mod LineFeed
+mod Moments
+mod LastLine
+mod Reached
+mod Ended
+mod Completeness
+mod Seen

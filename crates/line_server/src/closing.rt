@@ -1,0 +1,48 @@
+//! The end of a session that no line ends.
+
+ghost use Rattle.line_server.specs.Report.{ended, end_by};
+ghost use Rattle.line_server.specs.Writing.{IsAnswer, IsClosing, IsWritten};
+ghost use Rattle.line_server.specs.Serving.{moment, IsLine, Closes};
+
+use crate::ends::SessionEnd;
+use crate::lines::Lines;
+use crate::writing::write_whole;
+use lotos_base::{Failed, NoMemory, Sink};
+use std::alloc::Global;
+
+/// Writes the closing line, and answers how the session ends.
+pub fn close<K: Sink>(output: &mut K, text: &[u8], end: SessionEnd) -> SessionEnd
+    requires { IsClosing end }
+    ensures written { IsWritten (K.written output.old) (K.written output.new) text.now result }
+    ensures answered { IsAnswer end (K.faults output.old) (K.faults output.new) result }
+{
+    match write_whole(output, text) {
+        Ok(()) => end,
+        Err(Failed) => SessionEnd::OutputFailed,
+    }
+}
+
+/// Serves the last line, where one has begun, after which the session ends.
+pub fn finish<L: Lines, K: Sink>(
+    alloc: Global,
+    lines: &mut L,
+    line: &[u8],
+    output: &mut K,
+) -> SessionEnd
+    requires ready { L.is_ready lines.old }
+    requires line { IsLine line.now }
+    ensures closed { Closes
+        L.machine (moment (L.state lines.old) line.now (L.faults lines.old) (K.written output.old))
+        ended
+        (moment (L.state lines.new) line.now (L.faults lines.new) (K.written output.new)) result }
+    ensures answered { IsAnswer (end_by ended) (K.faults output.old) (K.faults output.new) result }
+    ensures ready { L.is_ready lines.new }
+{
+    if line.is_empty() {
+        return SessionEnd::Finished;
+    }
+    match lines.serve(alloc, line) {
+        Ok(answer) => close(output, answer.text.as_slice(), SessionEnd::Finished),
+        Err(NoMemory) => SessionEnd::NoMemory,
+    }
+}

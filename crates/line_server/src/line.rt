@@ -1,0 +1,47 @@
+//! One line of a session: it is answered, and the answer is written.
+
+ghost use Rattle.std.specs.Prelude.{◌≡◌, [], ◌∷◌, MatchResult, OnOk};
+ghost use Rattle.line_server.specs.Serving.{moment, IsLine, HasServed, Broke, StopCounts};
+
+use crate::ends::Stop;
+use crate::lines::Lines;
+use crate::writing::write_whole;
+use lotos_base::{Failed, NoMemory, Sink};
+use std::alloc::Global;
+
+/// Answers the line, of which the line feed was read, writes the answer and clears the line. It
+/// tells whether the line ends the session.
+pub fn serve_line<L: Lines, K: Sink>(
+    alloc: Global,
+    lines: &mut L,
+    line: &mut Vec<u8>,
+    output: &mut K,
+) -> Result<bool, Stop>
+    requires ready { L.is_ready lines.old }
+    requires plain { IsLine line.old.items }
+    ensures served { MatchResult result
+        (λ quits. HasServed L.machine
+        (moment (L.state lines.old) line.old.items (L.faults lines.old) (K.written output.old))
+        (10 ∷ []) (moment (L.state lines.new) line.new.items (L.faults lines.new)
+        (K.written output.new)) quits)
+        (λ stop. Broke stop L.machine
+        (moment (L.state lines.old) line.old.items (L.faults lines.old) (K.written output.old))
+        (10 ∷ []) (moment (L.state lines.new) line.new.items (L.faults lines.new)
+        (K.written output.new))) }
+    ensures counts { MatchResult result
+        (λ _. K.faults output.new ≡ K.faults output.old)
+        (λ stop. StopCounts stop (K.faults output.old) (K.faults output.new)) }
+    ensures cleared { OnOk result (line.new.items ≡ []) }
+    ensures ready { L.is_ready lines.new }
+{
+    match lines.serve(alloc, line.as_slice()) {
+        Err(NoMemory) => Err(Stop::NoMemory),
+        Ok(answer) => match write_whole(output, answer.text.as_slice()) {
+            Err(Failed) => Err(Stop::OutputFailed),
+            Ok(()) => {
+                line.clear();
+                Ok(answer.quits)
+            }
+        },
+    }
+}

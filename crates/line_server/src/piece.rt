@@ -1,0 +1,86 @@
+//! A piece of an input: its lines are served in order.
+
+ghost use Rattle.std.specs.Prelude.{◌≡◌, ◌≢◌, ◌+◌, ◌≤◌, [], ◌∷◌, length, MatchResult, OnOk};
+ghost use Rattle.std.specs.List.{All};
+ghost use Rattle.line_server.specs.Limits.{input_limit};
+ghost use Rattle.line_server.specs.Serving.{moment, IsLine, HasServed, Broke, StopCounts};
+
+use crate::ends::Stop;
+use crate::line::serve_line;
+use crate::lines::Lines;
+use lotos_base::Sink;
+use std::alloc::Global;
+
+/// Serves the lines that the piece completes, the first one with the line that has begun, and
+/// keeps in `line` what stands behind the last line feed. It tells whether a line ended the
+/// session; then the rest of the piece is not looked at.
+pub fn serve_piece<L: Lines, K: Sink>(
+    alloc: Global,
+    lines: &mut L,
+    line: &mut Vec<u8>,
+    piece: &[u8],
+    output: &mut K,
+) -> Result<bool, Stop>
+    requires ready { L.is_ready lines.old }
+    requires plain { All (λ byte. byte ≢ 10) line.old.items }
+    requires short { length line.old.items + length piece.now ≤ input_limit }
+    ensures served { MatchResult result
+        (λ quits. HasServed L.machine
+        (moment (L.state lines.old) line.old.items (L.faults lines.old) (K.written output.old))
+        piece.now (moment (L.state lines.new) line.new.items (L.faults lines.new)
+        (K.written output.new)) quits)
+        (λ stop. Broke stop L.machine
+        (moment (L.state lines.old) line.old.items (L.faults lines.old) (K.written output.old))
+        piece.now (moment (L.state lines.new) line.new.items (L.faults lines.new)
+        (K.written output.new))) }
+    ensures counts { MatchResult result
+        (λ _. K.faults output.new ≡ K.faults output.old)
+        (λ stop. StopCounts stop (K.faults output.old) (K.faults output.new)) }
+    ensures plain { OnOk result (All (λ byte. byte ≢ 10) line.new.items) }
+    ensures short { OnOk result (length line.new.items ≤ length line.old.items + length piece.now) }
+    ensures ready { L.is_ready lines.new }
+{
+    for byte in piece {
+        match serve_byte(alloc, lines, line, *byte, output) {
+            Ok(false) => {}
+            Ok(true) => return Ok(true),
+            Err(stop) => return Err(stop),
+        }
+    }
+    Ok(false)
+}
+
+/// Serves the line that has begun where the byte is a line feed, and adds the byte to it else.
+fn serve_byte<L: Lines, K: Sink>(
+    alloc: Global,
+    lines: &mut L,
+    line: &mut Vec<u8>,
+    byte: u8,
+    output: &mut K,
+) -> Result<bool, Stop>
+    requires ready { L.is_ready lines.old }
+    requires line { IsLine line.old.items }
+    ensures served { MatchResult result
+        (λ quits. HasServed L.machine
+        (moment (L.state lines.old) line.old.items (L.faults lines.old) (K.written output.old))
+        (byte ∷ []) (moment (L.state lines.new) line.new.items (L.faults lines.new)
+        (K.written output.new)) quits)
+        (λ stop. Broke stop L.machine
+        (moment (L.state lines.old) line.old.items (L.faults lines.old) (K.written output.old))
+        (byte ∷ []) (moment (L.state lines.new) line.new.items (L.faults lines.new)
+        (K.written output.new))) }
+    ensures counts { MatchResult result
+        (λ _. K.faults output.new ≡ K.faults output.old)
+        (λ stop. StopCounts stop (K.faults output.old) (K.faults output.new)) }
+    ensures plain { OnOk result (All (λ it. it ≢ 10) line.new.items) }
+    ensures short { OnOk result (length line.new.items ≤ length line.old.items + 1) }
+    ensures ready { L.is_ready lines.new }
+{
+    if byte == b'\n' {
+        return serve_line(alloc, lines, line, output);
+    }
+    match line.push(byte) {
+        Ok(()) => Ok(false),
+        Err(_) => Err(Stop::NoMemory),
+    }
+}

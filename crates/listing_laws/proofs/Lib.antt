@@ -1,0 +1,2 @@
+pub mod HigherLemmas
+pub mod NestedLemmas

@@ -1,0 +1,2 @@
+pub mod HigherLists
+pub mod EnvironmentLaws

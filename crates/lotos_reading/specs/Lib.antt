@@ -1,0 +1,5 @@
+pub mod LexedFault
+pub mod Blame
+pub mod Derived
+pub mod Reading
+pub mod ReadingLaws

@@ -1,0 +1,3 @@
+pub mod DraftRuleLemmas
+pub mod MeetingLemmas
+pub mod TermLemmas

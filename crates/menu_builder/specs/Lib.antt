@@ -1,0 +1,5 @@
+pub mod DraftRules
+pub mod DraftTerms
+pub mod DraftRuleLaws
+pub mod VariantView
+pub mod Meeting

@@ -1,0 +1,4 @@
+pub mod TwoSides
+pub mod SidesView
+pub mod OverlapPair
+pub mod Contracted

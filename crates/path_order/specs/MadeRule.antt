@@ -1,0 +1,14 @@
+-- Rules made of two sides.
+use Rattle.std.specs.Prelude.{ℕ}
+use Rattle.term_algebra.specs.Term.{Term}
+use Rattle.sort_terms.specs.ProfiledTerm.{ProfiledTerm}
+use Rattle.termination_theory.specs.Orientation.{NumberedRule}
+use Rattle.path_order.specs.RuleSides.{Sides}
+
+-- the rule with these sides, from the equation with this number
+abbrev pub numbered : ℕ → Term → Term → NumberedRule
+numbered n l r = record { equation = n; rule = record { left = l; right = r } }
+
+-- these sides
+abbrev pub sides : ProfiledTerm → ProfiledTerm → Sides
+sides l r = record { left = l; right = r }

@@ -1,0 +1,12 @@
+pub mod AgreementLemmas
+pub mod BlameLemmas
+pub mod CallLemmas
+pub mod CallerLemmas
+pub mod CodeLemmas
+pub mod CycleLemmas
+pub mod DistanceLemmas
+pub mod ListLemmas
+pub mod RankLemmas
+pub mod SearchLemmas
+pub mod SearchSteps
+pub mod WayLemmas

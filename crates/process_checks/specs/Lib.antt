@@ -1,0 +1,11 @@
+pub mod Functionality
+pub mod FunctionalityLaws
+pub mod Exits
+pub mod Calls
+pub mod Graph
+pub mod GraphView
+pub mod Ways
+pub mod Search
+pub mod Distances
+pub mod Cycles
+pub mod Ranks

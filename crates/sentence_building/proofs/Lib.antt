@@ -1,0 +1,4 @@
+pub mod MadeProcesses
+pub mod NoTree
+pub mod SortNames
+pub mod WithoutToken

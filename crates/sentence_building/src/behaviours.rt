@@ -1,0 +1,124 @@
+//! What the rows of behaviours build.
+
+ghost use Rattle.std.specs.Prelude.{◌≡◌, IfOk, Some, map, option_map, reverse};
+ghost use Rattle.lotos_base.specs.WrittenView.{text_place_of};
+ghost use Rattle.syntax_trees.specs.TreeViews.{behaviour_of, exit_value_of};
+ghost use Rattle.syntax_trees.specs.WrittenBehaviour as plain;
+ghost use Rattle.derivation_fold.specs.Run.{from_last};
+ghost use Rattle.tree_building.specs.BehavioursMeaning.{exited, stopped};
+ghost use Rattle.tree_building.specs.MeaningView.{meaning};
+ghost use Rattle.tree_building.specs.RowMeaning.{behaviours_row_means};
+
+use crate::choices::choice;
+use crate::flat_lists::{bracketed, chosen_behaviour, empty_tail, operand_before, sign_before};
+use crate::prefixes::{
+    guarded_list, inner, named, nameless_call, with_offers, with_selection, without_offers,
+};
+use crate::word_forms::{hide_gates, let_values, par_gates};
+use lotos_base::Place;
+use lotos_lexer::Token;
+use lotos_rows::behaviours::BehavioursRow;
+use std::alloc::Global;
+use syntax_trees::{BehForm, BehText, ExitText, Sign};
+use tree_building::behaviours_values::Flat;
+use tree_building::names::{Built, empty_variables, the_variables, turned};
+use tree_building::value::take;
+use tree_building::{Value, declarations};
+
+/// `stop` before the tail of a flat list.
+fn stop(token: Option<Token>, mut parts: Vec<Value>) -> Built
+    ensures { IfOk result (λ built. option_map meaning built ≡ stopped token (from_last meaning parts.items)) }
+{
+    let Some(word) = token else {
+        return Ok(None);
+    };
+    let Some(tail) = take::<Flat>(&mut parts) else {
+        return Ok(None);
+    };
+    let behaviour = BehText {
+        place: word.place,
+        form: BehForm::Stop,
+    };
+    Ok(Some(operand_before(behaviour, tail)?))
+}
+
+/// `exit` with its values, which are held from the last to the first.
+#[tactic(auto, using(tree_building::proofs::FromLast::map_reverse))]
+fn exit_with(place: Place, values: Vec<ExitText>) -> BehText
+    ensures { behaviour_of result ≡ plain.exit (text_place_of place) (from_last exit_value_of values.items) }
+{
+    BehText {
+        place,
+        form: BehForm::Exit(turned(values)),
+    }
+}
+
+/// `exit` before the tail of a flat list.
+fn exit(token: Option<Token>, mut parts: Vec<Value>) -> Built
+    ensures { IfOk result (λ built. option_map meaning built ≡ exited token (from_last meaning parts.items)) }
+{
+    let Some(word) = token else {
+        return Ok(None);
+    };
+    let Some(values) = take::<Vec<ExitText>>(&mut parts) else {
+        return Ok(None);
+    };
+    let Some(tail) = take::<Flat>(&mut parts) else {
+        return Ok(None);
+    };
+    Ok(Some(operand_before(exit_with(word.place, values), tail)?))
+}
+
+/// What a row of behaviours builds from its token and its parts.
+pub fn build(alloc: Global, row: BehavioursRow, token: Option<Token>, parts: Vec<Value>) -> Built
+    ensures { IfOk result (λ built. option_map meaning built ≡ behaviours_row_means row token (from_last meaning parts.items)) }
+{
+    match row {
+        BehavioursRow::Hide => hide_gates(alloc, token, parts),
+        BehavioursRow::Let => let_values(alloc, token, parts),
+        BehavioursRow::Choice => choice(alloc, token, parts),
+        BehavioursRow::Par => par_gates(alloc, token, parts),
+        BehavioursRow::Internal => inner(alloc, token, parts),
+        BehavioursRow::Guarded => guarded_list(alloc, token, parts),
+        BehavioursRow::NameFirst => named(alloc, parts),
+        BehavioursRow::Stop => stop(token, parts),
+        BehavioursRow::Exit => exit(token, parts),
+        BehavioursRow::BracketedBehaviour => bracketed(alloc, parts),
+        BehavioursRow::NoBehaviourTail => Ok(Some(empty_tail(alloc))),
+        BehavioursRow::BehaviourTail => sign_before(parts),
+        BehavioursRow::ActionWithoutOffers | BehavioursRow::PrefixAfterOffers => {
+            Ok(without_offers(alloc, parts))
+        }
+        BehavioursRow::ActionWithOffers | BehavioursRow::OneMoreOffer => with_offers(parts),
+        BehavioursRow::Call => Ok(nameless_call(parts)),
+        BehavioursRow::SelectionAfterOffers => Ok(with_selection(alloc, parts)),
+        BehavioursRow::Chosen => chosen_behaviour(alloc, parts),
+        BehavioursRow::NoAccept => Ok(Some(empty_variables(alloc))),
+        BehavioursRow::Accept => Ok(the_variables(parts)),
+        BehavioursRow::Give => declarations::give(alloc, parts),
+        BehavioursRow::Ask => declarations::ask(alloc, parts),
+        BehavioursRow::NoExitValues | BehavioursRow::NoMoreExitValues => {
+            Ok(Some(declarations::empty_exit_values(alloc)))
+        }
+        BehavioursRow::ExitValues | BehavioursRow::MoreExitValues => {
+            Ok(declarations::the_exit_values(parts))
+        }
+        BehavioursRow::AnyExitValue => declarations::any_value(parts),
+        BehavioursRow::GivenExitValue => declarations::given_value(parts),
+        BehavioursRow::LetList => declarations::joined_lets(alloc, parts),
+        BehavioursRow::NoMoreLets => Ok(Some(declarations::empty_lets(alloc))),
+        BehavioursRow::MoreLets => Ok(declarations::the_lets(parts)),
+        BehavioursRow::ChoiceOfValues => Ok(declarations::value_choice(parts)),
+        BehavioursRow::ChoiceOfGates => Ok(declarations::gate_choice(parts)),
+        BehavioursRow::GateChoices => declarations::joined_gate_choices(alloc, parts),
+        BehavioursRow::NoMoreGateChoices => Ok(Some(declarations::empty_gate_choices(alloc))),
+        BehavioursRow::MoreGateChoices => Ok(declarations::the_gate_choices(parts)),
+        BehavioursRow::ChoiceSign => Ok(declarations::sign(Sign::Choice, token)),
+        BehavioursRow::ParallelSign => Ok(declarations::the_sign(parts)),
+        BehavioursRow::DisablingSign => Ok(declarations::sign(Sign::Disable, token)),
+        BehavioursRow::EnablingSign => Ok(declarations::enabling(token, parts)),
+        BehavioursRow::Interleaving => Ok(declarations::sign(Sign::Interleave, token)),
+        BehavioursRow::FullSynchronisation => Ok(declarations::sign(Sign::Full, token)),
+        BehavioursRow::GateSynchronisation => Ok(declarations::synchronising(token, parts)),
+    }
+}

@@ -1,0 +1,141 @@
+//! What the row of `choice` builds.
+
+ghost use Rattle.std.specs.Prelude.{◌≡◌, ◌++◌, ◌∷◌, IfOk, List, Some, map, option_map, reverse};
+ghost use Rattle.lotos_base.specs.WrittenView.{placed_name_of, text_place_of};
+ghost use Rattle.lotos_sentences.specs.Behaviours.{gate_choices_among};
+ghost use Rattle.lotos_sentences.specs.Names.{variables_of_sort};
+ghost use Rattle.syntax_trees.specs.TreeViews.{behaviour_of, gate_choice_of, variable_of};
+ghost use Rattle.syntax_trees.specs.WrittenBehaviour as plain;
+ghost use Rattle.derivation_fold.specs.Run.{from_last};
+ghost use Rattle.tree_building.specs.BehavioursMeaning.{alone, choice_after_word, choice_of_gates, choice_of_values, or_else};
+ghost use Rattle.tree_building.specs.Meaning.{Meaning};
+ghost use Rattle.tree_building.specs.MeaningView.{meaning};
+
+use crate::flat_lists::only_operand;
+use lotos_base::Place;
+use lotos_lexer::Token;
+use std::alloc::{AllocError, Global};
+use syntax_trees::{BehForm, BehText, GateText, Named, VarText};
+use tree_building::behaviours_values::{GateChoiceEnd, ValueChoiceEnd};
+use tree_building::declarations::add_gate_choices;
+use tree_building::names::{Built, add_variables, turned};
+use tree_building::value::take;
+use tree_building::{Part, Value};
+
+/// `choice` over variables, which are held from the last to the first.
+#[tactic(auto, using(tree_building::proofs::FromLast::map_reverse))]
+fn choose_variables(
+    alloc: Global,
+    place: Place,
+    variables: Vec<VarText>,
+    inside: BehText,
+) -> Result<BehText, AllocError>
+    ensures { IfOk result (λ it. behaviour_of it
+        ≡ plain.choose_value (text_place_of place) (from_last variable_of variables.items) (behaviour_of inside)) }
+{
+    let form = BehForm::ChooseValue(turned(variables), Box::new(alloc, inside)?);
+    Ok(BehText { place, form })
+}
+
+/// `choice` over values: the first names, and what stands behind them.
+fn choose_values(
+    alloc: Global,
+    place: Place,
+    names: Vec<Named>,
+    end: ValueChoiceEnd,
+) -> Result<Value, AllocError>
+    ensures { IfOk result (λ value. meaning value ≡ alone (plain.choose_value (text_place_of place)
+        (variables_of_sort (from_last placed_name_of names.items) (placed_name_of end.sort) ++ from_last variable_of end.more.items)
+        (behaviour_of end.inside))) }
+{
+    let ValueChoiceEnd { sort, more, inside } = end;
+    let mut variables = more;
+    add_variables(alloc, names, &sort, &mut variables)?;
+    let behaviour = choose_variables(alloc, place, variables, inside)?;
+    only_operand(alloc, behaviour)
+}
+
+/// `choice` over gates, whose declarations are held from the last to the first.
+#[tactic(auto, using(tree_building::proofs::FromLast::map_reverse))]
+fn choose_declared(
+    alloc: Global,
+    place: Place,
+    gates: Vec<GateText>,
+    inside: BehText,
+) -> Result<BehText, AllocError>
+    ensures { IfOk result (λ it. behaviour_of it
+        ≡ plain.choose_gate (text_place_of place) (from_last gate_choice_of gates.items) (behaviour_of inside)) }
+{
+    let form = BehForm::ChooseGate(turned(gates), Box::new(alloc, inside)?);
+    Ok(BehText { place, form })
+}
+
+/// `choice` over gates: the first names, and what stands behind them.
+#[tactic(auto, using(tree_building::proofs::FromLast::map_reverse))]
+fn choose_gates(
+    alloc: Global,
+    place: Place,
+    names: Vec<Named>,
+    end: GateChoiceEnd,
+) -> Result<Value, AllocError>
+    ensures { IfOk result (λ value. meaning value ≡ alone (plain.choose_gate (text_place_of place)
+        (gate_choices_among (from_last placed_name_of names.items) (from_last placed_name_of end.among.items) ++ from_last gate_choice_of end.more.items)
+        (behaviour_of end.inside))) }
+{
+    let GateChoiceEnd {
+        among,
+        more,
+        inside,
+    } = end;
+    let mut gates = more;
+    add_gate_choices(alloc, names, &turned(among), &mut gates)?;
+    let behaviour = choose_declared(alloc, place, gates, inside)?;
+    only_operand(alloc, behaviour)
+}
+
+/// What stands behind the names of a `choice` that is not over values.
+fn chosen_over_gates(alloc: Global, place: Place, names: Vec<Named>, end: Value) -> Built
+    ensures { IfOk result (λ built. (rest : List Meaning) → option_map meaning built
+        ≡ choice_of_gates (text_place_of place) (from_last placed_name_of names.items) (meaning end ∷ rest)) }
+{
+    match GateChoiceEnd::of(end) {
+        Ok(end) => Ok(Some(choose_gates(alloc, place, names, end)?)),
+        Err(_) => Ok(None),
+    }
+}
+
+/// What stands behind the names of a `choice`, over values or over gates.
+fn chosen_over(alloc: Global, place: Place, names: Vec<Named>, end: Value) -> Built
+    ensures { IfOk result (λ built. (rest : List Meaning) → option_map meaning built
+        ≡ or_else (choice_of_values (text_place_of place) (from_last placed_name_of names.items) (meaning end ∷ rest))
+        (choice_of_gates (text_place_of place) (from_last placed_name_of names.items) (meaning end ∷ rest))) }
+{
+    match ValueChoiceEnd::of(end) {
+        Ok(end) => Ok(Some(choose_values(alloc, place, names, end)?)),
+        Err(end) => chosen_over_gates(alloc, place, names, end),
+    }
+}
+
+/// `choice .. [] B`, at the place of its word.
+#[tactic(auto, using(tree_building::proofs::FromLast::from_last_more, tree_building::proofs::FromLast::from_last_none))]
+fn choice_at(alloc: Global, word: Token, mut parts: Vec<Value>) -> Built
+    ensures { IfOk result (λ built. option_map meaning built ≡ choice_after_word (Some word) (from_last meaning parts.items)) }
+{
+    let Some(names) = take::<Vec<Named>>(&mut parts) else {
+        return Ok(None);
+    };
+    let Some(end) = parts.pop() else {
+        return Ok(None);
+    };
+    chosen_over(alloc, word.place, names, end)
+}
+
+/// `choice .. [] B`.
+pub fn choice(alloc: Global, token: Option<Token>, parts: Vec<Value>) -> Built
+    ensures { IfOk result (λ built. option_map meaning built ≡ choice_after_word token (from_last meaning parts.items)) }
+{
+    match token {
+        Some(word) => choice_at(alloc, word, parts),
+        None => Ok(None),
+    }
+}

@@ -1,0 +1,170 @@
+//! What the rows of processes and headings build.
+
+ghost use Rattle.std.specs.Prelude.{◌≡◌, IfOk, None, Some, map, option_map, reverse};
+ghost use Rattle.syntax_trees.specs.TreeViews.{behaviour_of, inner_of, item_of, process_of};
+ghost use Rattle.syntax_trees.specs.WrittenDefinition as plain;
+ghost use Rattle.derivation_fold.specs.Run.{from_last};
+ghost use Rattle.tree_building.specs.DefinitionsMeaning.{exit_of_sorts, heading_of_parts, item_before_inner, no_exit, nothing_inner, process_before_inner, process_of_parts, same_inner};
+ghost use Rattle.tree_building.specs.DefinitionsViews.{plain_heading_of};
+ghost use Rattle.tree_building.specs.MeaningView.{meaning};
+ghost use Rattle.tree_building.specs.RowMeaning.{definitions_row_means};
+
+use crate::flat_lists::grouped;
+use lotos_rows::definitions::DefinitionsRow;
+use std::alloc::Global;
+use syntax_trees::{BehText, InnerText, ItemText, Named, ProcessText, VarText};
+use tree_building::Value;
+use tree_building::behaviours_values::Flat;
+use tree_building::definitions_values::Heading;
+use tree_building::names::{Built, empty_names, empty_variables, the_names, the_variables, turned};
+use tree_building::value::take;
+
+/// A name, gates, parameters and a functionality.
+#[tactic(auto, using(tree_building::proofs::FromLast::map_reverse))]
+fn heading(mut parts: Vec<Value>) -> Option<Value>
+    ensures { option_map meaning result ≡ heading_of_parts (from_last meaning parts.items) }
+{
+    let name = take::<Named>(&mut parts)?;
+    let gates = take::<Vec<Named>>(&mut parts)?;
+    let params = take::<Vec<VarText>>(&mut parts)?;
+    let func = take::<Option<Vec<Named>>>(&mut parts)?;
+    Some(Value::Heading(Heading {
+        place: name.0,
+        name: name.1,
+        gates: turned(gates),
+        params: turned(params),
+        func,
+    }))
+}
+
+/// `noexit`.
+fn without_exit() -> Value
+    ensures { Some (meaning result) ≡ no_exit }
+{
+    Value::Functionality(None)
+}
+
+/// `exit` with its sorts.
+#[tactic(auto, using(tree_building::proofs::FromLast::map_reverse))]
+fn with_exit(mut parts: Vec<Value>) -> Option<Value>
+    ensures { option_map meaning result ≡ exit_of_sorts (from_last meaning parts.items) }
+{
+    let sorts = take::<Vec<Named>>(&mut parts)?;
+    Some(Value::Functionality(Some(turned(sorts))))
+}
+
+/// No items and no processes.
+#[tactic(auto, using(tree_building::proofs::FromLast::from_last_none))]
+fn empty_inner(alloc: Global) -> Value
+    ensures { Some (meaning result) ≡ nothing_inner }
+{
+    Value::Inner(Vec::new(alloc))
+}
+
+/// The items and processes that the part has.
+fn the_inner(mut parts: Vec<Value>) -> Option<Value>
+    ensures { option_map meaning result ≡ same_inner (from_last meaning parts.items) }
+{
+    let inner = take::<Vec<InnerText>>(&mut parts)?;
+    Some(Value::Inner(inner))
+}
+
+/// An item as what a `where` declares.
+fn declared_item(item: ItemText) -> InnerText
+    ensures { inner_of result ≡ plain.inner_item (item_of item) }
+{
+    InnerText::Item(item)
+}
+
+/// A process as what a `where` declares.
+fn declared_process(process: ProcessText) -> InnerText
+    ensures { inner_of result ≡ process_of process }
+{
+    InnerText::Process(process)
+}
+
+/// An item before others and processes.
+#[tactic(auto, using(tree_building::proofs::FromLast::from_last_more))]
+fn joined_item(mut parts: Vec<Value>) -> Built
+    ensures { IfOk result (λ built. option_map meaning built ≡ item_before_inner (from_last meaning parts.items)) }
+{
+    let Some(item) = take::<ItemText>(&mut parts) else {
+        return Ok(None);
+    };
+    let Some(mut inner) = take::<Vec<InnerText>>(&mut parts) else {
+        return Ok(None);
+    };
+    inner.push(declared_item(item))?;
+    Ok(Some(Value::Inner(inner)))
+}
+
+/// A process before items and other processes.
+#[tactic(auto, using(tree_building::proofs::FromLast::from_last_more))]
+fn joined_process(mut parts: Vec<Value>) -> Built
+    ensures { IfOk result (λ built. option_map meaning built ≡ process_before_inner (from_last meaning parts.items)) }
+{
+    let Some(process) = take::<ProcessText>(&mut parts) else {
+        return Ok(None);
+    };
+    let Some(mut inner) = take::<Vec<InnerText>>(&mut parts) else {
+        return Ok(None);
+    };
+    inner.push(declared_process(process))?;
+    Ok(Some(Value::Inner(inner)))
+}
+
+/// The process of a heading, a behaviour and what its `where` declares, which is held from the last
+/// to the first.
+fn process_of_heading(heading: Heading, body: BehText, inner: Vec<InnerText>) -> ProcessText
+    ensures { process_of result
+        ≡ plain.process (plain_heading_of heading) (behaviour_of body) (plain.inners_of (from_last inner_of inner.items)) }
+{
+    ProcessText {
+        place: heading.place,
+        name: heading.name,
+        gates: heading.gates,
+        params: heading.params,
+        func: heading.func,
+        body,
+        inner: turned(inner),
+    }
+}
+
+/// A whole process.
+fn process(alloc: Global, mut parts: Vec<Value>) -> Built
+    ensures { IfOk result (λ built. option_map meaning built ≡ process_of_parts (from_last meaning parts.items)) }
+{
+    let Some(heading) = take::<Heading>(&mut parts) else {
+        return Ok(None);
+    };
+    let Some(flat) = take::<Flat>(&mut parts) else {
+        return Ok(None);
+    };
+    let Some(inner) = take::<Vec<InnerText>>(&mut parts) else {
+        return Ok(None);
+    };
+    let Some(body) = grouped(alloc, flat)? else {
+        return Ok(None);
+    };
+    Ok(Some(Value::Process(process_of_heading(heading, body, inner))))
+}
+
+/// What a row of processes and headings builds from its parts.
+pub fn build(alloc: Global, row: DefinitionsRow, parts: Vec<Value>) -> Built
+    ensures { IfOk result (λ built. option_map meaning built ≡ definitions_row_means row None (from_last meaning parts.items)) }
+{
+    match row {
+        DefinitionsRow::Heading => Ok(heading(parts)),
+        DefinitionsRow::NoParameters => Ok(Some(empty_variables(alloc))),
+        DefinitionsRow::Parameters => Ok(the_variables(parts)),
+        DefinitionsRow::NoExit => Ok(Some(without_exit())),
+        DefinitionsRow::ExitFunctionality => Ok(with_exit(parts)),
+        DefinitionsRow::NoExitSorts => Ok(Some(empty_names(alloc))),
+        DefinitionsRow::ExitSorts => Ok(the_names(parts)),
+        DefinitionsRow::NoWhere | DefinitionsRow::NothingInner => Ok(Some(empty_inner(alloc))),
+        DefinitionsRow::Where => Ok(the_inner(parts)),
+        DefinitionsRow::InnerItem => joined_item(parts),
+        DefinitionsRow::InnerProcess => joined_process(parts),
+        DefinitionsRow::Process => process(alloc, parts),
+    }
+}

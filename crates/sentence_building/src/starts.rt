@@ -1,0 +1,188 @@
+//! What the rows of the four texts and of a specification's items build.
+
+ghost use Rattle.std.specs.Prelude.{◌≡◌, IfOk, None, Some, map, option_map, reverse};
+ghost use Rattle.lotos_base.specs.Name.{spelling};
+ghost use Rattle.lotos_base.specs.WrittenView.{written_profile_of};
+ghost use Rattle.lotos_sentences.specs.Starts.{profile_by_name};
+ghost use Rattle.syntax_trees.specs.TreeViews.{behaviour_of, inner_of, item_of, specification_of};
+ghost use Rattle.syntax_trees.specs.WrittenDefinition.{WrittenSpecification};
+ghost use Rattle.derivation_fold.specs.Run.{from_last};
+ghost use Rattle.tree_building.specs.DefinitionsViews.{plain_heading_of};
+ghost use Rattle.tree_building.specs.MeaningView.{meaning};
+ghost use Rattle.tree_building.specs.NamesViews.{profile_of};
+ghost use Rattle.tree_building.specs.RowMeaning.{specification_row_means, starts_row_means};
+ghost use Rattle.tree_building.specs.StartsMeaning.{a_behaviour_word, item_before_order, no_order_items, no_profile, some_profile, specification_of_parts};
+ghost use Rattle.sentence_building.specs.Whole.{whole_specification};
+
+use crate::flat_lists::grouped;
+use lotos_base::{Name, OrderItem, Profile};
+use lotos_rows::specification::SpecificationRow;
+use lotos_rows::starts::StartsRow;
+use std::alloc::{AllocError, Global};
+use syntax_trees::{BehText, InnerText, ItemText, Named, SpecText};
+use tree_building::Value;
+use tree_building::behaviours_values::Flat;
+use tree_building::definitions_values::Heading;
+use tree_building::names::{Built, turned};
+use tree_building::names_values::{NamedOp, OpProfile};
+use tree_building::terms::{empty_terms, the_terms};
+use tree_building::types::{empty_items, joined_items, the_items};
+use tree_building::value::take;
+
+/// `behaviour` or `behavior`.
+fn behaviour_word() -> Value
+    ensures { Some (meaning result) ≡ a_behaviour_word }
+{
+    Value::Word(())
+}
+
+/// The specification of a heading, items, a behaviour and what its `where` declares. Items and
+/// declarations are held from the last to the first.
+#[tactic(auto, using(tree_building::proofs::FromLast::map_reverse))]
+fn whole(heading: Heading, items: Vec<ItemText>, body: BehText, inner: Vec<InnerText>) -> SpecText
+    ensures { specification_of result
+        ≡ whole_specification (plain_heading_of heading) (from_last item_of items.items) (behaviour_of body) (from_last inner_of inner.items) }
+{
+    SpecText {
+        place: heading.place,
+        name: heading.name,
+        gates: heading.gates,
+        params: heading.params,
+        func: heading.func,
+        items: turned(items),
+        body,
+        inner: turned(inner),
+    }
+}
+
+/// A whole specification.
+fn specification(alloc: Global, mut parts: Vec<Value>) -> Built
+    ensures { IfOk result (λ built. option_map meaning built ≡ specification_of_parts (from_last meaning parts.items)) }
+{
+    let Some(heading) = take::<Heading>(&mut parts) else {
+        return Ok(None);
+    };
+    let Some(items) = take::<Vec<ItemText>>(&mut parts) else {
+        return Ok(None);
+    };
+    let Some(_word) = take::<()>(&mut parts) else {
+        return Ok(None);
+    };
+    let Some(flat) = take::<Flat>(&mut parts) else {
+        return Ok(None);
+    };
+    let Some(inner) = take::<Vec<InnerText>>(&mut parts) else {
+        return Ok(None);
+    };
+    let Some(body) = grouped(alloc, flat)? else {
+        return Ok(None);
+    };
+    Ok(Some(Value::Specification(whole(heading, items, body, inner))))
+}
+
+/// No items of an order file.
+#[tactic(auto, using(tree_building::proofs::FromLast::from_last_none))]
+fn empty_order(alloc: Global) -> Value
+    ensures { Some (meaning result) ≡ no_order_items }
+{
+    Value::OrderItems(Vec::new(alloc))
+}
+
+/// The names of sorts without their places.
+fn sort_names(alloc: Global, sorts: Vec<Named>) -> Result<Vec<Name>, AllocError>
+    ensures { IfOk result (λ names. map spelling names.items ≡ map (λ sort. spelling sort.1) sorts.items) }
+{
+    let mut names = Vec::with_capacity(alloc, sorts.len())?;
+    for sort in sorts {
+        names.push(sort.1)?;
+    }
+    Ok(names)
+}
+
+/// The sorts of a profile by name.
+fn by_name(alloc: Global, profile: OpProfile) -> Result<Profile, AllocError>
+    ensures { IfOk result (λ it. written_profile_of it ≡ profile_by_name (profile_of profile)) }
+{
+    Ok(Profile {
+        arguments: sort_names(alloc, profile.arguments)?,
+        result: profile.result.1,
+    })
+}
+
+/// The sorts of a profile by name, where there is a profile.
+fn maybe_by_name(alloc: Global, profile: Option<OpProfile>) -> Result<Option<Profile>, AllocError>
+    ensures { IfOk result (λ it. option_map written_profile_of it ≡ option_map profile_by_name (option_map profile_of profile)) }
+{
+    match profile {
+        Some(profile) => Ok(Some(by_name(alloc, profile)?)),
+        None => Ok(None),
+    }
+}
+
+/// An item of an order file before others.
+#[tactic(auto, using(tree_building::proofs::FromLast::from_last_more))]
+fn joined_order(alloc: Global, mut parts: Vec<Value>) -> Built
+    ensures { IfOk result (λ built. option_map meaning built ≡ item_before_order (from_last meaning parts.items)) }
+{
+    let Some(operation) = take::<NamedOp>(&mut parts) else {
+        return Ok(None);
+    };
+    let Some(profile) = take::<Option<OpProfile>>(&mut parts) else {
+        return Ok(None);
+    };
+    let Some(mut items) = take::<Vec<OrderItem>>(&mut parts) else {
+        return Ok(None);
+    };
+    let profile = maybe_by_name(alloc, profile)?;
+    items.push(OrderItem {
+        place: operation.name.0,
+        name: operation.name.1,
+        form: operation.form,
+        profile,
+    })?;
+    Ok(Some(Value::OrderItems(items)))
+}
+
+/// No profile.
+fn without_profile() -> Value
+    ensures { Some (meaning result) ≡ no_profile }
+{
+    Value::MaybeProfile(None)
+}
+
+/// The profile that the part is.
+fn with_profile(mut parts: Vec<Value>) -> Option<Value>
+    ensures { option_map meaning result ≡ some_profile (from_last meaning parts.items) }
+{
+    let profile = take::<OpProfile>(&mut parts)?;
+    Some(Value::MaybeProfile(Some(profile)))
+}
+
+/// What a row of a specification's items or of its word builds from its parts.
+pub fn build_of_specification(alloc: Global, row: SpecificationRow, parts: Vec<Value>) -> Built
+    ensures { IfOk result (λ built. option_map meaning built ≡ specification_row_means row None (from_last meaning parts.items)) }
+{
+    match row {
+        SpecificationRow::NoItems => Ok(Some(empty_items(alloc))),
+        SpecificationRow::Items => joined_items(parts),
+        SpecificationRow::BehaviourWord | SpecificationRow::BehaviorWord => {
+            Ok(Some(behaviour_word()))
+        }
+    }
+}
+
+/// What a row of the four texts builds from its parts.
+pub fn build(alloc: Global, row: StartsRow, parts: Vec<Value>) -> Built
+    ensures { IfOk result (λ built. option_map meaning built ≡ starts_row_means row None (from_last meaning parts.items)) }
+{
+    match row {
+        StartsRow::Spec => specification(alloc, parts),
+        StartsRow::Typetext => Ok(the_items(parts)),
+        StartsRow::NoOrder => Ok(Some(empty_order(alloc))),
+        StartsRow::Order => joined_order(alloc, parts),
+        StartsRow::NoOptionalProfile => Ok(Some(without_profile())),
+        StartsRow::OptionalProfile => Ok(with_profile(parts)),
+        StartsRow::NoTerms => Ok(Some(empty_terms(alloc))),
+        StartsRow::Terms => Ok(the_terms(parts)),
+    }
+}

@@ -1,0 +1,3 @@
+pub mod Appearance
+pub mod Renumbering
+pub mod NewNumbers

@@ -1,0 +1,5 @@
+pub mod HeadLemmas
+pub mod FirstLemmas
+pub mod FormLemmas
+pub mod ValueLemmas
+pub mod NormalisedLemmas

@@ -1,0 +1,38 @@
+use Rattle.std.proofs.Common.{◌∙◌}
+use Rattle.term_rewriter.proofs.NormalisedLemmas.{nothing_asked, form_of_whole, form_has_profiles, normalised}
+use Rattle.term_rewriter.proofs.normal.normalise.Goals as goal
+
+pub form-requires-clause-values : goal.form-requires-clause-values
+form-requires-clause-values c =
+    nothing_asked c.args.rules.now c.args.term.now c.term.result.now c.as_slice.result.now c.term.ensures
+    (c.as_slice.ensures.value ∙ c.new-nothing.ensures.items) c.requires
+
+pub of-requires : goal.of-requires
+of-requires c =
+    form_has_profiles c.args.rules.now c.args.term.now c.in_ok-form.field-0 c.requires
+    (form_of_whole c.args.rules.now c.args.term.now c.term.result.now c.in_ok-form.field-0 c.as_slice.result.now c.term.ensures
+    (c.as_slice.ensures.value ∙ c.new-nothing.ensures.items) c.in_ok-form.ensures)
+
+pub returns-clause-chosen : goal.returns-clause-chosen
+returns-clause-chosen c =
+    (normalised c.args.rules.now c.args.term.now c.of.result c.in_ok-form.field-0 c.of.ensures c.requires
+    (form_of_whole c.args.rules.now c.args.term.now c.term.result.now c.in_ok-form.field-0 c.as_slice.result.now c.term.ensures
+    (c.as_slice.ensures.value ∙ c.new-nothing.ensures.items) c.in_ok-form.ensures)).chosen
+
+pub returns-clause-normal : goal.returns-clause-normal
+returns-clause-normal c =
+    (normalised c.args.rules.now c.args.term.now c.of.result c.in_ok-form.field-0 c.of.ensures c.requires
+    (form_of_whole c.args.rules.now c.args.term.now c.term.result.now c.in_ok-form.field-0 c.as_slice.result.now c.term.ensures
+    (c.as_slice.ensures.value ∙ c.new-nothing.ensures.items) c.in_ok-form.ensures)).normal
+
+pub returns-clause-reached : goal.returns-clause-reached
+returns-clause-reached c =
+    (normalised c.args.rules.now c.args.term.now c.of.result c.in_ok-form.field-0 c.of.ensures c.requires
+    (form_of_whole c.args.rules.now c.args.term.now c.term.result.now c.in_ok-form.field-0 c.as_slice.result.now c.term.ensures
+    (c.as_slice.ensures.value ∙ c.new-nothing.ensures.items) c.in_ok-form.ensures)).reached
+
+pub returns-clause-sort : goal.returns-clause-sort
+returns-clause-sort c =
+    (normalised c.args.rules.now c.args.term.now c.of.result c.in_ok-form.field-0 c.of.ensures c.requires
+    (form_of_whole c.args.rules.now c.args.term.now c.term.result.now c.in_ok-form.field-0 c.as_slice.result.now c.term.ensures
+    (c.as_slice.ensures.value ∙ c.new-nothing.ensures.items) c.in_ok-form.ensures)).sort

@@ -1,0 +1,9 @@
+//! The rewriter (Baader and Nipkow, "Term Rewriting and All That", 4.2).
+#![tactic(auto)]
+
+pub mod first_match;
+pub mod forms;
+pub mod normal;
+pub mod oriented;
+
+pub use normal::normalise;

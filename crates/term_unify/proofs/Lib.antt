@@ -1,0 +1,5 @@
+pub mod AgreeLemmas
+pub mod RoomLemmas
+pub mod StateLemmas
+pub mod UnifierLemmas
+pub mod ListLemmas

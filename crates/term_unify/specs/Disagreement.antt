@@ -1,0 +1,49 @@
+-- The first place, from left to right, at which two terms differ, as unification looks for it (Baader and Nipkow, 4.5).
+use Rattle.std.specs.Prelude.{ℕ, Bool, false, nat_eq, ◌||◌, if◌then◌else◌}
+use Rattle.sort_terms.specs.ProfiledTerm.{ProfiledTerm, ProfiledTerms, profiled_variable, profiled_node, no_profiled_terms, profiled_term_then}
+
+-- Two terms agree, or clash at a place, or have at a place a variable, with its number and sort, and a term without it.
+pub data Disagreement : Type 0 where
+  agreed : Disagreement
+  clashing : Disagreement
+  binds : ℕ → ℕ → ProfiledTerm → Disagreement
+
+abbrev mutual
+  -- Whether a variable with this number stands in the term.
+  pub has_number : ℕ → ProfiledTerm → Bool
+  has_number n (profiled_variable m r) = nat_eq m n
+  has_number n (profiled_node f operation ts) = have_number n ts
+
+  -- Whether one stands in one of the terms.
+  pub have_number : ℕ → ProfiledTerms → Bool
+  have_number n no_profiled_terms = false
+  have_number n (profiled_term_then t ts) = has_number n t || have_number n ts
+
+-- Whether the term is the variable with this number.
+abbrev pub is_number : ℕ → ProfiledTerm → Bool
+is_number n (profiled_variable m r) = nat_eq m n
+is_number n (profiled_node f operation ts) = false
+
+-- A variable and a term.
+abbrev pub against : ℕ → ℕ → ProfiledTerm → Disagreement
+against n s t = if is_number n t then agreed else (if has_number n t then clashing else binds n s t)
+
+-- The first one where there is one, else the second one.
+abbrev pub or_else : Disagreement → Disagreement → Disagreement
+or_else agreed rest = rest
+or_else clashing rest = clashing
+or_else (binds n s t) rest = binds n s t
+
+abbrev mutual
+  -- The first disagreement of two terms.
+  pub disagreement : ProfiledTerm → ProfiledTerm → Disagreement
+  disagreement (profiled_variable n s) t = against n s t
+  disagreement (profiled_node f operation ts) (profiled_variable m r) = against m r (profiled_node f operation ts)
+  disagreement (profiled_node f operation ts) (profiled_node g other us) = if nat_eq f g then disagreements ts us else clashing
+
+  -- That of the terms of two lists.
+  pub disagreements : ProfiledTerms → ProfiledTerms → Disagreement
+  disagreements no_profiled_terms no_profiled_terms = agreed
+  disagreements no_profiled_terms (profiled_term_then u us) = clashing
+  disagreements (profiled_term_then t ts) no_profiled_terms = clashing
+  disagreements (profiled_term_then t ts) (profiled_term_then u us) = or_else (disagreement t u) (disagreements ts us)

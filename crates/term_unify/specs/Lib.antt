@@ -1,0 +1,5 @@
+pub mod Disagreement
+pub mod DifferenceView
+pub mod Solving
+pub mod DemandView
+pub mod Unified

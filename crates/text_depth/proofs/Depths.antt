@@ -1,0 +1,78 @@
+-- What the fold keeps of a whole text tells its first node that is too deep.
+use Rattle.std.proofs.Common.{◌≡◌, ◌∙◌, ℕ, true, List, [], ◌∷◌, map, refl, ap, sym, subst}
+use Rattle.std.specs.Prelude.{Option, Some, option_map, option_and_then}
+use Rattle.lotos_base.specs.declared.places.Place.{Place}
+use Rattle.lotos_base.specs.WrittenView.{text_place_of}
+use Rattle.syntax_trees.specs.Depth.{first_deeper}
+use Rattle.tree_depth.specs.Firsts.{everywhere}
+use Rattle.depth_rows.specs.MeaningNodes.{nodes_in}
+use Rattle.depth_rows.proofs.Facts.{closable, closed_is}
+use Rattle.text_depth.specs.declared.part.KeptPart.{KeptPart}
+use Rattle.text_depth.specs.PartView.{kept_of}
+use Rattle.std.specs.List.{list_all}
+use Rattle.ll_engine.specs.declared.symbol.Symbol.TheVariants.{Part}
+use Rattle.ll_engine.specs.Derivation.{Production, Forest, Derives, leaves}
+use Rattle.ll_engine.specs.Language.{ContextFree}
+use Rattle.ll_engine.proofs.KeptSets.{predictive_after}
+use Rattle.ll_engine.proofs.Uniqueness.{one_tree}
+use Rattle.derivation_fold.specs.Fold.{kept_in_front, first_value, value_of_tree}
+use Rattle.lotos_lexer.specs.declared.tokens.Token.{Token}
+use Rattle.lotos_rows.specs.declared.starts.TheConstants as starts
+use Rattle.lotos_rows.specs.Kept.{is_kept_kind}
+use Rattle.lotos_rows.specs.Rows as lotos
+use Rattle.lotos_rows.specs.Rows.{grammar_from}
+use Rattle.tree_building.specs.Meaning.{Meaning}
+use Rattle.sentence_trees.specs.Sentences.{kind_of, Derived}
+use Rattle.depth_rows.specs.DepthPart.{DepthPart, depth_of}
+use Rattle.depth_rows.specs.RowDepth.{closed_part, numbered_row_depth}
+use Rattle.depth_rows.proofs.FoldedDepths.{depths_hold}
+use Rattle.text_depth.specs.LotosRows.{HasLotosRows}
+
+pub of_specifications : HasLotosRows (grammar_from starts.SPEC)
+unfolding lotos.rows grammar_from
+of_specifications = record { rows_are = refl; well_formed = refl; predictive = predictive_after 6 (grammar_from starts.SPEC) refl }
+
+pub of_types : HasLotosRows (grammar_from starts.TYPETEXT)
+unfolding lotos.rows grammar_from
+of_types = record { rows_are = refl; well_formed = refl; predictive = predictive_after 6 (grammar_from starts.TYPETEXT) refl }
+
+pub of_terms : HasLotosRows (grammar_from starts.TERMS)
+unfolding lotos.rows grammar_from
+of_terms = record { rows_are = refl; well_formed = refl; predictive = predictive_after 6 (grammar_from starts.TERMS) refl }
+
+kept_rows : list_all (λ row. kept_in_front is_kept_kind row.right) lotos.rows ≡ true
+unfolding lotos.rows
+kept_rows = refl
+
+pub kept_in_rows : (g : ContextFree) → HasLotosRows g → list_all (λ row. kept_in_front is_kept_kind row.right) g.rows ≡ true
+kept_in_rows g is = ap (λ (all : List Production). list_all (λ row. kept_in_front is_kept_kind row.right) all) is.rows_are ∙ kept_rows
+
+pub value_is : (limit : ℕ) (text : List ℕ) (g : ContextFree) → HasLotosRows g → (tokens : List Token) (tree : Forest) →
+    Derives g.rows tree (Part g.start ∷ []) → leaves tree ≡ map kind_of tokens → (found : Meaning) → Derived text g.start tokens found →
+    value_of_tree (numbered_row_depth limit) is_kept_kind tree tokens ≡ Some (depth_of limit found)
+value_is limit text g is tokens tree derives leaves_are found derived =
+    let other : Derives g.rows derived.0 (Part g.start ∷ []) =
+    subst (λ (all : List Production). Derives all derived.0 (Part g.start ∷ [])) (sym is.rows_are) derived.1 in
+    let same : tree ≡ derived.0 = one_tree g is.well_formed is.predictive tree derived.0 derives other (leaves_are ∙ sym derived.2) in
+    ap (λ (it : Forest). value_of_tree (numbered_row_depth limit) is_kept_kind it tokens) same
+    ∙ ap (option_and_then first_value) (depths_hold limit text g.start derived.0 tokens found derived.1 derived.3)
+
+starts_at : (start : ℕ) → (grammar_from start).start ≡ start
+unfolding grammar_from
+starts_at start = refl
+
+-- the tokens mean it as what the grammar begins with
+pub derived_at : (g : ContextFree) (start : ℕ) (text : List ℕ) (tokens : List Token) (found : Meaning) → g ≡ grammar_from start →
+    Derived text start tokens found → Derived text g.start tokens found
+derived_at g start text tokens found e derived =
+    subst (λ (p : ℕ). Derived text p tokens found) (sym (ap (λ it. it.start) e ∙ starts_at start)) derived
+
+-- the first node that is too deep in a part that counts from its own root
+pub deep_is : (limit : ℕ) (deep : Option Place) (m : Meaning) → closable m ≡ true →
+    everywhere (option_map text_place_of deep) ≡ closed_part limit (depth_of limit m) →
+    option_map text_place_of deep ≡ first_deeper limit (nodes_in m)
+deep_is limit deep m h e = ap (λ it. it.rest) (e ∙ closed_is limit m h)
+
+-- what is kept is what the tokens mean
+pub kept_is : (part : KeptPart) (kept : DepthPart) → option_map kept_of (Some part) ≡ Some kept → kept_of part ≡ kept
+kept_is part kept e = let both : Some (kept_of part) ≡ Some kept = e in cc

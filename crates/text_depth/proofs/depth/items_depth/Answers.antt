@@ -1,0 +1,27 @@
+use Rattle.std.proofs.Common.{map, refl, subst, sym}
+use Rattle.std.proofs.lemmas.Result.{IfOk-weaker}
+use Rattle.ll_engine.specs.Language.{IsLeftmostDerivation}
+use Rattle.lotos_rows.specs.declared.starts.TheConstants as starts
+use Rattle.sentence_trees.specs.Sentences.{kind_of}
+use Rattle.sentence_trees.proofs.DefinitionsCases.{all_sentences_derived}
+use Rattle.tree_building.specs.Meaning.{some_items}
+use Rattle.lotos_reading.specs.Reading.{node_limit}
+use Rattle.text_depth.specs.LotosRows.{HasLotosRows}
+use Rattle.text_depth.proofs.Depths.{deep_is, derived_at, of_types}
+use Rattle.text_depth.proofs.depth.items_depth.Goals as goal
+
+pub depth-deep-requires : goal.depth-deep-requires
+depth-deep-requires c = record {
+  lotos = subst HasLotosRows (sym c.types_grammar.ensures) of_types;
+  derivation = subst (λ it. IsLeftmostDerivation it c.args.rows.now (map kind_of c.args.tokens.now)) (sym c.types_grammar.ensures) c.requires;
+}
+
+pub returns : goal.returns
+returns c =
+    IfOk-weaker c.depth-deep.result _ _
+    (λ deep told text tree is.
+    deep_is node_limit deep (some_items tree) refl
+    (told text (some_items tree)
+    (derived_at c.types_grammar.result starts.TYPETEXT text c.args.tokens.now (some_items tree) c.types_grammar.ensures
+    (all_sentences_derived.items text c.args.tokens.now tree is))))
+    c.depth-deep.ensures

@@ -1,0 +1,12 @@
+use Rattle.std.proofs.Common.{◌≡◌, length}
+use Rattle.derivation_fold.specs.Run.{from_last}
+use Rattle.depth_rows.specs.RowDepth.{closed_parts}
+use Rattle.text_depth.specs.PartView.{kept_of}
+use Rattle.text_depth.proofs.lists.closed_parts.Given as goal
+
+abbrev pub invariant-loop-part : goal.invariant-loop-part
+invariant-loop-part l =
+    closed_parts l.limit (from_last kept_of l.parts.items) ≡ closed_parts l.limit (from_last kept_of l.fn.parts.items)
+
+abbrev pub decreases-loop-part : goal.decreases-loop-part
+decreases-loop-part l = length l.parts.items

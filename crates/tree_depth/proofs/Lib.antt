@@ -1,0 +1,4 @@
+pub mod FirstsLemmas
+pub mod ReversedLists
+pub mod TreeDepths
+pub mod Groupings

@@ -1,0 +1,4 @@
+pub mod Firsts
+pub mod TreeFirsts
+pub mod DepthLaws
+pub mod FirstsView

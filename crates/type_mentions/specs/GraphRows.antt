@@ -1,0 +1,6 @@
+-- Rows of numbers as plain lists.
+use Rattle.std.specs.Prelude.{ℕ, List, map, Vec}
+use Rattle.std.specs.declared.alloc.Global.{Global}
+
+abbrev pub rows_of : List (Vec ℕ Global) → List (List ℕ)
+rows_of rows = map (λ (row : Vec ℕ Global). row.items) rows

@@ -1,0 +1,17 @@
+pub mod FirstPosition
+pub mod DeclaredTypes
+pub mod TypeGraph
+pub mod FlatteningOrder
+pub mod GraphRows
+pub mod GraphView
+pub mod FirstInRow
+pub mod Reaching
+pub mod ProgressTests
+pub mod Walking
+pub mod Ordering
+pub mod Ordered
+pub mod MentionFaults
+pub mod TypeView
+pub mod TypeNamesView
+pub mod NameFaultView
+pub mod TypeOrderView
