@@ -23,8 +23,8 @@ use lotos_base::{Failed, GetFault, Shelf, Sink, Source, TEXT_LIMIT};
 use lotos_grammar::{FirstFault, FirstText, read_first};
 use lotos_reading::ReadFault;
 use std::alloc::{AllocError, Global};
-use std::mem::forget;
 use text_reading::read_spec;
+use tree_discard::discard;
 
 /// Does what the words ask for: gets the files from the shelf and writes the report to the output.
 ///
@@ -146,16 +146,13 @@ fn check_specification(alloc: Global, name: &str, text: &[u8]) -> Result<Answer,
     }
 }
 
-/// Whether the text is a specification of the whole grammar.
-///
-/// Its tree is left as it is: to drop it would recurse as deep as its processes are nested, which no
-/// limit bounds. The program ends soon after.
+/// Whether the text is a specification of the whole grammar. Its tree is not used yet.
 fn whole_grammar(alloc: Global, text: &[u8]) -> Result<(), ReadFault>
     ensures { MatchResult result (λ _. IsSpecificationText text.now)
         (IsSpecificationFault 0 text.now) }
 {
     let tree = read_spec(alloc, text, 0)?;
-    forget(tree);
+    discard(tree);
     Ok(())
 }
 

@@ -1,0 +1,4 @@
+pub mod PairLemmas
+pub mod TurnLemmas
+pub mod DraftLemmas
+pub mod OpenLemmas

@@ -1,0 +1,4 @@
+pub mod Environments
+pub mod Offered
+pub mod OpenDrafts
+pub mod OpenLaws

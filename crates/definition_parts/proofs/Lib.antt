@@ -1,0 +1,6 @@
+pub mod StackLemmas
+pub mod SeenInner
+pub mod SizeLemmas
+pub mod SizeSteps
+pub mod OwnLemmas
+pub mod FormalLemmas

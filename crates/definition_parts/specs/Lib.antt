@@ -1,0 +1,5 @@
+pub mod Sizes
+pub mod SizesView
+pub mod CallableList
+pub mod OwnCallables
+pub mod ProcessView

@@ -1,0 +1,107 @@
+//! Lists of drafts: one alone, copies, and those of a parallel.
+
+ghost use Rattle.behaviour_semantics.specs.WellFormed.{Every};
+ghost use Rattle.behaviour_tree.specs.BehaviourView.{meet_of};
+ghost use Rattle.draft_lists.specs.Lists.{plain_drafts};
+ghost use Rattle.event_offers.specs.OfferView.{plain_draft};
+ghost use Rattle.form_drafts.specs.HasDrafts.{beside_drafts, either_drafts};
+ghost use Rattle.menu_builder.specs.DraftTerms.{HasTermsOf};
+ghost use Rattle.draft_parts.specs.Made.{AreThese, inner_of};
+ghost use Rattle.std.specs.Prelude.{◌≡◌, ◌∷◌, [], IfOk};
+ghost use Rattle.term_algebra.specs.Signature.{Signature};
+
+use behaviour_tree::copies::term_copies;
+use behaviour_tree::{Label, Meet, Shape};
+use draft_lists::{Rule, both_sides};
+use event_offers::Draft;
+use event_offers::labels::{condition_copies, label_copy};
+use event_offers::lists::appended;
+use event_offers::shapes::shape_copy;
+use lotos_base::NoMemory;
+use menu_builder::Variant;
+use std::alloc::Global;
+
+/// The list of one draft.
+pub fn one(alloc: Global, draft: Draft) -> Result<Vec<Draft>, NoMemory>
+    ensures { IfOk result (λ made. made.items ≡ draft ∷ []) }
+{
+    let mut drafts = Vec::new(alloc);
+    drafts.push(draft)?;
+    Ok(drafts)
+}
+
+/// The draft of `i`.
+pub fn inner_draft(alloc: Global) -> Draft
+    ensures same { plain_draft result ≡ inner_of }
+    ensures over { (signature : Signature) → HasTermsOf signature result }
+{
+    Draft {
+        shape: Shape::Inner,
+        label: Label::Inner,
+        leaves: Vec::new(alloc),
+        conditions: Vec::new(alloc),
+    }
+}
+
+/// The same draft.
+pub fn draft_copy(alloc: Global, draft: &Draft) -> Result<Draft, NoMemory>
+    ensures same { IfOk result (λ made. plain_draft made ≡ plain_draft draft.now) }
+    ensures over { IfOk result (λ made. (signature : Signature)
+        → HasTermsOf signature draft.now → HasTermsOf signature made) }
+{
+    let shape = shape_copy(alloc, &draft.shape)?;
+    let label = label_copy(alloc, &draft.label)?;
+    let leaves = term_copies(alloc, &draft.leaves)?;
+    let conditions = condition_copies(alloc, &draft.conditions)?;
+    Ok(Draft {
+        shape,
+        label,
+        leaves,
+        conditions,
+    })
+}
+
+/// The same drafts.
+pub fn draft_copies(alloc: Global, drafts: &Vec<Draft>) -> Result<Vec<Draft>, NoMemory>
+    ensures same { IfOk result
+        (λ made. plain_drafts made.items ≡ plain_drafts drafts.now.items) }
+    ensures over { IfOk result (λ made. (signature : Signature)
+        → Every (HasTermsOf signature) drafts.now.items
+        → Every (HasTermsOf signature) made.items) }
+{
+    let mut made = Vec::with_capacity(alloc, drafts.len())?;
+    for draft in drafts {
+        made.push(draft_copy(alloc, draft)?)?;
+    }
+    Ok(made)
+}
+
+/// The drafts of a choice or of a disabling: those of the left side and then those of the right.
+pub fn either(lefts: Vec<Draft>, rights: Vec<Draft>) -> Result<Vec<Draft>, NoMemory>
+    ensures { IfOk result (λ made. (signature : Signature)
+        → Every (HasTermsOf signature) lefts.items → Every (HasTermsOf signature) rights.items
+        → AreThese signature (either_drafts (plain_drafts lefts.items)
+        (plain_drafts rights.items)) made.items) }
+{
+    let first = Rule::Below(Variant::Left).apply_to_all(lefts)?;
+    let second = Rule::Below(Variant::Right).apply_to_all(rights)?;
+    appended(first, second)
+}
+
+/// The drafts of a parallel: those of each side alone, and then those of both together.
+pub fn beside(
+    lefts: Vec<Draft>,
+    rights: Vec<Draft>,
+    meet: &Meet,
+    first: u64,
+) -> Result<Vec<Draft>, NoMemory>
+    ensures { IfOk result (λ made. (signature : Signature)
+        → Every (HasTermsOf signature) lefts.items → Every (HasTermsOf signature) rights.items
+        → AreThese signature (beside_drafts signature (meet_of meet.now) first
+        (plain_drafts lefts.items) (plain_drafts rights.items)) made.items) }
+{
+    let both = both_sides(&lefts, &rights, meet, first)?;
+    let left = Rule::Alone(meet, Variant::Left).apply_to_all(lefts)?;
+    let right = Rule::Alone(meet, Variant::Right).apply_to_all(rights)?;
+    appended(appended(left, right)?, both)
+}

@@ -1,0 +1,2 @@
+pub mod EquationKeyLemmas
+pub mod EquationListLemmas

@@ -1,0 +1,2 @@
+pub mod EquationKeys
+pub mod EquationListView

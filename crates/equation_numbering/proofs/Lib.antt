@@ -1,0 +1,3 @@
+pub mod CollectLemmas
+pub mod NumberingLemmas
+pub mod MadeLemmas

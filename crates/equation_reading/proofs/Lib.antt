@@ -1,0 +1,4 @@
+pub mod AskedLemmas
+pub mod SortLemmas
+pub mod SideLemmas
+pub mod PremissLemmas

@@ -1,0 +1,2 @@
+pub mod ScopeFor
+pub mod Truth

@@ -1,0 +1,5 @@
+pub mod ShelfLemmas
+pub mod ProgressLemmas
+pub mod NameLemmas
+pub mod TextLemmas
+pub mod WalkLemmas

@@ -1,0 +1,4 @@
+pub mod Gathering
+pub mod GatheredView
+pub mod ShelfUse
+pub mod Progress

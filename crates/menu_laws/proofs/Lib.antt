@@ -1,0 +1,3 @@
+pub mod OpenMenuLemmas
+pub mod ClosedPartLemmas
+pub mod NumberLemmas

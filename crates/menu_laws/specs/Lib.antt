@@ -1,0 +1,3 @@
+pub mod OpenMenus
+pub mod ClosedParts
+pub mod NodeNumbers

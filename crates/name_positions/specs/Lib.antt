@@ -1,0 +1,2 @@
+pub mod PositionOfName
+pub mod NamesView

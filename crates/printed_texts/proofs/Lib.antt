@@ -1,0 +1,3 @@
+pub mod BracketLemmas
+pub mod TermLemmas
+pub mod MenuLemmas

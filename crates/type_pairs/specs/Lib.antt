@@ -1,0 +1,2 @@
+pub mod PairNames
+pub mod PairIndexView

@@ -1,0 +1,15 @@
+//! The pairs of a renaming or an actualisation: what is wrong with them, and which one is for a
+//! name (ISO 8807:1989, data part).
+#![tactic(auto)]
+
+pub mod checking;
+pub mod operation_pairs;
+pub mod pair_index;
+pub mod sort_pairs;
+
+pub use operation_pairs::look_at_op_pairs;
+pub use pair_index::PairIndex;
+pub use sort_pairs::look_at_sort_pairs;
+
+#[cfg(test)]
+mod tests;

@@ -1,0 +1,3 @@
+pub mod MarksView
+pub mod PresentationView
+pub mod ImagesOfEquations
