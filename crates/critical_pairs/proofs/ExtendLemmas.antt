@@ -1,5 +1,5 @@
 -- Lists of pairs with the pairs of more places added.
-use Rattle.std.proofs.Common.{◌≡◌, ◌+◌, ◌<◌, ℕ, zero, suc, List, [], ◌∷◌, ◌++◌, map, length, take, Bool, true, false, nat_eq, refl, ap, sym, ◌∙◌, subst, inl, inr, arith, append-nil, append_assoc}
+use Rattle.std.proofs.Common.{◌≡◌, ◌+◌, ℕ, zero, suc, List, [], ◌∷◌, ◌++◌, map, take, Bool, true, false, nat_eq, refl, ap, sym, ◌∙◌, subst, arith, append-nil, append_assoc}
 use Rattle.std.specs.Prelude.{◌&&◌, Some, None, slice_get, if◌then◌else◌}
 use Rattle.std.proofs.lemmas.List.{map-append}
 use Rattle.std.proofs.lemmas.Option.{same_Some}
@@ -7,13 +7,13 @@ use Rattle.term_algebra.specs.Signature.{Signature}
 use Rattle.rewriting_theory.specs.Rule.{Rule as PlainRule}
 use Rattle.rewriting_theory.specs.CriticalPair.{CriticalPair}
 use Rattle.rewriting_theory.specs.PairList.{PairPlace}
-use Rattle.rewriting_theory.specs.Places.{places_at, places_with, places_from, places, node_paths, is_root, IsApartAt, IsPairOf, PairsOf, no_place, no_pair, one_pair}
+use Rattle.rewriting_theory.specs.Places.{places_at, places_with, places_from, places, node_paths, is_root, IsApartAt, IsPairOf, no_place, no_pair, one_pair}
 use Rattle.rewriting_theory.proofs.PlaceListLemmas.{pairs_append, pairs_are_all}
 use Rattle.termination_theory.specs.Orientation.{NumberedRule, rules_of}
 use Rattle.overlap_pairs.specs.OverlapPair.{ArePairTermsOf}
 use Rattle.path_order.specs.RulesView.{rules_in, plain_rules_in, signature_in}
 use Rattle.path_order.specs.declared.rules.Rules.{Rules}
-use Rattle.critical_pairs.specs.Listing.{equation_at, named_by, ListsAll, AddsPairs, AreOver}
+use Rattle.critical_pairs.specs.Listing.{named_by, ListsAll, AddsPairs, AreOver}
 use Rattle.critical_pairs.specs.Extended.{AddsPairsOf}
 use Rattle.critical_pairs.specs.PairView.{pair_of, pairs_in, terms_in}
 use Rattle.critical_pairs.specs.declared.pair.Pair.{Pair}
@@ -59,9 +59,14 @@ extended_along rules one two before after same is = subst (λ (ps : List PairPla
 
 pub extended_apart : (rules : Rules) (place : PairPlace) (before : List Pair) → IsApartAt (plain_rules_in rules) place
     → AddsPairsOf rules (place ∷ []) before before
-extended_apart rules place before apart = record { listed = extends_apart (rules_in rules) place (pairs_in before) apart; over = λ over. over }
+extended_apart rules place before apart = record {
+  listed = extends_apart (rules_in rules) place (pairs_in before) apart;
+  over = λ over.
+      over;
+}
 
-pub over_more : (signature : Signature) (before : List Pair) (pair : Pair) → AreOver signature before → ArePairTermsOf signature (terms_in pair)
+pub over_more : (signature : Signature) (before : List Pair) (pair : Pair) → AreOver signature before
+    → ArePairTermsOf signature (terms_in pair)
     → AreOver signature (before ++ pair ∷ [])
 over_more signature [] pair over is zero one e =
     subst (λ (p : Pair). ArePairTermsOf signature (terms_in p)) (same_Some pair one e) is

@@ -1,5 +1,5 @@
 -- Whether the sides of the listed pairs have one chosen form decides confluence.
-use Rattle.std.proofs.Common.{◌≡◌, ◌<◌, ◌+◌, ℕ, zero, suc, List, [], ◌∷◌, map, length, get_or, refl, ap, sym, ◌∙◌, subst, arith}
+use Rattle.std.proofs.Common.{◌≡◌, ◌<◌, ℕ, zero, suc, List, [], ◌∷◌, map, length, get_or, refl, ap, sym, ◌∙◌, subst, arith}
 use Rattle.std.specs.Prelude.{Some, None, slice_get}
 use Rattle.std.proofs.lemmas.Option.{same_Some}
 use Rattle.term_algebra.specs.Term.{Term}
@@ -7,16 +7,16 @@ use Rattle.rewriting_theory.specs.Rule.{Rule}
 use Rattle.rewriting_theory.specs.Rewriting.{AreConfluent}
 use Rattle.rewriting_theory.specs.ChosenForm.{Chosen}
 use Rattle.rewriting_theory.specs.CriticalPair.{CriticalPair}
-use Rattle.rewriting_theory.specs.PairList.{IsUnjoined, IsFirstUnjoined}
+use Rattle.rewriting_theory.specs.PairList.{IsUnjoined}
 use Rattle.rewriting_theory.specs.PairListLaws.{RewritesToTwo}
-use Rattle.rewriting_theory.proofs.PairListLemmas.{NoneUnjoined, agreeing_joined, none_unjoined_confluent, unjoined_not_confluent, unjoined_two}
-use Rattle.termination_theory.specs.Orientation.{NumberedRule, rules_of}
+use Rattle.rewriting_theory.proofs.PairListLemmas.{agreeing_joined, none_unjoined_confluent, unjoined_not_confluent, unjoined_two}
+use Rattle.termination_theory.specs.Orientation.{NumberedRule}
 use Rattle.sort_terms.specs.SortedView.{term_in}
 use Rattle.path_order.specs.RulesView.{rules_in, plain_rules_in}
 use Rattle.path_order.specs.declared.rules.Rules.{Rules}
 use Rattle.path_order.proofs.RulesLemmas.{rules_well_formed, rules_end}
-use Rattle.critical_pairs.specs.Listing.{equation_at, named_by, ListsAll}
-use Rattle.critical_pairs.specs.Joining.{AreUnjoinedBy, NoneUnjoinedAmong, AnswersPair, AnswersFirst}
+use Rattle.critical_pairs.specs.Listing.{named_by, ListsAll}
+use Rattle.critical_pairs.specs.Joining.{AreUnjoinedBy, NoneUnjoinedAmong, AnswersFirst}
 use Rattle.critical_pairs.specs.PairView.{pair_of, pairs_in}
 use Rattle.critical_pairs.specs.declared.pair.Pair.{Pair}
 use Rattle.critical_pairs.specs.declared.joining.Unjoined.{Unjoined}
@@ -100,7 +100,8 @@ unjoined_rules rules found answer listed first =
       rewrites =
           subst (λ (w : Term). RewritesToTwo (plain_rules_in rules) w (term_in answer.left)
           (term_in answer.right)) (sym peak)
-          (unjoined_two (plain_rules_in rules) back.pair (term_in answer.left) (term_in answer.right) (rules_well_formed rules) critical unjoined);
+          (unjoined_two (plain_rules_in rules) back.pair (term_in answer.left) (term_in answer.right) (rules_well_formed rules) critical
+          unjoined);
       not_confluent =
           unjoined_not_confluent (plain_rules_in rules) back.pair (term_in answer.left) (term_in answer.right) (rules_well_formed rules)
           critical unjoined;
@@ -108,7 +109,8 @@ unjoined_rules rules found answer listed first =
 
 -- ---- Pairs looked at so far
 
-pub pair_listed : (pairs : List Pair) (k : ℕ) (pair : Pair) → slice_get pairs k ≡ Some pair → slice_get (pairs_in pairs) k ≡ Some (pair_of pair)
+pub pair_listed : (pairs : List Pair) (k : ℕ) (pair : Pair) → slice_get pairs k ≡ Some pair → slice_get (pairs_in pairs) k
+    ≡ Some (pair_of pair)
 pair_listed [] k pair is = let none : None ≡ Some pair = is in cc
 pair_listed (p ∷ pairs) zero pair is = ap (λ (q : Pair). Some (pair_of q)) (same_Some p pair is)
 pair_listed (p ∷ pairs) (suc k) pair is = pair_listed pairs k pair is

@@ -1,13 +1,13 @@
 -- The places of a term: their paths are those of its operations, and each has the operation that stands there.
-use Rattle.std.proofs.Common.{◌≡◌, ◌+◌, ◌<◌, ℕ, zero, suc, List, [], ◌∷◌, ◌++◌, map, length, get_or, drop, refl, ap, sym, ◌∙◌, subst, inl, inr, arith, append-nil, append_assoc, drop-cons, add-one}
-use Rattle.std.specs.Prelude.{◌⊎◌, Some, None, Option, slice_get}
+use Rattle.std.proofs.Common.{◌≡◌, ◌+◌, ◌<◌, ℕ, zero, suc, List, [], ◌∷◌, ◌++◌, map, length, get_or, drop, refl, ap, sym, ◌∙◌, inl, inr, arith, append-nil, append_assoc, drop-cons, add-one}
+use Rattle.std.specs.Prelude.{◌⊎◌, Some}
 use Rattle.std.specs.Option.{option_and_then}
 use Rattle.std.proofs.lemmas.List.{map-append}
 use Rattle.std.proofs.lemmas.Option.{same_Some}
 use Rattle.term_algebra.specs.Term.{Term, variable, node, Terms, no_terms, term_then}
 use Rattle.term_algebra.specs.Path.{argument_at, subterm}
 use Rattle.rewriting_theory.specs.Places.{node_paths, argument_paths}
-use Rattle.rewriting_theory.proofs.PlaceListLemmas.{IsIn, in_either, in_map_back, in_index, index_in}
+use Rattle.rewriting_theory.proofs.PlaceListLemmas.{IsIn, in_either}
 use Rattle.sort_terms.specs.TermView.{term_of, terms_of}
 use Rattle.sort_terms.specs.declared.terms.Term.{Term as CodeTerm}
 use Rattle.critical_pairs.specs.NodePlaces.{PlaceOfNode, node_places, argument_places, IsHeadAt}

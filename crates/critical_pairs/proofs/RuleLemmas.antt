@@ -1,18 +1,15 @@
 -- Rules of the code by their numbers, and the pair of two of them at a place.
-use Rattle.std.proofs.Common.{◌≡◌, ◌+◌, ◌-◌, ◌<◌, ◌≤◌, ℕ, zero, suc, List, [], ◌∷◌, ◌++◌, map, length, get_or, take, Bool, true, false, nat_eq, refl, ap, sym, ◌∙◌, subst, inl, inr, arith, append-nil, add-one}
+use Rattle.std.proofs.Common.{◌≡◌, ◌+◌, ◌-◌, ◌<◌, ◌≤◌, ℕ, zero, suc, List, [], ◌∷◌, ◌++◌, map, length, get_or, take, Bool, true, false, nat_eq, refl, ap, sym, ◌∙◌, subst, inl, inr, arith, append-nil}
 use Rattle.std.specs.Prelude.{◌&&◌, Some, None, Option, IfSome, IfNone, slice_get, if◌then◌else◌}
 use Rattle.std.proofs.lemmas.Option.{same_Some}
 use Rattle.std.proofs.lemmas.List.{take_more, map-append}
 use Rattle.std.proofs.lemmas.Bool.Decides.{Decides-eqb}
-use Rattle.term_algebra.specs.Signature.{Signature}
-use Rattle.rewriting_theory.specs.Rule.{Rule as PlainRule, IsRuleAt, AreWellFormedRules}
-use Rattle.rewriting_theory.specs.CriticalPair.{CriticalPair}
+use Rattle.rewriting_theory.specs.Rule.{Rule as PlainRule, IsRuleAt}
 use Rattle.rewriting_theory.specs.PairList.{PairPlace}
 use Rattle.rewriting_theory.specs.Places.{places_at, places_with, node_paths, is_root}
 use Rattle.rewriting_theory.proofs.PlaceListLemmas.{IsIn}
 use Rattle.term_algebra.specs.Term.{Term}
-use Rattle.termination_theory.specs.Orientation.{NumberedRule, rules_of}
-use Rattle.overlap_pairs.specs.TwoSides.{RuleSides, bare_rule, pair_with, IsRuleOver}
+use Rattle.overlap_pairs.specs.TwoSides.{pair_with, IsRuleOver}
 use Rattle.overlap_pairs.specs.OverlapPair.{HaveOneSignature, HaveNoOverlap}
 use Rattle.path_order.specs.RuleView.{rule_of, numbered_rules, plain_rules}
 use Rattle.path_order.specs.RulesView.{rules_in, plain_rules_in, signature_in}
@@ -20,7 +17,7 @@ use Rattle.path_order.specs.RuleSides.{all_sides, sides_of, AreSidesOver}
 use Rattle.path_order.specs.declared.rule.Rule.{Rule}
 use Rattle.path_order.specs.declared.rules.Rules.{Rules}
 use Rattle.path_order.proofs.RulesLemmas.{rules_well_formed}
-use Rattle.critical_pairs.specs.Listing.{equation_at, named_by}
+use Rattle.critical_pairs.specs.Listing.{equation_at}
 use Rattle.critical_pairs.specs.Candidates.{all_least}
 use Rattle.critical_pairs.specs.Extended.{AddsPairsOf, IsHeadIn, IsPairAt, paths_in, listed_option}
 use Rattle.critical_pairs.specs.NodePlaces.{PlaceOfNode, node_places, IsHeadAt}
@@ -128,12 +125,14 @@ pair_added rules i j one two path found more o first second d e other none some 
         let clash : true ≡ false = sym yes ∙ other in
         cc
 
-    added : (p : Option Pair) → IfNone p (HaveNoOverlap (rule_sides one) (rule_sides two) path) → IfSome p (λ pair. IsPairAt one two path pair)
+    added : (p : Option Pair) → IfNone p (HaveNoOverlap (rule_sides one) (rule_sides two) path)
+        → IfSome p (λ pair. IsPairAt one two path pair)
         → AddsPairsOf rules (record { first = i; second = j; path = path } ∷ []) found (found ++ listed_option p)
     added None apart pair =
         subst (λ (ps : List Pair). AddsPairsOf rules (record { first = i; second = j; path = path } ∷ []) found ps) (sym (append-nil found))
         (extended_apart rules (record { first = i; second = j; path = path }) found
-        (apart (plain_rules_in rules) i j (rule_there rules.rules.items i one first d).plain (rule_there rules.rules.items j two second e).plain))
+        (apart (plain_rules_in rules) i j (rule_there rules.rules.items i one first d).plain
+        (rule_there rules.rules.items j two second e).plain))
     added (Some pair) apart at =
         let one_there = rule_there rules.rules.items i one first d in
         let two_there = rule_there rules.rules.items j two second e in

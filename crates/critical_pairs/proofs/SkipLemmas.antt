@@ -1,15 +1,13 @@
 -- Rules whose left sides have none of the operations at their heads do not overlap.
-use Rattle.std.proofs.Common.{◌≡◌, ◌≤◌, ◌<◌, ◌+◌, ℕ, zero, suc, List, [], ◌∷◌, ◌++◌, map, length, take, Bool, true, false, nat_eq, refl, ap, sym, ◌∙◌, subst, inl, inr, arith}
-use Rattle.std.specs.Prelude.{◌&&◌, Some, None, Option, slice_get, if◌then◌else◌}
+use Rattle.std.proofs.Common.{◌≡◌, ◌≤◌, ◌<◌, ◌+◌, ℕ, zero, suc, List, [], ◌∷◌, ◌++◌, map, take, Bool, true, false, nat_eq, refl, ap, sym, ◌∙◌, subst, inl, inr, arith}
+use Rattle.std.specs.Prelude.{◌&&◌, Some, None, if◌then◌else◌}
 use Rattle.std.proofs.lemmas.Option.{same_Some}
 use Rattle.std.proofs.lemmas.Bool.Decides.{Decides-eqb}
 use Rattle.term_algebra.specs.Term.{Term, variable, node, Terms}
 use Rattle.term_algebra.specs.Path.{subterm}
 use Rattle.term_algebra.specs.Substitution.{Substitution, substituted}
 use Rattle.rewriting_theory.specs.Rule.{Rule as PlainRule, IsRuleAt, IsNode, AreWellFormedRules}
-use Rattle.rewriting_theory.specs.CriticalPair.{OverlapPlace, Overlaps}
-use Rattle.rewriting_theory.specs.PairList.{PairPlace}
-use Rattle.rewriting_theory.specs.Places.{places_at, places_with, node_paths, is_root, IsApartAt}
+use Rattle.rewriting_theory.specs.Places.{places_at, places_with, is_root, IsApartAt}
 use Rattle.rewriting_theory.proofs.PlaceListLemmas.{IsIn}
 use Rattle.path_order.specs.RuleHead.{has_head, headed}
 use Rattle.path_order.specs.RulesView.{plain_rules_in}
@@ -62,9 +60,11 @@ skip_places rules i j first second (place ∷ places) before is_first is_second 
         else record { first = i; second = j; path = place.path } ∷ places_at i j (map path_of places)) before before
     go true rest = rest
     go false rest =
-        extended_then rules (record { first = i; second = j; path = place.path } ∷ []) (places_at i j (map path_of places)) before before before
+        extended_then rules (record { first = i; second = j; path = place.path } ∷ []) (places_at i j (map path_of places)) before before
+        before
         (extended_apart rules (record { first = i; second = j; path = place.path }) before
-        (head_apart (plain_rules_in rules) i j first second place is_first is_second well (each place (inl refl)).0 (each place (inl refl)).1))
+        (head_apart (plain_rules_in rules) i j first second place is_first is_second well (each place (inl refl)).0
+        (each place (inl refl)).1))
         rest
 
 -- where the least rule that may overlap is greater, this one has none of the heads

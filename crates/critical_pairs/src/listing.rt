@@ -26,8 +26,8 @@ use path_order::{Rule, Rules};
 use sort_terms::Term;
 use std::alloc::Global;
 
-/// All critical pairs of the rules: by the first rule, then by the second rule, then by the place in
-/// the left side of the first rule in preorder. A rule with itself at the root is no place.
+/// All critical pairs of the rules: by the first rule, then by the second rule, then by the place
+/// in the left side of the first rule in preorder. A rule with itself at the root is no place.
 pub fn pairs(alloc: Global, rules: &Rules) -> Result<Vec<Pair>, NoMemory>
     ensures listed { IfOk result (λ found. ListsAll (rules_in rules.now) (pairs_in found.items)) }
     ensures is_of { IfOk result (λ found. AreOver (signature_in rules.now) found.items) }

@@ -1,18 +1,18 @@
 -- What a book knows of its data.
-use Rattle.std.proofs.Common.{◌≡◌, ℕ, zero, suc, List, [], ◌∷◌, map, refl, ap, sym, ◌∙◌, subst}
+use Rattle.std.proofs.Common.{◌≡◌, ℕ, zero, suc, List, [], ◌∷◌, map, ap, sym, ◌∙◌, subst}
 use Rattle.std.specs.Prelude.{◌↔◌, Some, None, slice_get}
 use Rattle.std.proofs.lemmas.Option.{same_Some}
 use Rattle.std.proofs.Math.Logic.{∥∥₁_elim}
 use Rattle.term_algebra.specs.Signature.{Signature}
 use Rattle.term_algebra.specs.Term.{Term}
-use Rattle.term_algebra.specs.Sorting.{HasSort, IsGround, IsGroundOf}
+use Rattle.term_algebra.specs.Sorting.{HasSort, IsGround}
 use Rattle.term_algebra.specs.Equality.{Equal}
 use Rattle.term_algebra.specs.Equation.{Data}
 use Rattle.rewriting_theory.specs.ChosenForm.{Chosen}
 use Rattle.rewriting_theory.proofs.ChosenLemmas.{chosen_one}
 use Rattle.termination_theory.proofs.ChosenCanonLemmas.{chosen_decide}
 use Rattle.sort_terms.specs.EquationView.{IsSortedFlat, data_of, equation_of}
-use Rattle.sort_terms.specs.ProfiledTerm.{ProfiledTerm, IsOf, FitsProfiles, bare, head_sort}
+use Rattle.sort_terms.specs.ProfiledTerm.{ProfiledTerm, IsOf, head_sort}
 use Rattle.sort_terms.specs.SignatureView.{signature_of}
 use Rattle.sort_terms.specs.SortedView.{profiled_in, term_in}
 use Rattle.sort_terms.specs.declared.sorted.Sorted.{Sorted}
@@ -40,7 +40,7 @@ use Rattle.equation_book.specs.Refusal.{SaysOfData, IsBookFault, book_fault_of_o
 use Rattle.equation_book.specs.declared.book_fault.BookFault.{BookFault}
 use Rattle.equation_book.specs.declared.book_fault.BookFault.TheVariants.{UnknownOperation as BookUnknown, TwiceListed as BookTwice, Unorientable as BookUnorientable, Unjoined as BookUnjoined, NoMemory as BookNoMemory}
 use Rattle.equation_book.specs.BookCanon.{book_canon, book_chooses, book_oriented}
-use Rattle.equation_book.specs.SortedSides.{AreSortedSides, IsSortedEquation, sorted_sides}
+use Rattle.equation_book.specs.SortedSides.{AreSortedSides, sorted_sides}
 use Rattle.equation_book.specs.declared.book.Book.{Book}
 
 -- a term of the data is of the signature of the rules, and the other way round

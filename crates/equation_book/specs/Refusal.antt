@@ -1,5 +1,5 @@
 -- What a refusal of data says of them.
-use Rattle.std.specs.Prelude.{◌≡◌, ℕ, List}
+use Rattle.std.specs.Prelude.{List}
 use Rattle.term_algebra.specs.Equation.{Data}
 use Rattle.rewriting_theory.specs.Rewriting.{AreConfluent}
 use Rattle.termination_theory.specs.Precedence.{Precedence}

@@ -3,3 +3,4 @@ pub mod ProgressLemmas
 pub mod NameLemmas
 pub mod TextLemmas
 pub mod WalkLemmas
+pub mod OneOutcome

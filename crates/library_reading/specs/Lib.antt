@@ -2,3 +2,4 @@ pub mod Gathering
 pub mod GatheredView
 pub mod ShelfUse
 pub mod Progress
+pub mod GatheringLaws

@@ -6,6 +6,7 @@
 mod faults;
 mod gathered;
 mod gathering;
+pub mod laws;
 mod texts;
 
 pub use faults::LibraryFault;

@@ -1,24 +1,13 @@
-//! Syntax trees of the texts that are read, and their reading.
+//! The reading of texts of LOTOS (ISO 8807:1989, syntax; ACT ONE's types with it): the syntax
+//! trees, the calls that read them and group their behaviours, and the drop of a tree. All of it is
+//! written and proved in the crates below; here it stands together, for the crates that read texts.
 #![tactic(auto)]
 
-mod building;
-mod built;
-mod derivation;
-mod first;
-pub mod laws;
-mod nesting;
-mod parts;
-mod reading;
-mod rows;
-
-pub use first::{FirstBeh, FirstFault, FirstOffer, FirstText};
-pub use reading::read_first;
-
-/// How deep a node of a behaviour may be; its root is at 1.
-pub const DEPTH_LIMIT: u16 = 500;
-
-/// How many brackets `(` `)` may be open at one place.
-pub const NESTING_LIMIT: usize = 500;
-
-#[cfg(test)]
-mod tests;
+pub use lotos_reading::ReadFault;
+pub use syntax_trees::{
+    BehForm, BehText, EqText, EqnsText, ExitText, GateText, GroupText, InnerText, ItemBody,
+    ItemText, Named, OfferText, OpText, PairText, ProcessText, Sign, SpecText, TestText, VarText,
+    group,
+};
+pub use text_reading::{read_order, read_spec, read_terms, read_types};
+pub use tree_discard::discard;

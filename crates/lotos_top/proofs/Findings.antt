@@ -9,9 +9,9 @@ use Rattle.behaviour_semantics.specs.Menu.{Exact, IsEntry}
 use Rattle.behaviour_semantics.proofs.MenuLemmas.{same_members}
 use Rattle.term_algebra.specs.Equation.{Data}
 use Rattle.lotos_base.specs.Limits.{text_limit}
-use Rattle.lotos_grammar.specs.FirstText.{Text}
-use Rattle.lotos_grammar.specs.Reading.{Reads}
-use Rattle.lotos_grammar.proofs.Readings.{one_reading}
+use Rattle.first_forms.specs.FirstText.{Text}
+use Rattle.first_forms.specs.Reading.{Reads}
+use Rattle.first_forms.proofs.Readings.{one_reading}
 use Rattle.lotos_top.specs.Resolution.{Resolved, resolved_of}
 use Rattle.lotos_top.specs.declared.running.Answer.{Answer}
 use Rattle.lotos_top.specs.Prepared.{Checks, ChecksParts, stands, breaks}

@@ -7,7 +7,7 @@ use Rattle.behaviour_semantics.specs.Behaviour.{Offer, give, ask, asked_variable
 use Rattle.lotos_top.specs.declared.scopes.Bound.{Bound}
 use Rattle.lotos_top.specs.declared.scopes.ActionOffers.{ActionOffers}
 use Rattle.lotos_top.specs.Numbering.{names_numbered}
-use Rattle.lotos_grammar.specs.FirstText as written
+use Rattle.first_forms.specs.FirstText as written
 use Rattle.lotos_top.specs.Resolution.{Scope, seen, are_new, all_folded, asked_names, offers_in, action_offers}
 use Rattle.lotos_top.specs.Scopes.{bound_as, offers_of, offers_with}
 use Rattle.lotos_top.specs.Resolving.{IsFrame, AddsGiven, AddsAsked}

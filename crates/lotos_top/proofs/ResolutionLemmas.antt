@@ -1,5 +1,5 @@
 use Rattle.std.proofs.Common.{◌≡◌, ℕ, Bool, true, false, cond, List, [], Option, Some, None, option_map, option_and_then}
-use Rattle.lotos_grammar.specs.FirstText as written
+use Rattle.first_forms.specs.FirstText as written
 use Rattle.term_algebra.specs.Signature.{Operation}
 use Rattle.behaviour_semantics.specs.Behaviour.{Behaviour}
 use Rattle.lotos_top.specs.Resolution.{Resolved, resolved_with, resolved_of, constants_in, behaviour_in, scope_of, is_distinct, all_folded}

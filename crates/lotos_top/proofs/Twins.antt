@@ -6,7 +6,7 @@ use Rattle.std.proofs.lemmas.Bool.{eq-eqb}
 use Rattle.std.specs.List.{list_any}
 use Rattle.std.specs.Str.{bytes_eq}
 use Rattle.lotos_base.specs.Name.{folded}
-use Rattle.lotos_grammar.specs.FirstText as written
+use Rattle.first_forms.specs.FirstText as written
 use Rattle.term_algebra.specs.Signature.{Operation}
 use Rattle.term_algebra.specs.Twins.{form_eq}
 use Rattle.behaviour_semantics.specs.Behaviour.{Behaviour}

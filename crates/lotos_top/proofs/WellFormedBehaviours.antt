@@ -1,7 +1,7 @@
 -- What a behaviour is resolved to is well formed over its scope.
 use Rattle.std.proofs.Common.{◌≡◌, ℕ, suc, ◌+◌, ◌<◌, ◌≤◌, List, [], ◌∷◌, ◌++◌, length, Option, Some, option_map, option_and_then, refl, ap, ◌∙◌, subst, arith}
 use Rattle.lotos_base.specs.Name.{folded}
-use Rattle.lotos_grammar.specs.FirstText as written
+use Rattle.first_forms.specs.FirstText as written
 use Rattle.term_algebra.specs.Signature.{Signature, IsSort}
 use Rattle.term_algebra.specs.Term.{Term}
 use Rattle.term_algebra.specs.Equation.{Variable}

@@ -3,7 +3,7 @@ use Rattle.std.specs.Prelude.{◌≡◌, ℕ, List, [], Option, Some, None}
 use Rattle.behaviour_semantics.specs.Rule.{as_given}
 use Rattle.behaviour_semantics.specs.Solving.{Entry}
 use Rattle.behaviour_semantics.specs.Menu.{Exact}
-use Rattle.lotos_grammar.specs.FirstText.{Text}
+use Rattle.first_forms.specs.FirstText.{Text}
 use Rattle.lotos_base.specs.Outside.{Texts}
 use Rattle.lotos_reading.specs.declared.fault.ReadFault.{ReadFault}
 use Rattle.lotos_top.specs.declared.running.Answer.{Answer}

@@ -4,8 +4,8 @@ use Rattle.report_text.specs.Texts.{head_text, menu_text}
 use Rattle.behaviour_semantics.specs.Rule.{as_given}
 use Rattle.behaviour_semantics.specs.Solving.{Entry}
 use Rattle.behaviour_semantics.specs.Menu.{Exact}
-use Rattle.lotos_grammar.specs.FirstText.{Text}
-use Rattle.lotos_grammar.specs.Reading.{Reads}
+use Rattle.first_forms.specs.FirstText.{Text}
+use Rattle.first_forms.specs.Reading.{Reads}
 use Rattle.lotos_reading.specs.declared.fault.ReadFault.{ReadFault}
 use Rattle.lotos_reading.specs.declared.fault.ReadFault.TheVariants as cause
 use Rattle.lotos_reading.specs.Reading.{IsSpecificationReading, IsSpecificationFault}

@@ -4,7 +4,7 @@ use Rattle.std.specs.Prelude.{ℕ, suc, ◌+◌, Bool, true, ◌&&◌, not, if�
 use Rattle.std.specs.Option.{option_or}
 use Rattle.std.specs.Str.{bytes_eq}
 use Rattle.lotos_base.specs.Name.{folded}
-use Rattle.lotos_grammar.specs.FirstText as written
+use Rattle.first_forms.specs.FirstText as written
 use Rattle.term_algebra.specs.Signature.{Operation}
 use Rattle.term_algebra.specs.Term.{Term, variable, node, no_terms}
 use Rattle.term_algebra.specs.Equation.{Data, Variable}

@@ -6,7 +6,7 @@ use Rattle.term_algebra.specs.Signature.{Operation}
 use Rattle.lotos_top.specs.declared.numbering.Numbering.{Numbering}
 use Rattle.lotos_top.specs.declared.resolved.Constant.{Constant}
 use Rattle.lotos_top.specs.declared.resolved.Specification.{Specification}
-use Rattle.lotos_grammar.specs.FirstText as written
+use Rattle.first_forms.specs.FirstText as written
 use Rattle.term_algebra.specs.Equation.{Variable}
 use Rattle.behaviour_semantics.specs.Behaviour as plain
 use Rattle.lotos_top.specs.declared.scopes.Bound.{Bound}

@@ -1,6 +1,6 @@
 -- What is in scope in the code, as plain values.
 use Rattle.std.specs.Prelude.{ℕ, ◌+◌, List, [], ◌∷◌, ◌++◌, map, length, if◌then◌else◌, slice_get, Option, None, option_map, option_and_then}
-use Rattle.lotos_grammar.specs.FirstText as written
+use Rattle.first_forms.specs.FirstText as written
 use Rattle.term_algebra.specs.Equation.{Variable}
 use Rattle.behaviour_semantics.specs.Behaviour as plain
 use Rattle.lotos_top.specs.declared.scopes.Bound.{Bound}

@@ -13,7 +13,7 @@ use crate::menus::Entry;
 use crate::resolved::Specification;
 use crate::texts::{push_number, push_place, push_text};
 use lotos_base::Place;
-use lotos_reading::ReadFault;
+use lotos_grammar::ReadFault;
 use std::alloc::{AllocError, Global};
 
 /// Where the text of a specification begins.

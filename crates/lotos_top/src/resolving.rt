@@ -2,7 +2,7 @@
 
 ghost use Rattle.std.specs.Prelude.{◌≡◌, ◌+◌, ◌++◌, None, Some, [], ◌∷◌, IfOk, OnOk, MatchResult, length, map};
 ghost use Rattle.lotos_base.specs.Name.{spelling, folded};
-ghost use Rattle.lotos_grammar.specs.FirstText as written;
+ghost use Rattle.first_forms.specs.FirstText as written;
 ghost use Rattle.behaviour_semantics.specs.Behaviour.{give};
 ghost use Rattle.lotos_top.specs.Numbering.{names_numbered};
 ghost use Rattle.lotos_top.specs.Resolved.{term_of, offer_of, behaviour_of};
@@ -13,8 +13,8 @@ ghost use Rattle.lotos_top.specs.Resolving.{IsUnresolved, Continues, Breaks, IsF
 use crate::numbering::Numbering;
 use crate::resolved::{Behaviour, Offer, Value};
 use crate::scopes::{ActionOffers, Bound, Scope, Visible, find_value, to_number};
+use first_forms::{FirstBeh, FirstOffer};
 use lotos_base::Name;
-use lotos_grammar::{FirstBeh, FirstOffer};
 use std::alloc::{AllocError, Global};
 
 /// Why names were not resolved.

@@ -2,7 +2,7 @@
 
 ghost use Rattle.std.specs.Prelude.{◌≡◌, ◌≢◌, None, Some, [], IfOk, MatchResult};
 ghost use Rattle.lotos_base.specs.Counts.{next_count};
-ghost use Rattle.lotos_grammar.specs.FirstText.{text_of};
+ghost use Rattle.first_forms.specs.FirstText.{text_of};
 ghost use Rattle.lotos_reading.specs.Reading.{IsSpecificationFault};
 ghost use Rattle.lotos_reading.specs.declared.fault.ReadFault.TheVariants.{NoMemory as out_of_memory};
 ghost use Rattle.lotos_top.specs.Words.{check, words_of, command_line};
@@ -18,13 +18,11 @@ use crate::reports::{
 };
 use crate::resolving::Unresolved;
 use crate::specification::resolve;
+use first_forms::{FirstFault, FirstText, read_first};
 use line_server::write_whole;
 use lotos_base::{Failed, GetFault, Shelf, Sink, Source, TEXT_LIMIT};
-use lotos_grammar::{FirstFault, FirstText, read_first};
-use lotos_reading::ReadFault;
+use lotos_grammar::{ReadFault, discard, read_spec};
 use std::alloc::{AllocError, Global};
-use text_reading::read_spec;
-use tree_discard::discard;
 
 /// Does what the words ask for: gets the files from the shelf and writes the report to the output.
 ///

@@ -2,7 +2,7 @@
 
 ghost use Rattle.std.specs.Prelude.{◌≡◌, ◌++◌, [], ◌∷◌, Some, IfOk, OnOk, MatchResult, map};
 ghost use Rattle.lotos_base.specs.Name.{spelling};
-ghost use Rattle.lotos_grammar.specs.FirstText.{text_of};
+ghost use Rattle.first_forms.specs.FirstText.{text_of};
 ghost use Rattle.lotos_top.specs.Numbering.{names_numbered};
 ghost use Rattle.lotos_top.specs.Resolved.{behaviour_of};
 ghost use Rattle.lotos_top.specs.Resolution.{resolved_of, resolved_with, constants_in};
@@ -12,8 +12,8 @@ use crate::numbering::Numbering;
 use crate::resolved::{Behaviour, Constant, Specification};
 use crate::resolving::{Unresolved, resolve_behaviour};
 use crate::scopes::{Scope, Visible, to_number};
+use first_forms::FirstText;
 use lotos_base::Name;
-use lotos_grammar::FirstText;
 use std::alloc::{AllocError, Global};
 
 /// Resolves the names of a specification.

@@ -1,33 +1,32 @@
 -- The critical pair of two rules at a path.
-use Rattle.std.proofs.Common.{◌≡◌, ℕ, zero, suc, List, [], ◌∷◌, Bool, true, false, refl, ap, sym, ◌∙◌, subst, inl, inr}
-use Rattle.std.specs.Prelude.{◌⊎◌, Some, None, Option}
+use Rattle.std.proofs.Common.{◌≡◌, ℕ, List, [], Bool, true, false, refl, ap, sym, ◌∙◌, subst, inl, inr}
+use Rattle.std.specs.Prelude.{◌⊎◌, Some}
 use Rattle.std.specs.Option.{option_map}
 use Rattle.term_algebra.specs.Signature.{Signature}
 use Rattle.term_algebra.specs.Term.{Term}
 use Rattle.term_algebra.specs.Sorting.{Occurs}
-use Rattle.term_algebra.specs.Path.{subterm, put_at}
-use Rattle.term_algebra.specs.Substitution.{Substitution, substituted, renaming, binding}
+use Rattle.term_algebra.specs.Path.{put_at}
+use Rattle.term_algebra.specs.Substitution.{substituted, renaming, binding}
 use Rattle.term_algebra.proofs.SubstitutionLemmas.{substituted_occurs}
 use Rattle.rewriting_theory.specs.Rule.{Rule, IsRuleAt, IsNode}
-use Rattle.rewriting_theory.specs.Unification.{IsMostGeneral, OccursInEither, AreApart, KeepsTo}
+use Rattle.rewriting_theory.specs.Unification.{IsMostGeneral, OccursInEither}
 use Rattle.rewriting_theory.specs.CriticalPair.{CriticalPair, IsCriticalPair}
-use Rattle.rewriting_theory.specs.Places.{IsPairOf}
 use Rattle.rewriting_theory.specs.Numbering.{IsNumbered}
 use Rattle.rewriting_theory.proofs.UnifyLemmas.{general_elsewhere}
 use Rattle.rewriting_theory.proofs.RenumberLemmas.{renamed_critical}
-use Rattle.sort_terms.specs.ProfiledTerm.{ProfiledTerm, profiled_variable, bare, IsOf}
+use Rattle.sort_terms.specs.ProfiledTerm.{ProfiledTerm, bare, IsOf}
 use Rattle.term_match.specs.Matched.{HasOneSortPerNumber, IsPair}
 use Rattle.term_match.specs.ProfiledInstance.{profiled_instance, profiled_binding, bare_pairs}
 use Rattle.term_match.specs.ProfiledPath.{profiled_put_at}
 use Rattle.term_match.proofs.PathLemmas.{put_bare, put_of, subterm_of}
-use Rattle.term_match.proofs.InstanceLemmas.{instance_by_pairs, binding_bare}
+use Rattle.term_match.proofs.InstanceLemmas.{instance_by_pairs}
 use Rattle.term_numbers.specs.Renumbering.{profiled_renaming}
 use Rattle.term_numbers.proofs.NumberLemmas.{renumbered_plain}
 use Rattle.term_unify.specs.Disagreement.{has_number}
-use Rattle.term_unify.specs.Unified.{HaveOneSortPerNumber, IsUnifiedBy}
+use Rattle.term_unify.specs.Unified.{IsUnifiedBy}
 use Rattle.term_unify.proofs.AgreeLemmas.{has_number_true, has_number_occurs}
 use Rattle.term_unify.proofs.StateLemmas.{Pairs, pairs_instance_of}
-use Rattle.overlap_pairs.specs.TwoSides.{RuleSides, bare_rule, PairTerms, pair_with, IsRuleOver}
+use Rattle.overlap_pairs.specs.TwoSides.{RuleSides, bare_rule, PairTerms, pair_with}
 use Rattle.overlap_pairs.specs.OverlapPair.{IsOverlapPair, ArePairTermsOf}
 use Rattle.overlap_pairs.specs.Contracted.{IsNumberedBy}
 use Rattle.overlap_pairs.proofs.PlaceLemmas.{moved, IsPlace, moved_occurs, part_bare, part_occurs, one_sort_both, wider, moved_of}
@@ -60,7 +59,8 @@ elsewhere {first = first} {second = second} {part = part} {number = number} is n
     go false test = inr (λ q p. nowhere q p)
       where
         nowhere : (q : ℕ) → OccursInEither (bare part) (bare (moved number second.left)) n q → ⊥
-        nowhere q (inl p) = let yes : has_number n part ≡ true = has_number_true n q part p in let clash : true ≡ false = sym yes ∙ test in cc
+        nowhere q (inl p) = let yes : has_number n part ≡ true = has_number_true n q part p in let clash : true ≡ false = sym yes
+            ∙ test in cc
         nowhere q (inr p) =
             let from = moved_occurs number second.left n q p in
             is.clear.clear from.before q r from.occurs (subst (λ (k : ℕ). Occurs k r (bare first.left)) (sym from.is_number) o)
@@ -105,9 +105,11 @@ contracted_critical {first = first} {second = second} {path = path} {part = part
       is_peak = sym (ap bare made.peak ∙ instance_by_pairs pairs first.left);
       is_left = sym (ap bare made.left ∙ instance_by_pairs pairs first.right);
       is_right =
-          ap (λ (w : Term). put_at path (substituted (binding (bare_pairs pairs)) w) (bare terms.peak)) (sym (renumbered_plain number second.right))
+          ap (λ (w : Term). put_at path (substituted (binding (bare_pairs pairs)) w) (bare terms.peak))
+          (sym (renumbered_plain number second.right))
           ∙ ap (λ (w : Term). put_at path w (bare terms.peak)) (sym (instance_by_pairs pairs (moved number second.right)))
-          ∙ ap (λ (w : ProfiledTerm). put_at path (bare (profiled_instance (profiled_binding pairs) (moved number second.right))) (bare w)) made.peak
+          ∙ ap (λ (w : ProfiledTerm). put_at path (bare (profiled_instance (profiled_binding pairs) (moved number second.right)))
+          (bare w)) made.peak
           ∙ sym (put_bare path (profiled_instance (profiled_binding pairs) (moved number second.right))
           (profiled_instance (profiled_binding pairs) first.left))
           ∙ ap (option_map bare) made.right;
@@ -172,7 +174,8 @@ pub pair_of_signature : (signature : Signature) {first second : RuleSides} {path
     → IsPlace signature first second path part number → (pairs : Pairs)
     → IsUnifiedBy part (moved number second.left) pairs → (before after : PairTerms) → IsContracted first second path number pairs before
     → IsNumberedBy before after → ArePairTermsOf signature after
-pair_of_signature signature {first = first} {second = second} {path = path} {part = part} {number = number} is pairs unified before after made
+pair_of_signature signature {first = first} {second = second} {path = path} {part = part} {number = number} is pairs unified before after
+    made
     numbered = record {
       peak = renumbered_of before.peak after.peak numbered.peak (subst (λ (w : ProfiledTerm). IsOf signature w) (sym made.peak) peak);
       left = renumbered_of before.left after.left numbered.left

@@ -1,24 +1,22 @@
 -- Two rules over one signature, and the second one moved apart from the first one.
-use Rattle.std.proofs.Common.{◌≡◌, ℕ, zero, suc, List, [], ◌∷◌, Bool, true, false, nat_eq, refl, ap, sym, ◌∙◌, subst, inl, inr}
+use Rattle.std.proofs.Common.{◌≡◌, ℕ, zero, suc, List, [], ◌∷◌, refl, ap, sym, ◌∙◌, subst, inl, inr}
 use Rattle.std.specs.Prelude.{◌⊎◌, Some, None, Option, slice_get}
 use Rattle.std.specs.Option.{option_map, option_and_then}
 use Rattle.std.proofs.lemmas.Option.{same_Some}
 use Rattle.term_algebra.specs.Signature.{Signature, Operation}
-use Rattle.term_algebra.specs.Term.{Term, variable, node, Terms}
+use Rattle.term_algebra.specs.Term.{Term}
 use Rattle.term_algebra.specs.Sorting.{Occurs}
-use Rattle.term_algebra.specs.Path.{subterm, put_at}
-use Rattle.term_algebra.specs.Substitution.{Substitution, substituted, all_substituted, renaming, binding}
-use Rattle.term_algebra.specs.Canon.{KeepsApart}
+use Rattle.term_algebra.specs.Path.{subterm}
+use Rattle.term_algebra.specs.Substitution.{Substitution, substituted, renaming}
 use Rattle.term_algebra.proofs.PathLemmas.{put_at_possible}
 use Rattle.term_algebra.proofs.SubstitutionLemmas.{substituted_occurs, occurs_substituted}
 use Rattle.rewriting_theory.specs.Rule.{Rule, IsRuleAt, IsNode}
-use Rattle.rewriting_theory.specs.Unification.{IsUnifier, IsMostGeneral, OccursInEither, AreApart, KeepsTo}
-use Rattle.rewriting_theory.specs.CriticalPair.{OverlapPlace, Overlaps}
+use Rattle.rewriting_theory.specs.Unification.{IsUnifier, OccursInEither, AreApart}
 use Rattle.rewriting_theory.specs.Places.{IsApartAt}
 use Rattle.rewriting_theory.proofs.OverlapLemmas.{subterm_occurs, combined, combination_unifies}
-use Rattle.sort_terms.specs.ProfiledTerm.{ProfiledTerm, ProfiledTerms, profiled_variable, profiled_node, no_profiled_terms, profiled_term_then, bare, all_bare, head_sort, FitsProfiles, IsOf}
-use Rattle.term_match.specs.Matched.{HasOneSortPerNumber, IsPair}
-use Rattle.term_match.specs.ProfiledInstance.{ProfiledSubstitution, profiled_instance, profiled_instances, profiled_binding, bare_pairs}
+use Rattle.sort_terms.specs.ProfiledTerm.{ProfiledTerm, ProfiledTerms, profiled_variable, profiled_node, no_profiled_terms, profiled_term_then, bare, head_sort, IsOf}
+use Rattle.term_match.specs.Matched.{IsPair}
+use Rattle.term_match.specs.ProfiledInstance.{ProfiledSubstitution, profiled_instance, profiled_instances, profiled_binding}
 use Rattle.term_match.specs.ProfiledPath.{profiled_subterm, profiled_argument_at, profiled_put_at, replaced}
 use Rattle.term_match.proofs.PathLemmas.{subterm_bare, subterm_of, put_bare, replaced_at}
 use Rattle.term_match.proofs.InstanceLemmas.{instance_of}

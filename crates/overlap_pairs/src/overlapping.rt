@@ -30,9 +30,11 @@ pub fn overlap(
     ensures none { IfOk result (λ o. IfNone o
         (HaveNoOverlap (borrowed_sides first.now) (borrowed_sides second.now) path.now)) }
     ensures some { IfOk result (λ o. IfSome o (λ pair.
-        IsOverlapPair (borrowed_sides first.now) (borrowed_sides second.now) path.now (overlap_of pair))) }
+        IsOverlapPair (borrowed_sides first.now) (borrowed_sides second.now) path.now
+        (overlap_of pair))) }
     ensures is_of { IfOk result (λ o. IfSome o (λ pair. (signature : Signature)
-        → IsOverOverlap signature (borrowed_sides first.now) (borrowed_sides second.now) (overlap_of pair))) }
+        → IsOverOverlap signature (borrowed_sides first.now) (borrowed_sides second.now)
+        (overlap_of pair))) }
 {
     let Some(part) = subterm(first.left, path)? else {
         return Ok(None);

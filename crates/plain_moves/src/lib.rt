@@ -9,5 +9,3 @@ pub mod meeting;
 pub mod relabelling;
 pub mod rule;
 pub mod shape;
-#[cfg(test)]
-mod tests;

@@ -6,10 +6,10 @@ ghost use Rattle.behaviour_semantics.specs.Rule as rules_of;
 ghost use Rattle.term_algebra.specs.Signature.{Signature};
 ghost use Rattle.plain_moves.specs.Taken.{taken_of};
 ghost use Rattle.plain_moves.specs.MoveView.{shaped_of};
-ghost use Rattle.plain_moves.specs.View.{without_values, label_of, meet_of, shape_of};
+ghost use Rattle.plain_moves.specs.View.{without_values, label_of, shape_of};
 ghost use Rattle.behaviour_semantics.specs.Behaviour as plain;
 
-use crate::behaviour::{PlainBehaviour, PlainMeet, boxed};
+use crate::behaviour::{PlainBehaviour, PlainMeet, boxed, parallel};
 use crate::label::PlainLabel;
 use crate::meeting::{hidden_label, is_exit, move_together, moves_alone};
 use crate::relabelling::{label_under, under};
@@ -144,20 +144,6 @@ impl<'a> Rule<'a> {
             Rule::Called(pairs) | Rule::Relabelled(pairs) => under(alloc, target, pairs),
         }
     }
-}
-
-// The two sides in parallel.
-fn parallel(
-    alloc: Global,
-    meet: &PlainMeet,
-    left: PlainBehaviour,
-    right: PlainBehaviour,
-) -> Result<PlainBehaviour, AllocError>
-    ensures { IfOk result (λ b. without_values b
-        ≡ plain.parallel (meet_of meet.now) (without_values left) (without_values right)) }
-{
-    let meet = meet.copy(alloc)?;
-    Ok(PlainBehaviour::Parallel(meet, boxed(alloc, left)?, boxed(alloc, right)?))
 }
 
 // The target of a left side of `>>` that moves with the label.

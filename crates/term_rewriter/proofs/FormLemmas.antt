@@ -1,5 +1,5 @@
 -- Chosen forms of instances: a variable, the arguments one by one, and what the first rule makes.
-use Rattle.std.proofs.Common.{◌≡◌, ℕ, zero, suc, ◌+◌, ◌<◌, List, [], ◌∷◌, ◌++◌, length, get_or, take, Bool, true, false, nat_eq, refl, ap, sym, ◌∙◌, subst, inl, inr, arith, Bor}
+use Rattle.std.proofs.Common.{◌≡◌, ℕ, zero, suc, ◌+◌, ◌<◌, List, [], ◌∷◌, ◌++◌, length, get_or, take, Bool, true, false, nat_eq, refl, ap, sym, ◌∙◌, subst, inl, inr, arith}
 use Rattle.std.specs.Prelude.{Some, None, slice_get, if◌then◌else◌}
 use Rattle.std.proofs.lemmas.List.{take_more}
 use Rattle.std.proofs.lemmas.Option.{same_Some, slice_get_within}
@@ -11,8 +11,8 @@ use Rattle.term_algebra.specs.Sorting.{Occurs, OccursAmong, HasSort}
 use Rattle.term_algebra.specs.Substitution.{binding}
 use Rattle.rewriting_theory.specs.Rule.{Rule as PlainRule, IsNode}
 use Rattle.rewriting_theory.specs.Step.{in_arguments, StepAmong, here, there}
-use Rattle.rewriting_theory.specs.Matching.{Matches, NoMatch, FirstStep}
-use Rattle.rewriting_theory.specs.ChosenForm.{Chosen, chosen_done, chosen_next, AllChosen, all_chosen, chosen_then}
+use Rattle.rewriting_theory.specs.Matching.{Matches, FirstStep}
+use Rattle.rewriting_theory.specs.ChosenForm.{Chosen, AllChosen, all_chosen, chosen_then}
 use Rattle.rewriting_theory.specs.Measure.{choice_cost}
 use Rattle.rewriting_theory.proofs.ChosenLemmas.{variable_stuck, chosen_reached}
 use Rattle.rewriting_theory.proofs.CostLemmas.{costs_are_measures}
@@ -25,7 +25,6 @@ use Rattle.sort_terms.specs.declared.terms.Term.{Term}
 use Rattle.sort_terms.specs.declared.sorted.Sorted.{Sorted}
 use Rattle.sort_terms.proofs.ProfiledTermLemmas.{fitting_has_sort, sorted_fits}
 use Rattle.sort_terms.proofs.TermListLemmas.{with_last_profiled, all_profiled-append}
-use Rattle.term_match.specs.FoundView.{found_pairs}
 use Rattle.term_match.specs.Matched.{IsPair}
 use Rattle.term_match.specs.ProfiledInstance.{ProfiledSubstitution, profiled_instance, profiled_instances, profiled_binding, bare_pairs}
 use Rattle.term_match.specs.Search.{searched, all_searched}
@@ -36,7 +35,7 @@ use Rattle.path_order.specs.RulesView.{plain_rules_in, signature_in}
 use Rattle.path_order.specs.declared.rule.Rule.{Rule}
 use Rattle.path_order.specs.declared.rules.Rules.{Rules}
 use Rattle.path_order.proofs.RulesLemmas.{rules_well_formed, rules_end, rules_have_forms, rules_data, rules_sorted}
-use Rattle.term_rewriter.specs.FirstMatch.{NoneMatches, IsFirstMatch}
+use Rattle.term_rewriter.specs.FirstMatch.{IsFirstMatch}
 use Rattle.term_rewriter.specs.Form.{IsNormalOf, AreNormalFor, by_pairs, IsFormOf}
 use Rattle.term_rewriter.proofs.FirstLemmas.{plain_at, code_at, rule_over}
 
@@ -152,29 +151,9 @@ argument_cost rules pairs f operation xs i x within is =
     (bare (by_pairs pairs (profiled_of x)))
     (argument_instance (profiled_binding pairs) xs i x within is)
 
--- ---- no rule matches
-
-pub done_form : (rules : Rules) (pairs : Pairs) (f : ℕ) (operation : Operation) (ts us : ProfiledTerms)
-    → IsOf (signature_in rules) (profiled_node f operation ts) → AreForms rules pairs ts us
-    → NoneMatches rules.rules.items (profiled_node f operation us)
-    → IsFormOf (signature_in rules) (plain_rules_in rules) (by_pairs pairs (profiled_node f operation ts)) (profiled_node f operation us)
-done_form rules pairs f operation ts us h forms none = record {
-  chosen = chosen_done forms.chosen no_match;
-  is_of = (h.0, all_are_of us forms.normal);
-}
-  where
-    no_match : NoMatch (plain_rules_in rules) (node f (all_bare us))
-    no_match rule is =
-        let from = code_at rules.rules.items is.0 rule is.1 in
-        subst (λ (r : PlainRule). ¬ Matches r.left (node f (all_bare us))) from.2 (none is.0 from.0 from.1)
-
-    all_are_of : (vs : ProfiledTerms) → All (IsNormalOf (signature_in rules) (plain_rules_in rules)) vs → AreOf (signature_in rules) vs
-    all_are_of no_profiled_terms all = tt
-    all_are_of (profiled_term_then v vs) all = (all.0.is_of, all_are_of vs all.1)
-
 -- ---- the first rule that matches
 
-first_step : (rules : Rules) (t : ProfiledTerm) (number : ℕ) (pairs : Pairs) (m : IsFirstMatch rules.rules.items number t pairs)
+pub first_step : (rules : Rules) (t : ProfiledTerm) (number : ℕ) (pairs : Pairs) (m : IsFirstMatch rules.rules.items number t pairs)
     → FirstStep (plain_rules_in rules) (bare t) (bare (by_pairs pairs (profiled_in m.rule.right)))
 first_step rules t number pairs m = record {
   number = number;
@@ -189,24 +168,6 @@ first_step rules t number pairs m = record {
       let from = code_at rules.rules.items k earlier at in
       subst (λ (r : PlainRule). ¬ Matches r.left (bare t)) from.2 (m.none_before k from.0 before from.1);
 }
-
-pub next_form : (rules : Rules) (pairs found : Pairs) (f : ℕ) (operation : Operation) (ts us : ProfiledTerms) (number : ℕ)
-    (made : ProfiledTerm) → AreForms rules pairs ts us
-    → (m : IsFirstMatch rules.rules.items number (profiled_node f operation us) found)
-    → IsFormOf (signature_in rules) (plain_rules_in rules) (by_pairs found (profiled_in m.rule.right)) made
-    → IsFormOf (signature_in rules) (plain_rules_in rules) (by_pairs pairs (profiled_node f operation ts)) made
-next_form rules pairs found f operation ts us number made forms m h = record {
-  chosen = chosen_next forms.chosen (first_step rules (profiled_node f operation us) number found m) h.chosen;
-  is_of = h.is_of;
-}
-
-pub next_cost : (rules : Rules) (pairs found : Pairs) (f : ℕ) (operation : Operation) (ts us : ProfiledTerms) (number : ℕ)
-    → AreForms rules pairs ts us → (m : IsFirstMatch rules.rules.items number (profiled_node f operation us) found)
-    → form_cost rules found (profiled_in m.rule.right) < form_cost rules pairs (profiled_node f operation ts)
-next_cost rules pairs found f operation ts us number forms m =
-    (costs_are_measures (plain_rules_in rules) (rules_have_forms rules) (rules_well_formed rules)).next f
-    (all_bare (profiled_instances (profiled_binding pairs) ts)) (all_bare us) (bare (by_pairs found (profiled_in m.rule.right)))
-    forms.chosen (first_step rules (profiled_node f operation us) number found m)
 
 -- what is found in irreducible arguments is irreducible
 kept : (P : ProfiledTerm → Type 0) → IsInherited P → (l : ProfiledTerm) → IsNode (bare l) → (f : ℕ) (operation : Operation)
@@ -275,53 +236,6 @@ argument_falls rules t pairs f operation xs i x shape within is =
 pub forms_whole : (rules : Rules) (pairs : Pairs) (xs : List Term) (n : ℕ) (made : ProfiledTerms) → take n xs ≡ xs
     → AreForms rules pairs (all_profiled (take n xs)) made → AreForms rules pairs (all_profiled xs) made
 forms_whole rules pairs xs n made all h = subst (λ (ys : List Term). AreForms rules pairs (all_profiled ys) made) all h
-
-pub none_form : (rules : Rules) (pairs : Pairs) (t whole : ProfiledTerm) (f : ℕ) (operation : Operation) (ts us : ProfiledTerms)
-    → t ≡ profiled_node f operation ts → whole ≡ profiled_node f operation us → IsOf (signature_in rules) t
-    → AreForms rules pairs ts us → NoneMatches rules.rules.items whole
-    → IsFormOf (signature_in rules) (plain_rules_in rules) (by_pairs pairs t) whole
-none_form rules pairs t whole f operation ts us t_is whole_is h forms none =
-    subst (λ (u : ProfiledTerm). IsFormOf (signature_in rules) (plain_rules_in rules) (by_pairs pairs u) whole) (sym t_is)
-    (subst (λ (u : ProfiledTerm). IsFormOf (signature_in rules) (plain_rules_in rules) (by_pairs pairs (profiled_node f operation ts)) u)
-    (sym whole_is)
-    (done_form rules pairs f operation ts us (subst (λ (u : ProfiledTerm). IsOf (signature_in rules) u) t_is h) forms
-    (subst (λ (u : ProfiledTerm). NoneMatches rules.rules.items u) whole_is none)))
-
--- What the call for the right side of the first rule that matches asks and gives.
-pub record NextCall (rules : Rules) (pairs found : List (ℕ × ProfiledTerm)) (t right : ProfiledTerm) : Type 0 where
-  pub falls : form_cost rules found right < form_cost rules pairs t
-  pub term : IsOf (signature_in rules) right
-  pub values : AreNormalFor (signature_in rules) (plain_rules_in rules) right found
-  pub made : (form : ProfiledTerm) → IsFormOf (signature_in rules) (plain_rules_in rules) (by_pairs found right) form
-      → IsFormOf (signature_in rules) (plain_rules_in rules) (by_pairs pairs t) form
-
-pub next_call : (rules : Rules) (pairs found : Pairs) (t whole : ProfiledTerm) (f : ℕ) (operation : Operation) (ts us : ProfiledTerms)
-    (number : ℕ) (rule : Rule) → t ≡ profiled_node f operation ts → whole ≡ profiled_node f operation us → AreForms rules pairs ts us
-    → IsFirstMatch rules.rules.items number whole found → slice_get rules.rules.items number ≡ Some rule
-    → NextCall rules pairs found t (profiled_in rule.right)
-next_call rules pairs found t whole f operation ts us number rule t_is whole_is forms m is =
-    let first = subst (λ (u : ProfiledTerm). IsFirstMatch rules.rules.items number u found) whole_is m in
-    let same : first.rule ≡ rule = same_Some first.rule rule (sym first.is_at ∙ is) in
-    subst (λ (r : Rule). NextCall rules pairs found t (profiled_in r.right)) same
-    (subst (λ (u : ProfiledTerm). NextCall rules pairs found u (profiled_in first.rule.right)) (sym t_is)
-    (record {
-      falls = next_cost rules pairs found f operation ts us number forms first;
-      term = right_is_of rules number first.rule first.is_at;
-      values = next_normal rules found f operation us number forms.normal first;
-      made = λ form h. next_form rules pairs found f operation ts us number form forms first h;
-    }))
-
--- the same of the term and the pairs that the code hands on
-pub next_at : (rules : Rules) (pairs : Pairs) (found values : List (ℕ × Bor Term)) (t : ProfiledTerm) (rule : Rule) (right : Term)
-    → values ≡ found → right ≡ rule.right.term → NextCall rules pairs (found_pairs found) t (profiled_in rule.right)
-    → NextCall rules pairs (found_pairs values) t (profiled_of right)
-next_at rules pairs found values t rule right values_are right_is next =
-    subst (λ (ps : List (ℕ × Bor Term)). NextCall rules pairs (found_pairs ps) t (profiled_of right)) (sym values_are)
-    (subst (λ (u : Term). NextCall rules pairs (found_pairs found) t (profiled_of u)) (sym right_is) next)
-
--- less than a measure
-pub under : (n m t : ℕ) → n < m → m ≡ t → n < t
-under n m t less same = subst (λ (k : ℕ). n < k) same less
 
 pub variable_form : (rules : Rules) (t made : ProfiledTerm) (pairs : Pairs) (n s : ℕ) → t ≡ profiled_variable n s
     → AreNormalFor (signature_in rules) (plain_rules_in rules) t pairs → made ≡ profiled_binding pairs n s

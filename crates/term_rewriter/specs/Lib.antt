@@ -1,3 +1,4 @@
 pub mod FirstMatch
 pub mod Form
+pub mod Begun
 pub mod OrientedForm

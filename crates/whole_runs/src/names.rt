@@ -1,6 +1,6 @@
 //! What a name behind `!` stands for, where it stands behind another action.
 
-use lotos_grammar::read_first;
+use first_forms::read_first;
 use lotos_top::resolved::{Behaviour, Offer, Value};
 use lotos_top::specification::resolve;
 use std::alloc::Global;

@@ -1,4 +1,4 @@
-use Rattle.std.proofs.Common.{◌≡◌, List, sym, ◌∙◌, ap, subst}
+use Rattle.std.proofs.Common.{List, sym, ◌∙◌, ap, subst}
 use Rattle.std.specs.Prelude.{Option, IfNone, IfSome, slice_get}
 use Rattle.path_order.specs.RulesView.{plain_rules_in}
 use Rattle.critical_pairs.specs.Joining.{NoneUnjoinedAmong, AnswersFirst}
@@ -27,5 +27,6 @@ pub returns-in-Some-clause-unjoined : goal.returns-in-Some-clause-unjoined
 returns-in-Some-clause-unjoined c =
     unjoined_rules c.args.rules c.in_ok-found.found.items c.in-Some.unjoined c.in_ok-found.ensures.listed
     (subst (λ (xs : List Pair). AnswersFirst (plain_rules_in c.args.rules) (pairs_in xs) c.in-Some.unjoined) c.as_slice.ensures.value
-    (subst (λ (o : Option Unjoined). IfSome o (λ answer. AnswersFirst (plain_rules_in c.args.rules) (pairs_in c.as_slice.result.now) answer))
+    (subst (λ (o : Option Unjoined). IfSome o (λ answer. AnswersFirst (plain_rules_in c.args.rules) (pairs_in c.as_slice.result.now)
+    answer))
     c.in-Some.is c.in_ok-first_unjoined.ensures.some))

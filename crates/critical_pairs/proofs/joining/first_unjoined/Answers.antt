@@ -1,9 +1,9 @@
-use Rattle.std.proofs.Common.{◌≡◌, ◌<◌, ℕ, [], ◌∷◌, sym, ◌∙◌, subst, arith, below_more}
-use Rattle.std.specs.Prelude.{Option, Some, IfNone, IfSome, slice_get}
+use Rattle.std.proofs.Common.{◌<◌, [], ◌∷◌, sym, ◌∙◌, subst, arith, below_more}
+use Rattle.std.specs.Prelude.{Option, IfNone, IfSome}
 use Rattle.std.proofs.lemmas.Option.{same_Some}
 use Rattle.path_order.specs.RulesView.{plain_rules_in}
 use Rattle.critical_pairs.specs.Joining.{NoneUnjoinedAmong, AnswersPair}
-use Rattle.critical_pairs.specs.PairView.{pair_of, pairs_in}
+use Rattle.critical_pairs.specs.PairView.{pair_of}
 use Rattle.critical_pairs.specs.declared.joining.Unjoined.{Unjoined}
 use Rattle.critical_pairs.proofs.JoiningLemmas.{pair_listed, item_there, listed_within, alone}
 use Rattle.critical_pairs.proofs.joining.first_unjoined.Goals as goal
@@ -19,7 +19,8 @@ returns-in-Some-clause-some c = record {
   pair = pair_of c.pair-item.result;
   is_pair = pair_listed c.args.pairs.now c.loop-pair.pair-index c.pair-item.result
       (item_there c.args.pairs.now c.loop-pair.pair-index c.pair-item.result c.loop-pair-test.true c.pair-item.is);
-  answers = subst (λ (o : Option Unjoined). IfSome o (λ answer. AnswersPair (plain_rules_in c.args.rules.now) (pair_of c.pair-item.result) answer))
+  answers = subst (λ (o : Option Unjoined). IfSome o
+      (λ answer. AnswersPair (plain_rules_in c.args.rules.now) (pair_of c.pair-item.result) answer))
       c.in-Some.is c.in_ok-unjoined.ensures.some;
   none_before = λ k earlier t u less is. c.loop-pair.invariant k less earlier t u is;
 }

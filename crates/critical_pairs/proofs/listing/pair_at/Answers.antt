@@ -1,7 +1,7 @@
-use Rattle.std.proofs.Common.{◌≡◌, ℕ, List, ap, sym, ◌∙◌, subst, refl}
-use Rattle.std.specs.Prelude.{Option, Some, None, IfSome, IfNone}
+use Rattle.std.proofs.Common.{ℕ, List, ◌∙◌, subst, refl}
+use Rattle.std.specs.Prelude.{Option, IfSome, IfNone}
 use Rattle.term_algebra.specs.Signature.{Signature}
-use Rattle.overlap_pairs.specs.TwoSides.{RuleSides, PairTerms}
+use Rattle.overlap_pairs.specs.TwoSides.{RuleSides}
 use Rattle.overlap_pairs.specs.OverlapPair.{HaveNoOverlap, IsOverlapPair, IsOverOverlap}
 use Rattle.overlap_pairs.specs.SidesView.{borrowed_sides, overlap_of}
 use Rattle.overlap_pairs.specs.declared.sides.Overlap.{Overlap}
@@ -19,19 +19,23 @@ returns-in-None-clause-none c =
 pub returns-in_ok-from_slice-in-Some-clause-some : goal.returns-in_ok-from_slice-in-Some-clause-some
 returns-in_ok-from_slice-in-Some-clause-some c = record {
   terms =
-      subst (λ (path : List ℕ). IsOverlapPair (rule_sides c.args.first.now) (rule_sides c.args.second.now) path (overlap_of c.in-Some.terms))
+      subst (λ (path : List ℕ). IsOverlapPair (rule_sides c.args.first.now) (rule_sides c.args.second.now) path
+      (overlap_of c.in-Some.terms))
       c.as_slice.ensures.value
       (subst (λ (sides : RuleSides). IsOverlapPair sides (rule_sides c.args.second.now) c.as_slice.result.now (overlap_of c.in-Some.terms))
       c.sides-one.ensures
-      (subst (λ (sides : RuleSides). IsOverlapPair (borrowed_sides c.sides-one.result) sides c.as_slice.result.now (overlap_of c.in-Some.terms))
+      (subst (λ (sides : RuleSides). IsOverlapPair (borrowed_sides c.sides-one.result) sides c.as_slice.result.now
+      (overlap_of c.in-Some.terms))
       c.sides-two.ensures
-      (subst (λ (o : Option Overlap). IfSome o (λ pair. IsOverlapPair (borrowed_sides c.sides-one.result) (borrowed_sides c.sides-two.result)
+      (subst (λ (o : Option Overlap). IfSome o (λ pair. IsOverlapPair (borrowed_sides c.sides-one.result)
+      (borrowed_sides c.sides-two.result)
       c.as_slice.result.now (overlap_of pair))) c.in-Some.is c.in_ok-overlap.ensures.some)));
   first_number = refl;
   second_number = refl;
   is_path = c.in_ok-from_slice-in-Some.ensures.items ∙ c.as_slice-in-Some.ensures.value;
   over = λ signature.
-      subst (λ (sides : RuleSides). IsOverOverlap signature sides (rule_sides c.args.second.now) (overlap_of c.in-Some.terms)) c.sides-one.ensures
+      subst (λ (sides : RuleSides). IsOverOverlap signature sides (rule_sides c.args.second.now) (overlap_of c.in-Some.terms))
+      c.sides-one.ensures
       (subst (λ (sides : RuleSides). IsOverOverlap signature (borrowed_sides c.sides-one.result) sides (overlap_of c.in-Some.terms))
       c.sides-two.ensures
       (subst (λ (o : Option Overlap). IfSome o (λ pair. (s : Signature) → IsOverOverlap s (borrowed_sides c.sides-one.result)

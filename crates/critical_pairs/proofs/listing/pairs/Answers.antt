@@ -3,7 +3,6 @@ use Rattle.rewriting_theory.specs.Places.{places_from, places_with}
 use Rattle.path_order.specs.RulesView.{plain_rules_in, signature_in}
 use Rattle.critical_pairs.specs.Extended.{AddsPairsOf}
 use Rattle.critical_pairs.specs.declared.pair.Pair.{Pair}
-use Rattle.path_order.specs.declared.rule.Rule.{Rule}
 use Rattle.critical_pairs.proofs.ExtendLemmas.{extended_nothing, extended_then, extended_along, extended_all, places_from_more, nothing_over}
 use Rattle.critical_pairs.proofs.RuleLemmas.{plain_there, plain_many, take_all}
 use Rattle.critical_pairs.proofs.listing.pairs.Goals as goal

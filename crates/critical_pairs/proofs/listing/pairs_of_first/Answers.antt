@@ -1,5 +1,4 @@
-use Rattle.std.proofs.Common.{◌≡◌, ◌<◌, ◌≤◌, ◌-◌, ◌+◌, ℕ, List, [], map, length, get_or, ap, sym, ◌∙◌, subst, arith}
-use Rattle.std.specs.Prelude.{Option, Some, None}
+use Rattle.std.proofs.Common.{◌≡◌, ◌<◌, ◌-◌, ◌+◌, List, [], map, length, get_or, ap, sym, ◌∙◌, subst, arith}
 use Rattle.sort_terms.specs.TermView.{term_of}
 use Rattle.sort_terms.specs.SortedView.{term_in}
 use Rattle.sort_terms.specs.declared.terms.Term.{Term}

@@ -1,10 +1,8 @@
-use Rattle.std.proofs.Common.{◌≡◌, ◌≤◌, ◌-◌, length, take, map, []}
+use Rattle.std.proofs.Common.{◌≤◌, ◌-◌, length, take}
 use Rattle.rewriting_theory.specs.Places.{places_with}
 use Rattle.rewriting_theory.specs.Rule.{Rule as PlainRule, IsRuleAt}
 use Rattle.path_order.specs.RulesView.{plain_rules_in}
 use Rattle.critical_pairs.specs.Extended.{AddsPairsOf}
-use Rattle.critical_pairs.specs.NodePlaces.{node_places}
-use Rattle.critical_pairs.specs.PairView.{node_place_of}
 use Rattle.critical_pairs.proofs.listing.pairs_of_first.Given as goal
 
 abbrev pub invariant-loop-second : goal.invariant-loop-second

@@ -1,4 +1,3 @@
-use Rattle.std.proofs.Common.{◌≡◌, ℕ, sym, ◌∙◌, ap}
 use Rattle.critical_pairs.proofs.ExtendLemmas.{extended_nothing}
 use Rattle.critical_pairs.proofs.RuleLemmas.{place_more, place_there}
 use Rattle.critical_pairs.proofs.listing.pairs_of_two.Goals as goal

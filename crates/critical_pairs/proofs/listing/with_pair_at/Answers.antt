@@ -1,4 +1,4 @@
-use Rattle.std.proofs.Common.{◌≡◌, ℕ, List, get_or, ap, sym, ◌∙◌, subst}
+use Rattle.std.proofs.Common.{◌≡◌, List, get_or, sym, ◌∙◌, subst}
 use Rattle.std.proofs.lemmas.Result.{IfOk-weaker}
 use Rattle.path_order.specs.declared.rule.Rule.{Rule}
 use Rattle.critical_pairs.proofs.RuleLemmas.{rule_there, one_signature, same_root, pair_added}

@@ -1,5 +1,5 @@
 use Rattle.std.proofs.Common.{◌≡◌, map, drop}
-use Rattle.lotos_grammar.specs.FirstText as written
+use Rattle.first_forms.specs.FirstText as written
 use Rattle.lotos_top.specs.Resolution.{action_offers}
 use Rattle.lotos_top.specs.Scopes.{visible_of, declared_by, offers_with}
 use Rattle.lotos_top.specs.Resolving.{IsFrame}

@@ -1,7 +1,7 @@
 use Rattle.std.proofs.lemmas.Result.{IfOk-weaker}
-use Rattle.lotos_grammar.specs.FirstText.{text_of}
-use Rattle.lotos_grammar.specs.declared.first.FirstFault.TheVariants.{Unbuilt}
-use Rattle.lotos_grammar.specs.Reading.{IsReadFault}
+use Rattle.first_forms.specs.FirstText.{text_of}
+use Rattle.first_forms.specs.declared.first.FirstFault.TheVariants.{Unbuilt}
+use Rattle.first_forms.specs.Reading.{IsReadFault}
 use Rattle.lotos_top.specs.Report.{refused}
 use Rattle.lotos_top.specs.Prepared.{Checks, ChecksParts, IsRefusal}
 use Rattle.lotos_top.proofs.Findings.{checks_of_parts}

@@ -1,5 +1,5 @@
 use Rattle.std.specs.Prelude.{refl, map}
-use Rattle.lotos_grammar.specs.FirstText.{text_of}
+use Rattle.first_forms.specs.FirstText.{text_of}
 use Rattle.lotos_top.specs.Menus.{entry_of}
 use Rattle.lotos_top.specs.Prepared.{stands}
 use Rattle.lotos_top.specs.Resolving.{resolved_as}

@@ -8,12 +8,15 @@ use Rattle.text_reading.proofs.Readings.{too_deep}
 use Rattle.text_reading.proofs.reading.read_spec.Goals as goal
 
 pub returns-in-Some : goal.returns-in-Some
-returns-in-Some c = (
-  c.if-text-gt-TEXT_LIMIT.false,
-  too_deep (IsSpecification c.args.text.now) nodes_of_specification c.args.number c.args.text.now (grammar_from starts.SPEC) c.in_ok-tokens.field-0.tokens.items
-      c.in_ok-tokens.field-0.rows.items c.in_ok-deep.deep c.in-Some.place (rows_have.specification c.args.text.now c.in_ok-tokens.field-0.tokens.items)
-      c.in_ok-tokens.ensures.derived.cut_into c.in_ok-tokens.ensures.derived.derivation
-      (λ tree is.
-      c.in_ok-deep.ensures c.args.text.now tree
-      (subst (λ it. IsSpecification c.args.text.now it tree) (sym c.deref.ensures.value) is)) c.in-Some.is,
-)
+returns-in-Some c =
+    let tokens = c.in_ok-tokens.field-0.tokens.items in
+    let fault =
+    too_deep (IsSpecification c.args.text.now) nodes_of_specification c.args.number c.args.text.now (grammar_from starts.SPEC) tokens
+    c.in_ok-tokens.field-0.rows.items c.in_ok-deep.deep c.in-Some.place
+    (rows_have.specification c.args.text.now tokens)
+    c.in_ok-tokens.ensures.derived.cut_into c.in_ok-tokens.ensures.derived.derivation
+    (λ tree is.
+    c.in_ok-deep.ensures c.args.text.now tree
+    (subst (λ it. IsSpecification c.args.text.now it tree) (sym c.deref.ensures.value) is))
+    c.in-Some.is in
+    (c.in_ok-within_limit.ensures.short, fault)

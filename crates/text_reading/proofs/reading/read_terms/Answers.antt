@@ -9,9 +9,14 @@ use Rattle.text_reading.proofs.reading.read_terms.Goals as goal
 
 pub returns-in-Some : goal.returns-in-Some
 returns-in-Some c =
-    too_deep (AreOptionalTerms c.args.text.now) nodes_of_terms c.args.number c.args.text.now (grammar_from starts.TERMS) c.in_ok-tokens.field-0.tokens.items
-    c.in_ok-tokens.field-0.rows.items c.in_ok-deep.deep c.in-Some.place (rows_have.terms c.args.text.now c.in_ok-tokens.field-0.tokens.items)
+    let tokens = c.in_ok-tokens.field-0.tokens.items in
+    let fault =
+    too_deep (AreOptionalTerms c.args.text.now) nodes_of_terms c.args.number c.args.text.now (grammar_from starts.TERMS) tokens
+    c.in_ok-tokens.field-0.rows.items c.in_ok-deep.deep c.in-Some.place
+    (rows_have.terms c.args.text.now tokens)
     c.in_ok-tokens.ensures.derived.cut_into c.in_ok-tokens.ensures.derived.derivation
     (λ tree is.
     c.in_ok-deep.ensures c.args.text.now tree
-    (subst (λ it. AreOptionalTerms c.args.text.now it tree) (sym c.deref.ensures.value) is)) c.in-Some.is
+    (subst (λ it. AreOptionalTerms c.args.text.now it tree) (sym c.deref.ensures.value) is))
+    c.in-Some.is in
+    fault

@@ -1,0 +1,145 @@
+-- The whole of the acceptance is determined.
+use Rattle.std.proofs.Common.{refl, ap, sym, ◌∙◌, ◌≡◌, ◌≢◌, subst, ℕ, List, []}
+use Rattle.term_algebra.specs.Equation.{Place, Data}
+use Rattle.syntax_trees.specs.WrittenDefinition.{WrittenSpecification}
+use Rattle.syntax_trees.specs.TakenItems.{without_items}
+use Rattle.behaviour_semantics.specs.Behaviour.{Specification}
+use Rattle.lotos_lexer.specs.declared.tokens.Token.{Token}
+use Rattle.lotos_lexer.specs.Tokens as lexed
+use Rattle.lotos_lexer.specs.declared.kinds.TheConstants as kinds
+use Rattle.type_mentions.specs.DeclaredTypes.{types_of}
+use Rattle.static_scope.specs.ScopeFault.{ScopeFault}
+use Rattle.static_scope.specs.Resolution.{Resolution, resolved, faulty}
+use Rattle.static_scope.specs.Definitions.{SpecificationIs}
+use Rattle.static_scope.proofs.BehavioursOnce.{specification_once}
+use Rattle.spec_faults.specs.Refusal.{Refusal, unbuilt, too_long, bad_byte, open_comment, wrong_syntax, too_deep, too_many_libraries, wrong_names, wrong_types, wrong_scopes, mismatch, unguarded, unknown_operation, twice_listed, unorientable, unjoined, start_values, start_term}
+use Rattle.acceptance_order.specs.Ending.{with_libraries, with_data, with_spec}
+use Rattle.acceptance_order.specs.PartLaws.{IsDecided}
+use Rattle.acceptance_order.specs.Texts.{Gets, ReadsSpecification, Gathers, Orders}
+use Rattle.acceptance_order.specs.Types.{HaveData, HaveFault, Flattens}
+use Rattle.acceptance_order.specs.Scopes.{StandsFor, Breaks, Resolves}
+use Rattle.acceptance_order.specs.Checks.{Agree, Disagree, Agrees, Guarded, Cyclic, IsGuardedIn}
+use Rattle.acceptance_order.specs.Book.{Opens, DoesNotOpen, OpensBook}
+use Rattle.acceptance_order.specs.Acceptance.{first_of_kind, opening, OpensAt, HasNone, HasSome, IsBuilt, accepted_with}
+use Rattle.acceptance_order.specs.AcceptanceLaws.{ScopesAreDecided, AcceptanceIsDetermined}
+use Rattle.acceptance_order.proofs.PartLemmas.{has_determined, looks_determined, then_determined}
+use Rattle.acceptance_order.proofs.TextLemmas.{gets_determined, reads_determined, gathers_determined, orders_determined}
+
+-- ---- Scopes
+
+breaks : (data_ : Data) (tree : WrittenSpecification) (refusal : Refusal) → Breaks data_ tree refusal →
+    (fault : ScopeFault) × (refusal ≡ wrong_scopes fault) × SpecificationIs data_.signature (without_items tree) (faulty fault)
+breaks data_ tree (unbuilt place) is = absurd is
+breaks data_ tree (too_long number) is = absurd is
+breaks data_ tree (bad_byte place) is = absurd is
+breaks data_ tree (open_comment place) is = absurd is
+breaks data_ tree (wrong_syntax place) is = absurd is
+breaks data_ tree (too_deep place) is = absurd is
+breaks data_ tree (too_many_libraries place name) is = absurd is
+breaks data_ tree (wrong_names fault) is = absurd is
+breaks data_ tree (wrong_types fault) is = absurd is
+breaks data_ tree (wrong_scopes fault) is = (fault, refl, is)
+breaks data_ tree (mismatch place left right) is = absurd is
+breaks data_ tree (unguarded place process cycle) is = absurd is
+breaks data_ tree (unknown_operation place name) is = absurd is
+breaks data_ tree (twice_listed place name) is = absurd is
+breaks data_ tree (unorientable equation) is = absurd is
+breaks data_ tree (unjoined first second peak left right) is = absurd is
+breaks data_ tree (start_values wanted given) is = absurd is
+breaks data_ tree (start_term refusal) is = absurd is
+
+abbrev value_in : Specification → Resolution Specification → Specification
+value_in other (resolved spec) = spec
+value_in other (faulty fault) = other
+
+abbrev fault_in : ScopeFault → Resolution Specification → ScopeFault
+fault_in other (resolved spec) = other
+fault_in other (faulty fault) = fault
+
+abbrev IsResolved : Resolution Specification → Type 0
+IsResolved (resolved spec) = Unit {0}
+IsResolved (faulty fault) = ⊥
+
+pub scopes_are_decided : ScopesAreDecided
+scopes_are_decided data_ tree = record {
+  one_value = λ b c is also.
+      ap (λ (r : Resolution Specification). value_in b r)
+      (specification_once data_.signature (without_items tree) (resolved b) (resolved c) is also);
+  not_both = λ b refusal is not.
+      let told = breaks data_ tree refusal not in
+      subst (λ (r : Resolution Specification). IsResolved r)
+      (specification_once data_.signature (without_items tree) (resolved b) (faulty told.0) is told.2) tt;
+  one_fault = λ refusal other is also.
+      let told = breaks data_ tree refusal is in
+      let tells = breaks data_ tree other also in
+      told.1 ∙ ap (λ (r : Resolution Specification). wrong_scopes (fault_in told.0 r))
+      (specification_once data_.signature (without_items tree) (faulty told.0) (faulty tells.0) told.2 tells.2) ∙ sym tells.1;
+}
+
+-- ---- What is not built
+
+unbuilt_at : (text : List ℕ) (spec : Specification) (refusal : Refusal) → HasSome text spec refusal →
+    (place : Place) × (refusal ≡ unbuilt place) × (spec.parameters ≢ []) × OpensAt text place
+unbuilt_at text spec (unbuilt place) is = (place, refl, is.0, is.1)
+unbuilt_at text spec (too_long number) is = absurd is
+unbuilt_at text spec (bad_byte place) is = absurd is
+unbuilt_at text spec (open_comment place) is = absurd is
+unbuilt_at text spec (wrong_syntax place) is = absurd is
+unbuilt_at text spec (too_deep place) is = absurd is
+unbuilt_at text spec (too_many_libraries place name) is = absurd is
+unbuilt_at text spec (wrong_names fault) is = absurd is
+unbuilt_at text spec (wrong_types fault) is = absurd is
+unbuilt_at text spec (wrong_scopes fault) is = absurd is
+unbuilt_at text spec (mismatch place left right) is = absurd is
+unbuilt_at text spec (unguarded place process cycle) is = absurd is
+unbuilt_at text spec (unknown_operation place name) is = absurd is
+unbuilt_at text spec (twice_listed place name) is = absurd is
+unbuilt_at text spec (unorientable equation) is = absurd is
+unbuilt_at text spec (unjoined first second peak left right) is = absurd is
+unbuilt_at text spec (start_values wanted given) is = absurd is
+unbuilt_at text spec (start_term refusal) is = absurd is
+
+abbrev tokens_in : List Token → lexed.Lexed → List Token
+tokens_in other (lexed.Tokens tokens) = tokens
+tokens_in other (lexed.BadByte place) = other
+tokens_in other (lexed.OpenComment place) = other
+
+opens_once : (text : List ℕ) (place other : Place) → OpensAt text place → OpensAt text other → place ≡ other
+opens_once text place other is also =
+    let tokens : is.tokens ≡ also.tokens = ap (λ (cut : lexed.Lexed). tokens_in is.tokens cut) (sym is.cut_into ∙ also.cut_into) in
+    sym is.placed ∙ ap (λ (ts : List Token). opening (first_of_kind kinds.LEFT_PARENTHESIS ts)) tokens ∙ also.placed
+
+built_decided : (text : List ℕ) (spec : Specification) → IsDecided (HasNone spec) (HasSome text spec)
+built_decided text spec = record {
+  one_value = λ b c is also. is.0 ∙ sym also.0;
+  not_both = λ b refusal is not. let told = unbuilt_at text spec refusal not in told.2 is.1;
+  one_fault = λ refusal other is also.
+      let told = unbuilt_at text spec refusal is in
+      let tells = unbuilt_at text spec other also in
+      told.1 ∙ ap (λ (p : Place). unbuilt p) (opens_once text told.0 tells.0 told.3 tells.3) ∙ sym tells.1;
+}
+
+-- ---- All of it
+
+pub acceptance_is_determined : AcceptanceIsDetermined
+acceptance_is_determined types exits ranks books asked got =
+    then_determined (Gets asked.spec) _ got (gets_determined asked.spec got) (λ text.
+    then_determined (ReadsSpecification text) _ got (reads_determined text got) (λ tree.
+    then_determined (Gathers tree) _ got (gathers_determined tree got) (λ gathered.
+    then_determined (Flattens gathered) _ got
+    (looks_determined (HaveData (types_of gathered.types)) (HaveFault (types_of gathered.types)) (with_libraries gathered.read) got
+    (types (types_of gathered.types))) (λ data_.
+    then_determined (Resolves gathered data_ tree) _ got
+    (looks_determined (StandsFor data_ tree) (Breaks data_ tree) (with_data gathered.read data_) got
+    (scopes_are_decided data_ tree)) (λ spec.
+    then_determined (Agrees gathered data_ tree spec) _ got
+    (looks_determined (Agree tree spec) (Disagree tree spec) (with_spec gathered.read data_ spec) got (exits tree spec)) (λ same.
+    then_determined (IsGuardedIn gathered data_ tree spec) _ got
+    (looks_determined (Guarded spec) (Cyclic tree spec) (with_spec gathered.read data_ spec) got (ranks tree spec)) (λ also.
+    then_determined (Orders (with_spec gathered.read data_ spec) asked.order) _ got
+    (orders_determined (with_spec gathered.read data_ spec) asked.order got) (λ items.
+    then_determined (OpensBook gathered data_ spec items) _ got
+    (looks_determined (Opens items data_) (DoesNotOpen items data_) (with_spec gathered.read data_ spec) got (books items data_)) (λ opened.
+    then_determined (IsBuilt text gathered spec) _ got
+    (looks_determined (HasNone spec) (HasSome text spec) (with_libraries gathered.read) got (built_decided text spec)) (λ built.
+    has_determined (accepted_with gathered data_ spec items) got))))))))))

@@ -1,0 +1,39 @@
+-- A specification is accepted in one way at most, or refused for one fault, where each of its parts is decided.
+use Rattle.std.specs.Prelude.{List}
+use Rattle.lotos_base.specs.WrittenTerm.{ListedOperation}
+use Rattle.term_algebra.specs.Equation.{Data}
+use Rattle.syntax_trees.specs.WrittenDefinition.{WrittenSpecification}
+use Rattle.behaviour_semantics.specs.Behaviour.{Specification}
+use Rattle.type_mentions.specs.DeclaredTypes.{DeclaredType}
+use Rattle.library_reading.specs.GatheringLaws.{Files}
+use Rattle.acceptance_order.specs.PartLaws.{IsDecided, IsDetermined}
+use Rattle.acceptance_order.specs.Types.{HaveData, HaveFault}
+use Rattle.acceptance_order.specs.Scopes.{StandsFor, Breaks}
+use Rattle.acceptance_order.specs.Checks.{Agree, Disagree, Guarded, Cyclic}
+use Rattle.acceptance_order.specs.Book.{Opens, DoesNotOpen}
+use Rattle.acceptance_order.specs.Acceptance.{Asked, IsAccepted}
+
+-- what a text stands for, or the first rule that it breaks, is one thing
+abbrev pub ScopesAreDecided : Type 0
+ScopesAreDecided = (data_ : Data) (tree : WrittenSpecification) → IsDecided (StandsFor data_ tree) (Breaks data_ tree)
+
+-- the data of types, or their first fault, are one thing
+abbrev pub TypesAreDecided : Type 0
+TypesAreDecided = (types : List DeclaredType) → IsDecided (HaveData types) (HaveFault types)
+
+-- whether functionalities agree and recursion is guarded, or the first thing that is wrong
+abbrev pub ExitsAreDecided : Type 0
+ExitsAreDecided = (tree : WrittenSpecification) (spec : Specification) → IsDecided (Agree tree spec) (Disagree tree spec)
+
+abbrev pub RanksAreDecided : Type 0
+RanksAreDecided = (tree : WrittenSpecification) (spec : Specification) → IsDecided (Guarded spec) (Cyclic tree spec)
+
+-- whether data open by an order, or the first thing that is wrong
+abbrev pub BooksAreDecided : Type 0
+BooksAreDecided = (items : List ListedOperation) (data_ : Data) → IsDecided (Opens items data_) (DoesNotOpen items data_)
+
+-- Where these are, all of the acceptance is: by what is got under each name there is one outcome at most, and the same files
+-- are got for it in the same order. Texts, libraries and scopes are decided by the laws of their crates.
+abbrev pub AcceptanceIsDetermined : Type 0
+AcceptanceIsDetermined = TypesAreDecided → ExitsAreDecided → RanksAreDecided → BooksAreDecided
+    → (asked : Asked) (got : Files) → IsDetermined got (IsAccepted asked)

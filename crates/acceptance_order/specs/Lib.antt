@@ -1,0 +1,10 @@
+pub mod Part
+pub mod PartLaws
+pub mod Ending
+pub mod Texts
+pub mod Types
+pub mod Scopes
+pub mod Checks
+pub mod Book
+pub mod Acceptance
+pub mod AcceptanceLaws

@@ -1,0 +1,2 @@
+pub mod FormalNames
+pub mod NewNamesView

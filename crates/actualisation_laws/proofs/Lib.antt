@@ -1,0 +1,3 @@
+pub mod FormalLemmas
+pub mod MapLemmas
+pub mod DataLemmas

@@ -1,0 +1,2 @@
+pub mod CondensedLemmas
+pub mod NotingLemmas

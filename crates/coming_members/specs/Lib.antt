@@ -1,0 +1,4 @@
+pub mod Condensed
+pub mod CondensedLaws
+pub mod Noting
+pub mod MakersView

@@ -1,0 +1,3 @@
+pub mod OneSortLemmas
+pub mod SortedLemmas
+pub mod UnifierLemmas

@@ -1,0 +1,2 @@
+pub mod OneSort
+pub mod SortedOver

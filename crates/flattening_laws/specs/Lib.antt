@@ -1,0 +1,5 @@
+pub mod Containment
+pub mod UnionBounds
+pub mod Contributions
+pub mod ImagesOfRenamings
+pub mod PartsOfActualisations

@@ -1,0 +1,4 @@
+pub mod ActualLemmas
+pub mod MarkedNames
+pub mod SortActuals
+pub mod SoughtLemmas

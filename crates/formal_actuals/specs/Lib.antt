@@ -1,0 +1,3 @@
+pub mod Actuals
+pub mod ProfilesView
+pub mod PartsView

@@ -1,5 +1,0 @@
-use Rattle.lotos_grammar.proofs.Readings.{one_reading}
-use Rattle.lotos_grammar.proofs.laws.a_text_has_one_reading.Goals as goal
-
-pub returns : goal.returns
-returns c = one_reading

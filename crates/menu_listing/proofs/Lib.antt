@@ -1,0 +1,4 @@
+pub mod NumberLemmas
+pub mod NodeLemmas
+pub mod SolvedLemmas
+pub mod MenuLemmas

@@ -1,0 +1,9 @@
+-- The entries of a menu of the code.
+use Rattle.std.specs.Prelude.{List, map}
+use Rattle.behaviour_semantics.specs.Solving as solving
+use Rattle.event_offers.specs.OfferView.{plain_entry}
+use Rattle.event_offers.specs.declared.menus.Menu.{Menu}
+
+-- the entries
+abbrev pub entries_in : Menu → List solving.Entry
+entries_in menu = map plain_entry menu.entries.items

@@ -1,0 +1,11 @@
+//! The menu of a state: the drafts of its moves, listed part by part under environments, and each
+//! solved (ISO 8807:1989, dynamic semantics of behaviour expressions).
+#![tactic(auto)]
+
+pub mod makers;
+pub mod menus;
+pub mod nodes;
+pub mod numbers;
+
+pub use makers::{FreshMenus, MenuMaker};
+pub use menus::menu;

@@ -1,0 +1,6 @@
+pub mod RefusalWords
+pub mod RefusalPlace
+pub mod TextNames
+pub mod RefusalDetail
+pub mod RefusalText
+pub mod LineView

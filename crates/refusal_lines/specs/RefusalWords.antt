@@ -1,0 +1,66 @@
+-- The number and the name of each refusal.
+use Rattle.std.specs.Prelude.{ℕ, List, codes}
+use Rattle.sort_terms.specs.ReadingOutcome as reading
+use Rattle.type_mentions.specs.MentionFaults.{MentionFault, double_type, unknown_type, type_cycle}
+use Rattle.type_flatten.specs.TypeFault.{TypeFault, double_sort, unknown_sort, double_operation, unknown_operation as no_operation, not_formal, missing_actual, premised, unknown_name, no_reading, two_readings, too_large}
+use Rattle.static_scope.specs.ScopeFault as scope
+use Rattle.spec_faults.specs.Refusal.{Refusal, unbuilt, too_long, bad_byte, open_comment, wrong_syntax, too_deep, too_many_libraries, wrong_names, wrong_types, wrong_scopes, mismatch, unguarded, unknown_operation, twice_listed, unorientable, unjoined, start_values, start_term}
+
+-- of the names of types
+abbrev pub words_of_names : MentionFault → List ℕ
+words_of_names (double_type place name) = codes "201 DoubleType"
+words_of_names (unknown_type place name) = codes "202 UnknownType"
+words_of_names (type_cycle place name) = codes "203 TypeCycle"
+
+-- of types
+abbrev pub words_of_types : TypeFault → List ℕ
+words_of_types (double_sort place name) = codes "204 DoubleSort"
+words_of_types (unknown_sort place name) = codes "205 UnknownSort"
+words_of_types (double_operation place name) = codes "206 DoubleOperation"
+words_of_types (no_operation place name) = codes "207 UnknownOperation"
+words_of_types (not_formal place name) = codes "208 NotFormal"
+words_of_types (missing_actual place name) = codes "209 MissingActual"
+words_of_types (premised place) = codes "210 Premised"
+words_of_types (unknown_name place) = codes "211 UnknownName"
+words_of_types (no_reading place) = codes "212 NoReading"
+words_of_types (two_readings place) = codes "213 TwoReadings"
+words_of_types (too_large place name) = codes "214 TooLarge"
+
+-- of a term
+abbrev pub words_of_term : reading.Refusal → List ℕ
+words_of_term (reading.unknown_name place) = codes "211 UnknownName"
+words_of_term (reading.unknown_sort place) = codes "205 UnknownSort"
+words_of_term (reading.no_reading place) = codes "212 NoReading"
+words_of_term (reading.two_readings place) = codes "213 TwoReadings"
+
+-- of definitions and behaviours
+abbrev pub words_of_scopes : scope.ScopeFault → List ℕ
+words_of_scopes (scope.unknown_gate place name) = codes "301 UnknownGate"
+words_of_scopes (scope.unknown_process place name) = codes "302 UnknownProcess"
+words_of_scopes (scope.unknown_sort place name) = codes "205 UnknownSort"
+words_of_scopes (scope.double_name place name) = codes "303 DoubleName"
+words_of_scopes (scope.gate_count place wanted given) = codes "304 GateCount"
+words_of_scopes (scope.value_count place wanted given) = codes "305 ValueCount"
+words_of_scopes (scope.no_bool place) = codes "306 NoBool"
+words_of_scopes (scope.refused_term refusal) = words_of_term refusal
+
+-- of all
+abbrev pub words_of : Refusal → List ℕ
+words_of (unbuilt place) = codes "100 Unbuilt"
+words_of (bad_byte place) = codes "101 BadByte"
+words_of (open_comment place) = codes "102 OpenComment"
+words_of (too_long text) = codes "103 TooLong"
+words_of (wrong_syntax place) = codes "104 Syntax"
+words_of (too_deep place) = codes "105 TooDeep"
+words_of (too_many_libraries place name) = codes "106 Libraries"
+words_of (wrong_names fault) = words_of_names fault
+words_of (wrong_types fault) = words_of_types fault
+words_of (wrong_scopes fault) = words_of_scopes fault
+words_of (mismatch place left right) = codes "401 Mismatch"
+words_of (unguarded place process cycle) = codes "402 Unguarded"
+words_of (unknown_operation place name) = codes "501 OrderOperation"
+words_of (twice_listed place name) = codes "502 TwiceListed"
+words_of (unorientable equation) = codes "601 Unorientable"
+words_of (unjoined first second peak left right) = codes "602 Unjoined"
+words_of (start_values wanted given) = codes "701 StartValues"
+words_of (start_term refusal) = words_of_term refusal

@@ -1,0 +1,14 @@
+//! The printed line of each refusal of a specification.
+#![tactic(auto)]
+
+pub mod details;
+pub mod evidence;
+pub mod lines;
+pub mod places;
+pub mod text_names;
+pub mod words;
+
+pub use lines::refusal_line;
+
+#[cfg(test)]
+mod tests;

@@ -1,0 +1,10 @@
+pub mod OrderLemmas
+pub mod TellsLemmas
+pub mod DoubledLemmas
+pub mod TermsWithin
+pub mod PartsWithin
+pub mod BehavioursWithin
+pub mod PartsTell
+pub mod BehavioursTell
+pub mod TextsTell
+pub mod SampleLemmas

@@ -1,0 +1,10 @@
+pub mod Order
+pub mod TermPlaces
+pub mod PartFaults
+pub mod BehaviourFaults
+pub mod TextFaults
+pub mod PartPlaces
+pub mod BehaviourPlaces
+pub mod TextOrder
+pub mod FirstFault
+pub mod Sample

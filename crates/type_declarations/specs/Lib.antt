@@ -1,0 +1,4 @@
+pub mod SectionView
+pub mod Making
+pub mod DeclaredOperation
+pub mod DeclarationMade

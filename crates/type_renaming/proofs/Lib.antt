@@ -1,0 +1,5 @@
+pub mod ClashLemmas
+pub mod PairLemmas
+pub mod PartLemmas
+pub mod KeptLemmas
+pub mod RenameLemmas

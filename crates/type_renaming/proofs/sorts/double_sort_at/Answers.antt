@@ -1,0 +1,8 @@
+use Rattle.std.proofs.Common.{List, ℕ, ap, sym}
+use Rattle.std.specs.Prelude.{Some}
+use Rattle.lotos_base.specs.WrittenView.{text_place_of}
+use Rattle.type_flatten.specs.TypeFault.{double_sort}
+use Rattle.type_renaming.proofs.sorts.double_sort_at.Goals as goal
+
+pub returns : goal.returns
+returns c = ap (λ (n : List ℕ). Some (double_sort (text_place_of c.args.pair.now.place) n)) (sym c.in_ok-copy.ensures)
