@@ -133,9 +133,11 @@ acceptance_is_determined types exits ranks books asked got =
     (looks_determined (StandsFor data_ tree) (Breaks data_ tree) (with_data gathered.read data_) got
     (scopes_are_decided data_ tree)) (λ spec.
     then_determined (Agrees gathered data_ tree spec) _ got
-    (looks_determined (Agree tree spec) (Disagree tree spec) (with_spec gathered.read data_ spec) got (exits tree spec)) (λ same.
+    (looks_determined (Agree data_ tree spec) (Disagree data_ tree spec) (with_spec gathered.read data_ spec) got
+    (exits data_ tree spec)) (λ same.
     then_determined (IsGuardedIn gathered data_ tree spec) _ got
-    (looks_determined (Guarded spec) (Cyclic tree spec) (with_spec gathered.read data_ spec) got (ranks tree spec)) (λ also.
+    (looks_determined (Guarded spec) (Cyclic data_ tree spec) (with_spec gathered.read data_ spec) got
+    (ranks data_ tree spec)) (λ also.
     then_determined (Orders (with_spec gathered.read data_ spec) asked.order) _ got
     (orders_determined (with_spec gathered.read data_ spec) asked.order got) (λ items.
     then_determined (OpensBook gathered data_ spec items) _ got

@@ -23,10 +23,12 @@ TypesAreDecided = (types : List DeclaredType) → IsDecided (HaveData types) (Ha
 
 -- whether functionalities agree and recursion is guarded, or the first thing that is wrong
 abbrev pub ExitsAreDecided : Type 0
-ExitsAreDecided = (tree : WrittenSpecification) (spec : Specification) → IsDecided (Agree tree spec) (Disagree tree spec)
+ExitsAreDecided = (data_ : Data) (tree : WrittenSpecification) (spec : Specification)
+    → IsDecided (Agree data_ tree spec) (Disagree data_ tree spec)
 
 abbrev pub RanksAreDecided : Type 0
-RanksAreDecided = (tree : WrittenSpecification) (spec : Specification) → IsDecided (Guarded spec) (Cyclic tree spec)
+RanksAreDecided = (data_ : Data) (tree : WrittenSpecification) (spec : Specification)
+    → IsDecided (Guarded spec) (Cyclic data_ tree spec)
 
 -- whether data open by an order, or the first thing that is wrong
 abbrev pub BooksAreDecided : Type 0

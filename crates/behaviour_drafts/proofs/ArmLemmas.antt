@@ -79,10 +79,7 @@ part_less rank processes b =
     let less : size b < suc (size b) = omega arith in
     less_by _ _ (size b) (suc (size b)) same less
 
--- twice as much and one
-pub odd_less : (x y : ℕ) → x < y → 2 * x + 1 < 2 * y + 1
-odd_less x y less = omega arith
-
+-- ---- Twice as much, one more and two more.
 pub even_below_odd : (x y : ℕ) → x ≡ y → 2 * x < 2 * y + 1
 even_below_odd x y same = omega arith
 
@@ -116,16 +113,7 @@ pub listed_read : (basis : Basis) (first : ℕ) (pairs : List (ℕ × ProfiledTe
     → AreListed basis first (behaviour_of part) (profiles_in part) pairs made
 listed_read basis first pairs part read e made h = listed_form basis first pairs part read (sym e) made h
 
--- a part is less to list than its form
-pub arm_less : (rank : ℕ → ℕ) (processes : List plain.Process) (b form part read : Beh) → b ≡ form → read ≡ part
-    → effort rank processes (behaviour_of part) < effort rank processes (behaviour_of form)
-    → 2 * effort rank processes (behaviour_of read) + 1 < 2 * effort rank processes (behaviour_of b) + 1
-arm_less rank processes b form part read is e less =
-    odd_less _ _
-    (subst (λ (x : Beh). effort rank processes (behaviour_of read) < effort rank processes (behaviour_of x)) (sym is)
-    (subst (λ (y : Beh). effort rank processes (behaviour_of y) < effort rank processes (behaviour_of form)) (sym e) less))
-
--- so is the part of a gate `par`, and the call of a process
+-- the part of a gate `par` is less to list than its form, and so is the call of a process
 pub par_arm_less : (rank : ℕ → ℕ) (processes : List plain.Process) (b form part read : Beh) → b ≡ form → read ≡ part
     → effort rank processes (behaviour_of part) < effort rank processes (behaviour_of form)
     → 2 * effort rank processes (behaviour_of read) + 2 < 2 * effort rank processes (behaviour_of b) + 1

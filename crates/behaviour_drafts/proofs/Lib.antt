@@ -5,3 +5,4 @@ pub mod PlaceLemmas
 pub mod CallLemmas
 pub mod ListedLemmas
 pub mod EffortLemmas
+pub mod WholeLemmas

@@ -1,6 +1,7 @@
 -- The drafts of a behaviour of each form, from those of its parts.
 use Rattle.std.proofs.Common.{◌≡◌, ◌≤◌, ℕ, suc, ◌+◌, max, List, [], ◌∷◌, ◌++◌, map, filter_map, slice_get, Option, Some, option_map, refl, ap, sym, ◌∙◌, subst, arith}
 use Rattle.std.specs.Prelude.{zip}
+use Rattle.term_algebra.specs.Signature.{Signature}
 use Rattle.term_algebra.specs.Term.{Term, variable}
 use Rattle.term_algebra.specs.Equation.{Variable}
 use Rattle.term_algebra.specs.Substitution.{Substitution, binding, without}
@@ -46,6 +47,14 @@ unchanged_gates : (gates : List ℕ) → map (gate_under []) gates ≡ gates
 unchanged_gates [] = refl
 unchanged_gates (g ∷ gates) = ap (λ (gs : List ℕ). g ∷ gs) (unchanged_gates gates)
 
+-- the one draft that is made
+pub one_made : (signature : Signature) (expected : plain.Draft) (draft : Draft) (made : List Draft) → made ≡ draft ∷ []
+    → plain_draft draft ≡ expected → HasTermsOf signature draft → AreThese signature (expected ∷ []) made
+one_made signature expected draft made e same over = record {
+  same = ap plain_drafts e ∙ ap (λ (d : plain.Draft). d ∷ []) same;
+  over = subst (λ (ds : List Draft). Every (HasTermsOf signature) ds) (sym e) (over, tt);
+}
+
 module _ (basis : Basis) (first : ℕ) (pairs : List (ℕ × ProfiledTerm)) where
   abbrev pub values : Substitution
   values = binding (bare_pairs pairs)
@@ -79,13 +88,6 @@ module _ (basis : Basis) (first : ℕ) (pairs : List (ℕ × ProfiledTerm)) wher
       (λ at numbered stands. forms.of_stop (setting_on basis) at.base at.next)
 
   -- one draft alone
-  pub one_of : (expected : plain.Draft) (draft : Draft) (made : List Draft) → made ≡ draft ∷ [] → plain_draft draft ≡ expected
-      → HasTermsOf basis.data_.signature draft → These (expected ∷ []) made
-  one_of expected draft made e same over = record {
-    same = ap plain_drafts e ∙ ap (λ (d : plain.Draft). d ∷ []) same;
-    over = subst (λ (ds : List Draft). Every (HasTermsOf basis.data_.signature) ds) (sym e) (over, tt);
-  }
-
   pub inner_listed : (b : Behaviour) (terms : List ProfiledTerm) (made : List Draft) → These (inner_of ∷ []) made
       → Listed (inner_action b) terms made
   inner_listed b terms made t =

@@ -15,6 +15,7 @@ use lotos_base::NoMemory;
 use sort_terms::{Deciding, Sorted, Variable};
 
 /// The environment below `let`.
+#[inline(never)]
 pub fn let_environment<D: Deciding>(
     bindings: &Vec<(Variable, Sorted)>,
     environment: &Vec<(u64, Sorted)>,

@@ -4,6 +4,7 @@
 
 pub mod behaviours;
 pub mod binders;
+pub mod events;
 pub mod guards;
 
 pub use behaviours::{behaviour_moves, call_moves};

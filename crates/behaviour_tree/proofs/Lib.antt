@@ -1,3 +1,4 @@
+pub mod ClosedLemmas
 pub mod EnvironmentLemmas
 pub mod FreeLemmas
 pub mod StartLemmas

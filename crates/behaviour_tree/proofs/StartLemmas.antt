@@ -1,11 +1,11 @@
 -- The environment of a specification's parameters.
-use Rattle.std.proofs.Common.{◌≡◌, ℕ, zero, suc, List, [], ◌∷◌, map, slice_get, nat_eq, Bool, true, false, if◌then◌else◌, Some, refl, ap, sym, ◌∙◌, eqb-true, length}
+use Rattle.std.proofs.Common.{◌≡◌, ℕ, zero, suc, List, [], ◌∷◌, map, slice_get, nat_eq, Bool, true, false, if◌then◌else◌, Some, refl, ap, sym, ◌∙◌, eqb-true, length, subst}
 use Rattle.std.specs.Prelude.{zip}
 use Rattle.std.proofs.lemmas.Option.{same_Some, none-some}
 use Rattle.term_algebra.specs.Signature.{Signature, Operation}
 use Rattle.term_algebra.specs.Term.{Term}
 use Rattle.term_algebra.specs.Sorting.{HasSort}
-use Rattle.behaviour_semantics.specs.Behaviour.{numbers_of, sorts_of}
+use Rattle.behaviour_semantics.specs.Behaviour.{Behaviour, numbers_of, sorts_of}
 use Rattle.behaviour_semantics.specs.Rule.{AreValues}
 use Rattle.behaviour_semantics.specs.WellFormed.{AreDistinct, sort_in}
 use Rattle.sort_terms.specs.ProfiledTerm.{ProfiledTerm, profiled_variable, profiled_node, bare, head_sort, IsOf}
@@ -123,7 +123,7 @@ given_once variables values n s distinct has = record {
 }
 
 -- The start is closed.
-pub start_closed : (spec : Spec) (values : List Sorted) → IsStart spec values
+start_closed : (spec : Spec) (values : List Sorted) → IsStart spec values
     → IsClosedBy (zip (map number_of spec.parameters.items) values) (behaviour_of spec.body)
 start_closed spec values start = record {
   given = λ n s free. given_once spec.parameters.items values n s start.over.well_formed.whole.binders.0
@@ -133,3 +133,11 @@ start_closed spec values start = record {
       (behaviour_of spec.body) start.over.well_formed.whole.behaviour free));
   grounded = ground_values start.signature spec.parameters.items values start.fitting;
 }
+
+-- So are copies of its environment and its body.
+pub copies_closed : (spec : Spec) (values : List Sorted) (pairs : List (ℕ × Sorted)) (b : Behaviour)
+    → pairs ≡ zip (map number_of spec.parameters.items) values → b ≡ behaviour_of spec.body → IsStart spec values → IsClosedBy pairs b
+copies_closed spec values pairs b e f start =
+    subst (λ (made : List (ℕ × Sorted)). IsClosedBy made b) (sym e)
+    (subst (λ (copy : Behaviour). IsClosedBy (zip (map number_of spec.parameters.items) values) copy) (sym f)
+    (start_closed spec values start))

@@ -69,6 +69,7 @@ impl State {
             (terms_of values.items)) (behaviour_of spec.now.body)) }
         ensures terms { IfOk result (λ s. node_profiles s.node
             ≡ profiles_in spec.now.body ++ profiles_of values.items) }
+        ensures closed { IfOk result (λ s. IsClosedNode s.node) }
     {
         let environment = environment(alloc, &spec.parameters, values)?;
         let body = boxed(alloc, spec.body.copy(alloc)?)?;
@@ -94,6 +95,7 @@ impl State {
     pub fn copy(&self, alloc: Global) -> Result<State, NoMemory>
         ensures same { IfOk result (λ s. state_of s ≡ state_of self.now) }
         ensures terms { IfOk result (λ s. node_profiles s.node ≡ node_profiles self.now.node) }
+        ensures closed { IfOk result (λ s. IsClosedNode self.now.node → IsClosedNode s.node) }
     {
         Ok(State {
             node: self.node.copy(alloc)?,
@@ -156,6 +158,7 @@ impl Node {
     pub fn copy(&self, alloc: Global) -> Result<Node, NoMemory>
         ensures same { IfOk result (λ n. stands_for n ≡ stands_for self.now) }
         ensures terms { IfOk result (λ n. node_profiles n ≡ node_profiles self.now) }
+        ensures closed { IfOk result (λ n. IsClosedNode self.now → IsClosedNode n) }
     {
         match self {
             Node::Stop => Ok(Node::Stop),

@@ -4,7 +4,7 @@ use Rattle.line_server.specs.Report.{Reply, complete, unfinished, report, status
 use Rattle.line_server.specs.Serving.{Stand, Passes, Quits, Begins}
 use Rattle.line_server.specs.declared.ends.Stop.{Stop}
 
-is_no_feed : (byte : ℕ) → byte ≢ 10 → nat_eq byte 10 ≡ false
+pub is_no_feed : (byte : ℕ) → byte ≢ 10 → nat_eq byte 10 ≡ false
 is_no_feed byte plain = grind arith
 
 -- a byte that is no line feed joins the line

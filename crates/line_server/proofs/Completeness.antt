@@ -6,6 +6,7 @@ use Rattle.lotos_base.specs.Counts.{Rises}
 use Rattle.line_server.specs.Limits.{input_limit}
 use Rattle.line_server.specs.Report.{Ending, ended, failed, too_long, report, status}
 use Rattle.line_server.specs.Machine.{Machine, by_chances}
+use Rattle.line_server.specs.Fitting.{AllFit, is_whole}
 use Rattle.line_server.specs.Writing.{IsAnswer, IsWritten}
 use Rattle.line_server.specs.Session.{Surroundings, IsSeen, InputCounts, IsMet, Came, ending_of, EndsWith, Completes}
 use Rattle.line_server.specs.declared.ends.SessionEnd.{SessionEnd}
@@ -79,6 +80,8 @@ completes {State} {Chance} machine start after answer came = record {
       (held start.left bytes (λ it. IsSeen it after.left came.seen came.ending) is came.given) came.input input_steady in record {
         chances = came.chances;
         counted = came.counted;
+        fits = subst (λ (it : Ending). AllFit machine (is_whole answer) (start.state, came.chances) [] (take input_limit bytes) it) same.1
+            (subst (λ (it : List ℕ). AllFit machine (is_whole answer) (start.state, came.chances) [] it came.ending) same.0 came.fits);
         ends = subst (λ (it : Ending). EndsWith
             (status (by_chances machine) (start.state, came.chances) [] (take input_limit bytes) it)
             (report (by_chances machine) (start.state, came.chances) [] (take input_limit bytes) it) start.written after.written answer)

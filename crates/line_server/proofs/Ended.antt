@@ -1,10 +1,11 @@
 -- What came of a session: it was closed, a line ended it, or its writing stopped.
-use Rattle.std.proofs.Common.{◌≡◌, ◌≢◌, ℕ, ◌+◌, ◌<◌, ◌≤◌, List, [], ◌∷◌, ◌++◌, take, drop, length, Option, Some, None, IfSome, refl, sym, ap, subst, ◌∙◌, arith, length-append}
+use Rattle.std.proofs.Common.{◌≡◌, ◌≢◌, ℕ, ◌+◌, ◌<◌, ◌≤◌, true, false, List, [], ◌∷◌, ◌++◌, take, drop, length, Option, Some, None, IfSome, refl, sym, ap, subst, ◌∙◌, arith, length-append}
 use Rattle.std.proofs.lemmas.List.{append-nil}
 use Rattle.std.proofs.Math.Seq.{take-append_seam}
 use Rattle.line_server.specs.Limits.{input_limit}
 use Rattle.line_server.specs.Report.{Ending, ended, failed, too_long, end_by, closing, report, status}
 use Rattle.line_server.specs.Machine.{Machine, by_chances, Counted}
+use Rattle.line_server.specs.Fitting.{AllFit, is_whole}
 use Rattle.line_server.specs.Writing.{WritesAll, IsAnswer, IsWritten}
 use Rattle.line_server.specs.Serving.{moment, IsLeft, HasQuit, Broke, Closes, StopCounts}
 use Rattle.line_server.specs.Session.{Surroundings, IsSeen, InputCounts, IsMet, Came}
@@ -33,6 +34,8 @@ came_closed {State} {Chance} machine start now after line line_after total endin
       within = omega (arith, reached.count, reached.within);
       given = given;
       input = input;
+      fits = subst (λ (it : List ℕ). AllFit machine (is_whole answer) (start.state, chances) [] it ending) (append-nil reached.read)
+          (reached.passed.fits (is_whole answer) closes.chances [] ending closes.fits);
       met = met ending end_is;
       answered = subst (λ (it : SessionEnd). IsAnswer it start.output_faults after.output_faults answer) (sym end_is)
           (subst (λ (it : ℕ). IsAnswer (end_by ending) it after.output_faults answer) reached.output answered);
@@ -79,6 +82,7 @@ came_quit {State} {Chance} machine start now after line line_after more total re
   within = goes.within;
   given = goes.given;
   input = goes.counts start.input_faults after.input_faults (input ∙ reached.input);
+  fits = whole.fits true [] goes.more goes.ending;
   met = goes.met _;
   answered = ((whole.quits []).ends goes.more goes.ending, output ∙ reached.output);
   written = subst (λ (it : List ℕ). WritesAll start.written after.written it) (sym ((whole.quits []).printed goes.more goes.ending))
@@ -144,6 +148,9 @@ came_broke {State} {Chance} why machine start now after line line_after more tot
       within = goes.within;
       given = goes.given;
       input = goes.counts start.input_faults after.input_faults (input ∙ reached.input);
+      fits = fits_stopped why (whole.chances ++ [])
+          (subst (λ (it : List Chance). AllFit machine false (start.state, it) [] (read ++ goes.more) goes.ending)
+          (sym (append-nil whole.chances)) (whole.fits goes.more goes.ending));
       met = goes.met _;
       answered = answer_stopped why _ start.output_faults after.output_faults
           (subst (λ (it : ℕ). StopCounts why it after.output_faults) reached.output output);
@@ -161,3 +168,8 @@ came_broke {State} {Chance} why machine start now after line line_after more tot
 
     goes : GoesOn start.left after.left read
     goes = goes_on start.left after.left read within behind
+
+    fits_stopped : (it : Stop) (chances : List Chance) → AllFit machine false (start.state, chances) [] (read ++ goes.more) goes.ending
+        → AllFit machine (is_whole (stopped it)) (start.state, chances) [] (read ++ goes.more) goes.ending
+    fits_stopped stop.OutputFailed chances fit = fit
+    fits_stopped stop.NoMemory chances fit = fit

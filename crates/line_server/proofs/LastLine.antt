@@ -1,8 +1,10 @@
 -- The last line of a session.
-use Rattle.std.proofs.Common.{◌≡◌, ◌≢◌, ℕ, ◌≤◌, List, [], ◌∷◌, Option, refl, sym, subst, arith}
+use Rattle.std.proofs.Common.{◌≡◌, ◌≢◌, ℕ, ◌≤◌, List, [], ◌∷◌, Bool, true, false, Option, refl, sym, subst, arith}
 use Rattle.line_server.specs.Report.{Ending, ended, closing}
 use Rattle.line_server.specs.Machine.{Machine, by_chances}
 use Rattle.line_server.specs.Writing.{IsWritten}
+use Rattle.line_server.specs.Fitting.{FitsSome, FitsLast, is_whole}
+use Rattle.line_server.proofs.Fits.{none_fits_last}
 use Rattle.line_server.specs.Serving.{Serves, moment, Closes}
 use Rattle.line_server.specs.declared.lines.Answer.{Answer}
 use Rattle.line_server.specs.declared.ends.SessionEnd.{SessionEnd}
@@ -15,10 +17,11 @@ pub closed_by_last : {State Chance : Type 0} (machine : Machine State Chance) (s
     → Serves machine (state, faults) (state_after, faults_after) line answer → line ≢ []
     → IsWritten written written_after answer.text.items end
     → Closes machine (moment state line faults written) ended (moment state_after line faults_after written_after) end
-closed_by_last machine state state_after faults faults_after line written written_after answer end serves some wrote = record {
+closed_by_last {State} {Chance} machine state state_after faults faults_after line written written_after answer end serves some wrote = record {
   chances = serves.chance ∷ [];
   rises = serves.rises;
   counted = serves.counted;
+  fits = fits_is (is_whole end) line some serves.may;
   written = subst (λ (it : List ℕ). IsWritten written written_after it end) (text_is line some serves.reply.text) wrote;
 }
   where
@@ -27,16 +30,26 @@ closed_by_last machine state state_after faults faults_after line written writte
     text_is [] some_ is = absurd (some_ refl)
     text_is (byte ∷ bytes) some_ is = is
 
+    fits_is : (whole : Bool) (it : List ℕ) → it ≢ [] → machine.may state serves.chance it
+        → FitsSome machine whole (state, serves.chance ∷ []) it
+    fits_is whole [] some_ may = absurd (some_ refl)
+    fits_is true (byte ∷ bytes) some_ may = may
+    fits_is false (byte ∷ bytes) some_ may = may
+
 -- nothing is served, where it has none
 pub closed_empty : {State Chance : Type 0} (machine : Machine State Chance) (state : State) (faults : ℕ) (line : List ℕ)
     (written : Option (List ℕ)) → line ≡ []
     → Closes machine (moment state line faults written) ended (moment state line faults written) Finished
-closed_empty machine state faults line written none = record {
+closed_empty {State} {Chance} machine state faults line written none = record {
   chances = [];
   rises = omega arith;
   counted = counted_none machine faults faults (omega arith);
+  fits = subst (λ (it : List ℕ). FitsSome {State = State} {Chance = Chance} machine true (state, []) it) (sym none) unit;
   written = rw none (writes_none written written refl);
 }
+  where
+    unit : Unit {0}
+    unit = tt
 
 -- it is not served for want of memory
 pub closed_without_memory : {State Chance : Type 0} (machine : Machine State Chance) (state state_after : State) (faults faults_after : ℕ)
@@ -46,17 +59,19 @@ closed_without_memory machine state state_after faults faults_after line written
   chances = [];
   rises = rises;
   counted = counted_none machine faults faults_after rises;
+  fits = none_fits_last machine state line ended;
   written = ([], closing (by_chances machine) (state, []) line ended, refl, writes_none written written refl);
 }
 
 -- a closing line is written
 pub closed_by_text : {State Chance : Type 0} (machine : Machine State Chance) (state : State) (faults : ℕ) (line : List ℕ)
     (written written_after : Option (List ℕ)) (ending : Ending) (text : List ℕ) (end : SessionEnd)
-    → closing (by_chances machine) (state, []) line ending ≡ text → IsWritten written written_after text end
+    → FitsLast machine (is_whole end) (state, []) line ending → closing (by_chances machine) (state, []) line ending ≡ text → IsWritten written written_after text end
     → Closes machine (moment state line faults written) ending (moment state line faults written_after) end
-closed_by_text machine state faults line written written_after ending text end is wrote = record {
+closed_by_text machine state faults line written written_after ending text end fits is wrote = record {
   chances = [];
   rises = omega arith;
   counted = counted_none machine faults faults (omega arith);
+  fits = fits;
   written = subst (λ (it : List ℕ). IsWritten written written_after it end) (sym is) wrote;
 }

@@ -1,5 +1,6 @@
 mod Pieces
 mod Bytes
+mod Fits
 mod Counts
 mod LineFeed
 mod Moments

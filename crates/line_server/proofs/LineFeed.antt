@@ -1,12 +1,14 @@
 -- A line that a line feed completes.
 use Rattle.std.proofs.Common.{◌≡◌, ◌≢◌, ℕ, ◌<◌, ◌≤◌, Bool, true, false, List, [], ◌∷◌, ◌++◌, take, drop, length, Option, refl, sym, ap, subst, ◌∙◌, append_assoc, arith, length-append}
 use Rattle.std.proofs.lemmas.List.{take-append-drop, length-drop}
-use Rattle.line_server.specs.Report.{Reply, report}
+use Rattle.line_server.specs.Report.{Reply, Ending, report, complete, unfinished}
 use Rattle.line_server.specs.Machine.{Machine, by_chances}
 use Rattle.line_server.specs.Writing.{WritesAll, WritesBeginning}
 use Rattle.line_server.specs.Serving.{Serves, Stand, Passes, Quits, Begins, moment, HasServed, Broke}
 use Rattle.line_server.specs.declared.lines.Answer.{Answer}
 use Rattle.line_server.specs.declared.ends.Stop.TheVariants.{OutputFailed, NoMemory}
+use Rattle.line_server.specs.Fitting.{AllFit}
+use Rattle.line_server.proofs.Fits.{feed_fits, none_fit, unless_quits}
 use Rattle.line_server.proofs.Counts.{counted_none, writes_none}
 
 -- it is answered
@@ -78,6 +80,23 @@ line_served {State} {Chance} machine state state_after faults faults_after line 
         reply.text)
         (sym cleared) (passes_feed (by_chances machine) (state, serves.chance ∷ later) line goes_on))
 
+    fits_there : (whole_ : Bool) (later : List Chance) (more : List ℕ) (ending : Ending) → reply.quits ≡ false
+        → AllFit machine whole_ (state_after, later) line_after more ending
+        → AllFit machine whole_ (state, serves.chance ∷ later) line (10 ∷ more) ending
+    fits_there whole_ later more ending goes_on fit =
+        feed_fits machine whole_ state serves.chance later line more ending serves.may
+        (rw goes_on
+        (subst (λ (it : State). AllFit machine whole_ (it, later) [] more ending) serves.reply.next
+        (subst (λ (it : List ℕ). AllFit machine whole_ (state_after, later) it more ending) cleared fit)))
+
+    nothing : Unit {0}
+    nothing = tt
+
+    fits_end : (whole_ : Bool) (later : List Chance) (more : List ℕ) (ending : Ending) → reply.quits ≡ true
+        → AllFit machine whole_ (state, serves.chance ∷ later) line (10 ∷ more) ending
+    fits_end whole_ later more ending ends_it =
+        feed_fits machine whole_ state serves.chance later line more ending serves.may (rw ends_it nothing)
+
     by : (quits : Bool) → answer.quits ≡ quits
         → HasServed machine (moment state line faults written) (10 ∷ []) (moment state_after line_after faults_after written_after) quits
     by true here = record {
@@ -87,6 +106,7 @@ line_served {State} {Chance} machine state state_after faults faults_after line 
       rises = serves.rises;
       counted = serves.counted;
       quits = λ later. quits_feed (by_chances machine) (state, serves.chance ∷ later) line (sym serves.reply.quits ∙ here);
+      fits = λ whole_ later more ending. fits_end whole_ later more ending (sym serves.reply.quits ∙ here);
     }
     by false here = record {
       text = reply.text;
@@ -95,6 +115,7 @@ line_served {State} {Chance} machine state state_after faults faults_after line 
       rises = serves.rises;
       counted = serves.counted;
       passes = λ later. there later (sym serves.reply.quits ∙ here);
+      fits = λ whole_ later more ending fit. fits_there whole_ later more ending (sym serves.reply.quits ∙ here) fit;
     }
 
 -- a line was answered, and the output failed
@@ -111,6 +132,11 @@ line_broke {State} {Chance} machine state state_after faults faults_after line l
       rises = serves.rises;
       counted = serves.counted;
       begins = λ later. begins_feed (by_chances machine) (state, serves.chance ∷ later) line wrote.0 (rw serves.reply.text at wrote.1);
+      fits = λ more ending.
+          feed_fits machine false state serves.chance [] line more ending serves.may
+          (unless_quits (machine.reply state serves.chance line).quits
+          (AllFit machine false ((machine.reply state serves.chance line).next, []) [] more ending)
+          (none_fit machine (machine.reply state serves.chance line).next (complete [] more) (unfinished [] more) ending));
     }
 
 -- no memory, so nothing was written
@@ -125,6 +151,7 @@ memory_broke machine state state_after faults faults_after line bytes line_after
   counted = counted_none machine faults faults_after rises;
   begins = λ later. record
       { printed = λ more ending. (report (by_chances machine) (state, later) line (bytes ++ more) ending, unit, refl) };
+  fits = λ more ending. none_fit machine state (complete line (bytes ++ more)) (unfinished line (bytes ++ more)) ending;
 }
   where
     unit : Unit {0}

@@ -1,10 +1,11 @@
 -- One moment of a session after another.
-use Rattle.std.proofs.Common.{◌≡◌, ◌≢◌, ℕ, ◌+◌, ◌<◌, List, [], ◌∷◌, ◌++◌, take, drop, length, get_or, Option, refl, sym, ap, subst, ◌∙◌, append_assoc, arith}
+use Rattle.std.proofs.Common.{◌≡◌, ◌≢◌, ℕ, ◌+◌, ◌<◌, false, List, [], ◌∷◌, ◌++◌, take, drop, length, get_or, Option, refl, sym, ap, subst, ◌∙◌, append_assoc, arith}
 use Rattle.std.proofs.lemmas.List.{take-append-drop, take_more}
 use Rattle.line_server.specs.Machine.{Machine, by_chances}
-use Rattle.line_server.specs.Serving.{Stand, Passes, Quits, Begins, Moment, moment, stand_at, Passed, HasQuit, Broke}
+use Rattle.line_server.specs.Serving.{Stand, FitsAt, Passes, Quits, Begins, Moment, moment, stand_at, Passed, HasQuit, Broke}
 use Rattle.line_server.specs.declared.ends.Stop.{Stop}
 use Rattle.line_server.proofs.Bytes.{joins, passes_then, quits_then, begins_then, quits_still, begins_still}
+use Rattle.line_server.proofs.Fits.{joins_fit, in_parts}
 use Rattle.line_server.proofs.Counts.{counted_none, counted_then, writes_none, writes_then}
 
 -- nothing has come yet
@@ -16,13 +17,14 @@ nothing_passed machine before = record {
   rises = omega arith;
   counted = counted_none machine before.faults before.faults (omega arith);
   passes = λ later. record { printed = λ more ending. refl; ends = λ more ending. refl };
+  fits = λ whole later more ending fit. fit;
 }
 
 -- a byte joined the line
 pub byte_joined : {State Chance : Type 0} (machine : Machine State Chance) (state : State) (line line_after : List ℕ) (faults : ℕ)
     (written : Option (List ℕ)) (byte : ℕ) → byte ≢ 10 → line_after ≡ line ++ byte ∷ []
     → Passed machine (moment state line faults written) (byte ∷ []) (moment state line_after faults written)
-byte_joined machine state line line_after faults written byte plain joined = record {
+byte_joined {State} {Chance} machine state line line_after faults written byte plain joined = record {
   text = [];
   chances = [];
   wrote = writes_none written written refl;
@@ -32,6 +34,9 @@ byte_joined machine state line line_after faults written byte plain joined = rec
       subst (λ (it : List ℕ). Passes (by_chances machine) (record { state = (state, later); line = line }) (byte ∷ [])
       (record { state = (state, later); line = it }) [])
       (sym joined) (joins (by_chances machine) (state, later) line byte plain);
+  fits = λ whole later more ending fit.
+      joins_fit machine whole (state, later) line more ending byte plain
+      (subst (λ (it : List ℕ). FitsAt machine whole (record { state = (state, later); line = it }) more ending) joined fit);
 }
 
 -- the chances of one part before those of the next
@@ -53,6 +58,11 @@ passed_then {State} {Chance} machine one two three bytes others first second = r
       (in_order one first.chances second.chances later)
       (passes_then (by_chances machine) (stand_at one (first.chances ++ (second.chances ++ later))) (stand_at two (second.chances ++ later))
       (stand_at three later) bytes others first.text second.text (first.passes (second.chances ++ later)) (second.passes later));
+  fits = λ whole later more ending fit.
+      subst (λ (it : Stand (State × List Chance)). FitsAt machine whole it (bytes ++ others ++ more) ending)
+      (in_order one first.chances second.chances later)
+      (in_parts machine whole (stand_at one (first.chances ++ (second.chances ++ later))) bytes others more ending
+      (first.fits whole (second.chances ++ later) (others ++ more) ending (second.fits whole later more ending fit)));
 }
 
 pub quit_then : {State Chance : Type 0} (machine : Machine State Chance) (one two three : Moment State) (bytes others : List ℕ)
@@ -68,6 +78,11 @@ quit_then {State} {Chance} machine one two three bytes others first second = rec
       (in_order one first.chances second.chances later)
       (quits_then (by_chances machine) (stand_at one (first.chances ++ (second.chances ++ later))) (stand_at two (second.chances ++ later))
       bytes others first.text second.text (first.passes (second.chances ++ later)) (second.quits later));
+  fits = λ whole later more ending.
+      subst (λ (it : Stand (State × List Chance)). FitsAt machine whole it (bytes ++ others ++ more) ending)
+      (in_order one first.chances second.chances later)
+      (in_parts machine whole (stand_at one (first.chances ++ (second.chances ++ later))) bytes others more ending
+      (first.fits whole (second.chances ++ later) (others ++ more) ending (second.fits whole later more ending)));
 }
 
 pub broke_then : {State Chance : Type 0} (stop : Stop) (machine : Machine State Chance) (one two three : Moment State)
@@ -85,6 +100,9 @@ broke_then {State} {Chance} stop machine one two three bytes others first second
       (begins_then stop (by_chances machine) (stand_at one (first.chances ++ (second.chances ++ later)))
       (stand_at two (second.chances ++ later))
       bytes others first.text second.text (first.passes (second.chances ++ later)) (second.begins later));
+  fits = λ more ending.
+      in_parts machine false (stand_at one (first.chances ++ second.chances)) bytes others more ending
+      (first.fits false second.chances (others ++ more) ending (second.fits more ending));
 }
 
 pub quit_still : {State Chance : Type 0} (machine : Machine State Chance) (one two : Moment State) (bytes others : List ℕ)
@@ -96,6 +114,8 @@ quit_still machine one two bytes others quit = record {
   rises = quit.rises;
   counted = quit.counted;
   quits = λ later. quits_still (by_chances machine) (stand_at one (quit.chances ++ later)) bytes others quit.text (quit.quits later);
+  fits = λ whole later more ending.
+      in_parts machine whole (stand_at one (quit.chances ++ later)) bytes others more ending (quit.fits whole later (others ++ more) ending);
 }
 
 pub broke_still : {State Chance : Type 0} (stop : Stop) (machine : Machine State Chance) (one two : Moment State) (bytes others : List ℕ)
@@ -108,6 +128,7 @@ broke_still stop machine one two bytes others broke = record {
   counted = broke.counted;
   begins = λ later. begins_still stop (by_chances machine) (stand_at one (broke.chances ++ later)) bytes others broke.text
       (broke.begins later);
+  fits = λ more ending. in_parts machine false (stand_at one broke.chances) bytes others more ending (broke.fits (others ++ more) ending);
 }
 
 -- along the bytes of a piece: one more byte was served

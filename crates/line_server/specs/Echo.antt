@@ -16,4 +16,4 @@ abbrev pub repeated : Count → Nothing → List ℕ → Reply Count
 repeated count chance line = record { text = line ++ 10 ∷ []; next = count; quits = bytes_eq line (codes "quit") }
 
 abbrev pub echo : Machine Count Nothing
-echo = record { reply = repeated; no_chance = tt; is_fault = λ chance. false }
+echo = record { reply = repeated; no_chance = tt; is_fault = λ chance. false; may = λ count chance line. Nothing }

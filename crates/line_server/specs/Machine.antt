@@ -3,11 +3,13 @@ use Rattle.std.specs.Prelude.{ℕ, ◌+◌, ◌≤◌, ◌⊎◌, Bool, true, fa
 use Rattle.lotos_base.specs.Counts.{last_count}
 use Rattle.line_server.specs.Report.{Reply}
 
--- what a line comes to in a state with a chance; the chance of a line that met nothing, and which chances are faults
-pub record Machine (State Chance : Type 0) : Type 0 where
+-- what a line comes to in a state with a chance; the chance of a line that met nothing, which chances are faults, and which may
+-- befall a line in a state
+pub record Machine (State Chance : Type 0) : Type 1 where
   pub reply : State → Chance → List ℕ → Reply State
   pub no_chance : Chance
   pub is_fault : Chance → Bool
+  pub may : State → Chance → List ℕ → Type 0
 
 -- a reply, where the chances to come stand in the state beside it
 abbrev pub with_later : {State Chance : Type 0} → Reply State → List Chance → Reply (State × List Chance)

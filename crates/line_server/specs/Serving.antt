@@ -6,6 +6,7 @@ use Rattle.lotos_base.specs.Counts.{Rises}
 use Rattle.line_server.specs.Limits.{input_limit}
 use Rattle.line_server.specs.Report.{Reply, Ending, closing, report, status}
 use Rattle.line_server.specs.Machine.{Machine, by_chances, Counted}
+use Rattle.line_server.specs.Fitting.{AllFit, FitsLast, is_whole}
 use Rattle.line_server.specs.Writing.{WritesAll, IsWritten}
 use Rattle.line_server.specs.declared.lines.Answer.{Answer}
 use Rattle.line_server.specs.declared.ends.SessionEnd.{SessionEnd}
@@ -24,10 +25,11 @@ pub record IsReply {State : Type 0} (reply : Reply State) (answer : Answer) (sta
   pub next : state_after ≡ reply.next
   pub quits : answer.quits ≡ reply.quits
 
--- a line was answered, with some chance
+-- a line was answered, with some chance that may befall it
 pub record Serves {State Chance : Type 0} (machine : Machine State Chance) (before after : State × ℕ) (line : List ℕ)
     (answer : Answer) : Type 0 where
   pub chance : Chance
+  pub may : machine.may before.0 chance line
   pub reply : IsReply (machine.reply before.0 chance line) answer after.0
   pub rises : before.1 ≤ after.1
   pub counted : Counted machine before.1 (chance ∷ []) after.1
@@ -75,6 +77,10 @@ moment state line faults written = record { state = state; line = line; faults =
 abbrev pub stand_at : {State Chance : Type 0} → Moment State → List Chance → Stand (State × List Chance)
 stand_at moment later = record { state = (moment.state, later); line = moment.line }
 
+-- the chances may befall the lines of a session that stands here and in which these bytes come
+abbrev pub FitsAt : {State Chance : Type 0} → Machine State Chance → (whole : Bool) → Stand (State × List Chance) → List ℕ → Ending → Type 0
+FitsAt machine whole stand bytes ending = AllFit machine whole stand.state stand.line bytes ending
+
 -- from one moment to another these bytes were served
 pub record Passed {State Chance : Type 0} (machine : Machine State Chance) (before : Moment State) (bytes : List ℕ) (after : Moment State)
     : Type 0 where
@@ -85,6 +91,8 @@ pub record Passed {State Chance : Type 0} (machine : Machine State Chance) (befo
   pub counted : Counted machine before.faults chances after.faults
   pub passes : (later : List Chance)
       → Passes (by_chances machine) (stand_at before (chances ++ later)) bytes (stand_at after later) text
+  pub fits : (whole : Bool) (later : List Chance) (more : List ℕ) (ending : Ending) → FitsAt machine whole (stand_at after later) more ending
+      → FitsAt machine whole (stand_at before (chances ++ later)) (bytes ++ more) ending
 
 -- a line in these bytes ended the session
 pub record HasQuit {State Chance : Type 0} (machine : Machine State Chance) (before : Moment State) (bytes : List ℕ) (after : Moment State)
@@ -95,6 +103,8 @@ pub record HasQuit {State Chance : Type 0} (machine : Machine State Chance) (bef
   pub rises : before.faults ≤ after.faults
   pub counted : Counted machine before.faults chances after.faults
   pub quits : (later : List Chance) → Quits (by_chances machine) (stand_at before (chances ++ later)) bytes text
+  pub fits : (whole : Bool) (later : List Chance) (more : List ℕ) (ending : Ending)
+      → FitsAt machine whole (stand_at before (chances ++ later)) (bytes ++ more) ending
 
 -- these bytes were served, and ended the session or not
 abbrev pub HasServed : {State Chance : Type 0} → Machine State Chance → Moment State → List ℕ → Moment State → Bool → Type 0
@@ -110,6 +120,7 @@ pub record Broke {State Chance : Type 0} (stop : Stop) (machine : Machine State 
   pub rises : before.faults ≤ after.faults
   pub counted : Counted machine before.faults chances after.faults
   pub begins : (later : List Chance) → Begins stop (by_chances machine) (stand_at before (chances ++ later)) bytes text
+  pub fits : (more : List ℕ) (ending : Ending) → FitsAt machine false (stand_at before chances) (bytes ++ more) ending
 
 -- the input has ended, failed or passed its limit at a moment, and the session was closed with this answer: the last line was
 -- served with some chance where the input has ended, and the closing line was written else
@@ -118,6 +129,7 @@ pub record Closes {State Chance : Type 0} (machine : Machine State Chance) (befo
   pub chances : List Chance
   pub rises : before.faults ≤ after.faults
   pub counted : Counted machine before.faults chances after.faults
+  pub fits : FitsLast machine (is_whole answer) (before.state, chances) before.line ending
   pub written : IsWritten before.written after.written (closing (by_chances machine) (before.state, chances) before.line ending) answer
 
 -- the output's count where the writing stopped

@@ -4,6 +4,7 @@ use Rattle.lotos_base.specs.Counts.{Rises}
 use Rattle.line_server.specs.Limits.{input_limit}
 use Rattle.line_server.specs.Report.{Ending, ended, failed, too_long, report, status}
 use Rattle.line_server.specs.Machine.{Machine, by_chances, Counted}
+use Rattle.line_server.specs.Fitting.{AllFit, is_whole}
 use Rattle.line_server.specs.Writing.{WritesAll, IsAnswer, IsWritten}
 use Rattle.line_server.specs.declared.ends.SessionEnd.{SessionEnd}
 use Rattle.line_server.specs.declared.ends.SessionEnd.TheVariants.{InputFailed, InputTooLong, OutputFailed, NoMemory}
@@ -45,7 +46,7 @@ IsMet status failed = status ≡ InputFailed
 IsMet status _ = Unit {0}
 
 -- a session was served: there are bytes that it saw, what came behind them, and the chances that befell its lines, such that
--- answer and bytes written are those of the report
+-- answer and bytes written are those of the report. Each line that was answered has a chance that may befall it
 pub record Came {State Chance : Type 0} (machine : Machine State Chance) (before after : Surroundings State) (answer : SessionEnd) : Type 0
   where
     pub chances : List Chance
@@ -54,6 +55,7 @@ pub record Came {State Chance : Type 0} (machine : Machine State Chance) (before
     pub within : length seen ≤ input_limit
     pub given : IfSome before.left (λ bytes. IsSeen bytes after.left seen ending)
     pub input : InputCounts ending before.input_faults after.input_faults
+    pub fits : AllFit machine (is_whole answer) (before.state, chances) [] seen ending
     pub met : IsMet (status (by_chances machine) (before.state, chances) [] seen ending) ending
     pub answered : IsAnswer (status (by_chances machine) (before.state, chances) [] seen ending) before.output_faults after.output_faults
         answer
@@ -69,11 +71,13 @@ ending_of bytes = if nat_lt input_limit (length bytes) then too_long else ended
 abbrev pub EndsWith : SessionEnd → List ℕ → Option (List ℕ) → Option (List ℕ) → SessionEnd → Type 0
 EndsWith status report before after answer = (answer ≡ NoMemory) ⊎ ((answer ≡ status) × WritesAll before after report)
 
--- a session over these bytes ends as its report does, with chances of which no more are faults than were counted
+-- a session over these bytes ends as its report does, with chances that may befall its lines, of which no more are faults than
+-- were counted
 pub record EndsBy {State Chance : Type 0} (machine : Machine State Chance) (before after : Surroundings State) (bytes : List ℕ)
     (answer : SessionEnd) : Type 0 where
   pub chances : List Chance
   pub counted : Counted machine before.faults chances after.faults
+  pub fits : AllFit machine (is_whole answer) (before.state, chances) [] (take input_limit bytes) (ending_of bytes)
   pub ends : EndsWith
       (status (by_chances machine) (before.state, chances) [] (take input_limit bytes) (ending_of bytes))
       (report (by_chances machine) (before.state, chances) [] (take input_limit bytes) (ending_of bytes))

@@ -87,11 +87,13 @@ pub fn build(alloc: Global, row: BehavioursRow, token: Option<Token>, parts: Vec
         BehavioursRow::NoBehaviourTail => Ok(Some(empty_tail(alloc))),
         BehavioursRow::BehaviourTail => sign_before(parts),
         BehavioursRow::ActionWithoutOffers | BehavioursRow::PrefixAfterOffers => {
-            Ok(without_offers(alloc, parts))
+            without_offers(alloc, parts)
         }
-        BehavioursRow::ActionWithOffers | BehavioursRow::OneMoreOffer => with_offers(parts),
+        BehavioursRow::ActionWithOffers | BehavioursRow::OneMoreOffer => {
+            with_offers(alloc, parts)
+        }
         BehavioursRow::Call => Ok(nameless_call(parts)),
-        BehavioursRow::SelectionAfterOffers => Ok(with_selection(alloc, parts)),
+        BehavioursRow::SelectionAfterOffers => with_selection(alloc, parts),
         BehavioursRow::Chosen => chosen_behaviour(alloc, parts),
         BehavioursRow::NoAccept => Ok(Some(empty_variables(alloc))),
         BehavioursRow::Accept => Ok(the_variables(parts)),

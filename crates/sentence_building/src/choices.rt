@@ -16,25 +16,20 @@ use lotos_base::Place;
 use lotos_lexer::Token;
 use std::alloc::{AllocError, Global};
 use syntax_trees::{BehForm, BehText, GateText, Named, VarText};
+use tree_building::Value;
 use tree_building::behaviours_values::{GateChoiceEnd, ValueChoiceEnd};
 use tree_building::declarations::add_gate_choices;
 use tree_building::names::{Built, add_variables, turned};
-use tree_building::value::take;
-use tree_building::{Part, Value};
+use tree_building::value::{of_another_kind, take};
 
 /// `choice` over variables, which are held from the last to the first.
 #[tactic(auto, using(tree_building::proofs::FromLast::map_reverse))]
-fn choose_variables(
-    alloc: Global,
-    place: Place,
-    variables: Vec<VarText>,
-    inside: BehText,
-) -> Result<BehText, AllocError>
-    ensures { IfOk result (λ it. behaviour_of it
-        ≡ plain.choose_value (text_place_of place) (from_last variable_of variables.items) (behaviour_of inside)) }
+fn choose_variables(place: Place, variables: Vec<VarText>, inside: Box<BehText>) -> BehText
+    ensures { behaviour_of result
+        ≡ plain.choose_value (text_place_of place) (from_last variable_of variables.items) (behaviour_of inside.value) }
 {
-    let form = BehForm::ChooseValue(turned(variables), Box::new(alloc, inside)?);
-    Ok(BehText { place, form })
+    let form = BehForm::ChooseValue(turned(variables), inside);
+    BehText { place, form }
 }
 
 /// `choice` over values: the first names, and what stands behind them.
@@ -46,28 +41,23 @@ fn choose_values(
 ) -> Result<Value, AllocError>
     ensures { IfOk result (λ value. meaning value ≡ alone (plain.choose_value (text_place_of place)
         (variables_of_sort (from_last placed_name_of names.items) (placed_name_of end.sort) ++ from_last variable_of end.more.items)
-        (behaviour_of end.inside))) }
+        (behaviour_of end.inside.value))) }
 {
     let ValueChoiceEnd { sort, more, inside } = end;
     let mut variables = more;
     add_variables(alloc, names, &sort, &mut variables)?;
-    let behaviour = choose_variables(alloc, place, variables, inside)?;
+    let behaviour = choose_variables(place, variables, inside);
     only_operand(alloc, behaviour)
 }
 
 /// `choice` over gates, whose declarations are held from the last to the first.
 #[tactic(auto, using(tree_building::proofs::FromLast::map_reverse))]
-fn choose_declared(
-    alloc: Global,
-    place: Place,
-    gates: Vec<GateText>,
-    inside: BehText,
-) -> Result<BehText, AllocError>
-    ensures { IfOk result (λ it. behaviour_of it
-        ≡ plain.choose_gate (text_place_of place) (from_last gate_choice_of gates.items) (behaviour_of inside)) }
+fn choose_declared(place: Place, gates: Vec<GateText>, inside: Box<BehText>) -> BehText
+    ensures { behaviour_of result
+        ≡ plain.choose_gate (text_place_of place) (from_last gate_choice_of gates.items) (behaviour_of inside.value) }
 {
-    let form = BehForm::ChooseGate(turned(gates), Box::new(alloc, inside)?);
-    Ok(BehText { place, form })
+    let form = BehForm::ChooseGate(turned(gates), inside);
+    BehText { place, form }
 }
 
 /// `choice` over gates: the first names, and what stands behind them.
@@ -80,7 +70,7 @@ fn choose_gates(
 ) -> Result<Value, AllocError>
     ensures { IfOk result (λ value. meaning value ≡ alone (plain.choose_gate (text_place_of place)
         (gate_choices_among (from_last placed_name_of names.items) (from_last placed_name_of end.among.items) ++ from_last gate_choice_of end.more.items)
-        (behaviour_of end.inside))) }
+        (behaviour_of end.inside.value))) }
 {
     let GateChoiceEnd {
         among,
@@ -89,19 +79,8 @@ fn choose_gates(
     } = end;
     let mut gates = more;
     add_gate_choices(alloc, names, &turned(among), &mut gates)?;
-    let behaviour = choose_declared(alloc, place, gates, inside)?;
+    let behaviour = choose_declared(place, gates, inside);
     only_operand(alloc, behaviour)
-}
-
-/// What stands behind the names of a `choice` that is not over values.
-fn chosen_over_gates(alloc: Global, place: Place, names: Vec<Named>, end: Value) -> Built
-    ensures { IfOk result (λ built. (rest : List Meaning) → option_map meaning built
-        ≡ choice_of_gates (text_place_of place) (from_last placed_name_of names.items) (meaning end ∷ rest)) }
-{
-    match GateChoiceEnd::of(end) {
-        Ok(end) => Ok(Some(choose_gates(alloc, place, names, end)?)),
-        Err(_) => Ok(None),
-    }
 }
 
 /// What stands behind the names of a `choice`, over values or over gates.
@@ -110,9 +89,10 @@ fn chosen_over(alloc: Global, place: Place, names: Vec<Named>, end: Value) -> Bu
         ≡ or_else (choice_of_values (text_place_of place) (from_last placed_name_of names.items) (meaning end ∷ rest))
         (choice_of_gates (text_place_of place) (from_last placed_name_of names.items) (meaning end ∷ rest))) }
 {
-    match ValueChoiceEnd::of(end) {
-        Ok(end) => Ok(Some(choose_values(alloc, place, names, end)?)),
-        Err(end) => chosen_over_gates(alloc, place, names, end),
+    match end {
+        Value::ValueChoice(end) => Ok(Some(choose_values(alloc, place, names, end)?)),
+        Value::GateChoice(end) => Ok(Some(choose_gates(alloc, place, names, end)?)),
+        other => Ok(of_another_kind(other)),
     }
 }
 

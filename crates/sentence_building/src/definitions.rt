@@ -17,7 +17,7 @@ use tree_building::Value;
 use tree_building::behaviours_values::Flat;
 use tree_building::definitions_values::Heading;
 use tree_building::names::{Built, empty_names, empty_variables, the_names, the_variables, turned};
-use tree_building::value::take;
+use tree_building::value::{held, take};
 
 /// A name, gates, parameters and a functionality.
 #[tactic(auto, using(tree_building::proofs::FromLast::map_reverse))]
@@ -146,7 +146,8 @@ fn process(alloc: Global, mut parts: Vec<Value>) -> Built
     let Some(body) = grouped(alloc, flat)? else {
         return Ok(None);
     };
-    Ok(Some(Value::Process(process_of_heading(heading, body, inner))))
+    let process = process_of_heading(heading, body, inner);
+    Ok(Some(Value::Process(held(alloc, process)?)))
 }
 
 /// What a row of processes and headings builds from its parts.

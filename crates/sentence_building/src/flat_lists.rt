@@ -15,7 +15,7 @@ use syntax_trees::{BehText, Sign, group};
 use tree_building::Value;
 use tree_building::behaviours_values::Flat;
 use tree_building::names::{Built, turned};
-use tree_building::value::take;
+use tree_building::value::{held, take};
 
 /// The tree of a flat list, or none where it has not one operand more than signs.
 #[tactic(auto, using(tree_building::proofs::FromLast::map_reverse))]
@@ -111,5 +111,5 @@ pub fn chosen_behaviour(alloc: Global, mut parts: Vec<Value>) -> Built
     let Some(inside) = grouped(alloc, flat)? else {
         return Ok(None);
     };
-    Ok(Some(Value::Behaviour(inside)))
+    Ok(Some(Value::Behaviour(held(alloc, inside)?)))
 }

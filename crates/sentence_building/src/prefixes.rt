@@ -15,10 +15,10 @@ use lotos_base::{Place, Written};
 use lotos_lexer::Token;
 use std::alloc::{AllocError, Global};
 use syntax_trees::{BehForm, BehText, Named, OfferText, TestText};
+use tree_building::Value;
 use tree_building::behaviours_values::{ActionEnd, CallEnd, Flat};
 use tree_building::names::{Built, turned};
-use tree_building::value::take;
-use tree_building::{Part, Value};
+use tree_building::value::{held, of_another_kind, take};
 
 /// `i; B`.
 fn inner_action(alloc: Global, place: Place, next: BehText) -> Result<BehText, AllocError>
@@ -181,24 +181,15 @@ fn call_before(name: Named, end: CallEnd) -> Result<Value, AllocError>
     operand_before(call(name, gates, values), behind)
 }
 
-/// A name before what does not make it the gate of an action.
-fn name_before_call(name: Named, end: Value) -> Built
-    ensures { IfOk result (λ built. (rest : List Meaning) → option_map meaning built ≡ call_of_process (placed_name_of name) (meaning end ∷ rest)) }
-{
-    match CallEnd::of(end) {
-        Ok(end) => Ok(Some(call_before(name, end)?)),
-        Err(_) => Ok(None),
-    }
-}
-
 /// A name before what makes it the gate of an action, or the process of a call.
 fn name_before(alloc: Global, name: Named, end: Value) -> Built
     ensures { IfOk result (λ built. (rest : List Meaning) → option_map meaning built
         ≡ or_else (action_of_gate (placed_name_of name) (meaning end ∷ rest)) (call_of_process (placed_name_of name) (meaning end ∷ rest))) }
 {
-    match ActionEnd::of(end) {
-        Ok(end) => Ok(Some(action_before(alloc, name, end)?)),
-        Err(end) => name_before_call(name, end),
+    match end {
+        Value::Action(end) => Ok(Some(action_before(alloc, name, Box::into_inner(end))?)),
+        Value::Call(end) => Ok(Some(call_before(name, end)?)),
+        other => Ok(of_another_kind(other)),
     }
 }
 
@@ -218,20 +209,23 @@ pub fn named(alloc: Global, mut parts: Vec<Value>) -> Built
 
 /// The end of an action without offers and without a selection predicate.
 #[tactic(auto, using(tree_building::proofs::FromLast::from_last_none))]
-pub fn without_offers(alloc: Global, mut parts: Vec<Value>) -> Option<Value>
-    ensures { option_map meaning result ≡ action_without_offers (from_last meaning parts.items) }
+pub fn without_offers(alloc: Global, mut parts: Vec<Value>) -> Built
+    ensures { IfOk result (λ built. option_map meaning built ≡ action_without_offers (from_last meaning parts.items)) }
 {
-    let behind = take::<Flat>(&mut parts)?;
-    Some(Value::Action(ActionEnd {
+    let Some(behind) = take::<Flat>(&mut parts) else {
+        return Ok(None);
+    };
+    let end = ActionEnd {
         offers: Vec::new(alloc),
         test: None,
         behind,
-    }))
+    };
+    Ok(Some(Value::Action(held(alloc, end)?)))
 }
 
 /// Offers before the end of an action.
 #[tactic(auto, using(tree_building::proofs::FromLast::from_last_append))]
-pub fn with_offers(mut parts: Vec<Value>) -> Built
+pub fn with_offers(alloc: Global, mut parts: Vec<Value>) -> Built
     ensures { IfOk result (λ built. option_map meaning built ≡ offers_before_action (from_last meaning parts.items)) }
 {
     let Some(mut first) = take::<Vec<OfferText>>(&mut parts) else {
@@ -246,25 +240,31 @@ pub fn with_offers(mut parts: Vec<Value>) -> Built
         behind,
     } = end;
     offers.append(&mut first)?;
-    Ok(Some(Value::Action(ActionEnd {
+    let end = ActionEnd {
         offers,
         test,
         behind,
-    })))
+    };
+    Ok(Some(Value::Action(held(alloc, end)?)))
 }
 
 /// The end of an action with a selection predicate.
 #[tactic(auto, using(tree_building::proofs::FromLast::from_last_none))]
-pub fn with_selection(alloc: Global, mut parts: Vec<Value>) -> Option<Value>
-    ensures { option_map meaning result ≡ action_with_selection (from_last meaning parts.items) }
+pub fn with_selection(alloc: Global, mut parts: Vec<Value>) -> Built
+    ensures { IfOk result (λ built. option_map meaning built ≡ action_with_selection (from_last meaning parts.items)) }
 {
-    let test = take::<TestText>(&mut parts)?;
-    let behind = take::<Flat>(&mut parts)?;
-    Some(Value::Action(ActionEnd {
+    let Some(test) = take::<TestText>(&mut parts) else {
+        return Ok(None);
+    };
+    let Some(behind) = take::<Flat>(&mut parts) else {
+        return Ok(None);
+    };
+    let end = ActionEnd {
         offers: Vec::new(alloc),
         test: Some(test),
         behind,
-    }))
+    };
+    Ok(Some(Value::Action(held(alloc, end)?)))
 }
 
 /// A call without its name.

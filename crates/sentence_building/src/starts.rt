@@ -27,7 +27,7 @@ use tree_building::names::{Built, turned};
 use tree_building::names_values::{NamedOp, OpProfile};
 use tree_building::terms::{empty_terms, the_terms};
 use tree_building::types::{empty_items, joined_items, the_items};
-use tree_building::value::take;
+use tree_building::value::{held, take};
 
 /// `behaviour` or `behavior`.
 fn behaviour_word() -> Value
@@ -77,7 +77,8 @@ fn specification(alloc: Global, mut parts: Vec<Value>) -> Built
     let Some(body) = grouped(alloc, flat)? else {
         return Ok(None);
     };
-    Ok(Some(Value::Specification(whole(heading, items, body, inner))))
+    let whole = whole(heading, items, body, inner);
+    Ok(Some(Value::Specification(held(alloc, whole)?)))
 }
 
 /// No items of an order file.

@@ -16,7 +16,7 @@ use tree_building::{Part, Value};
 pub fn built_specification(value: Value) -> Option<SpecText>
     ensures { option_map specification_of result ≡ specification_in (meaning value) }
 {
-    SpecText::of(value).ok()
+    SpecText::of(value)
 }
 
 /// The items that the value is, if it is some.
@@ -24,7 +24,7 @@ pub fn built_specification(value: Value) -> Option<SpecText>
 pub fn built_items(value: Value) -> Option<Vec<ItemText>>
     ensures { option_map (λ items. map item_of items.items) result ≡ items_in (meaning value) }
 {
-    let items = Vec::<ItemText>::of(value).ok()?;
+    let items = Vec::<ItemText>::of(value)?;
     Some(turned(items))
 }
 
@@ -33,7 +33,7 @@ pub fn built_items(value: Value) -> Option<Vec<ItemText>>
 pub fn built_order(value: Value) -> Option<Vec<OrderItem>>
     ensures { option_map (λ items. map listed_operation_of items.items) result ≡ order_items_in (meaning value) }
 {
-    let items = Vec::<OrderItem>::of(value).ok()?;
+    let items = Vec::<OrderItem>::of(value)?;
     Some(turned(items))
 }
 
@@ -42,6 +42,6 @@ pub fn built_order(value: Value) -> Option<Vec<OrderItem>>
 pub fn built_terms(value: Value) -> Option<Vec<Written>>
     ensures { option_map (λ terms. map written_term_of terms.items) result ≡ terms_in (meaning value) }
 {
-    let terms = Vec::<Written>::of(value).ok()?;
+    let terms = Vec::<Written>::of(value)?;
     Some(turned(terms))
 }

@@ -1,7 +1,6 @@
 -- Chosen forms of instances: a variable, the arguments one by one, and what the first rule makes.
-use Rattle.std.proofs.Common.{◌≡◌, ℕ, zero, suc, ◌+◌, ◌<◌, List, [], ◌∷◌, ◌++◌, length, get_or, take, Bool, true, false, nat_eq, refl, ap, sym, ◌∙◌, subst, inl, inr, arith}
+use Rattle.std.proofs.Common.{◌≡◌, ℕ, zero, suc, ◌<◌, List, [], ◌∷◌, ◌++◌, length, drop, append_assoc, append-nil, Bool, true, false, nat_eq, refl, ap, sym, ◌∙◌, subst, inl, inr}
 use Rattle.std.specs.Prelude.{Some, None, slice_get, if◌then◌else◌}
-use Rattle.std.proofs.lemmas.List.{take_more}
 use Rattle.std.proofs.lemmas.Option.{same_Some, slice_get_within}
 use Rattle.std.proofs.lemmas.Bool.Decides.{Decides-eqb}
 use Rattle.term_algebra.specs.Signature.{Signature, Operation, IsSort}
@@ -13,20 +12,19 @@ use Rattle.rewriting_theory.specs.Rule.{Rule as PlainRule, IsNode}
 use Rattle.rewriting_theory.specs.Step.{in_arguments, StepAmong, here, there}
 use Rattle.rewriting_theory.specs.Matching.{Matches, FirstStep}
 use Rattle.rewriting_theory.specs.ChosenForm.{Chosen, AllChosen, all_chosen, chosen_then}
-use Rattle.rewriting_theory.specs.Measure.{choice_cost}
 use Rattle.rewriting_theory.proofs.ChosenLemmas.{variable_stuck, chosen_reached}
 use Rattle.rewriting_theory.proofs.CostLemmas.{costs_are_measures}
 use Rattle.rewriting_theory.proofs.PublicLemmas.{stuck_by_links, stuck_by_steps, normal_chosen, chosen_normal}
 use Rattle.rewriting_theory.proofs.SortedSteps.{reaches_sort}
 use Rattle.sort_terms.specs.ProfiledTerm.{ProfiledTerm, ProfiledTerms, profiled_variable, profiled_node, no_profiled_terms, profiled_term_then, bare, all_bare, head_sort, FitsProfiles, IsOf, AreOf}
 use Rattle.sort_terms.specs.SortedView.{profiled_in}
-use Rattle.sort_terms.specs.TermView.{profiled_of, all_profiled, term_of, terms_of}
+use Rattle.sort_terms.specs.TermView.{profiled_of, all_profiled}
 use Rattle.sort_terms.specs.declared.terms.Term.{Term}
 use Rattle.sort_terms.specs.declared.sorted.Sorted.{Sorted}
 use Rattle.sort_terms.proofs.ProfiledTermLemmas.{fitting_has_sort, sorted_fits}
 use Rattle.sort_terms.proofs.TermListLemmas.{with_last_profiled, all_profiled-append}
 use Rattle.term_match.specs.Matched.{IsPair}
-use Rattle.term_match.specs.ProfiledInstance.{ProfiledSubstitution, profiled_instance, profiled_instances, profiled_binding, bare_pairs}
+use Rattle.term_match.specs.ProfiledInstance.{profiled_instances, profiled_binding, bare_pairs}
 use Rattle.term_match.specs.Search.{searched, all_searched}
 use Rattle.term_match.proofs.InstanceLemmas.{instance_by_pairs}
 use Rattle.term_match.proofs.MatchLemmas.{All, AreKept, IsInherited, all_search_keeps, if_through, search_is_match}
@@ -35,16 +33,14 @@ use Rattle.path_order.specs.RulesView.{plain_rules_in, signature_in}
 use Rattle.path_order.specs.declared.rule.Rule.{Rule}
 use Rattle.path_order.specs.declared.rules.Rules.{Rules}
 use Rattle.path_order.proofs.RulesLemmas.{rules_well_formed, rules_end, rules_have_forms, rules_data, rules_sorted}
-use Rattle.term_rewriter.specs.FirstMatch.{IsFirstMatch}
+use Rattle.term_rewriter.specs.Begun.{form_size}
+use Rattle.term_rewriter.specs.FirstMatch.{IsFirstMatch, IsFirstRule}
 use Rattle.term_rewriter.specs.Form.{IsNormalOf, AreNormalFor, by_pairs, IsFormOf}
+use Rattle.term_rewriter.specs.Reduced.{IsReducedBelow, AreReducedBelow}
 use Rattle.term_rewriter.proofs.FirstLemmas.{plain_at, code_at, rule_over}
 
 abbrev Pairs : Type 0
 Pairs = List (ℕ × ProfiledTerm)
-
--- the measure of the recursion
-abbrev pub form_cost : (rules : Rules) → Pairs → ProfiledTerm → ℕ
-form_cost rules pairs t = choice_cost (rules_have_forms rules) (bare (by_pairs pairs t))
 
 -- ---- irreducible terms
 
@@ -72,12 +68,6 @@ normal_form rules t made h same =
 
 -- ---- the arguments
 
-instances-with_last : (values : ProfiledSubstitution) (ts : ProfiledTerms) (t : ProfiledTerm)
-    → profiled_instances values (with_last_profiled ts t) ≡ with_last_profiled (profiled_instances values ts) (profiled_instance values t)
-instances-with_last values no_profiled_terms t = refl
-instances-with_last values (profiled_term_then u us) t = ap (λ ts. profiled_term_then (profiled_instance values u) ts)
-    (instances-with_last values us t)
-
 chosen_last : (rules : List PlainRule) (ts us : ProfiledTerms) (t u : ProfiledTerm) → AllChosen rules (all_bare ts) (all_bare us)
     → Chosen rules (bare t) (bare u) → AllChosen rules (all_bare (with_last_profiled ts t)) (all_bare (with_last_profiled us u))
 chosen_last rules no_profiled_terms no_profiled_terms t u all one = chosen_then one all_chosen
@@ -90,66 +80,159 @@ all_last : (P : ProfiledTerm → Type 0) (ts : ProfiledTerms) (t : ProfiledTerm)
 all_last P no_profiled_terms t all one = (one, tt)
 all_last P (profiled_term_then u us) t all one = (all.0, all_last P us t all.1 one)
 
--- The forms so far are those of the arguments so far.
-pub record AreForms (rules : Rules) (pairs : List (ℕ × ProfiledTerm)) (ts made : ProfiledTerms) : Type 0 where
-  pub chosen : AllChosen (plain_rules_in rules) (all_bare (profiled_instances (profiled_binding pairs) ts)) (all_bare made)
+-- The second terms are the chosen forms of the first ones.
+pub record AreForms (rules : Rules) (ts made : ProfiledTerms) : Type 0 where
+  pub chosen : AllChosen (plain_rules_in rules) (all_bare ts) (all_bare made)
   pub normal : All (IsNormalOf (signature_in rules) (plain_rules_in rules)) made
 
-pub no_forms : (rules : Rules) (pairs : Pairs) (made : List Term) → made ≡ [] → AreForms rules pairs no_profiled_terms (all_profiled made)
-no_forms rules pairs made is =
-    subst (λ (ts : List Term). AreForms rules pairs no_profiled_terms (all_profiled ts)) (sym is)
-    (record { chosen = all_chosen; normal = tt })
-
-pub forms_more : (rules : Rules) (pairs : Pairs) (xs made new : List Term) (i : ℕ) (x y : Term) → i < length xs → x ≡ get_or xs i x
-    → new ≡ made ++ y ∷ [] → AreForms rules pairs (all_profiled (take i xs)) (all_profiled made)
-    → IsFormOf (signature_in rules) (plain_rules_in rules) (by_pairs pairs (profiled_of x)) (profiled_of y)
-    → AreForms rules pairs (all_profiled (take (i + 1) xs)) (all_profiled new)
-forms_more rules pairs xs made new i x y within is added so_far one =
-    let values = profiled_binding pairs in
-    let more : all_profiled (take (i + 1) xs) ≡ with_last_profiled (all_profiled (take i xs)) (profiled_of x) =
-    ap all_profiled (take_more xs i x within ∙ ap (λ (z : Term). take i xs ++ z ∷ []) (sym is)) ∙ all_profiled-append (take i xs) x in
+forms_more : (rules : Rules) (xs made new : List Term) (x y : Term) → new ≡ made ++ y ∷ []
+    → AreForms rules (all_profiled xs) (all_profiled made)
+    → IsFormOf (signature_in rules) (plain_rules_in rules) (profiled_of x) (profiled_of y)
+    → AreForms rules (all_profiled (xs ++ x ∷ [])) (all_profiled new)
+forms_more rules xs made new x y added so_far one =
     let made_more : all_profiled new ≡ with_last_profiled (all_profiled made) (profiled_of y) =
     ap all_profiled added ∙ all_profiled-append made y in
-    let chosen = chosen_last (plain_rules_in rules) (profiled_instances values (all_profiled (take i xs))) (all_profiled made)
-    (profiled_instance values (profiled_of x)) (profiled_of y) so_far.chosen one.chosen in
-    subst (λ (us : ProfiledTerms). AreForms rules pairs (all_profiled (take (i + 1) xs)) us) (sym made_more)
-    (subst (λ (ts : ProfiledTerms). AreForms rules pairs ts (with_last_profiled (all_profiled made) (profiled_of y))) (sym more)
+    subst (λ (us : ProfiledTerms). AreForms rules (all_profiled (xs ++ x ∷ [])) us) (sym made_more)
+    (subst (λ (ts : ProfiledTerms). AreForms rules ts (with_last_profiled (all_profiled made) (profiled_of y)))
+    (sym (all_profiled-append xs x))
     (record {
-      chosen = subst (λ (ts : ProfiledTerms). AllChosen (plain_rules_in rules) (all_bare ts)
-          (all_bare (with_last_profiled (all_profiled made) (profiled_of y))))
-          (sym (instances-with_last values (all_profiled (take i xs)) (profiled_of x))) chosen;
+      chosen = chosen_last (plain_rules_in rules) (all_profiled xs) (all_profiled made) (profiled_of x)
+          (profiled_of y) so_far.chosen one.chosen;
       normal = all_last (IsNormalOf (signature_in rules) (plain_rules_in rules)) (all_profiled made) (profiled_of y) so_far.normal
-          (form_normal rules (by_pairs pairs (profiled_of x)) (profiled_of y) one);
+          (form_normal rules (profiled_of x) (profiled_of y) one);
     }))
+
+-- Some arguments of the term have their forms, and the other ones are instances of the shapes that are left.
+pub record AreFormsSoFar (rules : Rules) (t : ProfiledTerm) (f : ℕ) (operation : Operation) (later rest made : List Term) : Type 0 where
+  pub done : List Term
+  pub shape : t ≡ profiled_node f operation (all_profiled (done ++ rest))
+  pub forms : AreForms rules (all_profiled done) (all_profiled made)
+  pub reduced : AreReducedBelow (signature_in rules) (plain_rules_in rules) (all_profiled later) (all_profiled rest)
+
+pub no_forms : (rules : Rules) (shape t : ProfiledTerm) (f g : ℕ) (operation other : Operation) (shapes arguments rest made : List Term)
+    → shape ≡ profiled_node g other (all_profiled shapes) → t ≡ profiled_node f operation (all_profiled arguments) → rest ≡ arguments
+    → made ≡ [] → IsReducedBelow (signature_in rules) (plain_rules_in rules) shape t
+    → AreFormsSoFar rules t f operation (drop 0 shapes) rest made
+no_forms rules shape t f g operation other shapes arguments rest made shape_is t_is rest_is none reduced = record {
+  done = [];
+  shape = t_is ∙ ap (λ (ts : List Term). profiled_node f operation (all_profiled ts)) (sym rest_is);
+  forms = subst (λ (ts : List Term). AreForms rules no_profiled_terms (all_profiled ts)) (sym none)
+      (record { chosen = all_chosen; normal = tt });
+  reduced = subst (λ (ts : List Term). AreReducedBelow (signature_in rules) (plain_rules_in rules) (all_profiled shapes) (all_profiled ts))
+      (sym rest_is)
+      (subst (λ (u : ProfiledTerm). IsReducedBelow (signature_in rules) (plain_rules_in rules) (profiled_node g other
+      (all_profiled shapes)) u)
+      t_is (subst (λ (s : ProfiledTerm). IsReducedBelow (signature_in rules) (plain_rules_in rules) s t) shape_is reduced));
+}
 
 -- ---- what the call for an argument asks
 
-pub argument_is_of : (signature : Signature) (xs : List Term) (i : ℕ) (x : Term) → i < length xs → x ≡ get_or xs i x
-    → AreOf signature (all_profiled xs) → IsOf signature (profiled_of x)
-argument_is_of signature [] i x within is h = absurd (omega arith)
-argument_is_of signature (y ∷ ys) zero x within is h = subst (λ (t : Term). IsOf signature (profiled_of t)) (sym is) h.0
-argument_is_of signature (y ∷ ys) (suc i) x within is h = argument_is_of signature ys i x (omega arith) is h.1
+argument_there : (done rest : List Term) (part : Term)
+    → argument_at (length done) (all_bare (all_profiled (done ++ part ∷ rest))) ≡ Some (bare (profiled_of part))
+argument_there [] rest part = refl
+argument_there (x ∷ done) rest part = argument_there done rest part
 
-pub argument_occurs : (xs : List Term) (i : ℕ) (x : Term) (n s : ℕ) → i < length xs → x ≡ get_or xs i x → Occurs n s (term_of x)
-    → OccursAmong n s (terms_of xs)
-argument_occurs [] i x n s within is o = absurd (omega arith)
-argument_occurs (y ∷ ys) zero x n s within is o = inl (subst (λ (t : Term). Occurs n s (term_of t)) is o)
-argument_occurs (y ∷ ys) (suc i) x n s within is o = inr (argument_occurs ys i x n s (omega arith) is o)
+argument_is_of : (signature : Signature) (done rest : List Term) (part : Term) → AreOf signature (all_profiled (done ++ part ∷ rest))
+    → IsOf signature (profiled_of part)
+argument_is_of signature [] rest part h = h.0
+argument_is_of signature (x ∷ done) rest part h = argument_is_of signature done rest part h.1
 
-argument_instance : (values : ProfiledSubstitution) (xs : List Term) (i : ℕ) (x : Term) → i < length xs → x ≡ get_or xs i x
-    → argument_at i (all_bare (profiled_instances values (all_profiled xs))) ≡ Some (bare (profiled_instance values (profiled_of x)))
-argument_instance values [] i x within is = absurd (omega arith)
-argument_instance values (y ∷ ys) zero x within is = ap (λ (t : Term). Some (bare (profiled_instance values (profiled_of t)))) (sym is)
-argument_instance values (y ∷ ys) (suc i) x within is = argument_instance values ys i x (omega arith) is
+-- What the call for an argument asks.
+pub record IsAsked (rules : Rules) (t : ProfiledTerm) (shape part : Term) : Type 0 where
+  pub falls : form_size rules (profiled_of part) < form_size rules t
+  pub term : IsOf (signature_in rules) (profiled_of part)
+  pub reduced : IsReducedBelow (signature_in rules) (plain_rules_in rules) (profiled_of shape) (profiled_of part)
 
-pub argument_cost : (rules : Rules) (pairs : Pairs) (f : ℕ) (operation : Operation) (xs : List Term) (i : ℕ) (x : Term)
-    → i < length xs → x ≡ get_or xs i x
-    → form_cost rules pairs (profiled_of x) < form_cost rules pairs (profiled_node f operation (all_profiled xs))
-argument_cost rules pairs f operation xs i x within is =
-    (costs_are_measures (plain_rules_in rules) (rules_have_forms rules) (rules_well_formed rules)).arguments f i
-    (all_bare (profiled_instances (profiled_binding pairs) (all_profiled xs)))
-    (bare (by_pairs pairs (profiled_of x)))
-    (argument_instance (profiled_binding pairs) xs i x within is)
+pub argument_asked : (rules : Rules) (t : ProfiledTerm) (f : ℕ) (operation : Operation) (later after rest left made : List Term)
+    (shape part : Term) → later ≡ shape ∷ after → rest ≡ part ∷ left → IsOf (signature_in rules) t
+    → AreFormsSoFar rules t f operation later rest made → IsAsked rules t shape part
+argument_asked rules t f operation later after rest left made shape part later_is rest_is h so_far =
+    let t_is : t ≡ profiled_node f operation (all_profiled (so_far.done ++ part ∷ left)) =
+    so_far.shape ∙ ap (λ (ts : List Term). profiled_node f operation (all_profiled (so_far.done ++ ts))) rest_is in
+    record {
+      falls = subst (λ (u : ProfiledTerm). form_size rules (profiled_of part) < form_size rules u) (sym t_is)
+          ((costs_are_measures (plain_rules_in rules) (rules_have_forms rules) (rules_well_formed rules)).arguments f (length so_far.done)
+          (all_bare (all_profiled (so_far.done ++ part ∷ left))) (bare (profiled_of part)) (argument_there so_far.done left part));
+      term = argument_is_of (signature_in rules) so_far.done left part
+          (subst (λ (u : ProfiledTerm). IsOf (signature_in rules) u) t_is h).1;
+      reduced = (subst (λ (ts : List Term). AreReducedBelow (signature_in rules) (plain_rules_in rules) (all_profiled (shape ∷ after))
+          (all_profiled ts)) rest_is
+          (subst (λ (ss : List Term). AreReducedBelow (signature_in rules) (plain_rules_in rules) (all_profiled ss) (all_profiled rest))
+          later_is so_far.reduced)).0;
+    }
+
+pub argument_made : (rules : Rules) (t : ProfiledTerm) (f : ℕ) (operation : Operation) (later after rest left made new : List Term)
+    (shape part form : Term) → later ≡ shape ∷ after → rest ≡ part ∷ left → new ≡ made ++ form ∷ []
+    → AreFormsSoFar rules t f operation later rest made
+    → IsFormOf (signature_in rules) (plain_rules_in rules) (profiled_of part) (profiled_of form)
+    → AreFormsSoFar rules t f operation after left new
+argument_made rules t f operation later after rest left made new shape part form later_is rest_is added so_far one = record {
+  done = so_far.done ++ part ∷ [];
+  shape = so_far.shape ∙ ap (λ (ts : List Term). profiled_node f operation (all_profiled (so_far.done ++ ts))) rest_is
+      ∙ ap (λ (ts : List Term). profiled_node f operation (all_profiled ts)) (sym (append_assoc so_far.done (part ∷ []) left));
+  forms = forms_more rules so_far.done made new part form added so_far.forms one;
+  reduced = (subst (λ (ts : List Term). AreReducedBelow (signature_in rules) (plain_rules_in rules) (all_profiled (shape ∷ after))
+      (all_profiled ts)) rest_is
+      (subst (λ (ss : List Term). AreReducedBelow (signature_in rules) (plain_rules_in rules) (all_profiled ss) (all_profiled rest))
+      later_is so_far.reduced)).1;
+}
+
+-- there are as many arguments as shapes
+pub argument_lacks : (rules : Rules) (t : ProfiledTerm) (f : ℕ) (operation : Operation) (later after rest made : List Term) (shape : Term)
+    → later ≡ shape ∷ after → rest ≡ [] → AreFormsSoFar rules t f operation later rest made → ⊥
+argument_lacks rules t f operation later after rest made shape later_is none so_far =
+    subst (λ (ts : List Term). AreReducedBelow (signature_in rules) (plain_rules_in rules) (all_profiled (shape ∷ after)) (all_profiled ts))
+    none
+    (subst (λ (ss : List Term). AreReducedBelow (signature_in rules) (plain_rules_in rules) (all_profiled ss) (all_profiled rest)) later_is
+    so_far.reduced)
+
+-- The arguments of the term have their forms.
+pub record HaveForms (rules : Rules) (t : ProfiledTerm) (f : ℕ) (operation : Operation) (made : List Term) : Type 0 where
+  pub arguments : ProfiledTerms
+  pub shape : t ≡ profiled_node f operation arguments
+  pub forms : AreForms rules arguments (all_profiled made)
+
+pub all_made : (rules : Rules) (t : ProfiledTerm) (f : ℕ) (operation : Operation) (later rest made : List Term) → later ≡ []
+    → AreFormsSoFar rules t f operation later rest made → HaveForms rules t f operation made
+all_made rules t f operation later [] made none so_far = record {
+  arguments = all_profiled so_far.done;
+  shape = so_far.shape ∙ ap (λ (ts : List Term). profiled_node f operation (all_profiled ts)) (append-nil so_far.done);
+  forms = so_far.forms;
+}
+all_made rules t f operation later (x ∷ rest) made none so_far =
+    absurd (subst (λ (ss : List Term). AreReducedBelow (signature_in rules) (plain_rules_in rules) (all_profiled ss) (all_profiled
+    (x ∷ rest)))
+    none so_far.reduced)
+
+-- ---- variables
+
+pub variable_done : (rules : Rules) (shape : ProfiledTerm) (n s : ℕ) (t : ProfiledTerm) → shape ≡ profiled_variable n s
+    → IsReducedBelow (signature_in rules) (plain_rules_in rules) shape t → IsFormOf (signature_in rules) (plain_rules_in rules) t t
+variable_done rules shape n s t shape_is reduced =
+    normal_form rules t t
+    (subst (λ (u : ProfiledTerm). IsReducedBelow (signature_in rules) (plain_rules_in rules) u t) shape_is reduced) refl
+
+pub variable_lacks : (rules : Rules) (shape : ProfiledTerm) (f n s : ℕ) (operation : Operation) (ts : ProfiledTerms) (t : ProfiledTerm)
+    → shape ≡ profiled_node f operation ts → t ≡ profiled_variable n s
+    → IsReducedBelow (signature_in rules) (plain_rules_in rules) shape t → ⊥
+variable_lacks rules shape f n s operation ts t shape_is t_is reduced =
+    subst (λ (u : ProfiledTerm). IsReducedBelow (signature_in rules) (plain_rules_in rules) (profiled_node f operation ts) u) t_is
+    (subst (λ (u : ProfiledTerm). IsReducedBelow (signature_in rules) (plain_rules_in rules) u t) shape_is reduced)
+
+mutual
+  pub reduced_by : (signature : Signature) (rules : List PlainRule) (pairs : Pairs) (t : ProfiledTerm)
+      → AreNormalFor signature rules t pairs → IsReducedBelow signature rules t (by_pairs pairs t)
+  reduced_by signature rules pairs (profiled_variable n s) all = all n s (refl, refl)
+  reduced_by signature rules pairs (profiled_node f operation ts) all = all_reduced_by signature rules pairs ts all
+
+  all_reduced_by : (signature : Signature) (rules : List PlainRule) (pairs : Pairs) (ts : ProfiledTerms)
+      → ((n s : ℕ) → OccursAmong n s (all_bare ts) → IsNormalOf signature rules (profiled_binding pairs n s))
+      → AreReducedBelow signature rules ts (profiled_instances (profiled_binding pairs) ts)
+  all_reduced_by signature rules pairs no_profiled_terms all = tt
+  all_reduced_by signature rules pairs (profiled_term_then t ts) all = (
+    reduced_by signature rules pairs t (λ n s o. all n s (inl o)),
+    all_reduced_by signature rules pairs ts (λ n s o. all n s (inr o)),
+  )
 
 -- ---- the first rule that matches
 
@@ -211,43 +294,9 @@ pub right_is_of : (rules : Rules) (number : ℕ) (rule : Rule) → slice_get rul
     → IsOf (signature_in rules) (profiled_in rule.right)
 right_is_of rules number rule is = (rule_over rules number rule is).right_is_of
 
--- ---- what the calls ask and give, where the term is known by an equation
-
-pub argument_asked : (signature : Signature) (t : ProfiledTerm) (f : ℕ) (operation : Operation) (xs : List Term) (i : ℕ) (x : Term)
-    → t ≡ profiled_node f operation (all_profiled xs) → i < length xs → x ≡ get_or xs i x → IsOf signature t
-    → IsOf signature (profiled_of x)
-argument_asked signature t f operation xs i x shape within is h =
-    argument_is_of signature xs i x within is (subst (λ (u : ProfiledTerm). IsOf signature u) shape h).1
-
-pub argument_normal : (rules : Rules) (t : ProfiledTerm) (pairs : Pairs) (f : ℕ) (operation : Operation) (xs : List Term) (i : ℕ)
-    (x : Term) → t ≡ profiled_node f operation (all_profiled xs) → i < length xs → x ≡ get_or xs i x
-    → AreNormalFor (signature_in rules) (plain_rules_in rules) t pairs
-    → AreNormalFor (signature_in rules) (plain_rules_in rules) (profiled_of x) pairs
-argument_normal rules t pairs f operation xs i x shape within is all n s o =
-    all n s (subst (λ (u : ProfiledTerm). Occurs n s (bare u)) (sym shape) (argument_occurs xs i x n s within is o))
-
-pub argument_falls : (rules : Rules) (t : ProfiledTerm) (pairs : Pairs) (f : ℕ) (operation : Operation) (xs : List Term) (i : ℕ)
-    (x : Term) → t ≡ profiled_node f operation (all_profiled xs) → i < length xs → x ≡ get_or xs i x
-    → form_cost rules pairs (profiled_of x) < form_cost rules pairs t
-argument_falls rules t pairs f operation xs i x shape within is =
-    subst (λ (u : ProfiledTerm). form_cost rules pairs (profiled_of x) < form_cost rules pairs u) (sym shape)
-    (argument_cost rules pairs f operation xs i x within is)
-
-pub forms_whole : (rules : Rules) (pairs : Pairs) (xs : List Term) (n : ℕ) (made : ProfiledTerms) → take n xs ≡ xs
-    → AreForms rules pairs (all_profiled (take n xs)) made → AreForms rules pairs (all_profiled xs) made
-forms_whole rules pairs xs n made all h = subst (λ (ys : List Term). AreForms rules pairs (all_profiled ys) made) all h
-
-pub variable_form : (rules : Rules) (t made : ProfiledTerm) (pairs : Pairs) (n s : ℕ) → t ≡ profiled_variable n s
-    → AreNormalFor (signature_in rules) (plain_rules_in rules) t pairs → made ≡ profiled_binding pairs n s
-    → IsFormOf (signature_in rules) (plain_rules_in rules) (by_pairs pairs t) made
-variable_form rules t made pairs n s shape all same =
-    subst (λ (u : ProfiledTerm). IsFormOf (signature_in rules) (plain_rules_in rules) (by_pairs pairs u) made) (sym shape)
-    (normal_form rules (profiled_binding pairs n s) made
-    (all n s (subst (λ (u : ProfiledTerm). Occurs n s (bare u)) (sym shape) (refl, refl))) same)
-
-pub matched_within : (rules : Rules) (number : ℕ) (whole : ProfiledTerm) (found : Pairs)
-    → IsFirstMatch rules.rules.items number whole found → number < length rules.rules.items
-matched_within rules number whole found m = slice_get_within rules.rules.items number m.rule m.is_at
+pub matched_within : (rules : Rules) (number : ℕ) (whole : ProfiledTerm) → IsFirstRule rules.rules.items number whole
+    → number < length rules.rules.items
+matched_within rules number whole m = slice_get_within rules.rules.items number m.is_first.rule m.is_first.is_at
 
 -- ---- whole terms
 
@@ -271,7 +320,7 @@ mutual
   all_occurring_sort signature (profiled_term_then t ts) n s h (inl o) = occurring_sort signature t n s h.0 o
   all_occurring_sort signature (profiled_term_then t ts) n s h (inr o) = all_occurring_sort signature ts n s h.1 o
 
-pub variables_normal : (rules : Rules) (t : ProfiledTerm) (pairs : Pairs) → pairs ≡ [] → IsOf (signature_in rules) t
+variables_normal : (rules : Rules) (t : ProfiledTerm) (pairs : Pairs) → pairs ≡ [] → IsOf (signature_in rules) t
     → AreNormalFor (signature_in rules) (plain_rules_in rules) t pairs
 variables_normal rules t pairs none h =
     subst (λ (ps : Pairs). AreNormalFor (signature_in rules) (plain_rules_in rules) t ps) (sym none)
@@ -280,12 +329,11 @@ variables_normal rules t pairs none h =
       normal = stuck_by_links (variable_stuck n s (rules_well_formed rules));
     })
 
-pub whole_form : (rules : Rules) (t made : ProfiledTerm) (pairs : Pairs) → pairs ≡ []
-    → IsFormOf (signature_in rules) (plain_rules_in rules) (by_pairs pairs t) made
-    → IsFormOf (signature_in rules) (plain_rules_in rules) t made
-whole_form rules t made pairs none h =
-    subst (λ (u : ProfiledTerm). IsFormOf (signature_in rules) (plain_rules_in rules) u made)
-    (ap (λ (ps : Pairs). by_pairs ps t) none ∙ without_pairs t) h
+pub reduced_self : (rules : Rules) (t : ProfiledTerm) → IsOf (signature_in rules) t
+    → IsReducedBelow (signature_in rules) (plain_rules_in rules) t t
+reduced_self rules t h =
+    subst (λ (u : ProfiledTerm). IsReducedBelow (signature_in rules) (plain_rules_in rules) t u) (without_pairs t)
+    (reduced_by (signature_in rules) (plain_rules_in rules) [] t (variables_normal rules t [] refl h))
 
 pub form_fits : (rules : Rules) (term : Sorted) (made : ProfiledTerm) → IsOf (signature_in rules) (profiled_in term)
     → IsFormOf (signature_in rules) (plain_rules_in rules) (profiled_in term) made

@@ -4,4 +4,7 @@ pub mod FormLemmas
 pub mod SettledLemmas
 pub mod RootLemmas
 pub mod ValueLemmas
+pub mod TakenLemmas
+pub mod WantedLemmas
+pub mod FilledLemmas
 pub mod NormalisedLemmas

@@ -1,36 +1,38 @@
 -- What is made of a whole term.
-use Rattle.std.proofs.Common.{◌≡◌, ℕ, List, [], Bor, ap, sym, ◌∙◌, subst}
+use Rattle.std.proofs.Common.{◌≡◌, ap, sym, ◌∙◌, subst}
 use Rattle.rewriting_theory.specs.ChosenForm.{Chosen}
 use Rattle.rewriting_theory.specs.Reduction.{Reaches}
 use Rattle.rewriting_theory.specs.Rewriting.{IsNormal, Rewrites}
 use Rattle.rewriting_theory.proofs.PublicLemmas.{chosen_normal, chosen_rewritten}
-use Rattle.sort_terms.specs.ProfiledTerm.{FitsProfiles, IsOf}
+use Rattle.sort_terms.specs.ProfiledTerm.{ProfiledTerm, FitsProfiles, IsOf}
 use Rattle.sort_terms.specs.SortedView.{profiled_in, term_in}
 use Rattle.sort_terms.specs.TermView.{profiled_of}
 use Rattle.sort_terms.specs.declared.terms.Term.{Term}
 use Rattle.sort_terms.specs.declared.sorted.Sorted.{Sorted}
-use Rattle.term_match.specs.FoundView.{found_pairs}
 use Rattle.path_order.specs.RulesView.{plain_rules_in, signature_in}
 use Rattle.path_order.specs.declared.rules.Rules.{Rules}
 use Rattle.path_order.proofs.RulesLemmas.{rules_well_formed}
-use Rattle.term_rewriter.specs.Form.{AreNormalFor, IsFormOf, by_pairs}
-use Rattle.term_rewriter.proofs.FormLemmas.{variables_normal, whole_form, form_fits}
+use Rattle.term_rewriter.specs.Form.{IsFormOf}
+use Rattle.term_rewriter.specs.Reduced.{IsReducedBelow}
+use Rattle.term_rewriter.proofs.FormLemmas.{reduced_self, form_fits}
 
-pub nothing_asked : (rules : Rules) (term : Sorted) (inner : Term) (values : List (ℕ × Bor Term)) → inner ≡ term.term → values ≡ []
+pub whole_reduced : (rules : Rules) (term : Sorted) (shape copy : Term) → shape ≡ term.term → profiled_of copy ≡ profiled_of shape
     → IsOf (signature_in rules) (profiled_in term)
-    → AreNormalFor (signature_in rules) (plain_rules_in rules) (profiled_of inner) (found_pairs values)
-nothing_asked rules term inner values same none h =
-    subst (λ (t : Term). AreNormalFor (signature_in rules) (plain_rules_in rules) (profiled_of t) (found_pairs values)) (sym same)
-    (variables_normal rules (profiled_in term) (found_pairs values) (ap found_pairs none) h)
+    → IsReducedBelow (signature_in rules) (plain_rules_in rules) (profiled_of shape) (profiled_of copy)
+whole_reduced rules term shape copy same copied h =
+    subst (λ (u : ProfiledTerm). IsReducedBelow (signature_in rules) (plain_rules_in rules) (profiled_of shape) u) (sym copied)
+    (reduced_self rules (profiled_of shape) (subst (λ (t : Term). IsOf (signature_in rules) (profiled_of t)) (sym same) h))
 
-pub form_of_whole : (rules : Rules) (term : Sorted) (inner form : Term) (values : List (ℕ × Bor Term)) → inner ≡ term.term → values ≡ []
-    → IsFormOf (signature_in rules) (plain_rules_in rules) (by_pairs (found_pairs values) (profiled_of inner)) (profiled_of form)
+whole_is_of : (rules : Rules) (term : Sorted) (shape copy : Term) → shape ≡ term.term → profiled_of copy ≡ profiled_of shape
+    → IsOf (signature_in rules) (profiled_in term) → IsOf (signature_in rules) (profiled_of copy)
+whole_is_of rules term shape copy same copied h =
+    subst (λ (u : ProfiledTerm). IsOf (signature_in rules) u) (sym (copied ∙ ap profiled_of same)) h
+
+pub form_of_whole : (rules : Rules) (term : Sorted) (shape copy form : Term) → shape ≡ term.term → profiled_of copy ≡ profiled_of shape
+    → IsFormOf (signature_in rules) (plain_rules_in rules) (profiled_of copy) (profiled_of form)
     → IsFormOf (signature_in rules) (plain_rules_in rules) (profiled_in term) (profiled_of form)
-form_of_whole rules term inner form values same none h =
-    whole_form rules (profiled_in term) (profiled_of form) (found_pairs values) (ap found_pairs none)
-    (subst (λ (t : Term). IsFormOf (signature_in rules) (plain_rules_in rules) (by_pairs (found_pairs values) (profiled_of t))
-    (profiled_of form))
-    same h)
+form_of_whole rules term shape copy form same copied h =
+    subst (λ (u : ProfiledTerm). IsFormOf (signature_in rules) (plain_rules_in rules) u (profiled_of form)) (copied ∙ ap profiled_of same) h
 
 pub form_has_profiles : (rules : Rules) (term : Sorted) (form : Term) → IsOf (signature_in rules) (profiled_in term)
     → IsFormOf (signature_in rules) (plain_rules_in rules) (profiled_in term) (profiled_of form) → FitsProfiles (profiled_of form)

@@ -1,5 +1,5 @@
 -- Rules at the root, one after the other, where the arguments are irreducible.
-use Rattle.std.proofs.Common.{◌≡◌, ◌+◌, ◌<◌, ◌≤◌, ℕ, List, sym, ◌∙◌, subst, refl, Bor, arith}
+use Rattle.std.proofs.Common.{◌≡◌, ◌+◌, ◌<◌, ◌≤◌, ℕ, List, [], ap, sym, ◌∙◌, subst, refl, arith}
 use Rattle.std.specs.Prelude.{Some, slice_get}
 use Rattle.std.proofs.lemmas.Option.{same_Some}
 use Rattle.term_algebra.specs.Signature.{Operation}
@@ -11,21 +11,25 @@ use Rattle.rewriting_theory.proofs.CostLemmas.{costs_are_measures}
 use Rattle.rewriting_theory.proofs.PublicLemmas.{normal_chosen}
 use Rattle.sort_terms.specs.ProfiledTerm.{ProfiledTerm, ProfiledTerms, profiled_node, no_profiled_terms, profiled_term_then, bare, all_bare, IsOf, AreOf}
 use Rattle.sort_terms.specs.SortedView.{profiled_in}
-use Rattle.sort_terms.specs.TermView.{profiled_of}
+use Rattle.sort_terms.specs.TermView.{profiled_of, all_profiled}
 use Rattle.sort_terms.specs.declared.terms.Term.{Term}
-use Rattle.term_match.specs.FoundView.{found_pairs}
+use Rattle.term_match.specs.ProfiledInstance.{profiled_binding}
+use Rattle.term_match.specs.Search.{searched}
+use Rattle.term_match.proofs.InstanceLemmas.{instance_of}
 use Rattle.term_match.proofs.MatchLemmas.{All}
 use Rattle.path_order.specs.RulesView.{plain_rules_in, signature_in}
 use Rattle.path_order.specs.declared.rule.Rule.{Rule}
 use Rattle.path_order.specs.declared.rules.Rules.{Rules}
 use Rattle.path_order.proofs.RulesLemmas.{rules_well_formed, rules_end, rules_have_forms}
 use Rattle.term_rewriter.specs.Begun.{IsReady, LeadsTo, IsBegunOf, form_size, left_of}
-use Rattle.term_rewriter.specs.FirstMatch.{NoneMatches, IsFirstMatch}
-use Rattle.term_rewriter.specs.Form.{IsNormalOf, AreNormalFor, by_pairs, IsFormOf}
+use Rattle.term_rewriter.specs.FirstMatch.{NoneMatches, IsFirstMatch, IsFirstRule}
+use Rattle.term_rewriter.specs.Form.{IsNormalOf, by_pairs, IsFormOf}
+use Rattle.term_rewriter.specs.Reduced.{IsReducedBelow}
+use Rattle.term_rewriter.specs.Taken.{IsRewritten}
 use Rattle.term_rewriter.specs.declared.forms.Progress.{Progress}
 use Rattle.term_rewriter.specs.declared.forms.Progress.TheVariants.{Form, Whole}
 use Rattle.term_rewriter.proofs.FirstLemmas.{code_at}
-use Rattle.term_rewriter.proofs.FormLemmas.{AreForms, first_step, next_normal, right_is_of}
+use Rattle.term_rewriter.proofs.FormLemmas.{HaveForms, first_step, next_normal, right_is_of, reduced_by}
 use Rattle.term_rewriter.proofs.SettledLemmas.{forms_cost_less, forms_form}
 
 abbrev Pairs : Type 0
@@ -48,35 +52,35 @@ all_of rules (profiled_term_then u us) all = (all.0.is_of, all_of rules us all.1
 
 -- ---- the operation on the chosen forms of the arguments
 
-pub whole_leads : (rules : Rules) (pairs : Pairs) (t whole : ProfiledTerm) (f : ℕ) (operation : Operation) (ts us : ProfiledTerms)
-    → t ≡ profiled_node f operation ts → whole ≡ profiled_node f operation us → IsOf (signature_in rules) t
-    → AreForms rules pairs ts us → LeadsTo rules (by_pairs pairs t) (form_size rules (by_pairs pairs t) + 1) whole
-whole_leads rules pairs t whole f operation ts us t_is whole_is h forms =
-    subst (λ (u : ProfiledTerm). LeadsTo rules (by_pairs pairs u) (form_size rules (by_pairs pairs u) + 1) whole) (sym t_is)
-    (subst (λ (u : ProfiledTerm). LeadsTo rules (by_pairs pairs node_of) (form_size rules (by_pairs pairs node_of) + 1) u) (sym whole_is)
-    leads)
+pub whole_leads : (rules : Rules) (t whole : ProfiledTerm) (f : ℕ) (operation : Operation) (made : List Term)
+    → whole ≡ profiled_node f operation (all_profiled made) → IsOf (signature_in rules) t → HaveForms rules t f operation made
+    → LeadsTo rules t (form_size rules t + 1) whole
+whole_leads rules t whole f operation made whole_is h have =
+    subst (λ (u : ProfiledTerm). LeadsTo rules u (form_size rules u + 1) whole) (sym have.shape)
+    (subst (λ (u : ProfiledTerm). LeadsTo rules node_of (form_size rules node_of + 1) u) (sym whole_is) leads)
   where
     node_of : ProfiledTerm
-    node_of = profiled_node f operation ts
+    node_of = profiled_node f operation have.arguments
 
-    leads : LeadsTo rules (by_pairs pairs (profiled_node f operation ts))
-        (form_size rules (by_pairs pairs (profiled_node f operation ts)) + 1) (profiled_node f operation us)
+    leads : LeadsTo rules (profiled_node f operation have.arguments) (form_size rules (profiled_node f operation have.arguments) + 1)
+        (profiled_node f operation (all_profiled made))
     leads = record {
       ready = record {
         number = f;
         operation = operation;
-        arguments = us;
+        arguments = all_profiled made;
         shape = refl;
-        is_there = (subst (λ (u : ProfiledTerm). IsOf (signature_in rules) u) t_is h).0;
-        normal = forms.normal;
+        is_there = (subst (λ (u : ProfiledTerm). IsOf (signature_in rules) u) have.shape h).0;
+        normal = have.forms.normal;
       };
       smaller =
-          let less : form_size rules (profiled_node f operation us) ≤ form_size rules (by_pairs pairs (profiled_node f operation ts)) =
-          forms_cost_less (rules_well_formed rules) forms.chosen
-          (rules_have_forms rules (bare (by_pairs pairs (profiled_node f operation ts)))).1
-          (rules_have_forms rules (bare (profiled_node f operation us))).1 in
+          let less : form_size rules (profiled_node f operation (all_profiled made))
+          ≤ form_size rules (profiled_node f operation have.arguments) =
+          forms_cost_less (rules_well_formed rules) have.forms.chosen
+          (rules_have_forms rules (bare (profiled_node f operation have.arguments))).1
+          (rules_have_forms rules (bare (profiled_node f operation (all_profiled made)))).1 in
           omega (arith, less);
-      form = λ made is. record { chosen = forms_form forms.chosen is.chosen; is_of = is.is_of };
+      form = λ made_form is. record { chosen = forms_form have.forms.chosen is.chosen; is_of = is.is_of };
     }
 
 -- ---- no rule matches
@@ -95,39 +99,49 @@ ready_done rules whole ready none =
 
 -- ---- the first rule that matches
 
--- What the call for the right side asks and gives.
-pub record NextRight (rules : Rules) (whole : ProfiledTerm) (found : List (ℕ × ProfiledTerm)) (right : ProfiledTerm) : Type 0 where
-  pub falls : form_size rules (by_pairs found right) < form_size rules whole
-  pub term : IsOf (signature_in rules) right
-  pub values : AreNormalFor (signature_in rules) (plain_rules_in rules) right found
-  pub made : (form : ProfiledTerm) → IsFormOf (signature_in rules) (plain_rules_in rules) (by_pairs found right) form
+-- What the call for the instance of the right side asks and gives.
+pub record NextRight (rules : Rules) (whole right instance : ProfiledTerm) : Type 0 where
+  pub falls : form_size rules instance < form_size rules whole
+  pub term : IsOf (signature_in rules) instance
+  pub reduced : IsReducedBelow (signature_in rules) (plain_rules_in rules) right instance
+  pub made : (form : ProfiledTerm) → IsFormOf (signature_in rules) (plain_rules_in rules) instance form
       → IsFormOf (signature_in rules) (plain_rules_in rules) whole form
 
-pub ready_next : (rules : Rules) (whole : ProfiledTerm) (found : Pairs) (number : ℕ) (rule : Rule) → IsReady rules whole
+ready_next : (rules : Rules) (whole : ProfiledTerm) (found : Pairs) (number : ℕ) (rule : Rule) → IsReady rules whole
     → IsFirstMatch rules.rules.items number whole found → slice_get rules.rules.items number ≡ Some rule
-    → NextRight rules whole found (profiled_in rule.right)
+    → NextRight rules whole (profiled_in rule.right) (by_pairs found (profiled_in rule.right))
 ready_next rules whole found number rule ready m is =
     let first = subst (λ (u : ProfiledTerm). IsFirstMatch rules.rules.items number u found) ready.shape m in
     let same : first.rule ≡ rule = same_Some first.rule rule (sym first.is_at ∙ is) in
     let step = first_step rules (profiled_node ready.number ready.operation ready.arguments) number found first in
     let own = all_self rules ready.arguments ready.normal in
-    subst (λ (r : Rule). NextRight rules whole found (profiled_in r.right)) same
-    (subst (λ (u : ProfiledTerm). NextRight rules u found (profiled_in first.rule.right)) (sym ready.shape)
+    let normal = next_normal rules found ready.number ready.operation ready.arguments number ready.normal first in
+    subst (λ (r : Rule). NextRight rules whole (profiled_in r.right) (by_pairs found (profiled_in r.right))) same
+    (subst (λ (u : ProfiledTerm). NextRight rules u (profiled_in first.rule.right) (by_pairs found (profiled_in first.rule.right)))
+    (sym ready.shape)
     (record {
       falls = (costs_are_measures (plain_rules_in rules) (rules_have_forms rules) (rules_well_formed rules)).next ready.number
           (all_bare ready.arguments) (all_bare ready.arguments) (bare (by_pairs found (profiled_in first.rule.right))) own step;
-      term = right_is_of rules number first.rule first.is_at;
-      values = next_normal rules found ready.number ready.operation ready.arguments number ready.normal first;
+      term = instance_of (signature_in rules) (profiled_binding found) (profiled_in first.rule.right)
+          (right_is_of rules number first.rule first.is_at) (λ n s o. (normal n s o).is_of);
+      reduced = reduced_by (signature_in rules) (plain_rules_in rules) found (profiled_in first.rule.right) normal;
       made = λ form h. record { chosen = chosen_next own step h.chosen; is_of = h.is_of };
     }))
 
--- the same of the term and the pairs that the code hands on
-pub right_at : (rules : Rules) (whole : ProfiledTerm) (found values : List (ℕ × Bor Term)) (rule : Rule) (right : Term)
-    → values ≡ found → right ≡ rule.right.term → NextRight rules whole (found_pairs found) (profiled_in rule.right)
-    → NextRight rules whole (found_pairs values) (profiled_of right)
-right_at rules whole found values rule right values_are right_is next =
-    subst (λ (ps : List (ℕ × Bor Term)). NextRight rules whole (found_pairs ps) (profiled_of right)) (sym values_are)
-    (subst (λ (u : Term). NextRight rules whole (found_pairs found) (profiled_of u)) (sym right_is) next)
+-- the same of the instance that the code makes
+pub next_right : (rules : Rules) (whole : ProfiledTerm) (number : ℕ) (rule : Rule) (left right : Term) (instance : ProfiledTerm)
+    → IsReady rules whole → IsFirstRule rules.rules.items number whole → slice_get rules.rules.items number ≡ Some rule
+    → left ≡ rule.left.term → right ≡ rule.right.term → IsRewritten (profiled_of left) (profiled_of right) whole instance
+    → NextRight rules whole (profiled_of right) instance
+next_right rules whole number rule left right instance ready m is left_is right_is rewritten =
+    let found = m.pairs in
+    let same : m.is_first.rule ≡ rule = same_Some m.is_first.rule rule (sym m.is_first.is_at ∙ is) in
+    let left_same : left ≡ m.is_first.rule.left.term = left_is ∙ ap (λ (r : Rule). r.left.term) (sym same) in
+    let searched_is : searched (profiled_of left) whole [] ≡ Some m.pairs =
+    (λ i. searched (profiled_of (left_same i)) whole []) ∙ m.is_first.found in
+    subst (λ (u : ProfiledTerm). NextRight rules whole (profiled_of right) u) (sym (rewritten found searched_is))
+    (subst (λ (u : Term). NextRight rules whole (profiled_of u) (by_pairs found (profiled_of u))) (sym right_is)
+    (ready_next rules whole found number rule ready m.is_first is))
 
 pub begun_under : (rules : Rules) (t whole : ProfiledTerm) (begun : Progress) → form_size rules t < form_size rules whole
     → ((made : ProfiledTerm) → IsFormOf (signature_in rules) (plain_rules_in rules) t made

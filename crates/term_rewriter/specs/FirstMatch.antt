@@ -18,3 +18,8 @@ pub record IsFirstMatch (rules : List Rule) (number : ℕ) (t : ProfiledTerm) (p
   pub found : searched (profiled_in rule.left) t [] ≡ Some pairs
   pub none_before : (k : ℕ) (earlier : Rule) → k < number → slice_get rules k ≡ Some earlier
       → ¬ Matches (term_in earlier.left) (bare t)
+
+-- The same, with some pairs.
+pub record IsFirstRule (rules : List Rule) (number : ℕ) (t : ProfiledTerm) : Type 0 where
+  pub pairs : List (ℕ × ProfiledTerm)
+  pub is_first : IsFirstMatch rules number t pairs

@@ -2,8 +2,7 @@
 
 ghost use Rattle.sort_terms.specs.TermView.{profiled_of};
 ghost use Rattle.std.specs.Prelude.{◌≡◌, ◌<◌, IfOk, MatchOption, Some, length, slice_get};
-ghost use Rattle.term_match.specs.FoundView.{found_pairs};
-ghost use Rattle.term_rewriter.specs.FirstMatch.{IsFirstMatch, NoneMatches};
+ghost use Rattle.term_rewriter.specs.FirstMatch.{IsFirstRule, NoneMatches};
 
 use lotos_base::NoMemory;
 use path_order::{Rule, Rules};
@@ -11,26 +10,12 @@ use sort_terms::Term;
 use std::alloc::Global;
 use term_match::bindings::search;
 
-/// A rule that matches a term.
-#[derive(Drop)]
-pub struct Matched<'a> {
-    /// The number of the rule.
-    pub rule: usize,
-    /// What its variables have.
-    pub values: Vec<(u64, &'a Term)>,
-}
-
-/// The first rule whose left side matches the term, or none where no left side does. Only the rules
-/// with the operation at the head are tried.
-pub fn first_match<'a>(
-    alloc: Global,
-    rules: &Rules,
-    term: &'a Term,
-) -> Result<Option<Matched<'a>>, NoMemory>
+/// The number of the first rule whose left side matches the term, or none where no left side does.
+/// Only the rules with the operation at the head are tried.
+pub fn first_match(alloc: Global, rules: &Rules, term: &Term) -> Result<Option<usize>, NoMemory>
     ensures { IfOk result (λ o. MatchOption o
         (NoneMatches rules.now.rules.items (profiled_of term.now))
-        (λ m. IsFirstMatch rules.now.rules.items m.rule (profiled_of term.now)
-        (found_pairs m.values.items))) }
+        (λ number. IsFirstRule rules.now.rules.items number (profiled_of term.now))) }
 {
     let Term::Node { op, .. } = term else {
         return Ok(None);
@@ -39,8 +24,8 @@ pub fn first_match<'a>(
     for number in candidates {
         let rule = *number;
         let left = rule_at(rules, rule).left.term();
-        if let Some(values) = search(left, term, Vec::new(alloc))? {
-            return Ok(Some(Matched { rule, values }));
+        if let Some(_) = search(left, term, Vec::new(alloc))? {
+            return Ok(Some(rule));
         }
     }
     Ok(None)

@@ -26,6 +26,6 @@ pub fn normalise(alloc: Global, rules: &Rules, term: &Sorted) -> Result<Sorted, 
     ensures is_of { IfOk result (λ form. IsOf (signature_in rules.now) (profiled_in form)) }
     ensures sort { IfOk result (λ form. form.sort ≡ term.now.sort) }
 {
-    let nothing = Vec::new(alloc);
-    Ok(Sorted::of(form(alloc, rules, term.term(), nothing.as_slice())?))
+    let instance = term.term().copy()?;
+    Ok(Sorted::of(form(alloc, rules, term.term(), instance)?))
 }

@@ -1,11 +1,12 @@
 //! Chosen forms over data.
 
+ghost use Rattle.path_order.specs.OrientFaultView.{IsOrientFault};
 ghost use Rattle.path_order.specs.PrecedenceView.{precedence_of};
 ghost use Rattle.sort_terms.specs.EquationView.{IsSortedFlat, data_of};
 ghost use Rattle.sort_terms.specs.ProfiledTerm.{IsOf};
 ghost use Rattle.sort_terms.specs.SignatureView.{signature_of};
 ghost use Rattle.sort_terms.specs.SortedView.{profiled_in, term_in};
-ghost use Rattle.std.specs.Prelude.{IfOk};
+ghost use Rattle.std.specs.Prelude.{IfOk, MatchResult};
 ghost use Rattle.term_rewriter.specs.OrientedForm.{IsFormByData};
 
 use crate::normal::normalise;
@@ -23,8 +24,10 @@ pub fn normal_over(
 ) -> Result<Sorted, OrientFault>
     requires data { IsSortedFlat flat.now }
     requires term { IsOf (signature_of flat.now.signature) (profiled_in term.now) }
-    ensures { IfOk result (λ form. IsFormByData (precedence_of precedence) (data_of flat.now)
-        (term_in term.now) (term_in form)) }
+    ensures chosen { IfOk result (λ form. IsFormByData (precedence_of precedence)
+        (data_of flat.now) (term_in term.now) (term_in form)) }
+    ensures unorientable { MatchResult result (λ form. Unit {0})
+        (λ fault. IsOrientFault (precedence_of precedence) (data_of flat.now).equations fault) }
 {
     let rules = orient(flat, precedence)?;
     Ok(normalise(alloc, &rules, term)?)

@@ -35,12 +35,12 @@ abbrev pub value_choice_end_of : ValueChoiceEnd → PlainValueChoiceEnd
 value_choice_end_of end = record {
   sort = placed_name_of end.sort;
   more = from_last variable_of end.more.items;
-  inside = behaviour_of end.inside;
+  inside = behaviour_of end.inside.value;
 }
 
 abbrev pub gate_choice_end_of : GateChoiceEnd → PlainGateChoiceEnd
 gate_choice_end_of end = record {
   among = from_last placed_name_of end.among.items;
   more = from_last gate_choice_of end.more.items;
-  inside = behaviour_of end.inside;
+  inside = behaviour_of end.inside.value;
 }

@@ -11,8 +11,8 @@ abbrev pub conclusion_of : Conclusion → PlainConclusion
 conclusion_of conclusion = record {
   premisses = from_last premiss_of conclusion.premisses.items;
   arrow = text_place_of conclusion.arrow;
-  left = written_term_of conclusion.left;
-  right = written_term_of conclusion.right;
+  left = written_term_of conclusion.sides.value.0;
+  right = written_term_of conclusion.sides.value.1;
 }
 
 abbrev pub after_term_of : AfterTerm → PlainAfterTerm

@@ -23,7 +23,7 @@ sections_of sections = record {
 }
 
 abbrev pub type_body_of : TypeBody → WrittenTypeBody
-type_body_of (type_body.Extends imports sections) = extends (from_last placed_name_of imports.items) (sections_of sections)
+type_body_of (type_body.Extends imports sections) = extends (from_last placed_name_of imports.items) (sections_of sections.value)
 type_body_of (type_body.Renames base pairs) = renames (placed_name_of base) (both_pairs_of pairs)
 type_body_of (type_body.Actualises base actuals pairs) =
     actualises (placed_name_of base) (from_last placed_name_of actuals.items) (both_pairs_of pairs)
@@ -31,4 +31,4 @@ type_body_of (type_body.Actualises base actuals pairs) =
 abbrev pub after_base_of : AfterBase → PlainAfterBase
 after_base_of (behind.Renamed pairs) = renamed (both_pairs_of pairs)
 after_base_of (behind.Actualised actuals pairs) = actualised (from_last placed_name_of actuals.items) (both_pairs_of pairs)
-after_base_of (behind.Extended imports sections) = extended (from_last placed_name_of imports.items) (sections_of sections)
+after_base_of (behind.Extended imports sections) = extended (from_last placed_name_of imports.items) (sections_of sections.value)

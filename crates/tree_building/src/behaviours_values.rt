@@ -1,7 +1,7 @@
 //! What the parts of behaviours are built into. Lists are held from the last member to the first
 //! until they enter a tree.
 
-ghost use Rattle.std.specs.Prelude.{◌≡◌, List, MatchResult, None, Some};
+ghost use Rattle.std.specs.Prelude.{◌≡◌, List, option_map};
 ghost use Rattle.lotos_base.specs.WrittenTerm.{WrittenTerm};
 ghost use Rattle.syntax_trees.specs.WrittenVariable.{WrittenVariable};
 ghost use Rattle.syntax_trees.specs.WrittenBehaviour.{WrittenBehaviour, WrittenExitValue, WrittenGateChoice, WrittenOffer};
@@ -13,12 +13,12 @@ ghost use Rattle.tree_building.specs.MeaningView.{meaning};
 ghost use Rattle.tree_building.specs.Parts.{operands_in, action_in, call_in, offers_in, exit_values_in, lets_in, gate_choices_in, value_choice_in, gate_choice_in, behaviour_in, sign_in};
 ghost use Rattle.tree_building.specs.BehavioursViews.{action_end_of, call_end_of, flat_of, gate_choice_end_of, let_of, value_choice_end_of};
 
-use crate::value::{Part, Value};
+use crate::value::{Part, Value, of_another_kind};
 use lotos_base::{Place, Written};
 use syntax_trees::{BehText, ExitText, GateText, Named, OfferText, Sign, TestText, VarText};
 
 /// A flat list of behaviours with the signs between them, each from the last to the first.
-#[derive(Debug, Drop)]
+#[derive(Drop)]
 pub struct Flat {
     /// The operands.
     pub operands: Vec<BehText>,
@@ -27,7 +27,7 @@ pub struct Flat {
 }
 
 /// An action that lacks its gate, and the flat list behind it.
-#[derive(Debug, Drop)]
+#[derive(Drop)]
 pub struct ActionEnd {
     /// The offers, from the last to the first.
     pub offers: Vec<OfferText>,
@@ -38,7 +38,7 @@ pub struct ActionEnd {
 }
 
 /// A call that lacks its name, and the tail of the flat list that it begins.
-#[derive(Debug, Drop)]
+#[derive(Drop)]
 pub struct CallEnd {
     /// The gates, from the last to the first.
     pub gates: Vec<Named>,
@@ -49,25 +49,25 @@ pub struct CallEnd {
 }
 
 /// A choice of values that lacks its first names.
-#[derive(Debug, Drop)]
+#[derive(Drop)]
 pub struct ValueChoiceEnd {
     /// The sort of the first names.
     pub sort: Named,
     /// Further variables, from the last to the first.
     pub more: Vec<VarText>,
     /// The behaviour.
-    pub inside: BehText,
+    pub inside: Box<BehText>,
 }
 
 /// A choice of gates that lacks its first names.
-#[derive(Debug, Drop)]
+#[derive(Drop)]
 pub struct GateChoiceEnd {
     /// The gates that the first names stand for, from the last to the first.
     pub among: Vec<Named>,
     /// Further declarations, from the last to the first.
     pub more: Vec<GateText>,
     /// The behaviour.
-    pub inside: BehText,
+    pub inside: Box<BehText>,
 }
 
 /// A flat list of operands and signs, or its tail.
@@ -78,12 +78,12 @@ impl Part for Flat {
 
     ghost found = { operands_in };
 
-    fn of(value: Value) -> Result<Self, Value>
-        ensures { MatchResult result (λ x. operands_in (meaning value) ≡ Some (flat_of x)) (λ other. (operands_in (meaning value) ≡ None) × (other ≡ value)) }
+    fn of(value: Value) -> Option<Self>
+        ensures { option_map (λ x. flat_of x) result ≡ operands_in (meaning value) }
     {
         match value {
-            Value::Operands(value) => Ok(value),
-            other => Err(other),
+            Value::Operands(value) => Some(value),
+            other => of_another_kind(other),
         }
     }
 }
@@ -96,12 +96,12 @@ impl Part for ActionEnd {
 
     ghost found = { action_in };
 
-    fn of(value: Value) -> Result<Self, Value>
-        ensures { MatchResult result (λ x. action_in (meaning value) ≡ Some (action_end_of x)) (λ other. (action_in (meaning value) ≡ None) × (other ≡ value)) }
+    fn of(value: Value) -> Option<Self>
+        ensures { option_map (λ x. action_end_of x) result ≡ action_in (meaning value) }
     {
         match value {
-            Value::Action(value) => Ok(value),
-            other => Err(other),
+            Value::Action(value) => Some(Box::into_inner(value)),
+            other => of_another_kind(other),
         }
     }
 }
@@ -114,12 +114,12 @@ impl Part for CallEnd {
 
     ghost found = { call_in };
 
-    fn of(value: Value) -> Result<Self, Value>
-        ensures { MatchResult result (λ x. call_in (meaning value) ≡ Some (call_end_of x)) (λ other. (call_in (meaning value) ≡ None) × (other ≡ value)) }
+    fn of(value: Value) -> Option<Self>
+        ensures { option_map (λ x. call_end_of x) result ≡ call_in (meaning value) }
     {
         match value {
-            Value::Call(value) => Ok(value),
-            other => Err(other),
+            Value::Call(value) => Some(value),
+            other => of_another_kind(other),
         }
     }
 }
@@ -132,12 +132,12 @@ impl Part for Vec<OfferText> {
 
     ghost found = { offers_in };
 
-    fn of(value: Value) -> Result<Self, Value>
-        ensures { MatchResult result (λ x. offers_in (meaning value) ≡ Some (from_last offer_of x.items)) (λ other. (offers_in (meaning value) ≡ None) × (other ≡ value)) }
+    fn of(value: Value) -> Option<Self>
+        ensures { option_map (λ x. from_last offer_of x.items) result ≡ offers_in (meaning value) }
     {
         match value {
-            Value::Offers(value) => Ok(value),
-            other => Err(other),
+            Value::Offers(value) => Some(value),
+            other => of_another_kind(other),
         }
     }
 }
@@ -150,12 +150,12 @@ impl Part for Vec<ExitText> {
 
     ghost found = { exit_values_in };
 
-    fn of(value: Value) -> Result<Self, Value>
-        ensures { MatchResult result (λ x. exit_values_in (meaning value) ≡ Some (from_last exit_value_of x.items)) (λ other. (exit_values_in (meaning value) ≡ None) × (other ≡ value)) }
+    fn of(value: Value) -> Option<Self>
+        ensures { option_map (λ x. from_last exit_value_of x.items) result ≡ exit_values_in (meaning value) }
     {
         match value {
-            Value::ExitValues(value) => Ok(value),
-            other => Err(other),
+            Value::ExitValues(value) => Some(value),
+            other => of_another_kind(other),
         }
     }
 }
@@ -168,12 +168,12 @@ impl Part for Vec<(VarText, Written)> {
 
     ghost found = { lets_in };
 
-    fn of(value: Value) -> Result<Self, Value>
-        ensures { MatchResult result (λ x. lets_in (meaning value) ≡ Some (from_last let_of x.items)) (λ other. (lets_in (meaning value) ≡ None) × (other ≡ value)) }
+    fn of(value: Value) -> Option<Self>
+        ensures { option_map (λ x. from_last let_of x.items) result ≡ lets_in (meaning value) }
     {
         match value {
-            Value::Lets(value) => Ok(value),
-            other => Err(other),
+            Value::Lets(value) => Some(value),
+            other => of_another_kind(other),
         }
     }
 }
@@ -186,12 +186,12 @@ impl Part for Vec<GateText> {
 
     ghost found = { gate_choices_in };
 
-    fn of(value: Value) -> Result<Self, Value>
-        ensures { MatchResult result (λ x. gate_choices_in (meaning value) ≡ Some (from_last gate_choice_of x.items)) (λ other. (gate_choices_in (meaning value) ≡ None) × (other ≡ value)) }
+    fn of(value: Value) -> Option<Self>
+        ensures { option_map (λ x. from_last gate_choice_of x.items) result ≡ gate_choices_in (meaning value) }
     {
         match value {
-            Value::GateChoices(value) => Ok(value),
-            other => Err(other),
+            Value::GateChoices(value) => Some(value),
+            other => of_another_kind(other),
         }
     }
 }
@@ -204,12 +204,12 @@ impl Part for ValueChoiceEnd {
 
     ghost found = { value_choice_in };
 
-    fn of(value: Value) -> Result<Self, Value>
-        ensures { MatchResult result (λ x. value_choice_in (meaning value) ≡ Some (value_choice_end_of x)) (λ other. (value_choice_in (meaning value) ≡ None) × (other ≡ value)) }
+    fn of(value: Value) -> Option<Self>
+        ensures { option_map (λ x. value_choice_end_of x) result ≡ value_choice_in (meaning value) }
     {
         match value {
-            Value::ValueChoice(value) => Ok(value),
-            other => Err(other),
+            Value::ValueChoice(value) => Some(value),
+            other => of_another_kind(other),
         }
     }
 }
@@ -222,30 +222,30 @@ impl Part for GateChoiceEnd {
 
     ghost found = { gate_choice_in };
 
-    fn of(value: Value) -> Result<Self, Value>
-        ensures { MatchResult result (λ x. gate_choice_in (meaning value) ≡ Some (gate_choice_end_of x)) (λ other. (gate_choice_in (meaning value) ≡ None) × (other ≡ value)) }
+    fn of(value: Value) -> Option<Self>
+        ensures { option_map (λ x. gate_choice_end_of x) result ≡ gate_choice_in (meaning value) }
     {
         match value {
-            Value::GateChoice(value) => Ok(value),
-            other => Err(other),
+            Value::GateChoice(value) => Some(value),
+            other => of_another_kind(other),
         }
     }
 }
 
 /// A behaviour.
-impl Part for BehText {
+impl Part for Box<BehText> {
     ghost Plain = { WrittenBehaviour };
 
-    ghost plain = { λ x. behaviour_of x };
+    ghost plain = { λ x. behaviour_of x.value };
 
     ghost found = { behaviour_in };
 
-    fn of(value: Value) -> Result<Self, Value>
-        ensures { MatchResult result (λ x. behaviour_in (meaning value) ≡ Some (behaviour_of x)) (λ other. (behaviour_in (meaning value) ≡ None) × (other ≡ value)) }
+    fn of(value: Value) -> Option<Self>
+        ensures { option_map (λ x. behaviour_of x.value) result ≡ behaviour_in (meaning value) }
     {
         match value {
-            Value::Behaviour(value) => Ok(value),
-            other => Err(other),
+            Value::Behaviour(value) => Some(value),
+            other => of_another_kind(other),
         }
     }
 }
@@ -258,12 +258,12 @@ impl Part for (Place, Sign) {
 
     ghost found = { sign_in };
 
-    fn of(value: Value) -> Result<Self, Value>
-        ensures { MatchResult result (λ x. sign_in (meaning value) ≡ Some (placed_sign_of x)) (λ other. (sign_in (meaning value) ≡ None) × (other ≡ value)) }
+    fn of(value: Value) -> Option<Self>
+        ensures { option_map (λ x. placed_sign_of x) result ≡ sign_in (meaning value) }
     {
         match value {
-            Value::Sign(value) => Ok(value),
-            other => Err(other),
+            Value::Sign(value) => Some(value),
+            other => of_another_kind(other),
         }
     }
 }

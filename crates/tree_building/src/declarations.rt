@@ -148,7 +148,7 @@ pub fn value_choice(mut parts: Vec<Value>) -> Option<Value>
 {
     let sort = take::<Named>(&mut parts)?;
     let more = take::<Vec<VarText>>(&mut parts)?;
-    let inside = take::<BehText>(&mut parts)?;
+    let inside = take::<Box<BehText>>(&mut parts)?;
     Some(Value::ValueChoice(ValueChoiceEnd { sort, more, inside }))
 }
 
@@ -158,7 +158,7 @@ pub fn gate_choice(mut parts: Vec<Value>) -> Option<Value>
 {
     let among = take::<Vec<Named>>(&mut parts)?;
     let more = take::<Vec<GateText>>(&mut parts)?;
-    let inside = take::<BehText>(&mut parts)?;
+    let inside = take::<Box<BehText>>(&mut parts)?;
     Some(Value::GateChoice(GateChoiceEnd {
         among,
         more,

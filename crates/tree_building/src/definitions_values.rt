@@ -1,7 +1,7 @@
 //! What the parts of definitions of processes and headings are built into. Lists are held from the last member to the first
 //! until they enter a tree.
 
-ghost use Rattle.std.specs.Prelude.{◌≡◌, List, MatchResult, None, Option, Some, option_map};
+ghost use Rattle.std.specs.Prelude.{◌≡◌, List, Option, option_map};
 ghost use Rattle.lotos_base.specs.WrittenTerm.{PlacedName};
 ghost use Rattle.syntax_trees.specs.WrittenDefinition.{WrittenHeading, WrittenInner};
 ghost use Rattle.syntax_trees.specs.TreeViews.{inner_of, process_of};
@@ -10,12 +10,12 @@ ghost use Rattle.tree_building.specs.MeaningView.{meaning};
 ghost use Rattle.tree_building.specs.Parts.{heading_in, functionality_in, inner_in, process_in};
 ghost use Rattle.tree_building.specs.DefinitionsViews.{plain_heading_of, sorts_of};
 
-use crate::value::{Part, Value};
+use crate::value::{Part, Value, of_another_kind};
 use lotos_base::{Name, Place};
 use syntax_trees::{InnerText, Named, ProcessText, VarText};
 
 /// What stands before the body of a specification or a process, in text order.
-#[derive(Debug, Drop)]
+#[derive(Drop)]
 pub struct Heading {
     /// The place of the name.
     pub place: Place,
@@ -37,12 +37,12 @@ impl Part for Heading {
 
     ghost found = { heading_in };
 
-    fn of(value: Value) -> Result<Self, Value>
-        ensures { MatchResult result (λ x. heading_in (meaning value) ≡ Some (plain_heading_of x)) (λ other. (heading_in (meaning value) ≡ None) × (other ≡ value)) }
+    fn of(value: Value) -> Option<Self>
+        ensures { option_map (λ x. plain_heading_of x) result ≡ heading_in (meaning value) }
     {
         match value {
-            Value::Heading(value) => Ok(value),
-            other => Err(other),
+            Value::Heading(value) => Some(value),
+            other => of_another_kind(other),
         }
     }
 }
@@ -55,12 +55,12 @@ impl Part for Option<Vec<Named>> {
 
     ghost found = { functionality_in };
 
-    fn of(value: Value) -> Result<Self, Value>
-        ensures { MatchResult result (λ x. functionality_in (meaning value) ≡ Some (option_map sorts_of x)) (λ other. (functionality_in (meaning value) ≡ None) × (other ≡ value)) }
+    fn of(value: Value) -> Option<Self>
+        ensures { option_map (λ x. option_map sorts_of x) result ≡ functionality_in (meaning value) }
     {
         match value {
-            Value::Functionality(value) => Ok(value),
-            other => Err(other),
+            Value::Functionality(value) => Some(value),
+            other => of_another_kind(other),
         }
     }
 }
@@ -73,12 +73,12 @@ impl Part for Vec<InnerText> {
 
     ghost found = { inner_in };
 
-    fn of(value: Value) -> Result<Self, Value>
-        ensures { MatchResult result (λ x. inner_in (meaning value) ≡ Some (from_last inner_of x.items)) (λ other. (inner_in (meaning value) ≡ None) × (other ≡ value)) }
+    fn of(value: Value) -> Option<Self>
+        ensures { option_map (λ x. from_last inner_of x.items) result ≡ inner_in (meaning value) }
     {
         match value {
-            Value::Inner(value) => Ok(value),
-            other => Err(other),
+            Value::Inner(value) => Some(value),
+            other => of_another_kind(other),
         }
     }
 }
@@ -91,12 +91,12 @@ impl Part for ProcessText {
 
     ghost found = { process_in };
 
-    fn of(value: Value) -> Result<Self, Value>
-        ensures { MatchResult result (λ x. process_in (meaning value) ≡ Some (process_of x)) (λ other. (process_in (meaning value) ≡ None) × (other ≡ value)) }
+    fn of(value: Value) -> Option<Self>
+        ensures { option_map (λ x. process_of x) result ≡ process_in (meaning value) }
     {
         match value {
-            Value::Process(value) => Ok(value),
-            other => Err(other),
+            Value::Process(value) => Some(Box::into_inner(value)),
+            other => of_another_kind(other),
         }
     }
 }

@@ -12,7 +12,7 @@ ghost use Rattle.tree_building.specs.TermsViews.{started_term_of};
 use crate::equations_values::{AfterTerm, Conclusion};
 use crate::names::{Built, empty_variables, the_variables, turned};
 use crate::terms_values::StartedTerm;
-use crate::value::{Value, take};
+use crate::value::{Value, held, take};
 use lotos_base::Written;
 use lotos_lexer::Token;
 use lotos_rows::equations::EquationsRow;
@@ -81,7 +81,12 @@ fn joined_equations(mut parts: Vec<Value>) -> Built
 
 /// The equation whose first premiss is the first term, or the pair of it and the right side.
 #[tactic(auto, using(crate::proofs::FromLast::from_last_more, crate::proofs::FromLast::map_reverse))]
-fn conditional_equation(first: StartedTerm, right: Option<Written>, conclusion: Conclusion) -> Built
+fn conditional_equation(
+    alloc: Global,
+    first: StartedTerm,
+    right: Option<Written>,
+    conclusion: Conclusion,
+) -> Built
     ensures { IfOk result (λ built. option_map meaning built
         ≡ equation_from (started_term_of first) (option_map written_term_of right) (Some (conclusion_of conclusion))) }
 {
@@ -91,27 +96,32 @@ fn conditional_equation(first: StartedTerm, right: Option<Written>, conclusion: 
         left: first.term,
         right,
     })?;
-    Ok(Some(Value::Equation(EqText {
+    let sides = Box::into_inner(conclusion.sides);
+    let equation = EqText {
         place: first.start,
         premisses: turned(premisses),
         arrow: Some(conclusion.arrow),
-        left: conclusion.left,
-        right: conclusion.right,
-    })))
+        left: sides.0,
+        right: sides.1,
+    };
+    Ok(Some(Value::Equation(held(alloc, equation)?)))
 }
 
 /// The equation of two terms.
-fn plain_equation(alloc: Global, first: StartedTerm, right: Option<Written>) -> Option<Value>
-    ensures { option_map meaning result ≡ equation_from (started_term_of first) (option_map written_term_of right) None }
+fn plain_equation(alloc: Global, first: StartedTerm, right: Option<Written>) -> Built
+    ensures { IfOk result (λ built. option_map meaning built ≡ equation_from (started_term_of first) (option_map written_term_of right) None) }
 {
-    let right = right?;
-    Some(Value::Equation(EqText {
+    let Some(right) = right else {
+        return Ok(None);
+    };
+    let equation = EqText {
         place: first.start,
         premisses: Vec::new(alloc),
         arrow: None,
         left: first.term,
         right,
-    }))
+    };
+    Ok(Some(Value::Equation(held(alloc, equation)?)))
 }
 
 fn whole_equation(alloc: Global, mut parts: Vec<Value>) -> Built
@@ -125,30 +135,38 @@ fn whole_equation(alloc: Global, mut parts: Vec<Value>) -> Built
     };
     let AfterTerm { right, conclusion } = after;
     match conclusion {
-        Some(conclusion) => conditional_equation(first, right, conclusion),
-        None => Ok(plain_equation(alloc, first, right)),
+        Some(conclusion) => conditional_equation(alloc, first, right, conclusion),
+        None => plain_equation(alloc, first, right),
     }
 }
 
-fn right_side_of_pair(mut parts: Vec<Value>) -> Option<Value>
-    ensures { option_map meaning result ≡ equals_after_term (from_last meaning parts.items) }
+fn right_side_of_pair(alloc: Global, mut parts: Vec<Value>) -> Built
+    ensures { IfOk result (λ built. option_map meaning built ≡ equals_after_term (from_last meaning parts.items)) }
 {
-    let right = take::<StartedTerm>(&mut parts)?;
-    let conclusion = take::<Option<Conclusion>>(&mut parts)?;
-    Some(Value::AfterTerm(AfterTerm {
+    let Some(right) = take::<StartedTerm>(&mut parts) else {
+        return Ok(None);
+    };
+    let Some(conclusion) = take::<Option<Conclusion>>(&mut parts) else {
+        return Ok(None);
+    };
+    let after = AfterTerm {
         right: Some(right.term),
         conclusion,
-    }))
+    };
+    Ok(Some(Value::AfterTerm(held(alloc, after)?)))
 }
 
-fn conclusion_at_once(mut parts: Vec<Value>) -> Option<Value>
-    ensures { option_map meaning result ≡ conclusion_after_term (from_last meaning parts.items) }
+fn conclusion_at_once(alloc: Global, mut parts: Vec<Value>) -> Built
+    ensures { IfOk result (λ built. option_map meaning built ≡ conclusion_after_term (from_last meaning parts.items)) }
 {
-    let conclusion = take::<Conclusion>(&mut parts)?;
-    Some(Value::AfterTerm(AfterTerm {
+    let Some(conclusion) = take::<Conclusion>(&mut parts) else {
+        return Ok(None);
+    };
+    let after = AfterTerm {
         right: None,
         conclusion: Some(conclusion),
-    }))
+    };
+    Ok(Some(Value::AfterTerm(held(alloc, after)?)))
 }
 
 fn without_conclusion() -> Value
@@ -179,36 +197,45 @@ fn joined_premisses(mut parts: Vec<Value>) -> Built
     Ok(Some(Value::Conclusion(Conclusion {
         premisses,
         arrow: conclusion.arrow,
-        left: conclusion.left,
-        right: conclusion.right,
+        sides: conclusion.sides,
     })))
 }
 
 #[tactic(auto, using(crate::proofs::FromLast::from_last_none))]
-fn conclusion(alloc: Global, token: Option<Token>, mut parts: Vec<Value>) -> Option<Value>
-    ensures { option_map meaning result ≡ conclusion_of_terms token (from_last meaning parts.items) }
+fn conclusion(alloc: Global, token: Option<Token>, mut parts: Vec<Value>) -> Built
+    ensures { IfOk result (λ built. option_map meaning built ≡ conclusion_of_terms token (from_last meaning parts.items)) }
 {
-    let arrow = token?;
-    let left = take::<StartedTerm>(&mut parts)?;
-    let right = take::<StartedTerm>(&mut parts)?;
-    Some(Value::Conclusion(Conclusion {
+    let Some(arrow) = token else {
+        return Ok(None);
+    };
+    let Some(left) = take::<StartedTerm>(&mut parts) else {
+        return Ok(None);
+    };
+    let Some(right) = take::<StartedTerm>(&mut parts) else {
+        return Ok(None);
+    };
+    Ok(Some(Value::Conclusion(Conclusion {
         premisses: Vec::new(alloc),
         arrow: arrow.place,
-        left: left.term,
-        right: right.term,
-    }))
+        sides: held(alloc, (left.term, right.term))?,
+    })))
 }
 
-fn premiss(mut parts: Vec<Value>) -> Option<Value>
-    ensures { option_map meaning result ≡ premiss_of_term (from_last meaning parts.items) }
+fn premiss(alloc: Global, mut parts: Vec<Value>) -> Built
+    ensures { IfOk result (λ built. option_map meaning built ≡ premiss_of_term (from_last meaning parts.items)) }
 {
-    let left = take::<StartedTerm>(&mut parts)?;
-    let right = take::<Option<Written>>(&mut parts)?;
-    Some(Value::Premiss(TestText {
+    let Some(left) = take::<StartedTerm>(&mut parts) else {
+        return Ok(None);
+    };
+    let Some(right) = take::<Option<Written>>(&mut parts) else {
+        return Ok(None);
+    };
+    let test = TestText {
         place: left.start,
         left: left.term,
         right,
-    }))
+    };
+    Ok(Some(Value::Premiss(held(alloc, test)?)))
 }
 
 fn without_right_side() -> Value
@@ -239,13 +266,13 @@ pub fn build(alloc: Global, row: EquationsRow, token: Option<Token>, parts: Vec<
         EquationsRow::EquationList => joined_equations(parts),
         EquationsRow::AfterEquation => Ok(the_equations(parts)),
         EquationsRow::Equation => whole_equation(alloc, parts),
-        EquationsRow::EqualsAfterTerm => Ok(right_side_of_pair(parts)),
-        EquationsRow::ConclusionAfterTerm => Ok(conclusion_at_once(parts)),
+        EquationsRow::EqualsAfterTerm => right_side_of_pair(alloc, parts),
+        EquationsRow::ConclusionAfterTerm => conclusion_at_once(alloc, parts),
         EquationsRow::NoAfterFirstPair => Ok(Some(without_conclusion())),
         EquationsRow::AfterFirstPair => Ok(with_conclusion(parts)),
         EquationsRow::PremissAndConclusion => joined_premisses(parts),
-        EquationsRow::Conclusion => Ok(conclusion(alloc, token, parts)),
-        EquationsRow::Premiss => Ok(premiss(parts)),
+        EquationsRow::Conclusion => conclusion(alloc, token, parts),
+        EquationsRow::Premiss => premiss(alloc, parts),
         EquationsRow::NoPremissRight => Ok(Some(without_right_side())),
         EquationsRow::PremissRight => Ok(with_right_side(parts)),
     }

@@ -1,7 +1,7 @@
 //! What the parts of equations are built into. Lists are held from the last member to the first
 //! until they enter a tree.
 
-ghost use Rattle.std.specs.Prelude.{◌≡◌, List, MatchResult, None, Option, Some, option_map};
+ghost use Rattle.std.specs.Prelude.{◌≡◌, List, Option, option_map};
 ghost use Rattle.lotos_base.specs.WrittenTerm.{WrittenTerm};
 ghost use Rattle.syntax_trees.specs.WrittenEquation.{WrittenEquation, WrittenGroup, WrittenPremiss};
 ghost use Rattle.lotos_base.specs.WrittenView.{written_term_of};
@@ -12,25 +12,23 @@ ghost use Rattle.tree_building.specs.MeaningView.{meaning};
 ghost use Rattle.tree_building.specs.Parts.{groups_in, equations_in, equation_in, conclusion_in, maybe_conclusion_in, after_term_in, premiss_in, maybe_term_in};
 ghost use Rattle.tree_building.specs.EquationsViews.{after_term_of, conclusion_of};
 
-use crate::value::{Part, Value};
+use crate::value::{Part, Value, of_another_kind};
 use lotos_base::{Place, Written};
 use syntax_trees::{EqText, GroupText, TestText};
 
 /// The end of an equation with premisses: those behind the first one, and the equation behind `=>`.
-#[derive(Debug, Drop)]
+#[derive(Drop)]
 pub struct Conclusion {
     /// The premisses, from the last to the first.
     pub premisses: Vec<TestText>,
     /// The place of `=>`.
     pub arrow: Place,
-    /// The left side.
-    pub left: Written,
-    /// The right side.
-    pub right: Written,
+    /// The left and the right side.
+    pub sides: Box<(Written, Written)>,
 }
 
 /// What stands behind the first term of an equation.
-#[derive(Debug, Drop)]
+#[derive(Drop)]
 pub struct AfterTerm {
     /// The right side of the first pair.
     pub right: Option<Written>,
@@ -46,12 +44,12 @@ impl Part for Vec<GroupText> {
 
     ghost found = { groups_in };
 
-    fn of(value: Value) -> Result<Self, Value>
-        ensures { MatchResult result (λ x. groups_in (meaning value) ≡ Some (from_last group_of x.items)) (λ other. (groups_in (meaning value) ≡ None) × (other ≡ value)) }
+    fn of(value: Value) -> Option<Self>
+        ensures { option_map (λ x. from_last group_of x.items) result ≡ groups_in (meaning value) }
     {
         match value {
-            Value::Groups(value) => Ok(value),
-            other => Err(other),
+            Value::Groups(value) => Some(value),
+            other => of_another_kind(other),
         }
     }
 }
@@ -64,12 +62,12 @@ impl Part for Vec<EqText> {
 
     ghost found = { equations_in };
 
-    fn of(value: Value) -> Result<Self, Value>
-        ensures { MatchResult result (λ x. equations_in (meaning value) ≡ Some (from_last equation_of x.items)) (λ other. (equations_in (meaning value) ≡ None) × (other ≡ value)) }
+    fn of(value: Value) -> Option<Self>
+        ensures { option_map (λ x. from_last equation_of x.items) result ≡ equations_in (meaning value) }
     {
         match value {
-            Value::Equations(value) => Ok(value),
-            other => Err(other),
+            Value::Equations(value) => Some(value),
+            other => of_another_kind(other),
         }
     }
 }
@@ -82,12 +80,12 @@ impl Part for EqText {
 
     ghost found = { equation_in };
 
-    fn of(value: Value) -> Result<Self, Value>
-        ensures { MatchResult result (λ x. equation_in (meaning value) ≡ Some (equation_of x)) (λ other. (equation_in (meaning value) ≡ None) × (other ≡ value)) }
+    fn of(value: Value) -> Option<Self>
+        ensures { option_map (λ x. equation_of x) result ≡ equation_in (meaning value) }
     {
         match value {
-            Value::Equation(value) => Ok(value),
-            other => Err(other),
+            Value::Equation(value) => Some(Box::into_inner(value)),
+            other => of_another_kind(other),
         }
     }
 }
@@ -100,12 +98,12 @@ impl Part for Conclusion {
 
     ghost found = { conclusion_in };
 
-    fn of(value: Value) -> Result<Self, Value>
-        ensures { MatchResult result (λ x. conclusion_in (meaning value) ≡ Some (conclusion_of x)) (λ other. (conclusion_in (meaning value) ≡ None) × (other ≡ value)) }
+    fn of(value: Value) -> Option<Self>
+        ensures { option_map (λ x. conclusion_of x) result ≡ conclusion_in (meaning value) }
     {
         match value {
-            Value::Conclusion(value) => Ok(value),
-            other => Err(other),
+            Value::Conclusion(value) => Some(value),
+            other => of_another_kind(other),
         }
     }
 }
@@ -118,12 +116,12 @@ impl Part for Option<Conclusion> {
 
     ghost found = { maybe_conclusion_in };
 
-    fn of(value: Value) -> Result<Self, Value>
-        ensures { MatchResult result (λ x. maybe_conclusion_in (meaning value) ≡ Some (option_map conclusion_of x)) (λ other. (maybe_conclusion_in (meaning value) ≡ None) × (other ≡ value)) }
+    fn of(value: Value) -> Option<Self>
+        ensures { option_map (λ x. option_map conclusion_of x) result ≡ maybe_conclusion_in (meaning value) }
     {
         match value {
-            Value::MaybeConclusion(value) => Ok(value),
-            other => Err(other),
+            Value::MaybeConclusion(value) => Some(value),
+            other => of_another_kind(other),
         }
     }
 }
@@ -136,12 +134,12 @@ impl Part for AfterTerm {
 
     ghost found = { after_term_in };
 
-    fn of(value: Value) -> Result<Self, Value>
-        ensures { MatchResult result (λ x. after_term_in (meaning value) ≡ Some (after_term_of x)) (λ other. (after_term_in (meaning value) ≡ None) × (other ≡ value)) }
+    fn of(value: Value) -> Option<Self>
+        ensures { option_map (λ x. after_term_of x) result ≡ after_term_in (meaning value) }
     {
         match value {
-            Value::AfterTerm(value) => Ok(value),
-            other => Err(other),
+            Value::AfterTerm(value) => Some(Box::into_inner(value)),
+            other => of_another_kind(other),
         }
     }
 }
@@ -154,12 +152,12 @@ impl Part for TestText {
 
     ghost found = { premiss_in };
 
-    fn of(value: Value) -> Result<Self, Value>
-        ensures { MatchResult result (λ x. premiss_in (meaning value) ≡ Some (premiss_of x)) (λ other. (premiss_in (meaning value) ≡ None) × (other ≡ value)) }
+    fn of(value: Value) -> Option<Self>
+        ensures { option_map (λ x. premiss_of x) result ≡ premiss_in (meaning value) }
     {
         match value {
-            Value::Premiss(value) => Ok(value),
-            other => Err(other),
+            Value::Premiss(value) => Some(Box::into_inner(value)),
+            other => of_another_kind(other),
         }
     }
 }
@@ -172,12 +170,12 @@ impl Part for Option<Written> {
 
     ghost found = { maybe_term_in };
 
-    fn of(value: Value) -> Result<Self, Value>
-        ensures { MatchResult result (λ x. maybe_term_in (meaning value) ≡ Some (option_map written_term_of x)) (λ other. (maybe_term_in (meaning value) ≡ None) × (other ≡ value)) }
+    fn of(value: Value) -> Option<Self>
+        ensures { option_map (λ x. option_map written_term_of x) result ≡ maybe_term_in (meaning value) }
     {
         match value {
-            Value::MaybeTerm(value) => Ok(value),
-            other => Err(other),
+            Value::MaybeTerm(value) => Some(value),
+            other => of_another_kind(other),
         }
     }
 }

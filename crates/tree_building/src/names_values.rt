@@ -1,7 +1,7 @@
 //! What the parts of names and lists of them are built into. Lists are held from the last member to the first
 //! until they enter a tree.
 
-ghost use Rattle.std.specs.Prelude.{◌≡◌, List, MatchResult, None, Option, Some, option_map};
+ghost use Rattle.std.specs.Prelude.{◌≡◌, List, Option, option_map};
 ghost use Rattle.lotos_base.specs.WrittenTerm.{PlacedName};
 ghost use Rattle.syntax_trees.specs.WrittenVariable.{WrittenVariable};
 ghost use Rattle.lotos_sentences.specs.Names.{NamedOperation, PlacedProfile};
@@ -12,12 +12,12 @@ ghost use Rattle.tree_building.specs.MeaningView.{meaning};
 ghost use Rattle.tree_building.specs.Parts.{name_in, names_in, variables_in, operation_in, operations_in, profile_in, maybe_profile_in};
 ghost use Rattle.tree_building.specs.NamesViews.{named_operation_of, profile_of};
 
-use crate::value::{Part, Value};
+use crate::value::{Part, Value, of_another_kind};
 use lotos_base::Form;
 use syntax_trees::{Named, VarText};
 
 /// An operation by its name, with the form that underscores give it.
-#[derive(Debug, Drop)]
+#[derive(Drop)]
 pub struct NamedOp {
     /// The name.
     pub name: Named,
@@ -26,7 +26,7 @@ pub struct NamedOp {
 }
 
 /// The sorts of an operation.
-#[derive(Debug, Drop)]
+#[derive(Drop)]
 pub struct OpProfile {
     /// Those of its arguments, in text order.
     pub arguments: Vec<Named>,
@@ -42,12 +42,12 @@ impl Part for Named {
 
     ghost found = { name_in };
 
-    fn of(value: Value) -> Result<Self, Value>
-        ensures { MatchResult result (λ x. name_in (meaning value) ≡ Some (placed_name_of x)) (λ other. (name_in (meaning value) ≡ None) × (other ≡ value)) }
+    fn of(value: Value) -> Option<Self>
+        ensures { option_map (λ x. placed_name_of x) result ≡ name_in (meaning value) }
     {
         match value {
-            Value::Name(value) => Ok(value),
-            other => Err(other),
+            Value::Name(value) => Some(value),
+            other => of_another_kind(other),
         }
     }
 }
@@ -60,12 +60,12 @@ impl Part for Vec<Named> {
 
     ghost found = { names_in };
 
-    fn of(value: Value) -> Result<Self, Value>
-        ensures { MatchResult result (λ x. names_in (meaning value) ≡ Some (from_last placed_name_of x.items)) (λ other. (names_in (meaning value) ≡ None) × (other ≡ value)) }
+    fn of(value: Value) -> Option<Self>
+        ensures { option_map (λ x. from_last placed_name_of x.items) result ≡ names_in (meaning value) }
     {
         match value {
-            Value::Names(value) => Ok(value),
-            other => Err(other),
+            Value::Names(value) => Some(value),
+            other => of_another_kind(other),
         }
     }
 }
@@ -78,12 +78,12 @@ impl Part for Vec<VarText> {
 
     ghost found = { variables_in };
 
-    fn of(value: Value) -> Result<Self, Value>
-        ensures { MatchResult result (λ x. variables_in (meaning value) ≡ Some (from_last variable_of x.items)) (λ other. (variables_in (meaning value) ≡ None) × (other ≡ value)) }
+    fn of(value: Value) -> Option<Self>
+        ensures { option_map (λ x. from_last variable_of x.items) result ≡ variables_in (meaning value) }
     {
         match value {
-            Value::Variables(value) => Ok(value),
-            other => Err(other),
+            Value::Variables(value) => Some(value),
+            other => of_another_kind(other),
         }
     }
 }
@@ -96,12 +96,12 @@ impl Part for NamedOp {
 
     ghost found = { operation_in };
 
-    fn of(value: Value) -> Result<Self, Value>
-        ensures { MatchResult result (λ x. operation_in (meaning value) ≡ Some (named_operation_of x)) (λ other. (operation_in (meaning value) ≡ None) × (other ≡ value)) }
+    fn of(value: Value) -> Option<Self>
+        ensures { option_map (λ x. named_operation_of x) result ≡ operation_in (meaning value) }
     {
         match value {
-            Value::Operation(value) => Ok(value),
-            other => Err(other),
+            Value::Operation(value) => Some(value),
+            other => of_another_kind(other),
         }
     }
 }
@@ -114,12 +114,12 @@ impl Part for Vec<NamedOp> {
 
     ghost found = { operations_in };
 
-    fn of(value: Value) -> Result<Self, Value>
-        ensures { MatchResult result (λ x. operations_in (meaning value) ≡ Some (from_last named_operation_of x.items)) (λ other. (operations_in (meaning value) ≡ None) × (other ≡ value)) }
+    fn of(value: Value) -> Option<Self>
+        ensures { option_map (λ x. from_last named_operation_of x.items) result ≡ operations_in (meaning value) }
     {
         match value {
-            Value::NamedOperations(value) => Ok(value),
-            other => Err(other),
+            Value::NamedOperations(value) => Some(value),
+            other => of_another_kind(other),
         }
     }
 }
@@ -132,12 +132,12 @@ impl Part for OpProfile {
 
     ghost found = { profile_in };
 
-    fn of(value: Value) -> Result<Self, Value>
-        ensures { MatchResult result (λ x. profile_in (meaning value) ≡ Some (profile_of x)) (λ other. (profile_in (meaning value) ≡ None) × (other ≡ value)) }
+    fn of(value: Value) -> Option<Self>
+        ensures { option_map (λ x. profile_of x) result ≡ profile_in (meaning value) }
     {
         match value {
-            Value::Profile(value) => Ok(value),
-            other => Err(other),
+            Value::Profile(value) => Some(value),
+            other => of_another_kind(other),
         }
     }
 }
@@ -150,12 +150,12 @@ impl Part for Option<OpProfile> {
 
     ghost found = { maybe_profile_in };
 
-    fn of(value: Value) -> Result<Self, Value>
-        ensures { MatchResult result (λ x. maybe_profile_in (meaning value) ≡ Some (option_map profile_of x)) (λ other. (maybe_profile_in (meaning value) ≡ None) × (other ≡ value)) }
+    fn of(value: Value) -> Option<Self>
+        ensures { option_map (λ x. option_map profile_of x) result ≡ maybe_profile_in (meaning value) }
     {
         match value {
-            Value::MaybeProfile(value) => Ok(value),
-            other => Err(other),
+            Value::MaybeProfile(value) => Some(value),
+            other => of_another_kind(other),
         }
     }
 }

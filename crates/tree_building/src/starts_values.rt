@@ -1,7 +1,7 @@
 //! What the parts of the four texts are built into. Lists are held from the last member to the first
 //! until they enter a tree.
 
-ghost use Rattle.std.specs.Prelude.{◌≡◌, List, MatchResult, None, Some};
+ghost use Rattle.std.specs.Prelude.{◌≡◌, List, option_map};
 ghost use Rattle.lotos_base.specs.WrittenTerm.{ListedOperation};
 ghost use Rattle.syntax_trees.specs.WrittenDefinition.{WrittenSpecification};
 ghost use Rattle.lotos_base.specs.WrittenView.{listed_operation_of};
@@ -10,7 +10,7 @@ ghost use Rattle.derivation_fold.specs.Run.{from_last};
 ghost use Rattle.tree_building.specs.MeaningView.{meaning};
 ghost use Rattle.tree_building.specs.Parts.{word_in, specification_in, order_items_in};
 
-use crate::value::{Part, Value};
+use crate::value::{Part, Value, of_another_kind};
 use lotos_base::OrderItem;
 use syntax_trees::SpecText;
 
@@ -22,12 +22,12 @@ impl Part for () {
 
     ghost found = { word_in };
 
-    fn of(value: Value) -> Result<Self, Value>
-        ensures { MatchResult result (λ x. word_in (meaning value) ≡ Some (tt)) (λ other. (word_in (meaning value) ≡ None) × (other ≡ value)) }
+    fn of(value: Value) -> Option<Self>
+        ensures { option_map (λ x. tt) result ≡ word_in (meaning value) }
     {
         match value {
-            Value::Word(value) => Ok(value),
-            other => Err(other),
+            Value::Word(value) => Some(value),
+            other => of_another_kind(other),
         }
     }
 }
@@ -40,12 +40,12 @@ impl Part for SpecText {
 
     ghost found = { specification_in };
 
-    fn of(value: Value) -> Result<Self, Value>
-        ensures { MatchResult result (λ x. specification_in (meaning value) ≡ Some (specification_of x)) (λ other. (specification_in (meaning value) ≡ None) × (other ≡ value)) }
+    fn of(value: Value) -> Option<Self>
+        ensures { option_map (λ x. specification_of x) result ≡ specification_in (meaning value) }
     {
         match value {
-            Value::Specification(value) => Ok(value),
-            other => Err(other),
+            Value::Specification(value) => Some(Box::into_inner(value)),
+            other => of_another_kind(other),
         }
     }
 }
@@ -58,12 +58,12 @@ impl Part for Vec<OrderItem> {
 
     ghost found = { order_items_in };
 
-    fn of(value: Value) -> Result<Self, Value>
-        ensures { MatchResult result (λ x. order_items_in (meaning value) ≡ Some (from_last listed_operation_of x.items)) (λ other. (order_items_in (meaning value) ≡ None) × (other ≡ value)) }
+    fn of(value: Value) -> Option<Self>
+        ensures { option_map (λ x. from_last listed_operation_of x.items) result ≡ order_items_in (meaning value) }
     {
         match value {
-            Value::OrderItems(value) => Ok(value),
-            other => Err(other),
+            Value::OrderItems(value) => Some(value),
+            other => of_another_kind(other),
         }
     }
 }

@@ -1,7 +1,7 @@
 //! What the parts of terms are built into. Lists are held from the last member to the first
 //! until they enter a tree.
 
-ghost use Rattle.std.specs.Prelude.{◌≡◌, List, MatchResult, None, Some};
+ghost use Rattle.std.specs.Prelude.{◌≡◌, List, option_map};
 ghost use Rattle.lotos_base.specs.WrittenTerm.{PlacedName, WrittenTerm};
 ghost use Rattle.lotos_base.specs.WrittenView.{written_term_of};
 ghost use Rattle.derivation_fold.specs.Run.{from_last};
@@ -10,12 +10,12 @@ ghost use Rattle.tree_building.specs.MeaningView.{meaning};
 ghost use Rattle.tree_building.specs.Parts.{term_in, factors_in, terms_in};
 ghost use Rattle.tree_building.specs.TermsViews.{factor_of, started_term_of};
 
-use crate::value::{Part, Value};
+use crate::value::{Part, Value, of_another_kind};
 use lotos_base::{Place, Written};
 use syntax_trees::Named;
 
 /// A term, and the place of its first token, which may be a bracket.
-#[derive(Debug, Drop)]
+#[derive(Drop)]
 pub struct StartedTerm {
     /// The place of the first token.
     pub start: Place,
@@ -31,12 +31,12 @@ impl Part for StartedTerm {
 
     ghost found = { term_in };
 
-    fn of(value: Value) -> Result<Self, Value>
-        ensures { MatchResult result (λ x. term_in (meaning value) ≡ Some (started_term_of x)) (λ other. (term_in (meaning value) ≡ None) × (other ≡ value)) }
+    fn of(value: Value) -> Option<Self>
+        ensures { option_map (λ x. started_term_of x) result ≡ term_in (meaning value) }
     {
         match value {
-            Value::Term(value) => Ok(value),
-            other => Err(other),
+            Value::Term(value) => Some(value),
+            other => of_another_kind(other),
         }
     }
 }
@@ -49,12 +49,12 @@ impl Part for Vec<(Named, Written)> {
 
     ghost found = { factors_in };
 
-    fn of(value: Value) -> Result<Self, Value>
-        ensures { MatchResult result (λ x. factors_in (meaning value) ≡ Some (from_last factor_of x.items)) (λ other. (factors_in (meaning value) ≡ None) × (other ≡ value)) }
+    fn of(value: Value) -> Option<Self>
+        ensures { option_map (λ x. from_last factor_of x.items) result ≡ factors_in (meaning value) }
     {
         match value {
-            Value::Factors(value) => Ok(value),
-            other => Err(other),
+            Value::Factors(value) => Some(value),
+            other => of_another_kind(other),
         }
     }
 }
@@ -67,12 +67,12 @@ impl Part for Vec<Written> {
 
     ghost found = { terms_in };
 
-    fn of(value: Value) -> Result<Self, Value>
-        ensures { MatchResult result (λ x. terms_in (meaning value) ≡ Some (from_last written_term_of x.items)) (λ other. (terms_in (meaning value) ≡ None) × (other ≡ value)) }
+    fn of(value: Value) -> Option<Self>
+        ensures { option_map (λ x. from_last written_term_of x.items) result ≡ terms_in (meaning value) }
     {
         match value {
-            Value::Terms(value) => Ok(value),
-            other => Err(other),
+            Value::Terms(value) => Some(value),
+            other => of_another_kind(other),
         }
     }
 }

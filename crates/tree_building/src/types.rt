@@ -11,14 +11,15 @@ ghost use Rattle.tree_building.specs.MeaningView.{meaning};
 ghost use Rattle.tree_building.specs.NamesViews.{named_operation_of, profile_of};
 ghost use Rattle.tree_building.specs.RowMeaning.{specification_row_means, types_row_means};
 ghost use Rattle.tree_building.specs.TypesMeaning.{actualisation_after_base, body_from, equation_section, extension_after_base, item_before_items, library_item, line_before_lines, named_body, no_equation_section, no_items, no_more_operations, no_operations_declared, operation_before_operations, renaming_after_base, same_items, same_operations_declared, sections_body, sections_of_parts, type_item};
-ghost use Rattle.tree_building.specs.TypesViews.{after_base_of, type_body_of};
+ghost use Rattle.tree_building.specs.Meaning.{some_sections};
+ghost use Rattle.tree_building.specs.TypesViews.{after_base_of, sections_of, type_body_of};
 ghost use Rattle.lotos_base.specs.WrittenView.{text_place_of};
 
 use crate::names::{Built, empty_names, the_names, turned};
 use crate::names_values::{NamedOp, OpProfile};
 use crate::renamings_values::BothPairs;
 use crate::types_values::{AfterBase, Sections, TypeBody};
-use crate::value::{Value, take};
+use crate::value::{Value, held, take};
 use lotos_base::Name;
 use lotos_lexer::Token;
 use lotos_rows::types::TypesRow;
@@ -26,15 +27,20 @@ use std::alloc::{AllocError, Global};
 use syntax_trees::{EqnsText, GroupText, ItemBody, ItemText, Named, OpText, VarText};
 
 #[tactic(auto, using(crate::proofs::FromLast::map_reverse))]
-fn library(token: Option<Token>, mut parts: Vec<Value>) -> Option<Value>
-    ensures { option_map meaning result ≡ library_item token (from_last meaning parts.items) }
+fn library(alloc: Global, token: Option<Token>, mut parts: Vec<Value>) -> Built
+    ensures { IfOk result (λ built. option_map meaning built ≡ library_item token (from_last meaning parts.items)) }
 {
-    let word = token?;
-    let names = take::<Vec<Named>>(&mut parts)?;
-    Some(Value::Item(ItemText {
+    let Some(word) = token else {
+        return Ok(None);
+    };
+    let Some(names) = take::<Vec<Named>>(&mut parts) else {
+        return Ok(None);
+    };
+    let item = ItemText {
         place: word.place,
         body: ItemBody::Library(turned(names)),
-    }))
+    };
+    Ok(Some(Value::Item(held(alloc, item)?)))
 }
 
 /// A type with its name and its body.
@@ -45,16 +51,19 @@ fn declared(name: Named, body: TypeBody) -> ItemText
     let place = name.0;
     let name = name.1;
     let body = match body {
-        TypeBody::Extends(imports, sections) => ItemBody::Extends {
-            name,
-            imports: turned(imports),
-            formal_sorts: sections.formal_sorts,
-            formal_ops: sections.formal_ops,
-            formal_equations: sections.formal_equations,
-            sorts: sections.sorts,
-            ops: sections.ops,
-            equations: sections.equations,
-        },
+        TypeBody::Extends(imports, sections) => {
+            let sections = Box::into_inner(sections);
+            ItemBody::Extends {
+                name,
+                imports: turned(imports),
+                formal_sorts: sections.formal_sorts,
+                formal_ops: sections.formal_ops,
+                formal_equations: sections.formal_equations,
+                sorts: sections.sorts,
+                ops: sections.ops,
+                equations: sections.equations,
+            }
+        }
         TypeBody::Renames(base, pairs) => ItemBody::Renames {
             name,
             base,
@@ -72,12 +81,16 @@ fn declared(name: Named, body: TypeBody) -> ItemText
     ItemText { place, body }
 }
 
-fn type_with_name(mut parts: Vec<Value>) -> Option<Value>
-    ensures { option_map meaning result ≡ type_item (from_last meaning parts.items) }
+fn type_with_name(alloc: Global, mut parts: Vec<Value>) -> Built
+    ensures { IfOk result (λ built. option_map meaning built ≡ type_item (from_last meaning parts.items)) }
 {
-    let name = take::<Named>(&mut parts)?;
-    let body = take::<TypeBody>(&mut parts)?;
-    Some(Value::Item(declared(name, body)))
+    let Some(name) = take::<Named>(&mut parts) else {
+        return Ok(None);
+    };
+    let Some(body) = take::<TypeBody>(&mut parts) else {
+        return Ok(None);
+    };
+    Ok(Some(Value::Item(held(alloc, declared(name, body))?)))
 }
 
 /// The body of a first name and what stands behind it.
@@ -111,7 +124,7 @@ fn body_with_name(mut parts: Vec<Value>) -> Built
 fn body_of_sections(alloc: Global, mut parts: Vec<Value>) -> Option<Value>
     ensures { option_map meaning result ≡ sections_body (from_last meaning parts.items) }
 {
-    let sections = take::<Sections>(&mut parts)?;
+    let sections = take::<Box<Sections>>(&mut parts)?;
     Some(Value::Body(TypeBody::Extends(Vec::new(alloc), sections)))
 }
 
@@ -134,13 +147,13 @@ fn extended(mut parts: Vec<Value>) -> Option<Value>
     ensures { option_map meaning result ≡ extension_after_base (from_last meaning parts.items) }
 {
     let imports = take::<Vec<Named>>(&mut parts)?;
-    let sections = take::<Sections>(&mut parts)?;
+    let sections = take::<Box<Sections>>(&mut parts)?;
     Some(Value::AfterBase(AfterBase::Extended(imports, sections)))
 }
 
 #[tactic(auto, using(crate::proofs::FromLast::map_reverse))]
-fn sections(mut parts: Vec<Value>) -> Option<Value>
-    ensures { option_map meaning result ≡ sections_of_parts (from_last meaning parts.items) }
+fn sections(mut parts: Vec<Value>) -> Option<Sections>
+    ensures { option_map (λ it. some_sections (sections_of it)) result ≡ sections_of_parts (from_last meaning parts.items) }
 {
     let formal_sorts = take::<Vec<Named>>(&mut parts)?;
     let formal_ops = take::<Vec<OpText>>(&mut parts)?;
@@ -148,14 +161,23 @@ fn sections(mut parts: Vec<Value>) -> Option<Value>
     let sorts = take::<Vec<Named>>(&mut parts)?;
     let ops = take::<Vec<OpText>>(&mut parts)?;
     let equations = take::<EqnsText>(&mut parts)?;
-    Some(Value::Sections(Sections {
+    Some(Sections {
         formal_sorts: turned(formal_sorts),
         formal_ops: turned(formal_ops),
         formal_equations,
         sorts: turned(sorts),
         ops: turned(ops),
         equations,
-    }))
+    })
+}
+
+fn all_sections(alloc: Global, parts: Vec<Value>) -> Built
+    ensures { IfOk result (λ built. option_map meaning built ≡ sections_of_parts (from_last meaning parts.items)) }
+{
+    match sections(parts) {
+        Some(sections) => Ok(Some(Value::Sections(held(alloc, sections)?))),
+        None => Ok(None),
+    }
 }
 
 #[tactic(auto, using(crate::proofs::FromLast::from_last_none))]
@@ -323,14 +345,14 @@ pub fn build(alloc: Global, row: TypesRow, token: Option<Token>, parts: Vec<Valu
     ensures { IfOk result (λ built. option_map meaning built ≡ types_row_means row token (from_last meaning parts.items)) }
 {
     match row {
-        TypesRow::LibraryItem => Ok(library(token, parts)),
-        TypesRow::TypeItem => Ok(type_with_name(parts)),
+        TypesRow::LibraryItem => library(alloc, token, parts),
+        TypesRow::TypeItem => type_with_name(alloc, parts),
         TypesRow::NamedBody => body_with_name(parts),
         TypesRow::SectionsBody => Ok(body_of_sections(alloc, parts)),
         TypesRow::Renaming => Ok(renamed(parts)),
         TypesRow::Actualisation => Ok(actualised(parts)),
         TypesRow::Extension => Ok(extended(parts)),
-        TypesRow::Sections => Ok(sections(parts)),
+        TypesRow::Sections => all_sections(alloc, parts),
         TypesRow::NoFormalSorts | TypesRow::NoSorts => Ok(Some(empty_names(alloc))),
         TypesRow::FormalSorts | TypesRow::Sorts => Ok(the_names(parts)),
         TypesRow::NoFormalOperations | TypesRow::NoOperations | TypesRow::NoOperationLines => {

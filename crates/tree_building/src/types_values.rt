@@ -1,7 +1,7 @@
 //! What the parts of types are built into. Lists are held from the last member to the first
 //! until they enter a tree.
 
-ghost use Rattle.std.specs.Prelude.{◌≡◌, List, MatchResult, None, Some};
+ghost use Rattle.std.specs.Prelude.{◌≡◌, List, option_map};
 ghost use Rattle.syntax_trees.specs.WrittenEquation.{WrittenEquations};
 ghost use Rattle.syntax_trees.specs.WrittenItem.{WrittenItem, WrittenOperation, WrittenSections, WrittenTypeBody};
 ghost use Rattle.syntax_trees.specs.TreeViews.{item_of, operation_of, equations_of};
@@ -12,11 +12,11 @@ ghost use Rattle.tree_building.specs.Parts.{item_in, items_in, body_in, after_ba
 ghost use Rattle.tree_building.specs.TypesViews.{after_base_of, sections_of, type_body_of};
 
 use crate::renamings_values::BothPairs;
-use crate::value::{Part, Value};
+use crate::value::{Part, Value, of_another_kind};
 use syntax_trees::{EqnsText, ItemText, Named, OpText};
 
 /// The sections of a type, in text order.
-#[derive(Debug, Drop)]
+#[derive(Drop)]
 pub struct Sections {
     /// The formal sorts.
     pub formal_sorts: Vec<Named>,
@@ -33,10 +33,10 @@ pub struct Sections {
 }
 
 /// The body of a type. Imports, actual types and pairs are held from the last to the first.
-#[derive(Debug, Drop)]
+#[derive(Drop)]
 pub enum TypeBody {
     /// Imports and sections.
-    Extends(Vec<Named>, Sections),
+    Extends(Vec<Named>, Box<Sections>),
     /// A base and the pairs of its renaming.
     Renames(Named, BothPairs),
     /// A base, the actual types and the pairs.
@@ -44,14 +44,14 @@ pub enum TypeBody {
 }
 
 /// What stands behind the first name of a body. Names are held from the last to the first.
-#[derive(Debug, Drop)]
+#[derive(Drop)]
 pub enum AfterBase {
     /// The pairs of a renaming.
     Renamed(BothPairs),
     /// The actual types and the pairs of an actualisation.
     Actualised(Vec<Named>, BothPairs),
     /// Further imports and the sections of an extension.
-    Extended(Vec<Named>, Sections),
+    Extended(Vec<Named>, Box<Sections>),
 }
 
 /// An item.
@@ -62,12 +62,12 @@ impl Part for ItemText {
 
     ghost found = { item_in };
 
-    fn of(value: Value) -> Result<Self, Value>
-        ensures { MatchResult result (λ x. item_in (meaning value) ≡ Some (item_of x)) (λ other. (item_in (meaning value) ≡ None) × (other ≡ value)) }
+    fn of(value: Value) -> Option<Self>
+        ensures { option_map (λ x. item_of x) result ≡ item_in (meaning value) }
     {
         match value {
-            Value::Item(value) => Ok(value),
-            other => Err(other),
+            Value::Item(value) => Some(Box::into_inner(value)),
+            other => of_another_kind(other),
         }
     }
 }
@@ -80,12 +80,12 @@ impl Part for Vec<ItemText> {
 
     ghost found = { items_in };
 
-    fn of(value: Value) -> Result<Self, Value>
-        ensures { MatchResult result (λ x. items_in (meaning value) ≡ Some (from_last item_of x.items)) (λ other. (items_in (meaning value) ≡ None) × (other ≡ value)) }
+    fn of(value: Value) -> Option<Self>
+        ensures { option_map (λ x. from_last item_of x.items) result ≡ items_in (meaning value) }
     {
         match value {
-            Value::Items(value) => Ok(value),
-            other => Err(other),
+            Value::Items(value) => Some(value),
+            other => of_another_kind(other),
         }
     }
 }
@@ -98,12 +98,12 @@ impl Part for TypeBody {
 
     ghost found = { body_in };
 
-    fn of(value: Value) -> Result<Self, Value>
-        ensures { MatchResult result (λ x. body_in (meaning value) ≡ Some (type_body_of x)) (λ other. (body_in (meaning value) ≡ None) × (other ≡ value)) }
+    fn of(value: Value) -> Option<Self>
+        ensures { option_map (λ x. type_body_of x) result ≡ body_in (meaning value) }
     {
         match value {
-            Value::Body(value) => Ok(value),
-            other => Err(other),
+            Value::Body(value) => Some(value),
+            other => of_another_kind(other),
         }
     }
 }
@@ -116,30 +116,30 @@ impl Part for AfterBase {
 
     ghost found = { after_base_in };
 
-    fn of(value: Value) -> Result<Self, Value>
-        ensures { MatchResult result (λ x. after_base_in (meaning value) ≡ Some (after_base_of x)) (λ other. (after_base_in (meaning value) ≡ None) × (other ≡ value)) }
+    fn of(value: Value) -> Option<Self>
+        ensures { option_map (λ x. after_base_of x) result ≡ after_base_in (meaning value) }
     {
         match value {
-            Value::AfterBase(value) => Ok(value),
-            other => Err(other),
+            Value::AfterBase(value) => Some(value),
+            other => of_another_kind(other),
         }
     }
 }
 
 /// The sections of a type.
-impl Part for Sections {
+impl Part for Box<Sections> {
     ghost Plain = { WrittenSections };
 
-    ghost plain = { λ x. sections_of x };
+    ghost plain = { λ x. sections_of x.value };
 
     ghost found = { sections_in };
 
-    fn of(value: Value) -> Result<Self, Value>
-        ensures { MatchResult result (λ x. sections_in (meaning value) ≡ Some (sections_of x)) (λ other. (sections_in (meaning value) ≡ None) × (other ≡ value)) }
+    fn of(value: Value) -> Option<Self>
+        ensures { option_map (λ x. sections_of x.value) result ≡ sections_in (meaning value) }
     {
         match value {
-            Value::Sections(value) => Ok(value),
-            other => Err(other),
+            Value::Sections(value) => Some(value),
+            other => of_another_kind(other),
         }
     }
 }
@@ -152,12 +152,12 @@ impl Part for Vec<OpText> {
 
     ghost found = { declared_operations_in };
 
-    fn of(value: Value) -> Result<Self, Value>
-        ensures { MatchResult result (λ x. declared_operations_in (meaning value) ≡ Some (from_last operation_of x.items)) (λ other. (declared_operations_in (meaning value) ≡ None) × (other ≡ value)) }
+    fn of(value: Value) -> Option<Self>
+        ensures { option_map (λ x. from_last operation_of x.items) result ≡ declared_operations_in (meaning value) }
     {
         match value {
-            Value::DeclaredOperations(value) => Ok(value),
-            other => Err(other),
+            Value::DeclaredOperations(value) => Some(value),
+            other => of_another_kind(other),
         }
     }
 }
@@ -170,12 +170,12 @@ impl Part for EqnsText {
 
     ghost found = { equation_section_in };
 
-    fn of(value: Value) -> Result<Self, Value>
-        ensures { MatchResult result (λ x. equation_section_in (meaning value) ≡ Some (equations_of x)) (λ other. (equation_section_in (meaning value) ≡ None) × (other ≡ value)) }
+    fn of(value: Value) -> Option<Self>
+        ensures { option_map (λ x. equations_of x) result ≡ equation_section_in (meaning value) }
     {
         match value {
-            Value::EquationSection(value) => Ok(value),
-            other => Err(other),
+            Value::EquationSection(value) => Some(value),
+            other => of_another_kind(other),
         }
     }
 }

@@ -1,6 +1,6 @@
 //! What the parts of a derivation are built into.
 
-ghost use Rattle.std.specs.Prelude.{◌≡◌, MatchResult, None, Option, Some, option_map};
+ghost use Rattle.std.specs.Prelude.{◌≡◌, IfOk, None, Option, option_map};
 ghost use Rattle.derivation_fold.specs.Run.{from_last};
 ghost use Rattle.tree_building.specs.Meaning.{Meaning};
 ghost use Rattle.tree_building.specs.MeaningView.{meaning};
@@ -14,12 +14,13 @@ use crate::renamings_values::BothPairs;
 use crate::terms_values::StartedTerm;
 use crate::types_values::{AfterBase, Sections, TypeBody};
 use lotos_base::{OrderItem, Place, Written};
+use std::alloc::{AllocError, Global};
 use syntax_trees::{
     BehText, EqText, EqnsText, ExitText, GateText, GroupText, InnerText, ItemText, Named,
     OfferText, OpText, PairText, ProcessText, Sign, SpecText, TestText, VarText,
 };
 
-/// What a part of a derivation is built into.
+/// What a part of a derivation is built into. What is large is held behind a pointer, since each row moves its parts.
 #[derive(Drop)]
 pub enum Value {
     /// A name.
@@ -47,15 +48,15 @@ pub enum Value {
     /// Equations.
     Equations(Vec<EqText>),
     /// An equation.
-    Equation(EqText),
+    Equation(Box<EqText>),
     /// The end of an equation with premisses.
     Conclusion(Conclusion),
     /// The end of an equation with premisses, or nothing.
     MaybeConclusion(Option<Conclusion>),
     /// What stands behind the first term of an equation.
-    AfterTerm(AfterTerm),
+    AfterTerm(Box<AfterTerm>),
     /// A premiss.
-    Premiss(TestText),
+    Premiss(Box<TestText>),
     /// The right side of a premiss, or nothing.
     MaybeTerm(Option<Written>),
     /// Pairs.
@@ -63,7 +64,7 @@ pub enum Value {
     /// Pairs of sorts and pairs of operations.
     BothPairs(BothPairs),
     /// An item.
-    Item(ItemText),
+    Item(Box<ItemText>),
     /// Items.
     Items(Vec<ItemText>),
     /// The body of a type.
@@ -71,7 +72,7 @@ pub enum Value {
     /// What stands behind the first name of a body.
     AfterBase(AfterBase),
     /// The sections of a type.
-    Sections(Sections),
+    Sections(Box<Sections>),
     /// Operations with their sorts.
     DeclaredOperations(Vec<OpText>),
     /// A section of equations.
@@ -79,7 +80,7 @@ pub enum Value {
     /// A flat list of operands and signs, or its tail.
     Operands(Flat),
     /// An action without its gate, before a flat list.
-    Action(ActionEnd),
+    Action(Box<ActionEnd>),
     /// A call without its name, before the tail of a flat list.
     Call(CallEnd),
     /// Offers.
@@ -95,7 +96,7 @@ pub enum Value {
     /// A choice of gates without its first names.
     GateChoice(GateChoiceEnd),
     /// A behaviour.
-    Behaviour(BehText),
+    Behaviour(Box<BehText>),
     /// A sign.
     Sign((Place, Sign)),
     /// What stands before a body.
@@ -105,11 +106,11 @@ pub enum Value {
     /// What a `where` declares.
     Inner(Vec<InnerText>),
     /// A process.
-    Process(ProcessText),
+    Process(Box<ProcessText>),
     /// A word without a value.
     Word(()),
     /// A specification.
-    Specification(SpecText),
+    Specification(Box<SpecText>),
     /// Items of an order file.
     OrderItems(Vec<OrderItem>),
 }
@@ -122,9 +123,16 @@ pub trait Part: Sized + Drop {
 
     ghost found: { Meaning → Option Plain };
 
-    /// The part that a value is, or the value where it is of another kind.
-    fn of(value: Value) -> Result<Self, Value>
-        ensures { MatchResult result (λ x. found (meaning value) ≡ Some (plain x)) (λ other. (found (meaning value) ≡ None) × (other ≡ value)) };
+    /// The part that a value is, where it is of the kind.
+    fn of(value: Value) -> Option<Self>
+        ensures { option_map plain result ≡ found (meaning value) };
+}
+
+/// No part, where a value is of another kind. The value is dropped here, so that no match on a value has to drop each kind.
+pub fn of_another_kind<T>(_other: Value) -> Option<T>
+    ensures { result ≡ None }
+{
+    None
 }
 
 /// Takes the next part, where it is of the kind.
@@ -134,5 +142,12 @@ pub fn take<P: Part>(parts: &mut Vec<Value>) -> Option<P>
         ≡ next_in P.found (from_last meaning parts.old.items) }
 {
     let value = parts.pop()?;
-    P::of(value).ok()
+    P::of(value)
+}
+
+/// Puts a part behind a pointer.
+pub fn held<T: Drop>(alloc: Global, part: T) -> Result<Box<T>, AllocError>
+    ensures { IfOk result (λ held. held.value ≡ part) }
+{
+    Ok(Box::new(alloc, part)?)
 }

@@ -33,7 +33,7 @@ returns-in-Err g c =
     let reached = c.loop-output.invariant.0 in (
       came_closed g.L.Lines.machine _ _ _ c.loop-output.line.items c.loop-output.line.items c.loop-output.total failed c.close.result
           reached
-          (closed_by_text g.L.Lines.machine _ _ c.loop-output.line.items _ _ failed _ c.close.result refl c.close.ensures.written)
+          (closed_by_text g.L.Lines.machine _ _ c.loop-output.line.items _ _ failed _ c.close.result tt refl c.close.ensures.written)
           c.close.ensures.answered
           (failed_seen _ _ _ reached.read reached.left c.in-Err.ensures.kept)
           (subst (λ (it : ℕ). Rises it (g.S.Source.faults c.read_piece.new.input)) reached.input c.in-Err.ensures.counts)
@@ -61,7 +61,7 @@ returns-then-total-eq-INPUT_LIMIT g c =
     let whole : length reached.read ≡ input_limit = reached.count ∙ c.if-total-eq-INPUT_LIMIT.true in (
       came_closed g.L.Lines.machine _ _ _ c.loop-output.line.items c.loop-output.line.items c.loop-output.total too_long
           c.close-then-total-eq-INPUT_LIMIT.result reached
-          (closed_by_text g.L.Lines.machine _ _ c.loop-output.line.items _ _ too_long _ c.close-then-total-eq-INPUT_LIMIT.result refl
+          (closed_by_text g.L.Lines.machine _ _ c.loop-output.line.items _ _ too_long _ c.close-then-total-eq-INPUT_LIMIT.result tt refl
           c.close-then-total-eq-INPUT_LIMIT.ensures.written)
           c.close-then-total-eq-INPUT_LIMIT.ensures.answered
           (too_long_seen _ _ _ reached.read _ c.in-Ok.count c.in-Ok.count-test.1 whole reached.left c.in-Ok.ensures.moved)

@@ -30,16 +30,19 @@ returns-in-Some c =
     let candidates = c.headed-candidates.result.now in
     let within : c.loop-number.number-index < length c.headed-candidates.result.now = omega arith in
     let found : searched (profiled_in c.rule_at.result.now.left) (profiled_of c.args.term.now) [] ≡ Some
-    (found_pairs c.in-Some.values.items) =
+    (found_pairs c.in-Some.field-0.items) =
     sym (ap (λ (o : Option (Vec (ℕ × Bor Term) Global)). option_map (λ (pairs : Vec (ℕ × Bor Term) Global). found_pairs pairs.items) o)
     (sym c.in-Some.is)
-    ∙ c.in_ok-values.ensures
+    ∙ c.in_ok-search.ensures
     ∙ (λ i. searched (profiled_of (c.term-left.ensures i)) (profiled_of c.args.term.now) (found_pairs (c.new.ensures.items i)))) in
-    is_first c.args.rules.now c.in-Node.op (terms_of c.in-Node.arguments.items) (profiled_of c.args.term.now) candidates
-    c.loop-number.number-index (get_or candidates c.loop-number.number-index 0) c.rule_at.result.now
-    (found_pairs c.in-Some.values.items)
-    (ap term_of c.in-Node.is ∙ term_of-Node c.in-Node.op c.in-Node.profile c.in-Node.arguments) c.headed-candidates.ensures
-    c.loop-number.invariant (slice_get-get_or candidates c.loop-number.number-index 0 within) c.rule_at.ensures found
+    record {
+      pairs = found_pairs c.in-Some.field-0.items;
+      is_first = is_first c.args.rules.now c.in-Node.op (terms_of c.in-Node.arguments.items) (profiled_of c.args.term.now) candidates
+          c.loop-number.number-index (get_or candidates c.loop-number.number-index 0) c.rule_at.result.now
+          (found_pairs c.in-Some.field-0.items)
+          (ap term_of c.in-Node.is ∙ term_of-Node c.in-Node.op c.in-Node.profile c.in-Node.arguments) c.headed-candidates.ensures
+          c.loop-number.invariant (slice_get-get_or candidates c.loop-number.number-index 0 within) c.rule_at.ensures found;
+    }
 
 pub loop-number-preserved : goal.loop-number-preserved
 loop-number-preserved c = λ k m before at.
@@ -49,7 +52,7 @@ loop-number-preserved c = λ k m before at.
     let none : searched (profiled_in c.rule_at.result.now.left) (profiled_of c.args.term.now) [] ≡ None =
     sym (ap (λ (o : Option (Vec (ℕ × Bor Term) Global)). option_map (λ (pairs : Vec (ℕ × Bor Term) Global). found_pairs pairs.items) o)
     (sym c.in_default-2.is)
-    ∙ c.in_ok-values.ensures
+    ∙ c.in_ok-search.ensures
     ∙ (λ i. searched (profiled_of (c.term-left.ensures i)) (profiled_of c.args.term.now) (found_pairs (c.new.ensures.items i)))) in
     numbers_more (DoesNotMatch c.args.rules.now (profiled_of c.args.term.now)) candidates c.loop-number.number-index x
     (read_at candidates c.loop-number.number-index within) c.loop-number.invariant

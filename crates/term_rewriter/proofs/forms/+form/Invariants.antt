@@ -1,29 +1,29 @@
-use Rattle.std.proofs.Common.{◌+◌, ◌*◌, take}
-use Rattle.sort_terms.specs.TermView.{profiled_of, all_profiled}
-use Rattle.term_match.specs.FoundView.{found_pairs}
+use Rattle.std.proofs.Common.{◌+◌, ◌*◌, drop}
+use Rattle.std.specs.Vec.Iter.{into_iter_items}
+use Rattle.sort_terms.specs.Operations.{operation_of}
+use Rattle.sort_terms.specs.TermView.{profiled_of}
 use Rattle.term_rewriter.specs.Begun.{IsBegunOf, form_size, left_of}
-use Rattle.term_rewriter.specs.Form.{by_pairs}
-use Rattle.term_rewriter.proofs.FormLemmas.{AreForms}
+use Rattle.term_rewriter.proofs.FormLemmas.{AreFormsSoFar}
 use Rattle.term_rewriter.proofs.forms.+form.Given as goal
 
 -- the sizes of the derivations of the chosen forms
 abbrev pub decreases-form : goal.decreases-form
-decreases-form l = 2 * form_size l.rules.now (by_pairs (found_pairs l.values.now) (profiled_of l.term.now)) + 1
+decreases-form l = 2 * form_size l.rules.now (profiled_of l.instance) + 1
 
 abbrev pub decreases-begun : goal.decreases-begun
-decreases-begun l = 2 * form_size l.rules.now (by_pairs (found_pairs l.values.now) (profiled_of l.term.now))
+decreases-begun l = 2 * form_size l.rules.now (profiled_of l.instance)
 
 abbrev pub decreases-after : goal.decreases-after
-decreases-after l = 2 * form_size l.rules.now (profiled_of l.whole.now)
+decreases-after l = 2 * form_size l.rules.now (profiled_of l.whole)
 
 abbrev pub invariant-begun-loop-argument : goal.invariant-begun-loop-argument
 invariant-begun-loop-argument l =
-    AreForms l.rules (found_pairs l.values) (all_profiled (take l.argument-index l.argument-items)) (all_profiled l.forms.items)
+    AreFormsSoFar l.rules (profiled_of l.fn.instance) l.op (operation_of l.profile.value) (drop l.argument-index l.argument-items)
+    (into_iter_items l.rest) l.forms.items
 
 abbrev pub invariant-form-loop-begun : goal.invariant-form-loop-begun
 invariant-form-loop-begun l =
-    IsBegunOf l.rules (by_pairs (found_pairs l.values) (profiled_of l.term))
-    (form_size l.rules (by_pairs (found_pairs l.values) (profiled_of l.term)) + 1) l.begun
+    IsBegunOf l.rules (profiled_of l.fn.instance) (form_size l.rules (profiled_of l.fn.instance) + 1) l.begun
 
 abbrev pub decreases-form-loop-begun : goal.decreases-form-loop-begun
 decreases-form-loop-begun l = left_of l.rules l.begun

@@ -9,8 +9,8 @@ pub normalise-requires : goal.normalise-requires
 normalise-requires c =
     subst (λ (signature : Signature). IsOf signature (profiled_in c.args.term.now)) (sym c.in_ok-rules.ensures.signature) c.requires.term
 
-pub returns : goal.returns
-returns c = record {
+pub returns-clause-chosen : goal.returns-clause-chosen
+returns-clause-chosen c = record {
   rules = rules_in c.in_ok-rules.rules;
   are_rules = c.in_ok-rules.ensures.rules;
   chosen = c.in_ok-normalise.ensures.chosen;

@@ -1,5 +1,4 @@
 use Rattle.std.proofs.Common.{ℕ, List, ◌++◌, map, ap, sym, ◌∙◌, subst}
-use Rattle.std.specs.Prelude.{zip}
 use Rattle.term_algebra.specs.Term.{Term}
 use Rattle.term_algebra.specs.Substitution.{binding}
 use Rattle.behaviour_semantics.specs.Behaviour.{Behaviour}
@@ -8,16 +7,16 @@ use Rattle.sort_terms.specs.declared.sorted.Sorted.{Sorted}
 use Rattle.sort_terms.specs.ProfiledTerm.{ProfiledTerm}
 use Rattle.behaviour_tree.specs.BehaviourTerms.{profiles_in}
 use Rattle.behaviour_tree.specs.BehaviourView.{behaviour_of}
-use Rattle.behaviour_tree.specs.Closed.{IsClosedBy}
-use Rattle.behaviour_tree.specs.StateView.{environment_of, node_profiles, number_of, pair_profile, stands_for}
-use Rattle.behaviour_tree.proofs.StartLemmas.{environment_zip, start_closed, values_zip}
+use Rattle.behaviour_tree.specs.Closed.{IsClosedNode}
+use Rattle.behaviour_tree.specs.StateView.{environment_of, node_profiles, pair_profile, stands_for}
+use Rattle.behaviour_tree.specs.declared.states.Node.{Node}
+use Rattle.behaviour_tree.proofs.StartLemmas.{copies_closed, environment_zip, values_zip}
 use Rattle.behaviour_tree.proofs.states.State.start.Goals as goal
 
 pub of-requires : goal.of-requires
 of-requires c =
-    subst (λ (pairs : List (ℕ × Sorted)). IsClosedBy pairs (behaviour_of c.in_ok-body.body.value)) (sym c.in_ok-environment.ensures)
-    (subst (λ (b : Behaviour). IsClosedBy (zip (map number_of c.args.spec.now.parameters.items) c.args.values.items) b)
-    (sym (ap behaviour_of c.in_ok-body.ensures ∙ c.in_ok-copy.ensures.same)) (start_closed c.args.spec.now c.args.values.items c.requires))
+    copies_closed c.args.spec.now c.args.values.items c.in_ok-environment.environment.items (behaviour_of c.in_ok-body.body.value)
+    c.in_ok-environment.ensures (ap behaviour_of c.in_ok-body.ensures ∙ c.in_ok-copy.ensures.same) c.requires
 
 pub returns : goal.returns
 returns c = record {
@@ -36,4 +35,8 @@ returns c = record {
       ∙ ap (λ (terms : List ProfiledTerm). profiles_in c.args.spec.now.body ++ terms)
       (ap (λ (pairs : List (ℕ × Sorted)). map pair_profile pairs) c.in_ok-environment.ensures
       ∙ values_zip c.requires.signature c.args.spec.now.parameters.items c.args.values.items c.requires.fitting);
+  closed =
+      subst (λ (node : Node). IsClosedNode node) (sym c.of.ensures)
+      (copies_closed c.args.spec.now c.args.values.items c.in_ok-environment.environment.items (behaviour_of c.in_ok-body.body.value)
+      c.in_ok-environment.ensures (ap behaviour_of c.in_ok-body.ensures ∙ c.in_ok-copy.ensures.same) c.requires);
 }

@@ -1,0 +1,4 @@
+pub mod FaultPlaces
+pub mod CameView
+pub mod SourceView
+pub mod Brought

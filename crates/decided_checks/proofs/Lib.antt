@@ -1,0 +1,4 @@
+pub mod PlacedCalls
+pub mod PlacedDisagreements
+pub mod OneCycle
+pub mod DecidedLemmas

@@ -1,0 +1,5 @@
+pub mod OneTypeLemmas
+pub mod OneTypeSteps
+pub mod AllTypesLemmas
+pub mod OrderLemmas
+pub mod FlatDataLemmas

@@ -1,0 +1,216 @@
+-- Tokens whose places rise, and places of tokens.
+use Rattle.std.proofs.Common.{◌≡◌, List, [], ◌∷◌, ◌++◌, true, sym, subst, inl, inr}
+use Rattle.std.specs.Prelude.{◌⊎◌}
+use Rattle.term_algebra.specs.Equation.{Place}
+use Rattle.lotos_lexer.specs.declared.tokens.Token.{Token}
+use Rattle.lotos_sentences.specs.Names.{place_of}
+use Rattle.static_scope.specs.ScopeFault.{stands_before}
+use Rattle.behaviour_semantics.specs.WellFormed.{Every}
+use Rattle.scope_faults.specs.Order.{IsOneOf, Before, Rising, InTurn, joined}
+
+-- The place is that of one of the tokens.
+abbrev pub At : Place → List Token → Type 0
+At p [] = ⊥
+At p (t ∷ ts) = (p ≡ place_of t) ⊎ At p ts
+
+-- Each token stands before those behind it.
+abbrev pub Rises : List Token → Type 0
+Rises [] = Unit {0}
+Rises (t ∷ ts) = ((q : Place) → At q ts → stands_before (place_of t) q ≡ true) × Rises ts
+
+-- Each of the places is that of one of the tokens.
+abbrev pub Within : List Place → List Token → Type 0
+Within ps ts = (p : Place) → IsOneOf p ps → At p ts
+
+-- ---- parts of lists of tokens
+
+pub at_left : (xs ys : List Token) (p : Place) → At p xs → At p (xs ++ ys)
+at_left [] ys p at = absurd at
+at_left (x ∷ xs) ys p (inl same) = inl same
+at_left (x ∷ xs) ys p (inr at) = inr (at_left xs ys p at)
+
+pub at_right : (xs ys : List Token) (p : Place) → At p ys → At p (xs ++ ys)
+at_right [] ys p at = at
+at_right (x ∷ xs) ys p at = inr (at_right xs ys p at)
+
+pub rises_front : (xs ys : List Token) → Rises (xs ++ ys) → Rises xs
+rises_front [] ys h = tt
+rises_front (x ∷ xs) ys h = ((λ q at. h.0 q (at_left xs ys q at)), rises_front xs ys h.1)
+
+pub rises_back : (xs ys : List Token) → Rises (xs ++ ys) → Rises ys
+rises_back [] ys h = h
+rises_back (x ∷ xs) ys h = rises_back xs ys h.1
+
+apart : (xs ys : List Token) → Rises (xs ++ ys) → (p q : Place) → At p xs → At q ys → stands_before p q ≡ true
+apart [] ys h p q one other = absurd one
+apart (x ∷ xs) ys h p q (inl same) other = subst (λ (y : Place). stands_before y q ≡ true) (sym same) (h.0 q (at_right xs ys q other))
+apart (x ∷ xs) ys h p q (inr one) other = apart xs ys h.1 p q one other
+
+-- ---- places of parts
+
+pub nothing_within : (ts : List Token) → Within [] ts
+nothing_within ts p at = absurd at
+
+pub here_within : (t : Token) (ts : List Token) → Within (place_of t ∷ []) (t ∷ ts)
+here_within t ts p (inl same) = inl same
+here_within t ts p (inr at) = absurd at
+
+pub in_left : (ps : List Place) (xs ys : List Token) → Within ps xs → Within ps (xs ++ ys)
+in_left ps xs ys h p at = at_left xs ys p (h p at)
+
+pub in_right : (ps : List Place) (xs ys : List Token) → Within ps ys → Within ps (xs ++ ys)
+in_right ps xs ys h p at = at_right xs ys p (h p at)
+
+pub in_rest : (ps : List Place) (t : Token) (ts : List Token) → Within ps ts → Within ps (t ∷ ts)
+in_rest ps t ts h p at = inr (h p at)
+
+pub one_split : (p : Place) (ps qs : List Place) → IsOneOf p (ps ++ qs) → IsOneOf p ps ⊎ IsOneOf p qs
+one_split p [] qs at = inr at
+one_split p (q ∷ ps) qs (inl same) = inl (inl same)
+one_split p (q ∷ ps) qs (inr at) = go (one_split p ps qs at)
+  where
+    go : IsOneOf p ps ⊎ IsOneOf p qs → (((p ≡ q) ⊎ IsOneOf p ps) ⊎ IsOneOf p qs)
+    go (inl here) = inl (inr here)
+    go (inr there) = inr there
+
+pub one_left : (p : Place) (ps qs : List Place) → IsOneOf p ps → IsOneOf p (ps ++ qs)
+one_left p [] qs at = absurd at
+one_left p (q ∷ ps) qs (inl same) = inl same
+one_left p (q ∷ ps) qs (inr at) = inr (one_left p ps qs at)
+
+pub one_right : (p : Place) (ps qs : List Place) → IsOneOf p qs → IsOneOf p (ps ++ qs)
+one_right p [] qs at = at
+one_right p (q ∷ ps) qs at = inr (one_right p ps qs at)
+
+pub both_within : (ps qs : List Place) (ts : List Token) → Within ps ts → Within qs ts → Within (ps ++ qs) ts
+both_within ps qs ts one other p at = go (one_split p ps qs at)
+  where
+    go : IsOneOf p ps ⊎ IsOneOf p qs → At p ts
+    go (inl here) = one p here
+    go (inr there) = other p there
+
+pub more_within : (q : Place) (ps : List Place) (ts : List Token) → Within (q ∷ []) ts → Within ps ts → Within (q ∷ ps) ts
+more_within q ps ts one other p (inl same) = one p (inl same)
+more_within q ps ts one other p (inr at) = other p at
+
+-- ---- the order of places
+
+-- what stands in two parts, one behind the other
+pub before_parts : (ps qs : List Place) (xs ys : List Token) → Rises (xs ++ ys) → Within ps xs → Within qs ys → Before ps qs
+before_parts ps qs xs ys h one other p q here there = apart xs ys h p q (one p here) (other q there)
+
+pub before_first : (t : Token) (qs : List Place) (ts : List Token) → Rises (t ∷ ts) → Within qs ts → Before (place_of t ∷ []) qs
+before_first t qs ts h other p q (inl same) there =
+    subst (λ (y : Place). stands_before y q ≡ true) (sym same) (h.0 q (other q there))
+before_first t qs ts h other p q (inr here) there = absurd here
+
+pub before_both : (ps qs rs : List Place) → Before ps qs → Before ps rs → Before ps (qs ++ rs)
+before_both ps qs rs one other p q here there = go (one_split q qs rs there)
+  where
+    go : IsOneOf q qs ⊎ IsOneOf q rs → stands_before p q ≡ true
+    go (inl at) = one p q here at
+    go (inr at) = other p q here at
+
+pub both_before : (ps qs rs : List Place) → Before ps rs → Before qs rs → Before (ps ++ qs) rs
+both_before ps qs rs one other p q here there = go (one_split p ps qs here)
+  where
+    go : IsOneOf p ps ⊎ IsOneOf p qs → stands_before p q ≡ true
+    go (inl at) = one p q at there
+    go (inr at) = other p q at there
+
+pub first_before : (p : Place) (ps rs : List Place) → Before (p ∷ []) rs → Before ps rs → Before (p ∷ ps) rs
+first_before p ps rs one other x q (inl same) there = one x q (inl same) there
+first_before p ps rs one other x q (inr at) there = other x q at there
+
+pub nothing_after : (ps : List Place) → Before ps []
+nothing_after ps p q here there = absurd there
+
+pub nothing_before : (ps : List Place) → Before [] ps
+nothing_before ps p q here there = absurd here
+
+pub rising_both : (ps qs : List Place) → Rising ps → Rising qs → Before ps qs → Rising (ps ++ qs)
+rising_both [] qs one other h = other
+rising_both (p ∷ ps) qs one other h = (
+  before_both (p ∷ []) ps qs one.0 (λ x q here there. go x q here there),
+  rising_both ps qs one.1 other (λ x q here there. h x q (inr here) there),
+)
+  where
+    go : (x q : Place) → IsOneOf x (p ∷ []) → IsOneOf q qs → stands_before x q ≡ true
+    go x q (inl same) there = h x q (inl same) there
+    go x q (inr at) there = absurd at
+
+-- ---- two parts before a third one
+
+at_front : (xs ys zs : List Token) (p : Place) → At p (xs ++ ys) → At p (xs ++ (ys ++ zs))
+at_front [] ys zs p at = at_left ys zs p at
+at_front (x ∷ xs) ys zs p (inl same) = inl same
+at_front (x ∷ xs) ys zs p (inr at) = inr (at_front xs ys zs p at)
+
+pub in_front : (ps : List Place) (xs ys zs : List Token) → Within ps (xs ++ ys) → Within ps (xs ++ (ys ++ zs))
+in_front ps xs ys zs h p at = at_front xs ys zs p (h p at)
+
+pub rises_two : (xs ys zs : List Token) → Rises (xs ++ (ys ++ zs)) → Rises (xs ++ ys)
+rises_two [] ys zs h = rises_front ys zs h
+rises_two (x ∷ xs) ys zs h = ((λ q at. h.0 q (at_front xs ys zs q at)), rises_two xs ys zs h.1)
+
+apart_third : (xs ys zs : List Token) → Rises (xs ++ (ys ++ zs)) → (p q : Place) → At p (xs ++ ys) → At q zs → stands_before p q ≡ true
+apart_third [] ys zs h p q one other = apart ys zs h p q one other
+apart_third (x ∷ xs) ys zs h p q (inl same) other =
+    subst (λ (y : Place). stands_before y q ≡ true) (sym same) (h.0 q (at_right xs (ys ++ zs) q (at_right ys zs q other)))
+apart_third (x ∷ xs) ys zs h p q (inr one) other = apart_third xs ys zs h.1 p q one other
+
+pub before_third : (ps qs : List Place) (xs ys zs : List Token) → Rises (xs ++ (ys ++ zs)) → Within ps (xs ++ ys) → Within qs zs
+    → Before ps qs
+before_third ps qs xs ys zs h one other p q here there = apart_third xs ys zs h p q (one p here) (other q there)
+
+-- ---- lists of parts
+
+pub every_map : {X : Type 0} (P Q : X → Type 0) → ((x : X) → P x → Q x) → (xs : List X) → Every P xs → Every Q xs
+every_map P Q onward [] all = tt
+every_map P Q onward (x ∷ xs) all = (onward x all.0, every_map P Q onward xs all.1)
+
+pub every_both : {X : Type 0} (P : X → Type 0) (xs ys : List X) → Every P xs → Every P ys → Every P (xs ++ ys)
+every_both P [] ys first second = second
+every_both P (x ∷ xs) ys first second = (first.0, every_both P xs ys first.1 second)
+
+pub every_front : {X : Type 0} (P : X → Type 0) (xs ys : List X) → Every P (xs ++ ys) → Every P xs
+every_front P [] ys all = tt
+every_front P (x ∷ xs) ys all = (all.0, every_front P xs ys all.1)
+
+pub every_back : {X : Type 0} (P : X → Type 0) (xs ys : List X) → Every P (xs ++ ys) → Every P ys
+every_back P [] ys all = all
+every_back P (x ∷ xs) ys all = every_back P xs ys all.1
+
+-- each of the parts is within the tokens
+abbrev pub AllWithin : List (List Place) → List Token → Type 0
+AllWithin pss ts = Every (λ (ps : List Place). Within ps ts) pss
+
+pub joined_within : (pss : List (List Place)) (ts : List Token) → AllWithin pss ts → Within (joined pss) ts
+joined_within [] ts all = nothing_within ts
+joined_within (ps ∷ pss) ts all = both_within ps (joined pss) ts all.0 (joined_within pss ts all.1)
+
+pub all_in_left : (pss : List (List Place)) (xs ys : List Token) → AllWithin pss xs → AllWithin pss (xs ++ ys)
+all_in_left [] xs ys all = tt
+all_in_left (ps ∷ pss) xs ys all = (in_left ps xs ys all.0, all_in_left pss xs ys all.1)
+
+pub all_in_right : (pss : List (List Place)) (xs ys : List Token) → AllWithin pss ys → AllWithin pss (xs ++ ys)
+all_in_right [] xs ys all = tt
+all_in_right (ps ∷ pss) xs ys all = (in_right ps xs ys all.0, all_in_right pss xs ys all.1)
+
+pub all_in_rest : (pss : List (List Place)) (t : Token) (ts : List Token) → AllWithin pss ts → AllWithin pss (t ∷ ts)
+all_in_rest [] t ts all = tt
+all_in_rest (ps ∷ pss) t ts all = (in_rest ps t ts all.0, all_in_rest pss t ts all.1)
+
+pub before_all : (ps : List Place) (pss : List (List Place)) (xs ys : List Token) → Rises (xs ++ ys) → Within ps xs → AllWithin pss ys
+    → Every (Before ps) pss
+before_all ps [] xs ys h one all = tt
+before_all ps (qs ∷ pss) xs ys h one all = (before_parts ps qs xs ys h one all.0, before_all ps pss xs ys h one all.1)
+
+pub before_joined : (ps : List Place) (pss : List (List Place)) → Every (Before ps) pss → Before ps (joined pss)
+before_joined ps [] all = nothing_after ps
+before_joined ps (qs ∷ pss) all = before_both ps qs (joined pss) all.0 (before_joined ps pss all.1)
+
+pub turn_both : (pss qss : List (List Place)) → InTurn pss → InTurn qss → Every (λ (ps : List Place). Every (Before ps) qss) pss
+    → InTurn (pss ++ qss)
+turn_both [] qss one other h = other
+turn_both (ps ∷ pss) qss one other h = (every_both (Before ps) pss qss one.0 h.0, turn_both pss qss one.1 other h.1)

@@ -1,0 +1,3 @@
+pub mod MentionView
+pub mod UnionMade
+pub mod JoiningView

@@ -1,0 +1,3 @@
+mod QuestionLemmas
+mod AnswerLemmas
+mod ServingLemmas

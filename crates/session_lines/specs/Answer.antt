@@ -1,0 +1,85 @@
+-- What comes of each command in a session.
+use Rattle.std.specs.Prelude.{◌≡◌, ◌≢◌, ◌⊎◌, ◌↔◌, ℕ, Bool, true, false, IsTrue, List, [], ◌∷◌, ◌++◌, length, None, codes}
+use Rattle.lotos_base.specs.WrittenTerm.{WrittenTerm}
+use Rattle.term_algebra.specs.Equality.{Equal}
+use Rattle.term_algebra.specs.Equation.{Data}
+use Rattle.term_algebra.specs.Signature.{Signature}
+use Rattle.term_algebra.specs.Term.{Term}
+use Rattle.sort_terms.specs.ReadingOutcome as reading
+use Rattle.sort_terms.specs.ReadingOutcome.{SortedTerm, SortedPair, ReadingIs, PairReadingIs, answered}
+use Rattle.printed_texts.specs.TermText.{term_text}
+use Rattle.printed_texts.specs.MenuText.{menu_text}
+use Rattle.line_server.specs.Report.{Reply}
+use Rattle.line_commands.specs.Line.{Command, skip, show_menu, leave, no_command, show_normal, compare, command_of}
+use Rattle.session_lines.specs.Session.{Session}
+use Rattle.session_lines.specs.Refusal.{Refusal, bad_command, bad_term, refusal_text, term_number, AreTerms, AreUnread}
+
+-- what a question of a line comes to: an answer, or a refusal
+pub data Outcome (A : Type 0) : Type 0 where
+  gives : A → Outcome A
+  refuses : Refusal → Outcome A
+
+-- The normal form of the one term in the text: its one reading, which has no variables, in canonical form. The text is refused
+-- for its tokens, grammar or depth, then for another number of terms, then for the readings of its term.
+abbrev pub IsNormal : Signature → (Term → Term) → List ℕ → Outcome Term → Type 0
+IsNormal signature canon text (gives form) =
+    (term : WrittenTerm) × (read : SortedTerm) × AreTerms text (term ∷ [])
+    × ReadingIs signature [] term None (answered read) × (form ≡ canon read.term)
+IsNormal signature canon text (refuses bad_command) = (terms : List WrittenTerm) × AreTerms text terms × (length terms ≢ 1)
+IsNormal signature canon text (refuses (bad_term number)) =
+    AreUnread text number
+    ⊎ ((term : WrittenTerm) × (refusal : reading.Refusal) × AreTerms text (term ∷ [])
+    × ReadingIs signature [] term None (reading.refused refusal) × (number ≡ term_number refusal))
+
+-- Whether the equations derive the equality of the two terms in the text, which are read at one sort. The text is refused for
+-- its tokens, grammar or depth, then for another number of terms, then for the readings of the two.
+abbrev pub IsComparison : Data → List ℕ → Outcome Bool → Type 0
+IsComparison data_ text (gives equal) =
+    (left right : WrittenTerm) × (read : SortedPair) × AreTerms text (left ∷ right ∷ [])
+    × PairReadingIs data_.signature [] left right (answered read)
+    × (IsTrue equal ↔ Equal data_ read.left read.right)
+IsComparison data_ text (refuses bad_command) = (terms : List WrittenTerm) × AreTerms text terms × (length terms ≢ 2)
+IsComparison data_ text (refuses (bad_term number)) =
+    AreUnread text number
+    ⊎ ((left right : WrittenTerm) × (refusal : reading.Refusal) × AreTerms text (left ∷ right ∷ [])
+    × PairReadingIs data_.signature [] left right (reading.refused refusal) × (number ≡ term_number refusal))
+
+-- what is printed
+abbrev pub normal_text : Signature → Outcome Term → List ℕ
+normal_text signature (gives form) = term_text signature [] form ++ codes "\n"
+normal_text signature (refuses refusal) = refusal_text refusal
+
+abbrev pub verdict_text : Bool → List ℕ
+verdict_text true = codes "equal\n"
+verdict_text false = codes "different\n"
+
+abbrev pub comparison_text : Outcome Bool → List ℕ
+comparison_text (gives equal) = verdict_text equal
+comparison_text (refuses refusal) = refusal_text refusal
+
+abbrev pub shown_menu : Session → List ℕ
+shown_menu session = menu_text session.data_.signature session.specification.gate_names session.menu
+
+-- the text is printed, and the session goes on where it stands
+abbrev pub prints : Session → List ℕ → Reply Session
+prints session text = record { text = text; next = session; quits = false }
+
+-- the session ends, and nothing is printed
+abbrev pub ends : Session → Reply Session
+ends session = record { text = []; next = session; quits = true }
+
+-- what a command comes to
+abbrev pub Comes : Session → Command → Reply Session → Type 0
+Comes session skip reply = reply ≡ prints session []
+Comes session show_menu reply = reply ≡ prints session (shown_menu session)
+Comes session (show_normal text) reply =
+    (outcome : Outcome Term) × IsNormal session.data_.signature session.canon text outcome
+    × (reply ≡ prints session (normal_text session.data_.signature outcome))
+Comes session (compare text) reply =
+    (outcome : Outcome Bool) × IsComparison session.data_ text outcome × (reply ≡ prints session (comparison_text outcome))
+Comes session leave reply = reply ≡ ends session
+Comes session no_command reply = reply ≡ prints session (refusal_text bad_command)
+
+-- what a line comes to
+abbrev pub Answers : Session → List ℕ → Reply Session → Type 0
+Answers session line reply = Comes session (command_of line) reply

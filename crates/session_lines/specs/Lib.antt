@@ -1,0 +1,5 @@
+pub mod Session
+pub mod Refusal
+pub mod Answer
+pub mod AnswerLaws
+pub mod View

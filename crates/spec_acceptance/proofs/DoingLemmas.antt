@@ -1,0 +1,69 @@
+-- How parts follow on one another over a shelf.
+use Rattle.std.proofs.Common.{◌≡◌, refl, sym, inl, inr, subst, ℕ, List, [], ◌∷◌, ◌++◌}
+use Rattle.std.specs.Prelude.{Result, Ok, Err, MatchResult, IsErrAnd}
+use Rattle.library_reading.specs.ShelfUse.{ShelfState, GivesFile}
+use Rattle.library_reading.proofs.ShelfLemmas.{gives_nothing, gives_then, gives_then_lacks, gives_then_keeps}
+use Rattle.spec_faults.specs.Refusal as plain
+use Rattle.spec_faults.specs.Refusal.{Refusal}
+use Rattle.acceptance_order.specs.Ending.{unread, refused}
+use Rattle.acceptance_order.specs.Texts.{Gets, is_got, is_lacking}
+use Rattle.acceptance_order.specs.Part.{Comes, goes_on, stops, Part, Then, Has, Looks}
+use Rattle.spec_acceptance.specs.Doing.{Did, Failed, FileFails, Faulty}
+use Rattle.spec_acceptance.specs.declared.not_accepted.NotAccepted.{NotAccepted}
+use Rattle.spec_acceptance.specs.declared.not_accepted.NotAccepted.TheVariants.{File, Spec, NoMemory}
+
+-- one part, and then the next
+pub did_then : {A B : Type 0} (a b c : ShelfState) (First : Part A) (next : A → Part B) (x : A) (come : Comes B) →
+    Did a b First (goes_on x) → Did b c (next x) come → Did a c (Then First next) come
+did_then a b c First next x (goes_on y) one other =
+    (one.0 ++ other.0, gives_then a b c one.0 other.0 one.1 other.1, (x, one.0, other.0, one.2, other.2, refl))
+did_then a b c First next x (stops (unread name)) one other =
+    (one.0 ++ other.0, gives_then_lacks a b c one.0 other.0 name one.1 other.1, inr (x, one.0, other.0, one.2, other.2, refl))
+did_then a b c First next x (stops (refused r)) one other =
+    (one.0 ++ other.0, gives_then a b c one.0 other.0 one.1 other.1, inr (x, one.0, other.0, one.2, other.2, refl))
+
+-- the first one stopped
+pub failed_first : {A B : Type 0} (a b : ShelfState) (First : Part A) (next : A → Part B) (fault : NotAccepted) →
+    Failed a b First fault → Failed a b (Then First next) fault
+failed_first a b First next (File name) is = (is.0, is.1, inl is.2)
+failed_first a b First next (Spec r) is = (is.0, is.1, (is.2.0, is.2.1, inl is.2.2))
+failed_first a b First next NoMemory is = is
+
+-- the next one stopped
+pub failed_then : {A B : Type 0} (a b c : ShelfState) (First : Part A) (next : A → Part B) (x : A) (fault : NotAccepted) →
+    Did a b First (goes_on x) → Failed b c (next x) fault → Failed a c (Then First next) fault
+failed_then a b c First next x (File name) one other = did_then a b c First next x (stops (unread name.items)) one other
+failed_then a b c First next x (Spec r) one other =
+    (other.0, other.1, did_then a b c First next x (stops (refused other.0)) one other.2)
+failed_then a b c First next x NoMemory one other = gives_then_keeps a b c one.0 one.1 other
+
+-- a look that was fine, and one that was not
+pub looked : {B : Type 0} (a : ShelfState) (IsFine : B → Type 0) (IsFault : Refusal → Type 0) (known : Refusal → plain.Refused) (b : B) →
+    IsFine b → Did a a (Looks IsFine IsFault known) (goes_on b)
+looked a IsFine IsFault known b is = ([], gives_nothing a, (refl, is))
+
+pub faulted : {B : Type 0} (a : ShelfState) (IsFine : B → Type 0) (IsFault : Refusal → Type 0) (known : Refusal → plain.Refused)
+    (fault : NotAccepted) → Faulty IsFault known fault → Failed a a (Looks IsFine IsFault known) fault
+faulted a IsFine IsFault known (File name) is = absurd is
+faulted a IsFine IsFault known (Spec r) is =
+    (known is.0, is.2, ([], gives_nothing a, (refl, (is.0, is.1, refl))))
+faulted a IsFine IsFault known NoMemory is = record { texts = refl; faults = refl }
+
+pub has_done : {B : Type 0} (a : ShelfState) (b : B) → Did a a (Has b) (goes_on b)
+has_done a b = ([], gives_nothing a, (refl, refl))
+
+-- a file
+pub file_did : (a b : ShelfState) (name bytes : List ℕ) → GivesFile a b name bytes → Did a b (Gets name) (goes_on bytes)
+file_did a b name bytes is = (record { name = name; bytes = bytes } ∷ [], is.gives, is_got bytes)
+
+pub file_failed : (a b : ShelfState) (name : List ℕ) (fault : NotAccepted) → FileFails a b name fault → Failed a b (Gets name) fault
+file_failed a b name (File kept) is =
+    subst (λ (n : List ℕ). Did a b (Gets name) (stops (unread n))) (sym is.0) ([], is.1, is_lacking)
+file_failed a b name (Spec r) is = absurd is
+file_failed a b name NoMemory is = is
+
+-- a fault that is handed on
+pub err_out : {T : Type 0} (answer : Result T NotAccepted) (fault : NotAccepted) (P : T → Type 0) (Q : NotAccepted → Type 0)
+    → IsErrAnd answer (λ (e : NotAccepted). e ≡ fault) → Q fault → MatchResult answer P Q
+err_out (Ok x) fault P Q is q = absurd is
+err_out (Err e) fault P Q is q = subst Q (sym is) q

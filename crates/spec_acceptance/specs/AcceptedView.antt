@@ -1,0 +1,44 @@
+-- What an accepted specification of the code is.
+use Rattle.std.specs.Prelude.{◌≡◌, ℕ, List, [], Option}
+use Rattle.term_algebra.specs.Equation.{IsWellFormedData}
+use Rattle.behaviour_semantics.specs.Replacement.{with_values, binding_of}
+use Rattle.behaviour_tree.specs.BehaviourView.{behaviour_of, variables_of}
+use Rattle.behaviour_tree.specs.DefinitionView.{specification_of}
+use Rattle.behaviour_tree.specs.Closed.{IsClosedNode}
+use Rattle.behaviour_tree.specs.Over.{IsSpecOver, IsStateOf}
+use Rattle.behaviour_tree.specs.StateView.{state_of}
+use Rattle.equation_book.specs.Refusal.{IsOpenedBy}
+use Rattle.library_reading.specs.ShelfUse.{ShelfState}
+use Rattle.path_order.specs.RulesView.{precedence_in, rules_in}
+use Rattle.process_checks.specs.Ranks.{AreRanksOf}
+use Rattle.sort_terms.specs.EquationView.{data_of}
+use Rattle.sort_terms.specs.SignatureView.{signature_of}
+use Rattle.acceptance_order.specs.Acceptance.{Asked, Acceptance}
+use Rattle.acceptance_order.specs.Part.{goes_on, Part}
+use Rattle.spec_acceptance.specs.Doing.{Did}
+use Rattle.spec_acceptance.specs.declared.accepted.Accepted.{Accepted}
+
+abbrev pub asked_for : List ℕ → Option (List ℕ) → Asked
+asked_for spec order = record { spec = spec; order = order }
+
+-- It is what was accepted: the specification, which is over the data's signature, with its ranks; the data, which are well
+-- formed, with the precedence of the order's items and the confluent rules of the equations; and the closed state in which
+-- it begins.
+pub record Holds (acceptance : Acceptance) (accepted : Accepted) : Type 0 where
+  pub spec_is : specification_of accepted.spec ≡ acceptance.spec
+  pub data_is : data_of accepted.book.flat ≡ acceptance.data_
+  pub well_formed : IsWellFormedData (data_of accepted.book.flat)
+  pub over : IsSpecOver (signature_of accepted.book.flat.signature) accepted.spec
+  pub ranks_are : AreRanksOf accepted.spec accepted.ranks
+  pub opened :
+      IsOpenedBy acceptance.items acceptance.data_ (precedence_in accepted.book.joined.rules) (rules_in accepted.book.joined.rules)
+  pub begins :
+      state_of accepted.start
+      ≡ with_values (binding_of (variables_of accepted.spec.parameters.items) []) (behaviour_of accepted.spec.body)
+  pub state : IsStateOf (signature_of accepted.book.flat.signature) accepted.spec accepted.start
+  pub closed : IsClosedNode accepted.start.node
+
+-- the shelf gave what was asked of it, and the answer is what came of it
+abbrev pub AcceptsWith : ShelfState → ShelfState → Part Acceptance → Accepted → Type 0
+AcceptsWith before after part accepted =
+    (acceptance : Acceptance) × Did before after part (goes_on acceptance) × Holds acceptance accepted

@@ -1,0 +1,88 @@
+-- What the parts of the acceptance do to a shelf, and what the answers of the code say of them.
+use Rattle.std.specs.Prelude.{◌≡◌, ℕ, List, [], map, None, Some, Vec}
+use Rattle.std.specs.String.{string_bytes}
+use Rattle.std.specs.declared.alloc.Global.{Global}
+use Rattle.lotos_base.specs.Name.{spelling}
+use Rattle.lotos_base.specs.declared.names.Name.{Name}
+use Rattle.sort_terms.specs.EquationView.{data_of}
+use Rattle.behaviour_tree.specs.DefinitionView.{specification_of}
+use Rattle.library_reading.specs.Gathering.{GotFile}
+use Rattle.library_reading.specs.ShelfUse.{ShelfState, Gives, GivesAndLacks, Keeps}
+use Rattle.library_reading.specs.declared.faults.LibraryFault.{LibraryFault}
+use Rattle.library_reading.specs.declared.faults.LibraryFault.TheVariants as library
+use Rattle.library_reading.specs.declared.gathered.Gathered.{Gathered}
+use Rattle.spec_faults.specs.Refusal as plain
+use Rattle.spec_faults.specs.Refusal.{Refusal}
+use Rattle.spec_faults.specs.RefusalView.{refused_of}
+use Rattle.spec_faults.specs.declared.refused.Refused.{Refused}
+use Rattle.spec_faults.specs.declared.spec_fault.SpecFault.{SpecFault}
+use Rattle.spec_faults.specs.declared.spec_fault.SpecFault.TheVariants as fault
+use Rattle.acceptance_order.specs.Ending.{unread, refused, with_data, with_spec}
+use Rattle.acceptance_order.specs.Part.{Comes, goes_on, stops, Part}
+use Rattle.spec_acceptance.specs.declared.not_accepted.NotAccepted.{NotAccepted}
+use Rattle.spec_acceptance.specs.declared.not_accepted.NotAccepted.TheVariants.{File, Spec, NoMemory}
+use Rattle.spec_acceptance.specs.declared.stages.WithData.{WithData}
+use Rattle.spec_acceptance.specs.declared.stages.WithSpec.{WithSpec}
+
+-- ---- Over a shelf
+
+-- This came of the part: the shelf gave the files that it gets, once each and nothing else; or it gave those before a file
+-- that it could not give.
+abbrev pub Did : {B : Type 0} → ShelfState → ShelfState → Part B → Comes B → Type 0
+Did before after part (goes_on b) = (files : List GotFile) × Gives before after files × part files (goes_on b)
+Did before after part (stops (unread name)) =
+    (files : List GotFile) × GivesAndLacks before after files name × part files (stops (unread name))
+Did before after part (stops (refused r)) = (files : List GotFile) × Gives before after files × part files (stops (refused r))
+
+-- it stopped so; or memory was wanted
+abbrev pub Failed : {B : Type 0} → ShelfState → ShelfState → Part B → NotAccepted → Type 0
+Failed before after part (File name) = Did before after part (stops (unread name.items))
+Failed before after part (Spec r) = (told : plain.Refused) × (refused_of r ≡ Some told) × Did before after part (stops (refused told))
+Failed before after part NoMemory = Keeps before after
+
+-- the file of the name is not got; or memory was wanted
+abbrev pub FileFails : ShelfState → ShelfState → List ℕ → NotAccepted → Type 0
+FileFails before after name (File kept) = (kept.items ≡ name) × GivesAndLacks before after [] name
+FileFails before after name (Spec r) = ⊥
+FileFails before after name NoMemory = Keeps before after
+
+-- a look that gets nothing has this fault, and so much is known; or memory was wanted
+abbrev pub Faulty : (Refusal → Type 0) → (Refusal → plain.Refused) → NotAccepted → Type 0
+Faulty IsFault known (File name) = ⊥
+Faulty IsFault known (Spec r) = (refusal : Refusal) × IsFault refusal × (refused_of r ≡ Some (known refusal))
+Faulty IsFault known NoMemory = Unit {0}
+
+-- ---- Refusals of the code
+
+-- this refusal, unless memory was wanted
+abbrev pub RefusesAs : Type 0 → Refused → NotAccepted → Type 0
+RefusesAs IsWanting r (File name) = ⊥
+RefusesAs IsWanting r (Spec found) = (found ≡ r) × ¬ IsWanting
+RefusesAs IsWanting r NoMemory = Unit {0}
+
+abbrev pub with_libraries_refused : Vec Name Global → SpecFault → Refused
+with_libraries_refused libraries found = record { fault = found; libraries = libraries; flat = None; spec = None }
+
+abbrev pub with_data_refused : WithData → SpecFault → Refused
+with_data_refused known found = record { fault = found; libraries = known.libraries; flat = Some known.flat; spec = None }
+
+abbrev pub with_spec_refused : WithSpec → SpecFault → Refused
+with_spec_refused known found =
+    record { fault = found; libraries = known.libraries; flat = Some known.flat; spec = Some known.spec }
+
+-- what is known then, as plain values
+abbrev pub known_with_data : WithData → Refusal → plain.Refused
+known_with_data known = with_data (map spelling known.libraries.items) (data_of known.flat)
+
+abbrev pub known_with_spec : WithSpec → Refusal → plain.Refused
+known_with_spec known = with_spec (map spelling known.libraries.items) (data_of known.flat) (specification_of known.spec)
+
+-- a fault of the libraries
+abbrev pub IsLibraryRefusal : Gathered → LibraryFault → NotAccepted → Type 0
+IsLibraryRefusal so_far (library.TooMany place name) answer =
+    answer ≡ Spec (with_libraries_refused so_far.libraries (fault.Libraries place name))
+IsLibraryRefusal so_far (library.Misread text found) answer =
+    answer ≡ Spec (with_libraries_refused so_far.libraries (fault.Read text found))
+IsLibraryRefusal so_far (library.Unread file) answer =
+    (name : Vec ℕ Global) × (answer ≡ File name) × (name.items ≡ string_bytes file)
+IsLibraryRefusal so_far library.NoMemory answer = answer ≡ NoMemory

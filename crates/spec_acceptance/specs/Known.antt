@@ -1,0 +1,107 @@
+-- What is known of a specification on the way, as plain values: the libraries that were read and the data, and then what the
+-- code keeps of the specification, its ranks, the items of the order and the book.
+use Rattle.std.specs.Prelude.{◌≡◌, ℕ, List, [], map, Option, Result, Ok, Err}
+use Rattle.lotos_base.specs.Name.{spelling}
+use Rattle.lotos_base.specs.WrittenTerm.{ListedOperation}
+use Rattle.lotos_base.specs.WrittenView.{listed_operation_of}
+use Rattle.term_algebra.specs.Signature.{Signature}
+use Rattle.term_algebra.specs.Equation.{Data, IsWellFormedData}
+use Rattle.sort_terms.specs.EquationView.{IsSortedFlat, data_of}
+use Rattle.syntax_trees.specs.WrittenDefinition.{WrittenSpecification}
+use Rattle.behaviour_semantics.specs.Behaviour.{Specification}
+use Rattle.behaviour_semantics.specs.Replacement.{with_values, binding_of}
+use Rattle.behaviour_tree.specs.BehaviourView.{behaviour_of, variables_of}
+use Rattle.behaviour_tree.specs.Closed.{IsClosedNode}
+use Rattle.behaviour_tree.specs.Over.{IsSpecOver, IsStateOf}
+use Rattle.behaviour_tree.specs.StateView.{state_of}
+use Rattle.behaviour_tree.specs.declared.definitions.Spec.{Spec}
+use Rattle.behaviour_tree.specs.declared.states.State.{State}
+use Rattle.process_checks.specs.Ranks.{AreRanksOf}
+use Rattle.library_reading.specs.ShelfUse.{ShelfState}
+use Rattle.lotos_reading.specs.Reading.{IsOrderReading}
+use Rattle.path_order.specs.RulesView.{precedence_in, rules_in}
+use Rattle.equation_book.specs.Refusal.{IsOpenedBy}
+use Rattle.acceptance_order.specs.Checks.{Keeps}
+use Rattle.acceptance_order.specs.Ending.{with_spec}
+use Rattle.acceptance_order.specs.Part.{goes_on}
+use Rattle.acceptance_order.specs.Texts.{Orders}
+use Rattle.spec_acceptance.specs.Doing.{Did}
+use Rattle.spec_acceptance.specs.declared.accepted.Accepted.{Accepted}
+use Rattle.spec_acceptance.specs.declared.books.WithBook.{WithBook}
+use Rattle.spec_acceptance.specs.declared.not_accepted.NotAccepted.{NotAccepted}
+use Rattle.spec_acceptance.specs.declared.not_accepted.NotAccepted.TheVariants.{NoMemory}
+use Rattle.spec_acceptance.specs.declared.stages.WithData.{WithData}
+use Rattle.spec_acceptance.specs.declared.stages.WithOrder.{WithOrder}
+use Rattle.spec_acceptance.specs.declared.stages.WithRanks.{WithRanks}
+use Rattle.spec_acceptance.specs.declared.stages.WithSpec.{WithSpec}
+
+-- the libraries and the data, which are well formed
+pub record KnowsData (read : List (List ℕ)) (data_ : Data) (known : WithData) : Type 0 where
+  pub libraries : map spelling known.libraries.items ≡ read
+  pub data_is : data_of known.flat ≡ data_
+  pub well_formed : IsWellFormedData data_
+  pub sorted : IsSortedFlat known.flat
+
+-- a text with the libraries and the data that are read for it, and the specification that it stands for
+pub record Resolved : Type 0 where
+  pub read : List (List ℕ)
+  pub data_ : Data
+  pub tree : WrittenSpecification
+  pub spec : Specification
+
+-- what the code keeps of it
+pub record KnowsSpec (whole : Resolved) (known : WithSpec) : Type 0 where
+  pub libraries : map spelling known.libraries.items ≡ whole.read
+  pub data_is : data_of known.flat ≡ whole.data_
+  pub well_formed : IsWellFormedData whole.data_
+  pub sorted : IsSortedFlat known.flat
+  pub keeps : Keeps whole.data_ whole.tree whole.spec known.spec
+
+-- with its ranks
+pub record KnowsRanks (whole : Resolved) (known : WithRanks) : Type 0 where
+  pub spec_known : KnowsSpec whole known.known
+  pub ranks_known : AreRanksOf known.known.spec known.ranks
+
+-- with the items of the order
+pub record KnowsOrder (whole : Resolved) (items : List ListedOperation) (known : WithOrder) : Type 0 where
+  pub ranks_known : KnowsRanks whole known.known
+  pub listed : map listed_operation_of known.items.items ≡ items
+
+-- with those of the text of an order file
+abbrev pub ReadsItems : Resolved → List ℕ → WithOrder → Type 0
+ReadsItems whole text made =
+    KnowsOrder whole (map listed_operation_of made.items.items) made
+    × IsOrderReading 1 text (map listed_operation_of made.items.items)
+
+-- with those of the order file of the name, if there is one, which the shelf gave
+abbrev pub OrdersWith : Resolved → ShelfState → ShelfState → Option (List ℕ) → WithOrder → Type 0
+OrdersWith whole before after order made =
+    KnowsOrder whole (map listed_operation_of made.items.items) made
+    × Did before after (Orders (with_spec whole.read whole.data_ whole.spec) order)
+    (goes_on (map listed_operation_of made.items.items))
+
+-- with the book in place of the data and the items
+pub record KnowsBook (whole : Resolved) (items : List ListedOperation) (known : WithBook) : Type 0 where
+  pub libraries : map spelling known.libraries.items ≡ whole.read
+  pub data_is : data_of known.book.flat ≡ whole.data_
+  pub well_formed : IsWellFormedData whole.data_
+  pub keeps : Keeps whole.data_ whole.tree whole.spec known.spec
+  pub ranks_known : AreRanksOf known.spec known.ranks
+  pub opened : IsOpenedBy items whole.data_ (precedence_in known.book.joined.rules) (rules_in known.book.joined.rules)
+
+-- the state in which a specification without parameters begins: it is closed, and of the specification
+pub record IsFirstState (spec : Spec) (state : State) : Type 0 where
+  pub begins : state_of state ≡ with_values (binding_of (variables_of spec.parameters.items) []) (behaviour_of spec.body)
+  pub lawful : (signature : Signature) → IsSpecOver signature spec → IsStateOf signature spec state
+  pub closed : IsClosedNode state.node
+
+-- the specification with its ranks, its book and the state in which it begins; or memory was wanted
+pub record Starts (known : WithBook) (accepted : Accepted) : Type 0 where
+  pub same_spec : accepted.spec ≡ known.spec
+  pub same_ranks : accepted.ranks ≡ known.ranks
+  pub same_book : accepted.book ≡ known.book
+  pub first : IsFirstState known.spec accepted.start
+
+abbrev pub StartsWith : WithBook → Result Accepted NotAccepted → Type 0
+StartsWith known (Ok accepted) = Starts known accepted
+StartsWith known (Err fault) = fault ≡ NoMemory

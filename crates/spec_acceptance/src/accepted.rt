@@ -1,0 +1,134 @@
+//! The acceptance of a specification.
+
+ghost use Rattle.acceptance_order.specs.Acceptance.{AfterText, IsAccepted};
+ghost use Rattle.behaviour_tree.specs.Over.{IsSpecOver};
+ghost use Rattle.library_reading.specs.ShelfUse.{shelf_state};
+ghost use Rattle.lotos_reading.specs.Reading.{IsSpecificationReading};
+ghost use Rattle.spec_acceptance.specs.AcceptedView.{AcceptsWith, asked_for};
+ghost use Rattle.spec_acceptance.specs.Doing.{Failed};
+ghost use Rattle.spec_acceptance.specs.Known.{IsFirstState, StartsWith};
+ghost use Rattle.std.specs.Prelude.{◌≡◌, [], IfOk, MatchResult, option_map};
+ghost use Rattle.syntax_trees.specs.TreeViews.{specification_of};
+ghost use Rattle.term_algebra.specs.Signature.{Signature};
+
+use crate::books::{WithBook, opened};
+use crate::definitions::{agreed, ranked, resolved};
+use crate::files::file;
+use crate::not_accepted::NotAccepted;
+use crate::parameters::built;
+use crate::texts::{order_items, specification, types_of};
+use crate::types::data;
+use behaviour_tree::{Spec, State};
+use equation_book::Book;
+use lotos_base::{NoMemory, Shelf};
+use process_checks::Ranks;
+use std::alloc::Global;
+use syntax_trees::SpecText;
+use tree_discard::discard;
+
+/// A specification that is accepted.
+#[derive(Drop)]
+pub struct Accepted {
+    /// What the text stands for.
+    pub spec: Spec,
+    /// The ranks of its processes.
+    pub ranks: Ranks,
+    /// Its data, whose equality is decided.
+    pub book: Book,
+    /// The state in which it begins.
+    pub start: State,
+}
+
+impl Accepted {
+    /// Accepts the specification under the name `spec`, with the order file under the name `order`.
+    /// It gets the specification, the files of the libraries that it mentions and the order file,
+    /// once each and in this order, and nothing else.
+    ///
+    /// `File` comes exactly where the shelf's count of faults rose or it lacks a file, and no fault
+    /// is named before that file's turn. `Spec` comes exactly where the order of faults names one,
+    /// with that fault: of the text, of the libraries, of the types, of the scopes, of
+    /// functionalities, of recursion, of the order file, of its items, of the orientation of an
+    /// equation, of a critical pair; parameters are not built yet.
+    pub fn read<F: Shelf>(
+        alloc: Global,
+        spec: &str,
+        order: Option<&str>,
+        shelf: &mut F,
+    ) -> Result<Accepted, NotAccepted>
+        ensures { MatchResult result
+            (AcceptsWith (shelf_state (F.texts shelf.old) (F.faults shelf.old) (F.calls shelf.old))
+            (shelf_state (F.texts shelf.new) (F.faults shelf.new) (F.calls shelf.new))
+            (IsAccepted (asked_for spec.now (option_map (λ word. word.now) order.entry))))
+            (Failed (shelf_state (F.texts shelf.old) (F.faults shelf.old) (F.calls shelf.old))
+            (shelf_state (F.texts shelf.new) (F.faults shelf.new) (F.calls shelf.new))
+            (IsAccepted (asked_for spec.now (option_map (λ word. word.now) order.entry)))) }
+    {
+        let text = file(alloc, spec, shelf)?;
+        let bytes = text.as_slice();
+        let mut tree = specification(alloc, bytes)?;
+        let accepted = accept(alloc, bytes, &mut tree, order, shelf);
+        discard(tree);
+        accepted
+    }
+}
+
+// Accepts the specification of the tree, whose types are taken out of it.
+fn accept<F: Shelf>(
+    alloc: Global,
+    text: &[u8],
+    tree: &mut SpecText,
+    order: Option<&str>,
+    shelf: &mut F,
+) -> Result<Accepted, NotAccepted>
+    requires { IsSpecificationReading 0 text.now (specification_of tree.old) }
+    ensures { MatchResult result
+        (AcceptsWith (shelf_state (F.texts shelf.old) (F.faults shelf.old) (F.calls shelf.old))
+        (shelf_state (F.texts shelf.new) (F.faults shelf.new) (F.calls shelf.new))
+        (AfterText (option_map (λ word. word.now) order.entry) text.now
+        (specification_of tree.old)))
+        (Failed (shelf_state (F.texts shelf.old) (F.faults shelf.old) (F.calls shelf.old))
+        (shelf_state (F.texts shelf.new) (F.faults shelf.new) (F.calls shelf.new))
+        (AfterText (option_map (λ word. word.now) order.entry) text.now
+        (specification_of tree.old))) }
+{
+    let items = tree.take_items(alloc)?;
+    let gathered = types_of(alloc, items, shelf)?;
+    let flattened = data(alloc, gathered)?;
+    let stood = resolved(alloc, tree, flattened)?;
+    let checked = agreed(alloc, stood)?;
+    let guarded = ranked(alloc, checked)?;
+    let ordered = order_items(alloc, order, guarded, shelf)?;
+    let with_book = opened(ordered)?;
+    let whole = built(alloc, text, with_book)?;
+    started(alloc, whole)
+}
+
+// The specification with the state in which it begins.
+fn started(alloc: Global, known: WithBook) -> Result<Accepted, NotAccepted>
+    requires over { (signature : Signature) × IsSpecOver signature known.spec }
+    requires parameters { known.spec.parameters.items ≡ [] }
+    ensures { StartsWith known result }
+{
+    let start = first_state(alloc, &known.spec)?;
+    let WithBook {
+        spec,
+        ranks,
+        book,
+        ..
+    } = known;
+    Ok(Accepted {
+        spec,
+        ranks,
+        book,
+        start,
+    })
+}
+
+// The state in which a specification without parameters begins.
+fn first_state(alloc: Global, spec: &Spec) -> Result<State, NoMemory>
+    requires over { (signature : Signature) × IsSpecOver signature spec.now }
+    requires parameters { spec.now.parameters.items ≡ [] }
+    ensures { IfOk result (IsFirstState spec.now) }
+{
+    State::start(alloc, spec, Vec::new(alloc))
+}

@@ -1,0 +1,31 @@
+//! Getting a file from the shelf.
+
+ghost use Rattle.library_reading.specs.ShelfUse.{GivesFile, shelf_state};
+ghost use Rattle.spec_acceptance.specs.Doing.{FileFails};
+ghost use Rattle.std.specs.Prelude.{MatchResult};
+
+use crate::not_accepted::NotAccepted;
+use lotos_base::{GetFault, Shelf, TEXT_LIMIT};
+use std::alloc::Global;
+
+/// The text under the name, up to one byte past the limit. `File` comes exactly where the shelf's
+/// count of faults rose in this call, or the shelf lacks the file.
+pub fn file<F: Shelf>(alloc: Global, name: &str, shelf: &mut F) -> Result<Vec<u8>, NotAccepted>
+    ensures { MatchResult result
+        (λ text. GivesFile (shelf_state (F.texts shelf.old) (F.faults shelf.old) (F.calls
+        shelf.old))
+        (shelf_state (F.texts shelf.new) (F.faults shelf.new) (F.calls shelf.new))
+        name.now text.items)
+        (FileFails (shelf_state (F.texts shelf.old) (F.faults shelf.old) (F.calls shelf.old))
+        (shelf_state (F.texts shelf.new) (F.faults shelf.new) (F.calls shelf.new))
+        name.now) }
+{
+    let kept = Vec::from_slice(alloc, name.as_bytes())?;
+    let mut text = Vec::new(alloc);
+    match shelf.get(name, TEXT_LIMIT + 1, &mut text) {
+        Ok(()) => Ok(text),
+        Err(GetFault::Missing) => Err(NotAccepted::File { name: kept }),
+        Err(GetFault::Failed) => Err(NotAccepted::File { name: kept }),
+        Err(GetFault::NoMemory) => Err(NotAccepted::NoMemory),
+    }
+}

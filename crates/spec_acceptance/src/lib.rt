@@ -1,0 +1,16 @@
+//! The acceptance of a specification: which files are got for it, and what is found in them.
+#![tactic(auto)]
+
+pub mod accepted;
+pub mod books;
+pub mod definitions;
+pub mod files;
+pub mod not_accepted;
+pub mod parameters;
+pub mod refusals;
+pub mod stages;
+pub mod texts;
+pub mod types;
+
+pub use accepted::Accepted;
+pub use not_accepted::NotAccepted;

@@ -1,0 +1,10 @@
+use Rattle.std.proofs.Common.{drop, map, take}
+use Rattle.std.specs.Vec.Iter.{into_iter_items}
+use Rattle.sort_terms.specs.TermView.{profiled_of}
+use Rattle.term_rewriter.proofs.FilledLemmas.{AreFilledSoFar}
+use Rattle.term_rewriter.proofs.filling.+filling.Given as goal
+
+abbrev pub invariant-all_filled-loop-term : goal.invariant-all_filled-loop-term
+invariant-all_filled-loop-term l =
+    AreFilledSoFar l.term-items (map profiled_of (into_iter_items l.fn.values)) (take l.term-index l.term-items)
+    (drop l.term-index l.term-items) l.made.items (map profiled_of (into_iter_items l.values))

@@ -1,0 +1,3 @@
+pub mod Actualised
+pub mod Parts
+pub mod Indexed
