@@ -336,7 +336,7 @@ abbrev told_definition : Signature → List plain.Process → Behaviour → Func
 told_definition signature processes body declared ps = (
   (told_disagreements signature processes body (behind_one ps)).0
       ++ plain_at_definition (first_of (record { text = 0; line = 0; column = 0 }) ps)
-  (plain_functionality signature processes body) declared,
+      (plain_functionality signature processes body) declared,
   (told_disagreements signature processes body (behind_one ps)).1,
 )
 
