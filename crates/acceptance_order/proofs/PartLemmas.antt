@@ -51,7 +51,8 @@ looks_determined IsFine IsFault known got decided files others (stops (refused r
 
 -- both went on
 went_on : {A B : Type 0} (First : Part A) (next : A → Part B) (got : Files) → IsDetermined got First
-    → ((a : A) → IsDetermined got (next a)) → (a b : A) (f l g m files others : List GotFile) (one other : Comes B)
+    → ((a : A) (f : List GotFile) → First f (goes_on a) → IsDetermined got (next a)) → (a b : A)
+    (f l g m files others : List GotFile) (one other : Comes B)
     → First f (goes_on a) → next a l one → files ≡ f ++ l → First g (goes_on b) → next b m other → others ≡ g ++ m
     → AreGotFrom got files → AreGotFrom got others → Lacks got one → Lacks got other → (files ≡ others) × (one ≡ other)
 went_on {A} {B} First next got firsts nexts a b f l g m files others one other is then cut also later split all both lack lacks =
@@ -61,7 +62,7 @@ went_on {A} {B} First next got firsts nexts a b f l g m files others one other i
     = firsts f g (goes_on a) (goes_on b) is also (front got f l all_parts) (front got g m both_parts) tt tt in
     let same : a ≡ b = ap (λ (c : Comes A). value_or a c) first.1 in
     let rest : (l ≡ m) × (one ≡ other)
-    = nexts a l m one other then (subst (λ (v : A). next v m other) (sym same) later)
+    = nexts a f is l m one other then (subst (λ (v : A). next v m other) (sym same) later)
     (back got f l all_parts) (back got g m both_parts) lack lacks in
     (cut ∙ joined first.0 rest.0 ∙ sym split, rest.1)
 
@@ -73,8 +74,10 @@ apart First got firsts a f l files others ending is cut also all both lacks =
     let parts : AreGotFrom got (f ++ l) = subst (λ (xs : List GotFile). AreGotFrom got xs) cut all in
     never_stops a ending (firsts f others (goes_on a) (stops ending) is also (front got f l parts) both tt lacks).1
 
+-- The next part may count on what the first one found.
 pub then_determined : {A B : Type 0} (First : Part A) (next : A → Part B) (got : Files)
-    → IsDetermined got First → ((a : A) → IsDetermined got (next a)) → IsDetermined got (Then First next)
+    → IsDetermined got First → ((a : A) (f : List GotFile) → First f (goes_on a) → IsDetermined got (next a))
+    → IsDetermined got (Then First next)
 then_determined First next got firsts nexts files others (goes_on c) (goes_on d) is also all both lack lacks =
     went_on First next got firsts nexts is.0 also.0 is.1 is.2 also.1 also.2 files others (goes_on c) (goes_on d) is.3 is.4 is.5
     also.3 also.4 also.5 all both lack lacks

@@ -117,6 +117,6 @@ gathers_determined tree got files others (stops ending) (stops last) is also all
 pub orders_determined : (known : Refusal → Refused) (order : Option (List ℕ)) (got : Files) → IsDetermined got (Orders known order)
 orders_determined known None got = has_determined [] got
 orders_determined known (Some name) got =
-    then_determined (Gets name) (ReadsOrder known) got (gets_determined name got) (λ text.
+    then_determined (Gets name) (ReadsOrder known) got (gets_determined name got) (λ text f is.
     looks_determined (IsOrderReading 1 text) (IsMisread IsOrderFault 1 text) known got
     (reading_decided IsOrderReading IsOrderFault 1 text all_have_one_outcome.order))

@@ -122,26 +122,27 @@ built_decided text spec = record {
 -- ---- All of it
 
 pub acceptance_is_determined : AcceptanceIsDetermined
-acceptance_is_determined types exits ranks books asked got =
-    then_determined (Gets asked.spec) _ got (gets_determined asked.spec got) (λ text.
-    then_determined (ReadsSpecification text) _ got (reads_determined text got) (λ tree.
-    then_determined (Gathers tree) _ got (gathers_determined tree got) (λ gathered.
+acceptance_is_determined types fine exits ranks books asked got =
+    then_determined (Gets asked.spec) _ got (gets_determined asked.spec got) (λ text f0 i0.
+    then_determined (ReadsSpecification text) _ got (reads_determined text got) (λ tree f1 i1.
+    then_determined (Gathers tree) _ got (gathers_determined tree got) (λ gathered f2 i2.
     then_determined (Flattens gathered) _ got
     (looks_determined (HaveData (types_of gathered.types)) (HaveFault (types_of gathered.types)) (with_libraries gathered.read) got
-    (types (types_of gathered.types))) (λ data_.
+    (types (types_of gathered.types))) (λ data_ f3 have.
     then_determined (Resolves gathered data_ tree) _ got
     (looks_determined (StandsFor data_ tree) (Breaks data_ tree) (with_data gathered.read data_) got
-    (scopes_are_decided data_ tree)) (λ spec.
+    (scopes_are_decided data_ tree)) (λ spec f4 i4.
     then_determined (Agrees gathered data_ tree spec) _ got
     (looks_determined (Agree data_ tree spec) (Disagree data_ tree spec) (with_spec gathered.read data_ spec) got
-    (exits data_ tree spec)) (λ same.
+    (exits data_ tree spec)) (λ same f5 i5.
     then_determined (IsGuardedIn gathered data_ tree spec) _ got
     (looks_determined (Guarded spec) (Cyclic data_ tree spec) (with_spec gathered.read data_ spec) got
-    (ranks data_ tree spec)) (λ also.
+    (ranks data_ tree spec)) (λ also f6 i6.
     then_determined (Orders (with_spec gathered.read data_ spec) asked.order) _ got
-    (orders_determined (with_spec gathered.read data_ spec) asked.order got) (λ items.
+    (orders_determined (with_spec gathered.read data_ spec) asked.order got) (λ items f7 i7.
     then_determined (OpensBook gathered data_ spec items) _ got
-    (looks_determined (Opens items data_) (DoesNotOpen items data_) (with_spec gathered.read data_ spec) got (books items data_)) (λ opened.
+    (looks_determined (Opens items data_) (DoesNotOpen items data_) (with_spec gathered.read data_ spec) got
+    (books items data_ (fine (types_of gathered.types) data_ have.1))) (λ opened f8 i8.
     then_determined (IsBuilt text gathered spec) _ got
-    (looks_determined (HasNone spec) (HasSome text spec) (with_libraries gathered.read) got (built_decided text spec)) (λ built.
+    (looks_determined (HasNone spec) (HasSome text spec) (with_libraries gathered.read) got (built_decided text spec)) (λ built f9 i9.
     has_determined (accepted_with gathered data_ spec items) got))))))))))

@@ -1,7 +1,7 @@
 -- A specification is accepted in one way at most, or refused for one fault, where each of its parts is decided.
 use Rattle.std.specs.Prelude.{List}
 use Rattle.lotos_base.specs.WrittenTerm.{ListedOperation}
-use Rattle.term_algebra.specs.Equation.{Data}
+use Rattle.term_algebra.specs.Equation.{Data, IsWellFormedData}
 use Rattle.syntax_trees.specs.WrittenDefinition.{WrittenSpecification}
 use Rattle.behaviour_semantics.specs.Behaviour.{Specification}
 use Rattle.type_mentions.specs.DeclaredTypes.{DeclaredType}
@@ -30,12 +30,17 @@ abbrev pub RanksAreDecided : Type 0
 RanksAreDecided = (data_ : Data) (tree : WrittenSpecification) (spec : Specification)
     → IsDecided (Guarded spec) (Cyclic data_ tree spec)
 
--- whether data open by an order, or the first thing that is wrong
+-- the data of types are well formed
+abbrev pub DataAreWellFormed : Type 0
+DataAreWellFormed = (types : List DeclaredType) (data_ : Data) → HaveData types data_ → IsWellFormedData data_
+
+-- whether well-formed data open by an order, or the first thing that is wrong
 abbrev pub BooksAreDecided : Type 0
-BooksAreDecided = (items : List ListedOperation) (data_ : Data) → IsDecided (Opens items data_) (DoesNotOpen items data_)
+BooksAreDecided = (items : List ListedOperation) (data_ : Data) → IsWellFormedData data_
+    → IsDecided (Opens items data_) (DoesNotOpen items data_)
 
 -- Where these are, all of the acceptance is: by what is got under each name there is one outcome at most, and the same files
 -- are got for it in the same order. Texts, libraries and scopes are decided by the laws of their crates.
 abbrev pub AcceptanceIsDetermined : Type 0
-AcceptanceIsDetermined = TypesAreDecided → ExitsAreDecided → RanksAreDecided → BooksAreDecided
+AcceptanceIsDetermined = TypesAreDecided → DataAreWellFormed → ExitsAreDecided → RanksAreDecided → BooksAreDecided
     → (asked : Asked) (got : Files) → IsDetermined got (IsAccepted asked)

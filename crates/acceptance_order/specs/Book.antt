@@ -7,9 +7,8 @@ use Rattle.behaviour_semantics.specs.Behaviour.{Specification}
 use Rattle.termination_theory.specs.Precedence.{Precedence}
 use Rattle.termination_theory.specs.Orientation.{NumberedRule, IsOrientation, IsFirstUnorientable}
 use Rattle.operation_order.specs.Listing.{IsUnknown, IsTwice, IsFirstWrong}
-use Rattle.path_order.specs.OrderedBy.{IsPrecedenceBy}
 use Rattle.critical_pairs.specs.Joining.{AreUnjoinedBy}
-use Rattle.equation_book.specs.Refusal.{IsOpenedBy}
+use Rattle.equation_book.specs.Refusal.{IsBookPrecedence, IsOpenedBy}
 use Rattle.library_reading.specs.Gathering.{Gathered}
 use Rattle.spec_faults.specs.Refusal.{Refusal, unbuilt, too_long, bad_byte, open_comment, wrong_syntax, too_deep, too_many_libraries, wrong_names, wrong_types, wrong_scopes, mismatch, unguarded, unknown_operation, twice_listed, unorientable, unjoined, start_values, start_term}
 use Rattle.acceptance_order.specs.Ending.{with_spec}
@@ -27,11 +26,11 @@ DoesNotOpen items data_ (unknown_operation place name) =
 DoesNotOpen items data_ (twice_listed place name) =
     IsFirstWrong data_.signature items (λ k item. IsTwice data_.signature items k item) place name
 DoesNotOpen items data_ (unorientable equation) =
-    (precedence : Precedence) × IsPrecedenceBy data_.signature items precedence
+    (precedence : Precedence) × IsBookPrecedence data_.signature items precedence
     × IsFirstUnorientable precedence data_.equations equation
 DoesNotOpen items data_ (unjoined first second peak left right) =
-    (precedence : Precedence) × (rules : List NumberedRule) × IsPrecedenceBy data_.signature items precedence
-    × IsOrientation precedence data_ rules × AreUnjoinedBy rules first second peak left right
+    (precedence : Precedence) × (rules : List NumberedRule) × IsBookPrecedence data_.signature items precedence
+    × IsOrientation precedence data_ rules × AreUnjoinedBy data_.signature rules first second peak left right
 DoesNotOpen items data_ (unbuilt place) = ⊥
 DoesNotOpen items data_ (too_long number) = ⊥
 DoesNotOpen items data_ (bad_byte place) = ⊥

@@ -6,8 +6,8 @@ ghost use Rattle.acceptance_order.specs.AcceptanceLaws.{
 };
 
 /// By what is got under each name a specification is accepted in one way at most, or refused for one
-/// fault, and the same files are got for it in the same order, where types, functionalities, ranks
-/// and books are decided.
+/// fault, and the same files are got for it in the same order, where types are decided and have
+/// well-formed data, and functionalities, ranks and books are decided.
 pub fn acceptance_is_determined()
     ensures { AcceptanceIsDetermined }
 {}

@@ -10,6 +10,3 @@ pub mod offers;
 
 pub use actions::action_draft;
 pub use exits::exit_draft;
-
-#[cfg(test)]
-mod tests;

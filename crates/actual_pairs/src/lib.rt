@@ -5,6 +5,3 @@ pub mod actual_sort_pairs;
 pub mod new_names;
 
 pub use actual_sort_pairs::look_at_actual_sort_pairs;
-
-#[cfg(test)]
-mod tests;

@@ -11,6 +11,3 @@ pub use came::Came;
 pub use operations::bring_ops;
 pub use sorts::bring_sorts;
 pub use source::Source;
-
-#[cfg(test)]
-mod tests;

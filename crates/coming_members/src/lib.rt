@@ -16,6 +16,3 @@ pub fn condensed_members_tell_clashes()
     ensures sorts { TellsClashes Sort sort_kind }
     ensures operations { TellsClashes Operation operation_kind }
 {}
-
-#[cfg(test)]
-mod tests;

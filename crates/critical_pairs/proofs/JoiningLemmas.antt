@@ -2,7 +2,9 @@
 use Rattle.std.proofs.Common.{◌≡◌, ◌<◌, ℕ, zero, suc, List, [], ◌∷◌, map, length, get_or, refl, ap, sym, ◌∙◌, subst, arith}
 use Rattle.std.specs.Prelude.{Some, None, slice_get}
 use Rattle.std.proofs.lemmas.Option.{same_Some}
+use Rattle.term_algebra.specs.Signature.{Signature}
 use Rattle.term_algebra.specs.Term.{Term}
+use Rattle.term_algebra.specs.Sorting.{IsTermOf}
 use Rattle.rewriting_theory.specs.Rule.{Rule}
 use Rattle.rewriting_theory.specs.Rewriting.{AreConfluent}
 use Rattle.rewriting_theory.specs.ChosenForm.{Chosen}
@@ -11,13 +13,16 @@ use Rattle.rewriting_theory.specs.PairList.{IsUnjoined}
 use Rattle.rewriting_theory.specs.PairListLaws.{RewritesToTwo}
 use Rattle.rewriting_theory.proofs.PairListLemmas.{agreeing_joined, none_unjoined_confluent, unjoined_not_confluent, unjoined_two}
 use Rattle.termination_theory.specs.Orientation.{NumberedRule}
-use Rattle.sort_terms.specs.SortedView.{term_in}
+use Rattle.sort_terms.specs.ProfiledTerm.{head_sort}
+use Rattle.sort_terms.specs.SortedView.{profiled_in, term_in}
+use Rattle.sort_terms.proofs.ProfiledTermLemmas.{fitting_has_sort}
+use Rattle.overlap_pairs.specs.OverlapPair.{ArePairTermsOf}
 use Rattle.path_order.specs.RulesView.{rules_in, plain_rules_in}
 use Rattle.path_order.specs.declared.rules.Rules.{Rules}
 use Rattle.path_order.proofs.RulesLemmas.{rules_well_formed, rules_end}
-use Rattle.critical_pairs.specs.Listing.{named_by, ListsAll}
-use Rattle.critical_pairs.specs.Joining.{AreUnjoinedBy, NoneUnjoinedAmong, AnswersFirst}
-use Rattle.critical_pairs.specs.PairView.{pair_of, pairs_in}
+use Rattle.critical_pairs.specs.Listing.{named_by, ListsAll, AreOver}
+use Rattle.critical_pairs.specs.Joining.{ArePeaksOf, AreUnjoinedBy, NoneUnjoinedAmong, AnswersFirst}
+use Rattle.critical_pairs.specs.PairView.{pair_of, pairs_in, terms_in}
 use Rattle.critical_pairs.specs.declared.pair.Pair.{Pair}
 use Rattle.critical_pairs.specs.declared.joining.Unjoined.{Unjoined}
 
@@ -68,11 +73,38 @@ joined_rules rules found listed none =
     (ap (λ (ps : List CriticalPair). slice_get ps k) (sym listed.named) ∙ named_there (rules_in rules) listed.plain k pair is)
     (unjoined_named (rules_in rules) pair t u unjoined))
 
+-- a pair of the code, where the list of what pairs stand for has one
+record IsSeen (found : List Pair) (k : ℕ) (seen : CriticalPair) : Type 0 where
+  pair : Pair
+  is_pair : slice_get found k ≡ Some pair
+  same : pair_of pair ≡ seen
+
+seen_back : (found : List Pair) (k : ℕ) (seen : CriticalPair) → slice_get (pairs_in found) k ≡ Some seen → IsSeen found k seen
+seen_back [] k seen is = let none : None ≡ Some seen = is in cc
+seen_back (p ∷ found) zero seen is = record { pair = p; is_pair = refl; same = same_Some (pair_of p) seen is }
+seen_back (p ∷ found) (suc k) seen is =
+    let rest = seen_back found k seen is in
+    record { pair = rest.pair; is_pair = rest.is_pair; same = rest.same }
+
+-- the peak of a pair of the signature is a term of it
+peak_of : (signature : Signature) (pair : Pair) → ArePairTermsOf signature (terms_in pair) → IsTermOf signature (pair_of pair).peak
+peak_of signature pair is =
+    (head_sort (profiled_in pair.peak), fitting_has_sort signature (profiled_in pair.peak) is.peak pair.peak.fits)
+
+-- so it is with all pairs that were listed
+peaks_of : (signature : Signature) (rules : List NumberedRule) (found : List Pair) (listed : ListsAll rules (pairs_in found))
+    → AreOver signature found → ArePeaksOf signature listed.plain
+peaks_of signature rules found listed over k pair is =
+    let seen = seen_back found k (named_by rules pair)
+    (ap (λ (ps : List CriticalPair). slice_get ps k) (sym listed.named) ∙ named_there rules listed.plain k pair is) in
+    subst (λ (p : CriticalPair). IsTermOf signature p.peak) seen.same (peak_of signature seen.pair (over k seen.pair seen.is_pair))
+
 -- where one is, they are not
-pub unjoined_rules : (rules : Rules) (found : List Pair) (answer : Unjoined) → ListsAll (rules_in rules) (pairs_in found)
-    → AnswersFirst (plain_rules_in rules) (pairs_in found) answer
-    → AreUnjoinedBy (rules_in rules) answer.first answer.second (term_in answer.peak) (term_in answer.left) (term_in answer.right)
-unjoined_rules rules found answer listed first =
+pub unjoined_rules : (signature : Signature) (rules : Rules) (found : List Pair) (answer : Unjoined)
+    → ListsAll (rules_in rules) (pairs_in found) → AreOver signature found → AnswersFirst (plain_rules_in rules) (pairs_in found) answer
+    → AreUnjoinedBy signature (rules_in rules) answer.first answer.second (term_in answer.peak) (term_in answer.left)
+    (term_in answer.right)
+unjoined_rules signature rules found answer listed over first =
     let back = named_back (rules_in rules) listed.plain first.number first.pair
     (ap (λ (ps : List CriticalPair). slice_get ps first.number) listed.named ∙ first.is_pair) in
     let unjoined : IsUnjoined (plain_rules_in rules) back.pair (term_in answer.left) (term_in answer.right) =
@@ -84,6 +116,7 @@ unjoined_rules rules found answer listed first =
     record {
       pairs = listed.plain;
       all = listed.all;
+      peaks = peaks_of signature (rules_in rules) found listed over;
       number = first.number;
       is_first = record {
         pair = back.pair;

@@ -1,6 +1,8 @@
 -- Whether the sides of each critical pair have one chosen form, and the first pair whose sides have two.
 use Rattle.std.specs.Prelude.{◌≡◌, ◌<◌, ℕ, List, Some, slice_get}
+use Rattle.term_algebra.specs.Signature.{Signature}
 use Rattle.term_algebra.specs.Term.{Term}
+use Rattle.term_algebra.specs.Sorting.{IsTermOf}
 use Rattle.rewriting_theory.specs.Rule.{Rule}
 use Rattle.rewriting_theory.specs.Rewriting.{AreConfluent}
 use Rattle.rewriting_theory.specs.CriticalPair.{CriticalPair}
@@ -17,12 +19,17 @@ use Rattle.critical_pairs.specs.declared.pair_fault.PairFault.TheVariants.{Unjoi
 abbrev pub StaysJoined : List Rule → Type 0
 StaysJoined rules = AreConfluent rules
 
--- Rules with the numbers of their equations are not confluent: the first one of their critical pairs whose sides have
--- different chosen forms is of the rules of these equations and has this peak, its sides have these chosen forms, and the
--- peak rewrites to both.
-pub record AreUnjoinedBy (rules : List NumberedRule) (first second : ℕ) (peak left right : Term) : Type 0 where
+-- The peak of each of the pairs is a term of the signature.
+abbrev pub ArePeaksOf : Signature → List CriticalPair → Type 0
+ArePeaksOf signature pairs = (k : ℕ) (pair : CriticalPair) → slice_get pairs k ≡ Some pair → IsTermOf signature pair.peak
+
+-- Rules over a signature, with the numbers of their equations, are not confluent: the first one of their critical pairs
+-- whose sides have different chosen forms is of the rules of these equations and has this peak, its sides have these chosen
+-- forms, and the peak rewrites to both. The peaks are terms of the signature.
+pub record AreUnjoinedBy (signature : Signature) (rules : List NumberedRule) (first second : ℕ) (peak left right : Term) : Type 0 where
   pub pairs : List CriticalPair
   pub all : AreCriticalPairs (rules_of rules) pairs
+  pub peaks : ArePeaksOf signature pairs
   pub number : ℕ
   pub is_first : IsFirstUnjoined (rules_of rules) pairs number left right
   pub first_is : first ≡ equation_at rules is_first.pair.first
@@ -31,11 +38,11 @@ pub record AreUnjoinedBy (rules : List NumberedRule) (first second : ℕ) (peak 
   pub rewrites : RewritesToTwo (rules_of rules) peak left right
   pub not_confluent : ¬ AreConfluent (rules_of rules)
 
--- What a fault says of the rules.
-abbrev pub HoldsOfFault : List NumberedRule → PairFault → Type 0
-HoldsOfFault rules (UnjoinedFault first second peak left right) =
-    AreUnjoinedBy rules first second (term_in peak) (term_in left) (term_in right)
-HoldsOfFault rules NoMemory = Unit {0}
+-- What a fault says of rules over a signature.
+abbrev pub HoldsOfFault : Signature → List NumberedRule → PairFault → Type 0
+HoldsOfFault signature rules (UnjoinedFault first second peak left right) =
+    AreUnjoinedBy signature rules first second (term_in peak) (term_in left) (term_in right)
+HoldsOfFault signature rules NoMemory = Unit {0}
 
 -- None of the pairs has sides with different chosen forms.
 abbrev pub NoneUnjoinedAmong : List Rule → List CriticalPair → Type 0

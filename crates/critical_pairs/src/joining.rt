@@ -39,7 +39,8 @@ pub struct Unjoined {
 pub fn all_join(alloc: Global, rules: Rules) -> Result<Joined, PairFault>
     ensures joined { IfOk result (λ joined. joined.rules ≡ rules) }
     ensures confluent { IfOk result (λ joined. StaysJoined (plain_rules_in joined.rules)) }
-    ensures unjoined { IfErr result (λ fault. HoldsOfFault (rules_in rules) fault) }
+    ensures unjoined { IfErr result
+        (λ fault. HoldsOfFault (signature_in rules) (rules_in rules) fault) }
 {
     let found = pairs(alloc, &rules)?;
     match first_unjoined(alloc, &rules, found.as_slice())? {

@@ -17,6 +17,8 @@ pub mod one_sort;
 pub mod order_text;
 #[cfg(test)]
 mod parts;
+#[cfg(test)]
+mod ranks;
 pub mod scanning;
 #[cfg(test)]
 mod showing;

@@ -8,6 +8,3 @@ pub mod sides;
 
 pub use rule::Rule;
 pub use sides::both_sides;
-
-#[cfg(test)]
-mod tests;

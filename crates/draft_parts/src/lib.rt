@@ -7,6 +7,3 @@ pub mod parts;
 
 pub use gates::{Call, at_gates, calls_beside, copies_beside};
 pub use parts::{beside, either, inner_draft, one};
-
-#[cfg(test)]
-mod tests;

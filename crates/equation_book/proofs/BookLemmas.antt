@@ -1,5 +1,5 @@
 -- What a book knows of its data.
-use Rattle.std.proofs.Common.{◌≡◌, ℕ, zero, suc, List, [], ◌∷◌, map, ap, sym, ◌∙◌, subst}
+use Rattle.std.proofs.Common.{refl, ◌≡◌, ℕ, zero, suc, List, [], ◌∷◌, map, ap, sym, ◌∙◌, subst}
 use Rattle.std.specs.Prelude.{◌↔◌, Some, None, slice_get}
 use Rattle.std.proofs.lemmas.Option.{same_Some}
 use Rattle.std.proofs.Math.Logic.{∥∥₁_elim}
@@ -26,7 +26,7 @@ use Rattle.critical_pairs.proofs.JoinedLemmas.{joined_confluent}
 use Rattle.path_order.specs.OrientFaultView.{IsOrientFault}
 use Rattle.path_order.specs.declared.orient_fault.OrientFault.{OrientFault}
 use Rattle.path_order.specs.declared.orient_fault.OrientFault.TheVariants.{Unorientable, NoMemory as OrientNoMemory}
-use Rattle.critical_pairs.specs.Joining.{HoldsOfFault}
+use Rattle.critical_pairs.specs.Joining.{AreUnjoinedBy, HoldsOfFault}
 use Rattle.critical_pairs.specs.declared.pair_fault.PairFault.{PairFault}
 use Rattle.critical_pairs.specs.declared.pair_fault.PairFault.TheVariants.{Unjoined, NoMemory as PairNoMemory}
 use Rattle.termination_theory.specs.Precedence.{Precedence}
@@ -36,7 +36,9 @@ use Rattle.operation_order.specs.OrderFaultView.{IsOrderFault}
 use Rattle.operation_order.specs.declared.order_fault.OrderFault.{OrderFault}
 use Rattle.operation_order.specs.declared.order_fault.OrderFault.TheVariants.{UnknownOperation as OrderUnknown, TwiceListed as OrderTwice, NoMemory as OrderNoMemory}
 use Rattle.path_order.specs.OrderedBy.{IsPrecedenceBy}
-use Rattle.equation_book.specs.Refusal.{SaysOfData, IsBookFault, book_fault_of_order, book_fault_of_orientation, book_fault_of_pair}
+use Rattle.path_order.specs.PrecedenceView.{precedence_of}
+use Rattle.path_order.specs.declared.precedence.Precedence.{Precedence as CodePrecedence}
+use Rattle.equation_book.specs.Refusal.{SaysOfData, IsBookPrecedence, IsBookFault, book_fault_of_order, book_fault_of_orientation, book_fault_of_pair}
 use Rattle.equation_book.specs.declared.book_fault.BookFault.{BookFault}
 use Rattle.equation_book.specs.declared.book_fault.BookFault.TheVariants.{UnknownOperation as BookUnknown, TwiceListed as BookTwice, Unorientable as BookUnorientable, Unjoined as BookUnjoined, NoMemory as BookNoMemory}
 use Rattle.equation_book.specs.BookCanon.{book_canon, book_chooses, book_oriented}
@@ -109,10 +111,15 @@ orientation_says p data_ (Unorientable equation) is = is
 orientation_says p data_ OrientNoMemory is = tt
 
 -- what a fault of a critical pair says of them
-pub pair_says : (p : Precedence) (data_ : Data) (rules : List NumberedRule) (fault : PairFault) → IsOrientation p data_ rules
-    → HoldsOfFault rules fault → SaysOfData p data_ (book_fault_of_pair fault)
-pair_says p data_ rules (Unjoined first second peak left right) oriented is = (rules, oriented, is)
-pair_says p data_ rules PairNoMemory oriented is = tt
+pub pair_says : (p : Precedence) (data_ : Data) (signature : Signature) (rules : List NumberedRule) (fault : PairFault)
+    → signature ≡ data_.signature → IsOrientation p data_ rules → HoldsOfFault signature rules fault
+    → SaysOfData p data_ (book_fault_of_pair fault)
+pair_says p data_ signature rules (Unjoined first second peak left right) same oriented is = (
+  rules,
+  oriented,
+  subst (λ (s : Signature). AreUnjoinedBy s rules first second (term_in peak) (term_in left) (term_in right)) same is,
+)
+pair_says p data_ signature rules PairNoMemory same oriented is = tt
 
 -- what a fault of an order says
 pub order_says : (items : List ListedOperation) (data_ : Data) (fault : OrderFault) → IsOrderFault data_.signature items fault
@@ -121,11 +128,17 @@ order_says items data_ (OrderUnknown place name) is = is
 order_says items data_ (OrderTwice place name) is = is
 order_says items data_ OrderNoMemory is = tt
 
+-- the precedence of the code is one of a book
+pub book_precedence : (items : List ListedOperation) (data_ : Data) (p : CodePrecedence)
+    → IsPrecedenceBy data_.signature items (precedence_of p) → IsBookPrecedence data_.signature items (precedence_of p)
+book_precedence items data_ p by = record { by_items = by; statuses = λ f. refl }
+
 -- what a fault of the data says
-pub data_says : (items : List ListedOperation) (data_ : Data) (p : Precedence) (fault : BookFault) → IsPrecedenceBy data_.signature items p
-    → SaysOfData p data_ fault → IsBookFault items data_ fault
+pub data_says : (items : List ListedOperation) (data_ : Data) (p : CodePrecedence) (fault : BookFault)
+    → IsPrecedenceBy data_.signature items (precedence_of p) → SaysOfData (precedence_of p) data_ fault → IsBookFault items data_ fault
 data_says items data_ p (BookUnknown place name) by is = absurd is
 data_says items data_ p (BookTwice place name) by is = absurd is
-data_says items data_ p (BookUnorientable equation) by is = (p, by, is)
-data_says items data_ p (BookUnjoined first second peak left right) by is = (p, by, is)
+data_says items data_ p (BookUnorientable equation) by is = (precedence_of p, book_precedence items data_ p by, is)
+data_says items data_ p (BookUnjoined first second peak left right) by is =
+    (precedence_of p, book_precedence items data_ p by, is)
 data_says items data_ p BookNoMemory by is = tt

@@ -1,8 +1,9 @@
 -- What a refusal of data says of them.
-use Rattle.std.specs.Prelude.{List}
+use Rattle.std.specs.Prelude.{◌≡◌, ℕ, List}
 use Rattle.term_algebra.specs.Equation.{Data}
+use Rattle.term_algebra.specs.Signature.{Signature}
 use Rattle.rewriting_theory.specs.Rewriting.{AreConfluent}
-use Rattle.termination_theory.specs.Precedence.{Precedence}
+use Rattle.termination_theory.specs.Precedence.{Precedence, from_left}
 use Rattle.termination_theory.specs.Orientation.{NumberedRule, rules_of, IsOrientation, IsFirstUnorientable}
 use Rattle.sort_terms.specs.SortedView.{term_in}
 use Rattle.lotos_base.specs.WrittenTerm.{ListedOperation}
@@ -42,12 +43,17 @@ SaysOfData precedence data_ (TwiceListed place name) = ⊥
 SaysOfData precedence data_ (Unorientable equation) = IsFirstUnorientable precedence data_.equations equation
 SaysOfData precedence data_ (Unjoined first second peak left right) =
     (rules : List NumberedRule) × IsOrientation precedence data_ rules
-    × AreUnjoinedBy rules first second (term_in peak) (term_in left) (term_in right)
+    × AreUnjoinedBy data_.signature rules first second (term_in peak) (term_in left) (term_in right)
 SaysOfData precedence data_ NoMemory = Unit {0}
 
 -- The data give rules by the precedence, and these are confluent.
 abbrev pub AreJoinedBy : Precedence → Data → List NumberedRule → Type 0
 AreJoinedBy precedence data_ rules = IsOrientation precedence data_ rules × AreConfluent (rules_of rules)
+
+-- The precedence of a book: the items order the operations, and the arguments of each operation are compared from the left.
+pub record IsBookPrecedence (signature : Signature) (items : List ListedOperation) (precedence : Precedence) : Type 0 where
+  pub by_items : IsPrecedenceBy signature items precedence
+  pub statuses : (f : ℕ) → precedence.status f ≡ from_left
 
 -- What the refusal of a book says of the items of the order and of the data: the first item with something wrong; or,
 -- where nothing is wrong with an item, what it says of the data by the precedence that the items give.
@@ -55,14 +61,14 @@ abbrev pub IsBookFault : List ListedOperation → Data → BookFault → Type 0
 IsBookFault items data_ (UnknownOperation place name) = IsOrderFault data_.signature items (OrderUnknown place name)
 IsBookFault items data_ (TwiceListed place name) = IsOrderFault data_.signature items (OrderTwice place name)
 IsBookFault items data_ (Unorientable equation) =
-    (precedence : Precedence) × IsPrecedenceBy data_.signature items precedence × SaysOfData precedence data_ (Unorientable equation)
+    (precedence : Precedence) × IsBookPrecedence data_.signature items precedence × SaysOfData precedence data_ (Unorientable equation)
 IsBookFault items data_ (Unjoined first second peak left right) =
-    (precedence : Precedence) × IsPrecedenceBy data_.signature items precedence
+    (precedence : Precedence) × IsBookPrecedence data_.signature items precedence
     × SaysOfData precedence data_ (Unjoined first second peak left right)
 IsBookFault items data_ NoMemory = Unit {0}
 
 -- What an opened book says of them: nothing is wrong with an item, the precedence is that of the items, and the data give
 -- these rules by it, which are confluent.
 pub record IsOpenedBy (items : List ListedOperation) (data_ : Data) (precedence : Precedence) (rules : List NumberedRule) : Type 0 where
-  pub by_items : IsPrecedenceBy data_.signature items precedence
+  pub ordered : IsBookPrecedence data_.signature items precedence
   pub joined : AreJoinedBy precedence data_ rules

@@ -13,6 +13,3 @@ pub use keys::equation_key;
 pub fn equation_keys_tell()
     ensures { EquationKeysTell }
 {}
-
-#[cfg(test)]
-mod tests;

@@ -8,6 +8,3 @@ pub mod made;
 pub mod numbering;
 
 pub use made::equation_made;
-
-#[cfg(test)]
-mod tests;

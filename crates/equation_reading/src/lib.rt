@@ -12,6 +12,3 @@ pub use equation_scope::EquationScope;
 pub use premisses::check_premisses;
 pub use sides::read_sides;
 pub use truth::sort_with_truth;
-
-#[cfg(test)]
-mod tests;

@@ -21,6 +21,3 @@ pub use drafts::{Draft, Entry};
 pub use joining::join_offers;
 pub use menus::Menu;
 pub use solving::solve;
-
-#[cfg(test)]
-mod tests;

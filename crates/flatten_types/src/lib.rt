@@ -7,6 +7,3 @@ pub mod flattening;
 pub mod one_type;
 
 pub use flattening::flatten;
-
-#[cfg(test)]
-mod tests;

@@ -1,10 +1,12 @@
 //! Large types are flattened within the time of a test.
 
 use flatten_types::flatten;
+use lotos_base::{Name, Place};
 use std::alloc::{AllocError, Global};
 use std::test::Fail;
 use syntax_trees::ItemText;
 use text_reading::read_types;
+use type_faults::TypeFault;
 
 #[test]
 fn as_many_operations_as_may_be(rt: HostRuntime) -> Result<(), Fail> {
@@ -73,6 +75,106 @@ fn as_many_renamed_operations(rt: HostRuntime) -> Result<(), Fail> {
     let sizes = sizes_of(alloc, text.as_str());
     assert_eq!(rt; sizes.ops, 65536);
     Ok(())
+}
+
+#[test]
+fn an_operation_too_many(rt: HostRuntime) -> Result<(), Fail> {
+    let alloc = rt.alloc();
+    let mut text = String::from_str(alloc, "type T is sorts C opns\n")?;
+    for number in 0..65537u32 {
+        push_word(&mut text, 'c', number)?;
+        text.push_str(" : -> C\n")?;
+    }
+    text.push_str("endtype")?;
+    let told = refused(alloc, text.as_str())?;
+    assert_eq!(rt; told.as_str(), "TooLarge 65538:1 cqysd");
+    Ok(())
+}
+
+#[test]
+fn an_equation_too_many(rt: HostRuntime) -> Result<(), Fail> {
+    let alloc = rt.alloc();
+    let mut text = String::from_str(alloc, "type T is sorts S opns c : -> S eqns ofsort S\n")?;
+    for _number in 0..65537u32 {
+        text.push_str("c = c;\n")?;
+    }
+    text.push_str("endtype")?;
+    let told = refused(alloc, text.as_str())?;
+    assert_eq!(rt; told.as_str(), "TooLarge 65538:1 T");
+    Ok(())
+}
+
+#[test]
+fn imports_that_are_too_many(rt: HostRuntime) -> Result<(), Fail> {
+    let alloc = rt.alloc();
+    let text = of_two(alloc, "", "type C is A, B endtype")?;
+    let told = refused(alloc, text.as_str())?;
+    assert_eq!(rt; told.as_str(), "TooLarge 3:14 B");
+    Ok(())
+}
+
+#[test]
+fn a_clash_before_what_is_too_many(rt: HostRuntime) -> Result<(), Fail> {
+    let alloc = rt.alloc();
+    let text = of_two(alloc, "qaaaa,", "type C is A, B endtype")?;
+    let told = refused(alloc, text.as_str())?;
+    assert_eq!(rt; told.as_str(), "DoubleSort 3:14 B");
+    Ok(())
+}
+
+#[test]
+fn data_that_are_too_many(rt: HostRuntime) -> Result<(), Fail> {
+    let alloc = rt.alloc();
+    let text = of_two(alloc, "", "")?;
+    let told = refused(alloc, text.as_str())?;
+    assert_eq!(rt; told.as_str(), "TooLarge 2:6 B");
+    Ok(())
+}
+
+// Two types of 32,768 and 32,769 sorts, the second with these before, and what stands behind.
+fn of_two(alloc: Global, before: &str, behind: &str) -> Result<String, AllocError> {
+    let mut text = String::from_str(alloc, "type A is sorts ")?;
+    push_names(&mut text)?;
+    text.push_str(" endtype\ntype B is sorts ")?;
+    text.push_str(before)?;
+    for number in 0..32769u32 {
+        push_word(&mut text, 'z', number)?;
+        text.push(' ')?;
+    }
+    text.push_str("endtype\n")?;
+    text.push_str(behind)?;
+    Ok(text)
+}
+
+// The fault of the text, where it is one of two kinds, with its place and name.
+fn refused(alloc: Global, text: &str) -> Result<String, AllocError> {
+    match read_types(alloc, text.as_bytes(), 0) {
+        Ok(items) => refused_items(alloc, items.as_slice()),
+        Err(_) => String::from_str(alloc, "not read"),
+    }
+}
+
+fn refused_items(alloc: Global, items: &[ItemText]) -> Result<String, AllocError> {
+    match flatten(alloc, items) {
+        Ok(_) => String::from_str(alloc, "flattened"),
+        Err(fault) => told(alloc, &fault),
+    }
+}
+
+fn told(alloc: Global, fault: &TypeFault) -> Result<String, AllocError> {
+    match fault {
+        TypeFault::TooLarge { place, name } => told_at(alloc, "TooLarge", *place, name),
+        TypeFault::DoubleSort { place, name } => told_at(alloc, "DoubleSort", *place, name),
+        _ => String::from_str(alloc, "another fault"),
+    }
+}
+
+fn told_at(alloc: Global, kind: &str, place: Place, name: &Name) -> Result<String, AllocError> {
+    let mut text = format!(in alloc; "{kind} {}:{} ", place.line, place.col)?;
+    for byte in name.spelled() {
+        text.push(char::from(*byte))?;
+    }
+    Ok(text)
 }
 
 // 32,768 names.

@@ -171,7 +171,222 @@ a premiss behind both sides | Premised 1:56
 type T is sorts N opns a, b : -> N eqns ofsort N a = b => b = a; endtype
 
 constants of two sorts | 2 sorts, 2 operations, 0 equations
-type T is sorts A, B opns c : -> A c : -> B endtype";
+type T is sorts A, B opns c : -> A c : -> B endtype
+
+a type after those that it mentions | DoubleSort 1:49 S
+type B is A sorts X X endtype type A is sorts s S endtype
+
+an extended type and its renaming | 2 sorts, 4 operations, 0 equations
+type T is sorts A opns a : -> A f : A -> A endtype type U is T renamedby
+sortnames B for A opnnames k for f endtype
+
+what is not listed stays the same | 1 sorts, 3 operations, 0 equations
+type T is sorts A opns a : -> A f : A -> A endtype type U is T renamedby
+opnnames k for f endtype
+
+equations of an import twice | 1 sorts, 1 operations, 1 equations
+type A is sorts S opns c : -> S eqns ofsort S c = c endtype type B is A, A endtype
+type C is B, A endtype
+
+equations of a renamed type are others | 2 sorts, 2 operations, 2 equations
+type A is sorts S opns c : -> S eqns ofsort S c = c endtype type B is A renamedby
+sortnames T for S endtype
+
+equations whose names all stay are one | 1 sorts, 2 operations, 1 equations
+type A is sorts S opns c, d : -> S eqns ofsort S c = c endtype type B is A renamedby
+endtype
+
+imported equations are renamed | 1 sorts, 3 operations, 2 equations
+type A is sorts S opns c, d : -> S eqns ofsort S c = d endtype type B is A renamedby
+opnnames e for d endtype
+
+a form stays where underscores differ | 1 sorts, 3 operations, 1 equations
+type A is sorts S opns c : -> S f : S -> S endtype type B is A renamedby
+opnnames _k_ for _f_ endtype type C is B eqns ofsort S k(c) = c endtype
+
+the old name is gone | UnknownName 2:27
+type A is sorts S opns c : -> S endtype type B is A renamedby opnnames d for c endtype
+type C is B eqns ofsort S c = d endtype
+
+all operations of a name are renamed | 1 sorts, 5 operations, 1 equations
+type A is sorts S opns f : S, S -> S _f_ : S, S -> S c : -> S endtype type B is A renamedby
+opnnames g for f endtype type C is B eqns ofsort S g(c, c) = c g c endtype
+
+pairs of sorts before those of operations | UnknownSort 1:79 Q
+type A is sorts S opns f : -> S endtype type B is A renamedby sortnames X for Q
+opnnames f for z, f for f endtype
+
+two images of one profile | DoubleOperation 2:1 h
+type A is sorts S opns f : -> S g : -> S endtype type B is A renamedby opnnames h for f
+h for g endtype
+
+a renamed formal sort is formal | 0 sorts, 0 operations, 0 equations
+type A is formalsorts E opns c : -> E endtype type B is A renamedby sortnames F for E endtype
+
+nothing formal before a clash of the actual types | NotFormal 1:63 A
+type A is sorts S endtype type B is sorts S endtype type C is A actualizedby A, B using endtype
+
+a clash of the actual types before the pairs | DoubleSort 2:29 B
+type F is formalsorts E endtype type A is sorts S endtype type B is sorts S endtype
+type C is F actualizedby A, B using sortnames S for Z endtype
+
+pairs before formal sorts | UnknownSort 2:58 Z
+type F is formalsorts E D endtype type A is sorts S endtype
+type C is F actualizedby A using sortnames Q for E S for Z endtype
+
+formal sorts in order | MissingActual 2:11 E
+type F is formalsorts E D endtype type A is sorts S endtype
+type C is F actualizedby A using sortnames Q for D endtype
+
+an actual sort that is not there | UnknownSort 2:44 Q
+type F is formalsorts E D endtype type A is sorts D endtype
+type C is F actualizedby A using sortnames Q for E endtype
+
+formal sorts before formal operations | MissingActual 2:11 E
+type F is formalsorts E formalopns c : -> E endtype type A is sorts S endtype
+type C is F actualizedby A using opnnames d for c endtype
+
+formal sorts with the names of the actual ones | 2 sorts, 3 operations, 0 equations
+type F is formalsorts E formalopns c : -> E sorts P opns mk : E, E -> P endtype
+type A is sorts E opns c, d : -> E endtype type C is F actualizedby A using endtype
+
+an actual operation of another profile | MissingActual 2:11 c
+type F is formalsorts E formalopns c : -> E endtype type A is sorts S opns c : S -> S endtype
+type C is F actualizedby A using sortnames S for E endtype
+
+a pair names a formal operation and renames nothing | 1 sorts, 2 operations, 1 equations
+type F is formalsorts E formalopns c : -> E opns c : E -> E endtype
+type A is sorts S opns d : -> S endtype
+type C is F actualizedby A using sortnames S for E opnnames d for c endtype
+type D is C eqns ofsort S c(d) = d endtype
+
+a pair renames what is not formal | 2 sorts, 2 operations, 1 equations
+type F is formalsorts E sorts P opns mk : E -> P endtype type A is sorts S opns c : -> S endtype
+type C is F actualizedby A using sortnames S for E Q for P opnnames put for mk endtype
+type D is C eqns ofsort Q put(c) = put(c) endtype
+
+a new sort twice where one is not formal | DoubleSort 2:52 S
+type F is formalsorts E sorts P endtype type A is sorts S endtype
+type C is F actualizedby A using sortnames S for E S for P endtype
+
+a formal sort twice | DoubleSort 2:52 T
+type F is formalsorts E endtype type A is sorts S, T endtype
+type C is F actualizedby A using sortnames S for E T for E endtype
+
+a formal operation twice | DoubleOperation 2:69 d
+type F is formalsorts E formalopns c : -> E endtype type A is sorts S opns d : -> S endtype
+type C is F actualizedby A using sortnames S for E opnnames d for c d for c endtype
+
+a clash with an actual sort at the pair | DoubleSort 2:52 T
+type F is formalsorts E sorts P endtype type A is sorts S, T endtype
+type C is F actualizedby A using sortnames S for E T for P endtype
+
+a clash with an actual operation at the pair | DoubleOperation 2:61 d
+type F is formalsorts E opns c : -> E endtype type A is sorts S opns d : -> S endtype
+type C is F actualizedby A using sortnames S for E opnnames d for c endtype
+
+a clash with an actual operation at the base | DoubleOperation 2:11 F
+type F is formalsorts E opns c : -> E endtype type A is sorts S opns c : -> S endtype
+type C is F actualizedby A using sortnames S for E endtype
+
+marks of the actual types stay | 0 sorts, 0 operations, 0 equations
+type F is formalsorts E opns f : E -> E endtype type A is formalsorts D endtype
+type C is F actualizedby A using sortnames D for E endtype
+
+marks of the base are gone | 2 sorts, 1 operations, 0 equations
+type F is formalsorts E formalopns c : -> E sorts P endtype
+type A is sorts S opns c : -> S endtype type C is F actualizedby A using sortnames S for E endtype
+
+marks of the actual types are formal again | 1 sorts, 1 operations, 0 equations
+type F is formalsorts E opns f : E -> E endtype type A is formalsorts D endtype
+type C is F actualizedby A using sortnames D for E endtype type B is sorts S endtype
+type G is C actualizedby B using sortnames S for D endtype
+
+a sort that two actualisations share | 3 sorts, 4 operations, 0 equations
+type F is formalsorts E sorts P opns mk : E -> P endtype type A is sorts S opns c : -> S endtype
+type B is sorts T opns d : -> T endtype type C is F actualizedby A using sortnames S for E endtype
+type D is F actualizedby B using sortnames T for E endtype type G is C, D endtype
+
+two formal operations made one | 1 sorts, 2 operations, 1 equations
+type F is formalsorts E formalopns c, d : -> E opns f : E -> E eqns ofsort E f(c) = f(d) endtype
+type A is sorts S opns a : -> S endtype type C is F actualizedby A using sortnames S for E
+opnnames a for c a for d endtype
+
+premisses of formal equations | 1 sorts, 1 operations, 0 equations
+type T is sorts Bool opns true : -> Bool endtype type A is T formalsorts S formalopns c, d : -> S
+p : S -> Bool formaleqns forall x : S ofsort S p(x), c = d, x = c => x = d endtype
+
+sides before premisses of formal equations | UnknownName 1:74
+type A is formalsorts S formalopns c : -> S formaleqns ofsort S c => c = x endtype
+
+premisses in order | UnknownName 1:65
+type A is formalsorts S formalopns c : -> S formaleqns ofsort S y = c, c, z = c => c = c endtype
+
+a premiss of several readings | TwoReadings 2:10
+type A is formalsorts S, T formalopns c : -> S c : -> T d : -> S formaleqns
+ofsort S c = c => d = d endtype
+
+a premiss of no common sort | NoReading 2:10
+type A is formalsorts S, T formalopns c : -> S d : -> T formaleqns
+ofsort S c = d => c = c endtype
+
+a premiss at Bool | NoReading 2:21
+type A is sorts Bool opns true : -> Bool endtype type B is A formalsorts S formalopns c : -> S
+formaleqns ofsort S c => c = c endtype
+
+formal equations before own ones | UnknownName 1:69
+type A is formalsorts S formalopns c : -> S formaleqns ofsort S c = x
+eqns ofsort Q c = c endtype
+
+a variable of the group before that of the section | 2 sorts, 2 operations, 1 equations
+type A is sorts S, T opns f : S -> S c : -> S eqns forall x : T ofsort S forall x : S
+f(x) = c endtype
+
+the later of two variables of a name | 2 sorts, 2 operations, 1 equations
+type A is sorts S, T opns f : S -> S c : -> S eqns forall x : T, x : S ofsort S
+f(x) = c endtype
+
+variables of a group end with it | UnknownName 1:75
+type A is sorts S opns c : -> S eqns ofsort S forall x : S x = c ofsort S x = c endtype
+
+groups in order | UnknownSort 1:49 Q
+type A is sorts S opns c : -> S eqns forall x : Q ofsort R c = c endtype
+
+formal sorts before own ones | DoubleSort 1:31 s
+type A is formalsorts S sorts s endtype
+
+formal operations before own ones | UnknownSort 1:43 Q
+type A is formalsorts S formalopns f : -> Q opns g : R -> S endtype
+
+sorts of an operation in order | UnknownSort 1:31 R
+type A is sorts S opns f : S, R -> Q endtype
+
+an own operation beside an imported one | DoubleOperation 1:58 c
+type A is sorts S opns c : -> S endtype type B is A opns c : -> S endtype
+
+a clash of operations of imports | DoubleOperation 2:14 C
+type A is sorts S endtype type B is A opns c : -> S endtype type C is A opns c : -> S endtype
+type D is B, C endtype
+
+a clash of operations in the flattened data | DoubleOperation 1:66 C
+type A is sorts S endtype type B is A opns c : -> S endtype type C is A opns c : -> S endtype
+
+sorts of a mention before its operations | DoubleSort 2:56 C
+type A is sorts S endtype type B is A sorts T opns c : -> S endtype
+type C is A sorts T opns c : -> S endtype type D is B, C endtype
+
+an unknown base | UnknownType 1:37 Z
+type A is sorts S endtype type B is Z renamedby sortnames T for S endtype
+
+an unknown actual type | UnknownType 1:58 Z
+type A is formalsorts S endtype type B is A actualizedby Z using endtype
+
+a cycle by an actual type | TypeCycle 1:58 C
+type A is formalsorts S endtype type B is A actualizedby C using endtype
+type C is B endtype
+
+the first mention on any cycle | TypeCycle 1:60 C
+type Z is B endtype type A is sorts S endtype type B is A, C endtype type C is B endtype";
 
 #[test]
 fn types_are_flattened_or_refused(rt: HostRuntime) -> Result<(), Fail> {

@@ -1,2 +1,3 @@
 pub mod OneOrder
 pub mod OneOutcome
+pub mod OneReading

@@ -8,18 +8,18 @@ use Rattle.type_mentions.specs.FlatteningOrder.{IsFlatteningOrder}
 use Rattle.type_flatten.specs.TypeFault.{TypeFault}
 use Rattle.type_flatten.specs.Presentation.{Presentation}
 use Rattle.type_flatten.specs.Union.{Mentioned, union_of, union_fault}
-use Rattle.type_flatten.specs.DeclaredEquations.{Asked}
 use Rattle.type_flatten.specs.Extension.{extended, extended_fault, asked_of}
 use Rattle.type_flatten.specs.Renaming.{renaming_fault}
 use Rattle.type_flatten.specs.ActualisationFaults.{actualisation_fault}
 use Rattle.type_flatten.specs.Flattened.{presentation_named, mention_of, mentions_with, IsPresentation, IsFaultOfType, declared_with, ArePresented, all_presented, next_presented, HasFaultyType, faulty_now, faulty_later, without_formals, data_of, types_at, IsFlattening, IsFlatteningFault}
-use Rattle.flattening_outcomes.specs.FlatteningOutcomes.{AreEquationsDecided, FlatteningIsDecided}
+use Rattle.flattening_outcomes.specs.FlatteningOutcomes.{EquationsAreDecided, FlatteningIsDecided}
 use Rattle.flattening_outcomes.proofs.OneOrder.{order_once}
+use Rattle.flattening_outcomes.proofs.OneReading.{equations_are_decided}
 
 none_and_some : {A : Type 0} (o : Option A) (x : A) → o ≡ None → o ≡ Some x → ⊥
 none_and_some o x none some = none-some x (sym none ∙ some)
 
-module _ (equations : (type_name : List ℕ) (p : Presentation) (asked : List Asked) → AreEquationsDecided type_name p asked) where
+module _ (equations : EquationsAreDecided) where
   -- ---- One type
 
   presented_once : (done : List Mentioned) (name : List ℕ) (body : WrittenTypeBody) (p q : Presentation) → IsPresentation done name body p
@@ -132,8 +132,8 @@ module _ (equations : (type_name : List ℕ) (p : Presentation) (asked : List As
         (all_same bad.order also.order bad.all also.all bad.ordered also.ordered bad.presented also.presented) also.clash)
 
 pub flattening_is_decided : FlatteningIsDecided
-flattening_is_decided equations types = record {
-  one_data = one_data equations types;
-  not_both = not_both equations types;
-  one_fault = one_fault equations types;
+flattening_is_decided types = record {
+  one_data = one_data equations_are_decided types;
+  not_both = not_both equations_are_decided types;
+  one_fault = one_fault equations_are_decided types;
 }

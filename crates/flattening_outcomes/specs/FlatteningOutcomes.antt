@@ -15,13 +15,14 @@ pub record AreEquationsDecided (type_name : List ℕ) (p : Presentation) (asked 
   pub one_fault : (fault other : TypeFault) → HasFirstFault type_name p asked fault → HasFirstFault type_name p asked other
       → fault ≡ other
 
+abbrev pub EquationsAreDecided : Type 0
+EquationsAreDecided = (type_name : List ℕ) (p : Presentation) (asked : List Asked) → AreEquationsDecided type_name p asked
+
 -- and so is what flattening comes to
 pub record IsFlatteningDecided (types : List DeclaredType) : Type 0 where
   pub one_data : (data_ other : Data) → IsFlattening types data_ → IsFlattening types other → data_ ≡ other
   pub not_both : (data_ : Data) (fault : TypeFault) → IsFlattening types data_ → IsFlatteningFault types fault → ⊥
   pub one_fault : (fault other : TypeFault) → IsFlatteningFault types fault → IsFlatteningFault types other → fault ≡ other
 
--- where the equations of each type are decided
 abbrev pub FlatteningIsDecided : Type 0
-FlatteningIsDecided = ((type_name : List ℕ) (p : Presentation) (asked : List Asked) → AreEquationsDecided type_name p asked)
-    → (types : List DeclaredType) → IsFlatteningDecided types
+FlatteningIsDecided = (types : List DeclaredType) → IsFlatteningDecided types

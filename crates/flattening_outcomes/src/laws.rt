@@ -1,9 +1,18 @@
-//! The law of the outcomes of flattening. The function carries it as its contract and does nothing.
+//! The laws of the outcomes of flattening. Each function carries one as its contract and does nothing.
 
-ghost use Rattle.flattening_outcomes.specs.FlatteningOutcomes.{FlatteningIsDecided};
+ghost use Rattle.flattening_outcomes.specs.FlatteningOutcomes.{
+  EquationsAreDecided,
+  FlatteningIsDecided,
+};
+
+/// The equations of a type that are read give one presentation, or the first of them with a fault
+/// has one.
+pub fn equations_are_decided()
+    ensures { EquationsAreDecided }
+{}
 
 /// Types have one order of flattening, and by it one presentation each and one union, or one first
-/// fault, where what the equations of a type come to is one thing.
+/// fault.
 pub fn flattening_is_decided()
     ensures { FlatteningIsDecided }
 {}

@@ -12,6 +12,3 @@ mod texts;
 pub use faults::LibraryFault;
 pub use gathered::Gathered;
 pub use gathering::gather_types;
-
-#[cfg(test)]
-mod tests;

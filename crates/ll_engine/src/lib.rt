@@ -22,6 +22,3 @@ pub use parser::parse;
 pub use range::is_well_formed;
 pub use symbol::{Row, Symbol};
 pub use written::{WrittenRow, WrittenTable};
-
-#[cfg(test)]
-mod tests;

@@ -26,6 +26,3 @@ pub use names::Name;
 pub use outside::{Shelf, Sink, Source};
 pub use places::Place;
 pub use written_terms::{Form, OrderItem, Profile, Written};
-
-#[cfg(test)]
-mod tests;

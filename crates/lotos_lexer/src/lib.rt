@@ -12,6 +12,3 @@ pub mod tokens;
 
 pub use lexing::lex;
 pub use tokens::{LexFault, Token};
-
-#[cfg(test)]
-mod tests;

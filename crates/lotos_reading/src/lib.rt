@@ -11,6 +11,3 @@ pub mod laws;
 pub use derivations::{Derived, derive};
 pub use fault::ReadFault;
 pub use kind::TextKind;
-
-#[cfg(test)]
-mod tests;

@@ -1,21 +1,6 @@
-pub mod FrameLemmas
-pub mod MenuActions
-pub mod MenuEntries
-pub mod MenuExact
-pub mod MenuExampleLemmas
-pub mod MenuLists
-pub mod MenuSteps
-pub mod MenuValues
-pub mod NumberingLemmas
-pub mod OutcomeLemmas
-pub mod WordLemmas
-pub mod Findings
-pub mod Twins
-pub mod ResolutionLemmas
-pub mod ScopeLemmas
-pub mod WellFormed
-pub mod WellFormedBehaviours
-pub mod WellFormedData
-pub mod WellFormedNames
-pub mod WellFormedScopes
-pub mod TextLemmas
+mod BeginLemmas
+mod HeadLemmas
+mod OpeningLemmas
+mod ReadyLemmas
+mod RunLemmas
+mod ServingLemmas

@@ -31,14 +31,21 @@ total_length (word ∷ words) = length word + total_length words
 abbrev pub are_within : List (List ℕ) → Bool
 are_within words = nat_le (length words) words_limit && nat_le (total_length words) word_bytes_limit
 
--- two words are a line where they are `check SPEC`, and SPEC is not `with`
-abbrev pub two_words : List ℕ → List ℕ → Option CommandLine
-two_words verb spec =
-    if bytes_eq verb (codes "check") && not (bytes_eq spec (codes "with")) then Some (check spec None []) else None
+-- `with` ends the names of files. What stands behind it is not built yet
+abbrev pub is_name : List ℕ → Bool
+is_name word = not (bytes_eq word (codes "with"))
+
+-- `check` or `run` with the names of the specification and of the order file, if there is one
+abbrev pub verb_line : (verb spec : List ℕ) → Option (List ℕ) → Option CommandLine
+verb_line verb spec order =
+    if bytes_eq verb (codes "check") then Some (check spec order [])
+    else if bytes_eq verb (codes "run") then Some (session spec order [])
+    else None
 
 -- the line that the words are, if they are one
 abbrev pub words_line : List (List ℕ) → Option CommandLine
-words_line (verb ∷ spec ∷ []) = two_words verb spec
+words_line (verb ∷ spec ∷ []) = if is_name spec then verb_line verb spec None else None
+words_line (verb ∷ spec ∷ order ∷ []) = if is_name spec && is_name order then verb_line verb spec (Some order) else None
 words_line _ = None
 
 -- the line that the words of a command are, if they are one and within the limits

@@ -1,7 +1,14 @@
 //! The words of the command line.
 
-ghost use Rattle.std.specs.Prelude.{◌≡◌, ◌≤◌, None, Some, length, MatchOption};
-ghost use Rattle.lotos_top.specs.Words.{words_of, line_of, command_line, are_within, total_length};
+ghost use Rattle.std.specs.Prelude.{◌≡◌, None, Some, [], MatchOption, option_map};
+ghost use Rattle.lotos_top.specs.Words.{
+  are_within,
+  command_line,
+  is_name,
+  line_of,
+  verb_line,
+  words_of,
+};
 
 use crate::{WORD_BYTES_LIMIT, WORDS_LIMIT};
 
@@ -35,24 +42,73 @@ pub enum Command<'a> {
 
 /// What the words ask for, and `None` exactly where they are no line that is built.
 ///
-/// Built is `check SPEC`, where SPEC is not `with`. The words are at most 65,536 and have at most
-/// 1,048,576 bytes together. Takes no memory.
+/// Built are `check SPEC`, `check SPEC ORDER`, `run SPEC` and `run SPEC ORDER`, where neither SPEC
+/// nor ORDER is `with`. The words are at most 65,536 and have at most 1,048,576 bytes together.
+/// Takes no memory.
 pub fn parse_command(words: &[String]) -> Option<Command<'_>>
-    ensures { MatchOption result (command_line (words_of words.now) ≡ None) (λ command. command_line (words_of words.now) ≡ Some (line_of command)) }
+    ensures { MatchOption result (command_line (words_of words.now) ≡ None)
+        (λ command. command_line (words_of words.now) ≡ Some (line_of command)) }
 {
     if !are_within_limits(words) {
         return None;
     }
     match words {
-        [verb, spec] if verb.as_str() == "check" && spec.as_str() != "with" => Some(
-            Command::Check {
-                spec: spec.as_str(),
-                order: None,
-                values: &words[2..],
-            },
-        ),
+        [verb, spec] => {
+            if !name(spec.as_str()) {
+                return None;
+            }
+            by_verb(verb.as_str(), spec.as_str(), None, &words[2..])
+        }
+        [verb, spec, order] => {
+            if !name(spec.as_str()) || !name(order.as_str()) {
+                return None;
+            }
+            by_verb(
+                verb.as_str(),
+                spec.as_str(),
+                Some(order.as_str()),
+                &words[3..],
+            )
+        }
         _ => None,
     }
+}
+
+// Whether the word may be the name of a file.
+fn name(word: &str) -> bool
+    ensures { result ≡ is_name word.now }
+{
+    word != "with"
+}
+
+// What the verb asks for with these files.
+fn by_verb<'a>(
+    verb: &str,
+    spec: &'a str,
+    order: Option<&'a str>,
+    values: &'a [String],
+) -> Option<Command<'a>>
+    requires { words_of values.now ≡ [] }
+    ensures { MatchOption result
+        (verb_line verb.now spec.now (option_map (λ name. name.now) order.entry) ≡ None)
+        (λ command. verb_line verb.now spec.now (option_map (λ name. name.now) order.entry)
+        ≡ Some (line_of command)) }
+{
+    if verb == "check" {
+        return Some(Command::Check {
+            spec,
+            order,
+            values,
+        });
+    }
+    if verb == "run" {
+        return Some(Command::Run {
+            spec,
+            order,
+            values,
+        });
+    }
+    None
 }
 
 /// Whether the words are within the limits on a command line.

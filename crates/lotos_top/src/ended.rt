@@ -18,7 +18,7 @@ pub enum Ended {
     InputFault,
     /// The output failed. What is written is the beginning of the report.
     OutputFault,
-    /// Memory was wanted and not there. The output is as before.
+    /// Memory was wanted and not there. What is written is the beginning of the report.
     NoMemory,
     /// The input has more than 16,777,216 bytes.
     InputTooLong,

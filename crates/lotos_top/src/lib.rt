@@ -3,23 +3,15 @@
 
 pub mod commands;
 mod ended;
-pub mod laws;
-pub mod menu_examples;
-mod menu_report;
-pub mod menus;
-mod numbering;
-mod reports;
-pub mod resolved;
-mod resolving;
+mod opening;
 mod running;
-mod scopes;
-pub mod specification;
-mod texts;
 
 pub use commands::{Command, parse_command};
 pub use ended::Ended;
-pub use resolving::Unresolved;
 pub use running::run;
+pub use session_lines::SessionLines;
+pub use spec_acceptance::{Accepted, NotAccepted};
+pub use spec_faults::{Refused, SpecFault};
 
 /// How many words a command line may have.
 pub const WORDS_LIMIT: usize = 65_536;

@@ -1,46 +1,42 @@
 //! The whole program over any outside.
 
-ghost use Rattle.std.specs.Prelude.{◌≡◌, ◌≢◌, None, Some, [], IfOk, MatchResult};
-ghost use Rattle.lotos_base.specs.Counts.{next_count};
-ghost use Rattle.first_forms.specs.FirstText.{text_of};
-ghost use Rattle.lotos_reading.specs.Reading.{IsSpecificationFault};
-ghost use Rattle.lotos_reading.specs.declared.fault.ReadFault.TheVariants.{NoMemory as out_of_memory};
-ghost use Rattle.lotos_top.specs.Words.{check, words_of, command_line};
-ghost use Rattle.lotos_top.specs.Report.{IsSpecificationText, no_line, unread, report_of, status_of};
-ghost use Rattle.lotos_top.specs.Outcomes.{calls_after, Ran, Completes};
-ghost use Rattle.lotos_top.specs.Prepared.{IsMisreading, IsPrepared, IsRefusal, Checks, ChecksParts};
-
-use crate::commands::{Command, parse_command};
-use crate::ended::Ended;
-use crate::menus::first_menu;
-use crate::reports::{
-    accepted_report, misread_report, refused_report, unread_report, usage_report,
+ghost use Rattle.library_reading.specs.ShelfUse.{shelf_state};
+ghost use Rattle.lotos_top.specs.Outcome.{opening_text};
+ghost use Rattle.lotos_top.specs.Prepared.{begun};
+ghost use Rattle.lotos_top.specs.Run.{
+  Completes,
+  Prints,
+  Ran,
+  Serves,
+  Untouched,
+  ended_by,
+  streams,
 };
-use crate::resolving::Unresolved;
-use crate::specification::resolve;
-use first_forms::{FirstFault, FirstText, read_first};
-use line_server::write_whole;
-use lotos_base::{Failed, GetFault, Shelf, Sink, Source, TEXT_LIMIT};
-use lotos_grammar::{ReadFault, discard, read_spec};
-use std::alloc::{AllocError, Global};
+ghost use Rattle.lotos_top.specs.Words.{command_line, words_of};
+ghost use Rattle.session_lines.specs.View.{IsOverData, session_of};
+ghost use Rattle.sort_terms.specs.SignatureView.{signature_of};
+ghost use Rattle.std.specs.Prelude.{◌≡◌, ℕ, List, MatchResult, Option};
 
-/// Does what the words ask for: gets the files from the shelf and writes the report to the output.
+use crate::ended::Ended;
+use crate::opening::{Alone, Front, Opened, Ready, front_of, prepare};
+use line_server::{SessionEnd, serve_session, write_whole};
+use lotos_base::{Failed, NoMemory, Shelf, Sink, Source};
+use session_lines::SessionLines;
+use sort_terms::Reader;
+use std::alloc::Global;
+
+/// Does what the words ask for.
 ///
-/// The answer is `WordsRefused` exactly where the words are no line of the usage, `FileFault`
-/// exactly where the shelf's count of faults rose or the shelf lacks the file, `SpecRefused` exactly
-/// where the text is not read or is refused, and else `Done`. In place of each stands `OutputFault`
-/// exactly where the output's count of faults rose, and `NoMemory` where memory was wanted. The input
-/// is not read.
+/// `check` gets the specification, its libraries and the order file from the shelf, and prints the
+/// head of the report and the exact menu of the state in which the specification begins. `run` goes
+/// on with the session of the input: it answers each line and prints the answer before it reads on.
 ///
-/// A text is not read exactly where `read_spec` answers a fault: it is too long, a byte or a comment of
-/// it is wrong, its tokens are no specification of the grammar of ISO 8807:1989, or a node is too deep;
-/// the line names the fault and its place. It is refused as not built where it is read and has another
-/// form than those whose menus are built, or where a name breaks a rule.
-///
-/// The menu in the report of an accepted specification is the one exact menu of its behaviour: each
-/// entry, with ground values for its variables, is a transition that ISO 8807:1989 derives, each
-/// derived transition is an instance of the entry of its shape, and each shape stands once, in the
-/// order of shapes.
+/// The answer is `WordsRefused` exactly where the words are no line of the usage, `FileFault` where
+/// a file could not be got, `SpecRefused` where the specification is refused, whose first fault is
+/// printed, `InputFault` exactly where the input's count of faults rose, `InputTooLong` where byte
+/// 16,777,217 of the session was read, and else `Done`. In place of each stands `OutputFault`
+/// exactly where the output's count of faults rose, and `NoMemory` where memory was wanted; then
+/// what is written is a beginning of the report.
 pub fn run<F: Shelf, S: Source, K: Sink>(
     alloc: Global,
     words: &[String],
@@ -48,172 +44,125 @@ pub fn run<F: Shelf, S: Source, K: Sink>(
     input: &mut S,
     output: &mut K,
 ) -> Ended
-    ensures ran { Ran (command_line (words_of words.now)) (F.texts shelf.old) (F.faults shelf.old)
-        (F.faults shelf.new)
-        (K.faults output.old) (K.faults output.new) (K.written output.old) (K.written output.new)
+    ensures ran { Ran (command_line (words_of words.now))
+        (shelf_state (F.texts shelf.old) (F.faults shelf.old) (F.calls shelf.old))
+        (shelf_state (F.texts shelf.new) (F.faults shelf.new) (F.calls shelf.new))
+        (streams (S.left input.old, S.faults input.old) (K.written output.old, K.faults output.old))
+        (streams (S.left input.new, S.faults input.new) (K.written output.new, K.faults output.new))
         result }
-    ensures complete { Completes (command_line (words_of words.now)) (F.texts shelf.old)
-        (F.faults shelf.old) (F.faults shelf.new)
-        (K.faults output.old) (K.faults output.new) (K.written output.old) (K.written output.new)
+    ensures complete { Completes (command_line (words_of words.now))
+        (shelf_state (F.texts shelf.old) (F.faults shelf.old) (F.calls shelf.old))
+        (shelf_state (F.texts shelf.new) (F.faults shelf.new) (F.calls shelf.new))
+        (streams (S.left input.old, S.faults input.old) (K.written output.old, K.faults output.old))
+        (streams (S.left input.new, S.faults input.new) (K.written output.new, K.faults output.new))
         result }
-    ensures calls { F.calls shelf.new ≡ calls_after (command_line (words_of words.now))
-        (F.calls shelf.old) }
-    ensures texts { F.texts shelf.new ≡ F.texts shelf.old }
-    ensures input { input.new ≡ input.old }
 {
-    let _ = input;
-    let answer = match prepare(alloc, words, shelf) {
-        Ok(answer) => answer,
-        Err(AllocError) => return Ended::NoMemory,
-    };
-    match write_whole(output, answer.report.as_slice()) {
-        Ok(()) => answer.ended,
+    match prepare(alloc, words, shelf) {
+        Ok(Ready::Alone(alone)) => print(&alone, output),
+        Ok(Ready::Session(opened)) => match serve(alloc, opened, input, output) {
+            Ok(ended) => ended,
+            Err(NoMemory) => Ended::NoMemory,
+        },
+        Err(NoMemory) => Ended::NoMemory,
+    }
+}
+
+// Prints a text with nothing behind it.
+fn print<K: Sink>(alone: &Alone, output: &mut K) -> Ended
+    ensures { (input : Option (List ℕ) × ℕ) → Prints alone.now.text.items alone.now.ended
+        (streams input (K.written output.old, K.faults output.old))
+        (streams input (K.written output.new, K.faults output.new)) result }
+{
+    match write_whole(output, alone.text.as_slice()) {
+        Ok(()) => alone.ended,
         Err(Failed) => Ended::OutputFault,
     }
 }
 
-/// How a run ends and what it prints.
-#[derive(Debug, Drop)]
-struct Answer {
-    ended: Ended,
-    report: Vec<u8>,
+// Serves the session of an accepted specification. Where memory is wanted before its first line,
+// nothing is written.
+fn serve<S: Source, K: Sink>(
+    alloc: Global,
+    opened: Opened,
+    input: &mut S,
+    output: &mut K,
+) -> Result<Ended, NoMemory>
+    ensures { MatchResult result
+        (Serves (begun opened) (opening_text (begun opened))
+        (streams (S.left input.old, S.faults input.old) (K.written output.old, K.faults output.old))
+        (streams (S.left input.new, S.faults input.new) (K.written output.new, K.faults output.new)))
+        (λ _. Untouched
+        (streams (S.left input.old, S.faults input.old) (K.written output.old, K.faults output.old))
+        (streams (S.left input.new, S.faults input.new) (K.written output.new, K.faults output.new))) }
+{
+    let front = front_of(alloc, &opened)?;
+    serve_front(alloc, &front, opened, input, output)
 }
 
-/// Finds out what comes of the words, and makes the report.
-fn prepare<F: Shelf>(alloc: Global, words: &[String], shelf: &mut F) -> Result<Answer, AllocError>
-    ensures prepared { IfOk
-        result (IsPrepared (command_line (words_of words.now)) (F.texts shelf.old)
-        (F.faults shelf.old) (F.faults shelf.new)) }
-    ensures calls { F.calls shelf.new ≡ calls_after (command_line (words_of words.now))
-        (F.calls shelf.old) }
-    ensures texts { F.texts shelf.new ≡ F.texts shelf.old }
+// Serves the session behind its front.
+fn serve_front<S: Source, K: Sink>(
+    alloc: Global,
+    front: &Front,
+    opened: Opened,
+    input: &mut S,
+    output: &mut K,
+) -> Result<Ended, NoMemory>
+    requires over { signature_of front.now.signature ≡ signature_of opened.book.flat.signature }
+    ensures { MatchResult result
+        (Serves (begun opened) front.now.text.items
+        (streams (S.left input.old, S.faults input.old) (K.written output.old, K.faults output.old))
+        (streams (S.left input.new, S.faults input.new) (K.written output.new, K.faults output.new)))
+        (λ _. Untouched
+        (streams (S.left input.old, S.faults input.old) (K.written output.old, K.faults output.old))
+        (streams (S.left input.new, S.faults input.new) (K.written output.new, K.faults output.new))) }
 {
-    match parse_command(words) {
-        Some(Command::Check { spec, .. }) => check_file(alloc, spec, shelf),
-        _ => usage(alloc),
+    let reader = Reader::of(alloc, &front.signature)?;
+    let Opened {
+        spec,
+        book,
+        state,
+        menu,
+    } = opened;
+    let mut lines = SessionLines {
+        signature: &front.signature,
+        reader,
+        spec,
+        state,
+        menu,
+        book,
+    };
+    Ok(serve_behind(alloc, front.text.as_slice(), &mut lines, input, output))
+}
+
+// Writes the text, and serves the session behind it.
+fn serve_behind<S: Source, K: Sink>(
+    alloc: Global,
+    text: &[u8],
+    lines: &mut SessionLines<'_>,
+    input: &mut S,
+    output: &mut K,
+) -> Ended
+    requires over { IsOverData lines.old }
+    ensures { Serves (session_of lines.old) text.now
+        (streams (S.left input.old, S.faults input.old) (K.written output.old, K.faults output.old))
+        (streams (S.left input.new, S.faults input.new) (K.written output.new, K.faults output.new))
+        result }
+{
+    match write_whole(output, text) {
+        Ok(()) => end_of(serve_session(alloc, lines, input, output)),
+        Err(Failed) => Ended::OutputFault,
     }
 }
 
-/// The answer to words that are no line.
-fn usage(alloc: Global) -> Result<Answer, AllocError>
-    ensures { IfOk result
-        (λ answer. (answer.ended ≡ status_of no_line) × (answer.report.items ≡ report_of no_line)) }
+// How the run ends by the end of its session.
+fn end_of(end: SessionEnd) -> Ended
+    ensures { result ≡ ended_by end }
 {
-    Ok(Answer {
-        ended: Ended::WordsRefused,
-        report: usage_report(alloc)?,
-    })
-}
-
-/// Gets the specification's text from the shelf and checks it.
-fn check_file<F: Shelf>(alloc: Global, name: &str, shelf: &mut F) -> Result<Answer, AllocError>
-    ensures prepared { IfOk
-        result (IsPrepared (Some (check name.now None [])) (F.texts shelf.old) (F.faults shelf.old)
-        (F.faults shelf.new)) }
-    ensures calls { F.calls shelf.new ≡ next_count (F.calls shelf.old) }
-    ensures texts { F.texts shelf.new ≡ F.texts shelf.old }
-{
-    let mut text = Vec::new(alloc);
-    match shelf.get(name, TEXT_LIMIT + 1, &mut text) {
-        Ok(()) => check_specification(alloc, name, text.as_slice()),
-        Err(GetFault::Missing) => unread_file(alloc, name),
-        Err(GetFault::Failed) => unread_file(alloc, name),
-        Err(GetFault::NoMemory) => Err(AllocError),
+    match end {
+        SessionEnd::Finished => Ended::Done,
+        SessionEnd::InputFailed => Ended::InputFault,
+        SessionEnd::InputTooLong => Ended::InputTooLong,
+        SessionEnd::OutputFailed => Ended::OutputFault,
+        SessionEnd::NoMemory => Ended::NoMemory,
     }
-}
-
-/// The answer to a file that could not be got.
-fn unread_file(alloc: Global, name: &str) -> Result<Answer, AllocError>
-    ensures { IfOk result
-        (λ answer. (answer.ended ≡ status_of (unread name.now))
-        × (answer.report.items ≡ report_of (unread name.now))) }
-{
-    Ok(Answer {
-        ended: Ended::FileFault,
-        report: unread_report(alloc, name)?,
-    })
-}
-
-/// Reads the text of a specification, and makes the report.
-fn check_specification(alloc: Global, name: &str, text: &[u8]) -> Result<Answer, AllocError>
-    ensures { IfOk result (Checks name.now text.now) }
-{
-    match whole_grammar(alloc, text) {
-        Ok(()) => check_first(alloc, name, text),
-        Err(fault) => misread(alloc, name, fault),
-    }
-}
-
-/// Whether the text is a specification of the whole grammar. Its tree is not used yet.
-fn whole_grammar(alloc: Global, text: &[u8]) -> Result<(), ReadFault>
-    ensures { MatchResult result (λ _. IsSpecificationText text.now)
-        (IsSpecificationFault 0 text.now) }
-{
-    let tree = read_spec(alloc, text, 0)?;
-    discard(tree);
-    Ok(())
-}
-
-/// Reads a specification as one of the forms that are built, and makes the report.
-fn check_first(alloc: Global, name: &str, text: &[u8]) -> Result<Answer, AllocError>
-    requires { IsSpecificationText text.now }
-    ensures { IfOk result (Checks name.now text.now) }
-{
-    match read_first(alloc, text) {
-        Ok(parts) => check_parts(alloc, name, &parts),
-        Err(FirstFault::Unbuilt) => refuse(alloc, name),
-        Err(FirstFault::NoMemory) => Err(AllocError),
-    }
-}
-
-/// Resolves the names of a specification, and makes the report.
-fn check_parts(alloc: Global, name: &str, parts: &FirstText) -> Result<Answer, AllocError>
-    ensures { IfOk result (ChecksParts name.now (text_of parts.now)) }
-{
-    match resolve(alloc, parts) {
-        Ok(specification) => {
-            let menu = first_menu(alloc, &specification.body)?;
-            Ok(Answer {
-                ended: Ended::Done,
-                report: accepted_report(alloc, &specification, menu.as_slice())?,
-            })
-        }
-        Err(Unresolved::Name) => refuse(alloc, name),
-        Err(Unresolved::NoMemory) => Err(AllocError),
-    }
-}
-
-/// The answer to a text that is not read.
-fn misread(alloc: Global, name: &str, fault: ReadFault) -> Result<Answer, AllocError>
-    ensures { IfOk result (λ answer. (fault ≢ out_of_memory) × IsMisreading name.now fault answer) }
-{
-    with_a_line(fault)?;
-    Ok(Answer {
-        ended: Ended::SpecRefused,
-        report: misread_report(alloc, name, fault)?,
-    })
-}
-
-/// Passes over a fault that has a line. Want of memory has none.
-fn with_a_line(fault: ReadFault) -> Result<(), AllocError>
-    ensures { IfOk result (λ _. fault ≢ out_of_memory) }
-{
-    match fault {
-        ReadFault::TooLong => Ok(()),
-        ReadFault::BadByte { .. } => Ok(()),
-        ReadFault::OpenComment { .. } => Ok(()),
-        ReadFault::Syntax { .. } => Ok(()),
-        ReadFault::TooDeep { .. } => Ok(()),
-        ReadFault::NoMemory => Err(AllocError),
-    }
-}
-
-/// The answer to a specification that is refused.
-fn refuse(alloc: Global, name: &str) -> Result<Answer, AllocError>
-    ensures { IfOk result (IsRefusal name.now) }
-{
-    Ok(Answer {
-        ended: Ended::SpecRefused,
-        report: refused_report(alloc, name)?,
-    })
 }

@@ -8,6 +8,3 @@ pub mod rules;
 pub mod variants;
 
 pub use variants::Variant;
-
-#[cfg(test)]
-mod tests;

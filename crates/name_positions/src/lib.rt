@@ -4,6 +4,3 @@
 pub mod names;
 
 pub use names::NamePositions;
-
-#[cfg(test)]
-mod tests;

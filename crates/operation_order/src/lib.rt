@@ -11,6 +11,3 @@ pub mod suiting;
 
 pub use order_fault::OrderFault;
 pub use ranking::ranks;
-
-#[cfg(test)]
-mod tests;

@@ -11,6 +11,3 @@ pub use equations::grow_by_equation;
 pub use marking::{mark_op, mark_sort};
 pub use operations::grow_by_op;
 pub use sorts::grow_by_sort;
-
-#[cfg(test)]
-mod tests;

@@ -12,6 +12,3 @@ pub use keys::{name_key, operation_key, profile_key, sort_key};
 pub fn keys_tell()
     ensures { KeysTell }
 {}
-
-#[cfg(test)]
-mod tests;

@@ -7,6 +7,3 @@ pub mod unions;
 
 pub use mentions::{Mention, union_of_mentions};
 pub use unions::join;
-
-#[cfg(test)]
-mod tests;

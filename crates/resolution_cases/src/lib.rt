@@ -3,6 +3,8 @@
 #![tactic(auto)]
 
 #[cfg(test)]
+mod bindings;
+#[cfg(test)]
 mod cases;
 #[cfg(test)]
 mod data;

@@ -8,6 +8,3 @@ pub mod sides;
 
 pub use formal::check_section;
 pub use own::add_section;
-
-#[cfg(test)]
-mod tests;

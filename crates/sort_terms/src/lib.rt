@@ -36,6 +36,3 @@ pub use signatures::Signature;
 pub use sort_faults::SortFault;
 pub use sorted::Sorted;
 pub use terms::Term;
-
-#[cfg(test)]
-mod tests;

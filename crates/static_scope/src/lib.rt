@@ -26,6 +26,3 @@ pub mod values;
 pub mod visible;
 
 pub use scope_faults::ScopeFault;
-
-#[cfg(test)]
-mod tests;

@@ -23,9 +23,13 @@ mod item_page;
 #[cfg(test)]
 mod items;
 #[cfg(test)]
+mod libraries;
+#[cfg(test)]
 mod names;
 #[cfg(test)]
 mod order;
+#[cfg(test)]
+mod outcomes;
 #[cfg(test)]
 mod page;
 #[cfg(test)]

@@ -10,6 +10,3 @@ pub mod sorts;
 
 pub use declaring::declare;
 pub use sections::SectionTexts;
-
-#[cfg(test)]
-mod tests;

@@ -4,6 +4,3 @@
 pub mod type_faults;
 
 pub use type_faults::TypeFault;
-
-#[cfg(test)]
-mod tests;

@@ -11,6 +11,3 @@ pub mod operations;
 pub use equations::image_of_equation;
 pub use images::image;
 pub use operations::{number_at, op_image};
-
-#[cfg(test)]
-mod tests;

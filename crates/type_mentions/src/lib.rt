@@ -26,6 +26,3 @@ pub use type_texts::TypeText;
 pub fn mention_faults_are_unique()
     ensures { MentionFaultsAreUnique }
 {}
-
-#[cfg(test)]
-mod tests;

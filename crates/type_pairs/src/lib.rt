@@ -10,6 +10,3 @@ pub mod sort_pairs;
 pub use operation_pairs::look_at_op_pairs;
 pub use pair_index::PairIndex;
 pub use sort_pairs::look_at_sort_pairs;
-
-#[cfg(test)]
-mod tests;

@@ -15,6 +15,3 @@ pub use presentations::Presentation;
 pub fn equation_images_are_well_formed()
     ensures { EquationImagesAreWellFormed }
 {}
-
-#[cfg(test)]
-mod tests;

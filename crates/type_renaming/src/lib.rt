@@ -8,6 +8,3 @@ pub mod renaming;
 pub mod sorts;
 
 pub use renaming::rename;
-
-#[cfg(test)]
-mod tests;

@@ -4,5 +4,3 @@
 
 pub mod faults;
 pub mod parts;
-#[cfg(test)]
-mod tests;

@@ -1,12 +1,39 @@
-//! Tests of whole runs: words and files in, bytes and status out, over the objects in memory; and of
-//! the two calls of `run` whose answers are not printed whole.
+//! Tests of whole runs. Nothing stands on this crate.
 #![tactic(auto)]
 
 #[cfg(test)]
-mod checks;
+mod cases;
 #[cfg(test)]
-mod menus;
+mod corners;
 #[cfg(test)]
-mod names;
+mod cuts;
 #[cfg(test)]
-mod runs;
+mod data_types;
+#[cfg(test)]
+mod fault_order;
+#[cfg(test)]
+mod forms;
+#[cfg(test)]
+mod large;
+#[cfg(test)]
+mod outside;
+#[cfg(test)]
+mod parties;
+#[cfg(test)]
+mod pieces;
+#[cfg(test)]
+mod protocols;
+#[cfg(test)]
+mod refused_bodies;
+#[cfg(test)]
+mod refused_equations;
+#[cfg(test)]
+mod refused_readings;
+#[cfg(test)]
+mod refused_terms;
+#[cfg(test)]
+mod refused_types;
+#[cfg(test)]
+mod small_texts;
+#[cfg(test)]
+mod worked_cases;

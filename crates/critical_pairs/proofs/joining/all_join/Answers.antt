@@ -1,6 +1,6 @@
 use Rattle.std.proofs.Common.{List, sym, ◌∙◌, ap, subst}
 use Rattle.std.specs.Prelude.{Option, IfNone, IfSome, slice_get}
-use Rattle.path_order.specs.RulesView.{plain_rules_in}
+use Rattle.path_order.specs.RulesView.{plain_rules_in, signature_in}
 use Rattle.critical_pairs.specs.Joining.{NoneUnjoinedAmong, AnswersFirst}
 use Rattle.critical_pairs.specs.PairView.{pairs_in}
 use Rattle.critical_pairs.specs.declared.joining.Unjoined.{Unjoined}
@@ -25,7 +25,8 @@ returns-in-None-clause-confluent c = joined_confluent c.of.result
 
 pub returns-in-Some-clause-unjoined : goal.returns-in-Some-clause-unjoined
 returns-in-Some-clause-unjoined c =
-    unjoined_rules c.args.rules c.in_ok-found.found.items c.in-Some.unjoined c.in_ok-found.ensures.listed
+    unjoined_rules (signature_in c.args.rules) c.args.rules c.in_ok-found.found.items c.in-Some.unjoined c.in_ok-found.ensures.listed
+    c.in_ok-found.ensures.is_of
     (subst (λ (xs : List Pair). AnswersFirst (plain_rules_in c.args.rules) (pairs_in xs) c.in-Some.unjoined) c.as_slice.ensures.value
     (subst (λ (o : Option Unjoined). IfSome o (λ answer. AnswersFirst (plain_rules_in c.args.rules) (pairs_in c.as_slice.result.now)
     answer))

@@ -1,0 +1,85 @@
+-- Environments without listed variables leave these variables.
+use Rattle.std.proofs.Common.{◌≡◌, ℕ, List, [], ◌∷◌, Bool, true, false, nat_eq, if◌then◌else◌, refl, ap, sym, ◌∙◌, subst}
+use Rattle.std.proofs.Math.Path.{fun_ext}
+use Rattle.std.proofs.lemmas.Bool.{eqb-true}
+use Rattle.term_algebra.specs.Term.{Term, variable}
+use Rattle.term_algebra.specs.Substitution.{Substitution, substituted, binding, is_listed, without}
+use Rattle.sort_terms.specs.ProfiledTerm.{ProfiledTerm, profiled_variable, bare, head_sort}
+use Rattle.sort_terms.specs.SortedView.{term_in}
+use Rattle.sort_terms.specs.declared.sorted.Sorted.{Sorted}
+use Rattle.term_match.specs.ProfiledInstance.{profiled_binding, bare_pairs}
+use Rattle.term_match.specs.SubstView.{profiled_pairs}
+use Rattle.term_match.proofs.InstanceLemmas.{binding_bare}
+use Rattle.behaviour_tree.specs.StateView.{environment_of}
+use Rattle.behaviour_instances.specs.Suited.{SuitsWhere}
+use Rattle.behaviour_instances.specs.Unlisted.{profiled_without, unlisted_pairs}
+
+pairs_bare : (pairs : List (ℕ × Sorted)) → bare_pairs (profiled_pairs pairs) ≡ environment_of pairs
+pairs_bare [] = refl
+pairs_bare (pair ∷ pairs) = ap (λ (rest : List (ℕ × Term)). (pair.0, term_in pair.1) ∷ rest) (pairs_bare pairs)
+
+-- what an environment puts for a variable
+pub put_for : (pairs : List (ℕ × Sorted)) (n s : ℕ) → bare (profiled_binding (profiled_pairs pairs) n s) ≡ binding (environment_of pairs) n s
+put_for pairs n s =
+    binding_bare (profiled_pairs pairs) n s ∙ ap (λ (ps : List (ℕ × Term)). binding ps n s) (pairs_bare pairs)
+
+pub put_in : (pairs : List (ℕ × Sorted)) (t : Term)
+    → substituted (λ n s. bare (profiled_binding (profiled_pairs pairs) n s)) t ≡ substituted (binding (environment_of pairs)) t
+put_in pairs t = ap (λ (v : Substitution). substituted v t) (fun_ext (λ n. fun_ext (λ s. put_for pairs n s)))
+
+module _ (numbers : List ℕ) (n s : ℕ) where
+  gives : (pairs : List (ℕ × ProfiledTerm))
+      → profiled_binding (unlisted_pairs numbers pairs) n s ≡ profiled_without numbers (profiled_binding pairs) n s
+  gives [] = both (is_listed numbers n)
+    where
+      both : (b : Bool) → profiled_variable n s ≡ (if b then profiled_variable n s else profiled_variable n s)
+      both true = refl
+      both false = refl
+  gives (pair ∷ pairs) = step (is_listed numbers pair.0) refl (nat_eq pair.0 n) refl (gives pairs)
+    where
+      listed_here : (b : Bool) → is_listed numbers pair.0 ≡ b → nat_eq pair.0 n ≡ true → is_listed numbers n ≡ b
+      listed_here b l e = subst (λ (m : ℕ). is_listed numbers m ≡ b) (eqb-true pair.0 n e) l
+
+      step : (listed : Bool) → is_listed numbers pair.0 ≡ listed → (same : Bool) → nat_eq pair.0 n ≡ same
+          → profiled_binding (unlisted_pairs numbers pairs) n s ≡ profiled_without numbers (profiled_binding pairs) n s
+          → profiled_binding (if listed then unlisted_pairs numbers pairs else pair ∷ unlisted_pairs numbers pairs) n s
+          ≡ (if is_listed numbers n then profiled_variable n s else (if same then pair.1 else profiled_binding pairs n s))
+      step true l true e rest =
+          rest ∙ (ap (λ (b : Bool). if b then profiled_variable n s else profiled_binding pairs n s) (listed_here true l e)
+          ∙ sym (ap (λ (b : Bool). if b then profiled_variable n s else pair.1) (listed_here true l e)))
+      step true l false e rest = rest
+      step false l true e rest =
+          ap (λ (b : Bool). if b then pair.1 else profiled_binding (unlisted_pairs numbers pairs) n s) e
+          ∙ sym (ap (λ (b : Bool). if b then profiled_variable n s else pair.1) (listed_here false l e))
+      step false l false e rest =
+          ap (λ (b : Bool). if b then pair.1 else profiled_binding (unlisted_pairs numbers pairs) n s) e ∙ rest
+
+module _ (numbers : List ℕ) (made given : List (ℕ × Sorted))
+    (is : profiled_pairs made ≡ unlisted_pairs numbers (profiled_pairs given)) where
+  profiled_for : (n s : ℕ)
+      → profiled_binding (profiled_pairs made) n s ≡ profiled_without numbers (profiled_binding (profiled_pairs given)) n s
+  profiled_for n s = ap (λ (ps : List (ℕ × ProfiledTerm)). profiled_binding ps n s) is ∙ gives numbers n s (profiled_pairs given)
+
+  pub left_profiled : profiled_binding (profiled_pairs made) ≡ profiled_without numbers (profiled_binding (profiled_pairs given))
+  left_profiled = fun_ext (λ n. fun_ext (λ s. profiled_for n s))
+
+  pub left_plain : binding (environment_of made) ≡ without numbers (binding (environment_of given))
+  left_plain = fun_ext (λ n. fun_ext (λ s. sym (put_for made n s) ∙ (ap bare (profiled_for n s) ∙ by n s (is_listed numbers n))))
+    where
+      by : (n s : ℕ) (b : Bool) → bare (if b then profiled_variable n s else profiled_binding (profiled_pairs given) n s)
+          ≡ (if b then variable n s else binding (environment_of given) n s)
+      by n s true = refl
+      by n s false = put_for given n s
+
+-- An environment that suits what stands outside a binder suits what the binder leaves free inside.
+pub suits_below : (numbers : List ℕ) (inner outer : List (ℕ × Sorted)) (Inside : ℕ → ℕ → Type 0)
+    → profiled_binding (profiled_pairs inner) ≡ profiled_without numbers (profiled_binding (profiled_pairs outer))
+    → SuitsWhere (profiled_pairs outer) (λ n s. (is_listed numbers n ≡ false) × Inside n s)
+    → SuitsWhere (profiled_pairs inner) Inside
+suits_below numbers inner outer Inside is suits n s o =
+    ap (λ (v : ℕ → ℕ → ProfiledTerm). head_sort (v n s)) is ∙ by (is_listed numbers n) refl
+  where
+    by : (b : Bool) → is_listed numbers n ≡ b
+        → head_sort (if b then profiled_variable n s else profiled_binding (profiled_pairs outer) n s) ≡ s
+    by true l = refl
+    by false l = suits n s (l, o)

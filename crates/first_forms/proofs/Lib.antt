@@ -1,9 +1,0 @@
-pub mod Stacks
-pub mod RowNumbers
-pub mod Derived
-pub mod Derivations
-pub mod Stands
-pub mod FirstGrammar
-pub mod Readings
-pub mod TokensOfSentences
-pub mod Finishing

@@ -1,0 +1,20 @@
+//! First positions of names.
+
+use lotos_base::Name;
+use name_positions::names::NamePositions;
+use std::test::Fail;
+
+#[test]
+fn the_first_position_counts(rt: HostRuntime) -> Result<(), Fail> {
+    let alloc = rt.alloc();
+    let mut names = NamePositions::new(alloc);
+    for (number, spelled) in [(0, "a"), (1, "b"), (2, "A"), (3, "c")] {
+        let name = Name::of(Vec::from_slice(alloc, spelled.as_bytes())?);
+        names.add(alloc, &name, number)?;
+    }
+    for (spelled, position) in [("A", Some(0)), ("b", Some(1)), ("C", Some(3)), ("d", None)] {
+        let name = Name::of(Vec::from_slice(alloc, spelled.as_bytes())?);
+        assert_eq!(rt; names.first(alloc, &name)?, position);
+    }
+    Ok(())
+}

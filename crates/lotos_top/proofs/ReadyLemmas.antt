@@ -1,0 +1,45 @@
+-- What came of a run by what was ready.
+use Rattle.std.proofs.Common.{◌≡◌, ◌⊎◌, inl, inr, ℕ, List, Option, refl, sym, subst}
+use Rattle.library_reading.specs.ShelfUse.{ShelfState}
+use Rattle.lotos_top.specs.Words.{CommandLine}
+use Rattle.lotos_top.specs.Outcome.{accepted, files_of, text_of, opening_text, status_of}
+use Rattle.lotos_top.specs.Run.{Streams, streams, LeavesInput, Prints, Serves, Came, Untouched, Stopped, Ran, Completes}
+use Rattle.lotos_top.specs.Prepared.{begun, IsLast, IsServed}
+use Rattle.lotos_top.specs.declared.opening.Opened.{Opened}
+use Rattle.lotos_top.specs.declared.opening.Alone.{Alone}
+use Rattle.lotos_top.specs.declared.ended.Ended.{Ended}
+use Rattle.lotos_top.specs.declared.ended.Ended.TheVariants.{NoMemory}
+
+-- a text was printed
+pub ran_alone : (line : Option CommandLine) (shelf shelf_after : ShelfState) (alone : Alone) (input before after : Option (List ℕ) × ℕ)
+    (answer : Ended) → IsLast line shelf shelf_after alone
+    → Prints alone.text.items alone.ended (streams input before) (streams input after) answer
+    → Ran line shelf shelf_after (streams input before) (streams input after) answer
+ran_alone line shelf shelf_after alone input before after answer last prints = inr (record {
+  outcome = last.is.outcome;
+  possible = last.is.possible;
+  follows =
+      last.follows (streams input before) (streams input after) answer (record { left = refl; faults = refl })
+      (subst (λ (e : Ended). Prints (text_of (files_of line) last.is.outcome) e (streams input before) (streams input after) answer)
+      last.is.ended
+      (subst (λ (text : List ℕ). Prints text alone.ended (streams input before) (streams input after) answer) last.is.text prints));
+})
+
+-- a session was served
+pub ran_served : (line : Option CommandLine) (shelf shelf_after : ShelfState) (opened : Opened) (before after : Streams) (answer : Ended)
+    → IsServed line shelf shelf_after opened → Serves (begun opened) (opening_text (begun opened)) before after answer
+    → Ran line shelf shelf_after before after answer
+ran_served line shelf shelf_after opened before after answer served serves = inr (record {
+  outcome = accepted (begun opened);
+  possible = served.possible;
+  follows = served.follows before after answer serves;
+})
+
+-- memory was wanted
+pub ran_stopped : (line : Option CommandLine) (shelf shelf_after : ShelfState) (before after : Streams)
+    → shelf_after.texts ≡ shelf.texts → Untouched before after → Ran line shelf shelf_after before after NoMemory
+ran_stopped line shelf shelf_after before after texts untouched =
+    inl (record { is = refl; texts = texts; untouched = untouched })
+
+pub untouched_at : (now : Streams) → Untouched now now
+untouched_at now = record { input = record { left = refl; faults = refl }; written = refl; output = refl }

@@ -1,0 +1,140 @@
+-- A whole run: what came of it, and which answer has to come.
+use Rattle.std.specs.Prelude.{◌≡◌, ◌⊎◌, ℕ, ◌<◌, List, Option, Some, None}
+use Rattle.lotos_base.specs.Counts.{Rises}
+use Rattle.lotos_base.specs.Outside.{Texts}
+use Rattle.library_reading.specs.ShelfUse.{ShelfState}
+use Rattle.acceptance_order.specs.Acceptance.{Asked, Acceptance}
+use Rattle.acceptance_order.specs.Ending as ending
+use Rattle.acceptance_order.specs.Part.{Comes, goes_on, stops}
+use Rattle.acceptance_outcomes.specs.AcceptanceOutcomes.{ComesOver}
+use Rattle.line_server.specs.Session as served
+use Rattle.line_server.specs.Session.{around}
+use Rattle.line_server.specs.Writing.{WritesAll, WritesBeginning}
+use Rattle.line_server.specs.declared.ends.SessionEnd.{SessionEnd}
+use Rattle.line_server.specs.declared.ends.SessionEnd.TheVariants as end
+use Rattle.printed_texts.specs.ReportLines.{usage_text}
+use Rattle.session_lines.specs.Session.{Session}
+use Rattle.session_lines.specs.View.{session_machine}
+use Rattle.lotos_top.specs.Words.{CommandLine, check, session, demonstration}
+use Rattle.lotos_top.specs.Outcome.{Outcome, no_line, unread, refused, accepted, files_of, Begins, IsOutcome, text_of, opening_text, status_of}
+use Rattle.lotos_top.specs.declared.ended.Ended.{Ended}
+use Rattle.lotos_top.specs.declared.ended.Ended.TheVariants.{Done, SpecRefused, WordsRefused, FileFault, InputFault, OutputFault, NoMemory, InputTooLong}
+
+-- what the input has left and the output has written at one time, and their counts of faults
+pub record Streams : Type 0 where
+  pub left : Option (List ℕ)
+  pub input_faults : ℕ
+  pub written : Option (List ℕ)
+  pub output_faults : ℕ
+
+abbrev pub streams : Option (List ℕ) × ℕ → Option (List ℕ) × ℕ → Streams
+streams input output = record { left = input.0; input_faults = input.1; written = output.0; output_faults = output.1 }
+
+-- the input was not read
+pub record LeavesInput (before after : Streams) : Type 0 where
+  pub left : after.left ≡ before.left
+  pub faults : after.input_faults ≡ before.input_faults
+
+-- how the run ends by the end of its session
+abbrev pub ended_by : SessionEnd → Ended
+ended_by end.Finished = Done
+ended_by end.InputFailed = InputFault
+ended_by end.InputTooLong = InputTooLong
+ended_by end.OutputFailed = OutputFault
+ended_by end.NoMemory = NoMemory
+
+-- A text is printed and nothing else is done: it is written whole, and the run ends with the status; or the output failed at
+-- one of its bytes.
+pub data Prints (text : List ℕ) (status : Ended) (before after : Streams) (answer : Ended) : Type 0 where
+  whole :
+      answer ≡ status → WritesAll before.written after.written text → after.output_faults ≡ before.output_faults
+      → Prints text status before after answer
+  in_part :
+      answer ≡ OutputFault → WritesBeginning before.written after.written text → Rises before.output_faults after.output_faults
+      → Prints text status before after answer
+
+-- A text is printed, and then a session is served, whose lines are answered by what they come to one after another, and whose
+-- end comes where its cause stands; or the output failed at a byte of the text.
+pub data Serves (begun : Session) (text : List ℕ) (before after : Streams) (answer : Ended) : Type 0 where
+  in_part :
+      LeavesInput before after → answer ≡ OutputFault → WritesBeginning before.written after.written text
+      → Rises before.output_faults after.output_faults
+      → Serves begun text before after answer
+  whole :
+      (between : Option (List ℕ)) (last : Session) (end : SessionEnd)
+      → WritesAll before.written between text
+      → served.Came session_machine (around (begun, 0) (before.left, before.input_faults) (between, before.output_faults))
+      (around (last, 0) (after.left, after.input_faults) (after.written, after.output_faults)) end
+      → served.Completes session_machine
+      (around (begun, 0) (before.left, before.input_faults) (between, before.output_faults))
+      (around (last, 0) (after.left, after.input_faults) (after.written, after.output_faults)) end
+      → answer ≡ ended_by end
+      → Serves begun text before after answer
+
+-- what comes behind an outcome
+abbrev pub Follows : Option CommandLine → Outcome → Streams → Streams → Ended → Type 0
+Follows (Some (session spec order values)) (accepted begun) before after answer =
+    Serves begun (opening_text begun) before after answer
+Follows line outcome before after answer =
+    LeavesInput before after × Prints (text_of (files_of line) outcome) (status_of outcome) before after answer
+
+-- the run came to an outcome that the words and the shelf allow, and did what follows
+pub record Came (line : Option CommandLine) (shelf shelf_after : ShelfState) (before after : Streams) (answer : Ended) : Type 0 where
+  pub outcome : Outcome
+  pub possible : IsOutcome (files_of line) shelf shelf_after outcome
+  pub follows : Follows line outcome before after answer
+
+-- nothing was read from the input or written to the output
+pub record Untouched (before after : Streams) : Type 0 where
+  pub input : LeavesInput before after
+  pub written : after.written ≡ before.written
+  pub output : after.output_faults ≡ before.output_faults
+
+-- memory was wanted before anything was written
+pub record Stopped (shelf shelf_after : ShelfState) (before after : Streams) (answer : Ended) : Type 0 where
+  pub is : answer ≡ NoMemory
+  pub texts : shelf_after.texts ≡ shelf.texts
+  pub untouched : Untouched before after
+
+abbrev pub Ran : Option CommandLine → (shelf shelf_after : ShelfState) → (before after : Streams) → Ended → Type 0
+Ran line shelf shelf_after before after answer =
+    Stopped shelf shelf_after before after answer ⊎ Came line shelf shelf_after before after answer
+
+-- the outcome is what comes of the acceptance
+abbrev pub IsOutcomeOf : Comes Acceptance → Outcome → Type 0
+IsOutcomeOf (goes_on acceptance) no_line = ⊥
+IsOutcomeOf (goes_on acceptance) (unread name) = ⊥
+IsOutcomeOf (goes_on acceptance) (refused r) = ⊥
+IsOutcomeOf (goes_on acceptance) (accepted begun) = Begins acceptance begun
+IsOutcomeOf (stops (ending.unread lacking)) no_line = ⊥
+IsOutcomeOf (stops (ending.unread lacking)) (unread name) = name ≡ lacking
+IsOutcomeOf (stops (ending.unread lacking)) (refused r) = ⊥
+IsOutcomeOf (stops (ending.unread lacking)) (accepted begun) = ⊥
+IsOutcomeOf (stops (ending.refused found)) no_line = ⊥
+IsOutcomeOf (stops (ending.refused found)) (unread name) = ⊥
+IsOutcomeOf (stops (ending.refused found)) (refused r) = r ≡ found
+IsOutcomeOf (stops (ending.refused found)) (accepted begun) = ⊥
+
+-- memory was wanted, or the run did what follows this outcome
+abbrev pub EndsBy : Option CommandLine → Comes Acceptance → Streams → Streams → Ended → Type 0
+EndsBy line comes before after answer =
+    (answer ≡ NoMemory) ⊎ ((outcome : Outcome) × IsOutcomeOf comes outcome × Follows line outcome before after answer)
+
+-- Each answer comes where its cause stands. Where the output counted no fault, words that are no line are answered so, a fault
+-- of the shelf, whose texts no run changes, by `FileFault`, and a fault of the input by `InputFault`, or memory was wanted.
+-- Where the output's count rose, the answer says so. Where the shelf tells its texts and counted no fault, what comes of the
+-- acceptance of these texts, which is one thing, is what the run came to: so a specification that they accept is answered by
+-- its report and session, and one that has a first fault by the line of this fault.
+pub record Completes (line : Option CommandLine) (shelf shelf_after : ShelfState) (before after : Streams) (answer : Ended) : Type 0
+  where
+    pub words : line ≡ None → ¬ Rises before.output_faults after.output_faults
+        → (answer ≡ NoMemory) ⊎ ((answer ≡ WordsRefused) × WritesAll before.written after.written usage_text)
+    pub files : shelf.faults < shelf_after.faults → ¬ Rises before.output_faults after.output_faults
+        → (answer ≡ NoMemory) ⊎ (answer ≡ FileFault)
+    pub input : before.input_faults < after.input_faults → ¬ Rises before.output_faults after.output_faults
+        → (answer ≡ NoMemory) ⊎ (answer ≡ InputFault)
+    pub output : before.output_faults < after.output_faults → answer ≡ OutputFault
+    pub texts : shelf_after.texts ≡ shelf.texts
+    pub settled : (texts : Texts) (asked : Asked) (comes : Comes Acceptance) → files_of line ≡ Some asked
+        → shelf.texts ≡ Some texts → ComesOver texts asked comes → ¬ Rises shelf.faults shelf_after.faults
+        → EndsBy line comes before after answer

@@ -1,0 +1,330 @@
+//! What is made ready before anything is written: the specification with its first menu, or the line
+//! that says why there is none.
+
+ghost use Rattle.acceptance_order.specs.Acceptance.{IsAccepted};
+ghost use Rattle.library_reading.specs.ShelfUse.{ShelfState, shelf_state};
+ghost use Rattle.lotos_top.specs.Outcome.{files_of, opening_text, word_or_none};
+ghost use Rattle.lotos_top.specs.Prepared.{IsLast, IsOpened, IsReady, begun};
+ghost use Rattle.lotos_top.specs.Words.{CommandLine, check, command_line, session, words_of};
+ghost use Rattle.sort_terms.specs.EquationView.{data_of};
+ghost use Rattle.sort_terms.specs.SignatureView.{signature_of};
+ghost use Rattle.spec_acceptance.specs.AcceptedView.{Holds, asked_for};
+ghost use Rattle.spec_acceptance.specs.Doing.{Failed};
+ghost use Rattle.acceptance_order.specs.Acceptance.{Acceptance};
+ghost use Rattle.lotos_base.specs.Name.{spelling};
+ghost use Rattle.lotos_top.specs.Outcome.{Begins};
+ghost use Rattle.lotos_top.specs.declared.ended.Ended.TheVariants.{
+  Done as done,
+  FileFault as file_fault,
+  SpecRefused as spec_refused,
+  WordsRefused as words_refused,
+};
+ghost use Rattle.printed_texts.specs.ReportLines.{head_text, unread_text, usage_text};
+ghost use Rattle.refusal_lines.specs.RefusalText.{refusal_text};
+ghost use Rattle.spec_faults.specs.RefusalView.{refused_of};
+ghost use Rattle.std.specs.Prelude.{
+  ◌≡◌,
+  ◌++◌,
+  ℕ,
+  List,
+  None,
+  Option,
+  Some,
+  IfOk,
+  IfSome,
+  MatchResult,
+  OnOk,
+  option_map,
+};
+
+use crate::commands::{Command, parse_command};
+use crate::ended::Ended;
+use behaviour_tree::{Spec, State};
+use equation_book::Book;
+use event_offers::Menu;
+use lotos_base::{NoMemory, Shelf};
+use menu_listing::menu;
+use printed_texts::brackets::{push_number, push_text};
+use printed_texts::menu_text;
+use refusal_lines::refusal_line;
+use sort_terms::Signature;
+use spec_acceptance::{Accepted, NotAccepted};
+use spec_faults::Refused;
+use std::alloc::Global;
+
+/// A specification that is accepted, where its session begins.
+#[derive(Drop)]
+pub struct Opened {
+    /// The specification.
+    pub spec: Spec,
+    /// The data, whose equality is decided.
+    pub book: Book,
+    /// The state in which it begins.
+    pub state: State,
+    /// The menu of this state.
+    pub menu: Menu,
+}
+
+/// What comes before a session: the text that is printed, and the signature by which the session
+/// reads and prints terms.
+#[derive(Drop)]
+pub struct Front {
+    /// The text.
+    pub text: Vec<u8>,
+    /// The signature.
+    pub signature: Signature,
+}
+
+/// A text that is printed with nothing behind it, and how the run ends then.
+#[derive(Drop)]
+pub struct Alone {
+    /// The text.
+    pub text: Vec<u8>,
+    /// The status.
+    pub ended: Ended,
+}
+
+/// What is ready: a text that is printed with nothing behind it, or a session that is served.
+#[derive(Drop)]
+pub enum Ready {
+    /// The text.
+    Alone(Alone),
+    /// Where the session begins.
+    Session(Opened),
+}
+
+/// Makes ready what the words ask for.
+pub fn prepare<F: Shelf>(alloc: Global, words: &[String], shelf: &mut F) -> Result<Ready, NoMemory>
+    ensures ready { IfOk result (IsReady (command_line (words_of words.now))
+        (shelf_state (F.texts shelf.old) (F.faults shelf.old) (F.calls shelf.old))
+        (shelf_state (F.texts shelf.new) (F.faults shelf.new) (F.calls shelf.new))) }
+    ensures texts { F.texts shelf.new ≡ F.texts shelf.old }
+{
+    match parse_command(words) {
+        Some(Command::Check { spec, order, .. }) => checked(alloc, spec, order, shelf),
+        Some(Command::Run { spec, order, .. }) => served(alloc, spec, order, shelf),
+        Some(Command::Demo { .. }) => usage_ready(alloc),
+        None => usage_ready(alloc),
+    }
+}
+
+// Makes ready what `check` prints.
+fn checked<F: Shelf>(
+    alloc: Global,
+    spec: &str,
+    order: Option<&str>,
+    shelf: &mut F,
+) -> Result<Ready, NoMemory>
+    ensures ready { (values : List (List ℕ)) → IfOk result
+        (IsReady (Some (check spec.now (option_map (λ word. word.now) order.entry) values))
+        (shelf_state (F.texts shelf.old) (F.faults shelf.old) (F.calls shelf.old))
+        (shelf_state (F.texts shelf.new) (F.faults shelf.new) (F.calls shelf.new))) }
+    ensures texts { F.texts shelf.new ≡ F.texts shelf.old }
+{
+    match open(alloc, spec, order, shelf) {
+        Ok(opened) => Ok(Ready::Alone(opened_alone(alloc, &opened)?)),
+        Err(fault) => Ok(Ready::Alone(failed_alone(alloc, spec, order, &fault)?)),
+    }
+}
+
+// Makes ready what `run` serves.
+fn served<F: Shelf>(
+    alloc: Global,
+    spec: &str,
+    order: Option<&str>,
+    shelf: &mut F,
+) -> Result<Ready, NoMemory>
+    ensures ready { (values : List (List ℕ)) → IfOk result
+        (IsReady (Some (session spec.now (option_map (λ word. word.now) order.entry) values))
+        (shelf_state (F.texts shelf.old) (F.faults shelf.old) (F.calls shelf.old))
+        (shelf_state (F.texts shelf.new) (F.faults shelf.new) (F.calls shelf.new))) }
+    ensures texts { F.texts shelf.new ≡ F.texts shelf.old }
+{
+    match open(alloc, spec, order, shelf) {
+        Ok(opened) => Ok(Ready::Session(opened)),
+        Err(fault) => Ok(Ready::Alone(failed_alone(alloc, spec, order, &fault)?)),
+    }
+}
+
+/// Accepts the specification, and makes its first menu.
+pub fn open<F: Shelf>(
+    alloc: Global,
+    spec: &str,
+    order: Option<&str>,
+    shelf: &mut F,
+) -> Result<Opened, NotAccepted>
+    ensures { MatchResult result
+        (IsOpened (asked_for spec.now (option_map (λ word. word.now) order.entry))
+        (shelf_state (F.texts shelf.old) (F.faults shelf.old) (F.calls shelf.old))
+        (shelf_state (F.texts shelf.new) (F.faults shelf.new) (F.calls shelf.new)))
+        (Failed (shelf_state (F.texts shelf.old) (F.faults shelf.old) (F.calls shelf.old))
+        (shelf_state (F.texts shelf.new) (F.faults shelf.new) (F.calls shelf.new))
+        (IsAccepted (asked_for spec.now (option_map (λ word. word.now) order.entry)))) }
+{
+    let accepted = Accepted::read(alloc, spec, order, shelf)?;
+    Ok(begin(alloc, accepted)?)
+}
+
+// The session of what was accepted, at its beginning.
+fn begin(alloc: Global, accepted: Accepted) -> Result<Opened, NoMemory>
+    requires known { (acceptance : Acceptance) × Holds acceptance accepted }
+    ensures { (acceptance : Acceptance) → Holds acceptance accepted
+        → IfOk result (λ opened. Begins acceptance (begun opened)) }
+{
+    let Accepted {
+        spec,
+        ranks,
+        book,
+        start,
+    } = accepted;
+    let mut book = book;
+    let menu = menu(alloc, &spec, &ranks, &start, &mut book)?;
+    Ok(Opened {
+        spec,
+        book,
+        state: start,
+        menu,
+    })
+}
+
+/// Appends the head of a report and the menu.
+pub fn push_opening(opened: &Opened, into: &mut Vec<u8>) -> Result<(), NoMemory>
+    ensures { OnOk result (into.new.items ≡ into.old.items ++ opening_text (begun opened.now)) }
+{
+    push_head(&opened.spec, &opened.book, into)?;
+    menu_text(
+        &opened.book.flat().signature,
+        &opened.spec,
+        &opened.menu,
+        into,
+    )?;
+    Ok(())
+}
+
+// Appends the head of a report.
+fn push_head(spec: &Spec, book: &Book, into: &mut Vec<u8>) -> Result<(), NoMemory>
+    ensures { OnOk result (into.new.items ≡ into.old.items
+        ++ head_text (spelling spec.now.name) (data_of book.now.flat)) }
+{
+    let flat = book.flat();
+    push_text(into, b"accepted ")?;
+    push_text(into, spec.name.spelled())?;
+    push_text(into, b"\ndata: ")?;
+    push_number(into, flat.signature.sorts().len() as u128)?;
+    push_text(into, b" sorts, ")?;
+    push_number(into, flat.signature.ops().len() as u128)?;
+    push_text(into, b" operations, ")?;
+    push_number(into, flat.equations.len() as u128)?;
+    push_text(into, b" equations\n")
+}
+
+/// What comes before the session of an accepted specification.
+pub fn front_of(alloc: Global, opened: &Opened) -> Result<Front, NoMemory>
+    ensures { IfOk result (λ front. (front.text.items ≡ opening_text (begun opened.now))
+        × (signature_of front.signature ≡ signature_of opened.now.book.flat.signature)) }
+{
+    let mut text = Vec::new(alloc);
+    push_opening(opened, &mut text)?;
+    let signature = opened.book.flat().signature.copy()?;
+    Ok(Front { text, signature })
+}
+
+/// What is printed for an accepted specification where no session is served.
+pub fn opened_alone(alloc: Global, opened: &Opened) -> Result<Alone, NoMemory>
+    ensures { IfOk result (λ alone. (alone.text.items ≡ opening_text (begun opened.now))
+        × (alone.ended ≡ done)) }
+{
+    let mut text = Vec::new(alloc);
+    push_opening(opened, &mut text)?;
+    Ok(Alone {
+        text,
+        ended: Ended::Done,
+    })
+}
+
+/// What is printed where the specification is not accepted: the line of the file that could not be
+/// got, or that of the refusal.
+pub fn failed_alone(
+    alloc: Global,
+    spec: &str,
+    order: Option<&str>,
+    fault: &NotAccepted,
+) -> Result<Alone, NoMemory>
+    ensures { IfOk result (λ alone. (line : CommandLine) (before after : ShelfState)
+        → files_of (Some line) ≡ Some (asked_for spec.now (option_map (λ word. word.now) order.entry))
+        → Failed before after
+        (IsAccepted (asked_for spec.now (option_map (λ word. word.now) order.entry))) fault.now
+        → IsLast (Some line) before after alone) }
+{
+    match fault {
+        NotAccepted::File { name } => unread_alone(alloc, name.as_slice()),
+        NotAccepted::Spec(refused) => refused_alone(alloc, spec, order_name(order), refused),
+        NotAccepted::NoMemory => Err(NoMemory),
+    }
+}
+
+// The name of the order file, and nothing where there is none.
+fn order_name(order: Option<&str>) -> &str
+    ensures { result.now ≡ word_or_none (option_map (λ word. word.now) order.entry) }
+{
+    match order {
+        None => "",
+        Some(name) => name,
+    }
+}
+
+// The line of a file that could not be got.
+fn unread_alone(alloc: Global, name: &[u8]) -> Result<Alone, NoMemory>
+    ensures { IfOk result
+        (λ alone. (alone.text.items ≡ unread_text name.now) × (alone.ended ≡ file_fault)) }
+{
+    let mut text = Vec::new(alloc);
+    push_text(&mut text, b"cannot read ")?;
+    push_text(&mut text, name)?;
+    push_text(&mut text, b"\n")?;
+    Ok(Alone {
+        text,
+        ended: Ended::FileFault,
+    })
+}
+
+// The line of a refusal.
+fn refused_alone(
+    alloc: Global,
+    spec: &str,
+    order: &str,
+    refused: &Refused,
+) -> Result<Alone, NoMemory>
+    ensures { IfOk result (λ alone. IfSome (refused_of refused.now)
+        (λ told. alone.text.items ≡ refusal_text spec.now order.now told)
+        × (alone.ended ≡ spec_refused)) }
+{
+    let mut text = Vec::new(alloc);
+    refusal_line(spec, order, refused, &mut text)?;
+    Ok(Alone {
+        text,
+        ended: Ended::SpecRefused,
+    })
+}
+
+// Makes ready the usage line, for words that ask for no file.
+fn usage_ready(alloc: Global) -> Result<Ready, NoMemory>
+    ensures { IfOk result (λ ready. (line : Option CommandLine) (now : ShelfState)
+        → files_of line ≡ None → IsReady line now now ready) }
+{
+    Ok(Ready::Alone(usage_alone(alloc)?))
+}
+
+/// The usage line.
+pub fn usage_alone(alloc: Global) -> Result<Alone, NoMemory>
+    ensures { IfOk result
+        (λ alone. (alone.text.items ≡ usage_text) × (alone.ended ≡ words_refused)) }
+{
+    Ok(Alone {
+        text: Vec::from_slice(
+            alloc,
+            b"usage: lotos check SPEC [ORDER] [with TERM...] | run SPEC [ORDER] [with TERM...] | demo N\n",
+        )?,
+        ended: Ended::WordsRefused,
+    })
+}

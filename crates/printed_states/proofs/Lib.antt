@@ -1,0 +1,4 @@
+pub mod SquareLemmas
+pub mod ListLemmas
+pub mod TextLemmas
+pub mod PartLemmas

@@ -1,0 +1,200 @@
+-- Which steps a session can take.
+use Rattle.std.proofs.Common.{◌≡◌, ℕ, zero, suc, List, [], ◌∷◌, map, None, Some, refl, ap, ap₂, sym, ◌∙◌, subst}
+use Rattle.term_algebra.specs.Term.{Term}
+use Rattle.term_algebra.specs.Equation.{Data}
+use Rattle.term_algebra.specs.Substitution.{substituted}
+use Rattle.term_algebra.specs.Canon.{IsCanon}
+use Rattle.term_algebra.proofs.CanonLemmas.{canon_ground, canon_equal}
+use Rattle.term_algebra.proofs.EqualityLemmas.{equal_back}
+use Rattle.behaviour_semantics.specs.Behaviour.{Behaviour, Process}
+use Rattle.behaviour_semantics.specs.Derives.{Derives, Keeps, leaves_in}
+use Rattle.behaviour_semantics.specs.Draft.{Draft, draft_of}
+use Rattle.behaviour_semantics.specs.DraftOrderLaws.{IsSolvedFrom}
+use Rattle.behaviour_semantics.specs.EqualLeavesLaws.{EqualLeavesGiveLikeMoves, LikeMove}
+use Rattle.behaviour_semantics.specs.Label.{Label}
+use Rattle.behaviour_semantics.specs.Menu.{EqualLabels, EqualTerms, Exact, IsEntry, Meets, derivation_at, label_at}
+use Rattle.behaviour_semantics.specs.OrderLaws.{AtMostOneMenuIsExact}
+use Rattle.behaviour_semantics.specs.Rule.{AreValues, as_given}
+use Rattle.behaviour_semantics.specs.Shape.{Derivation}
+use Rattle.behaviour_semantics.specs.Solving.{Entry, SolvesTo}
+use Rattle.behaviour_semantics.specs.TransitionLaws.{MovesAreDetermined, SameMove}
+use Rattle.behaviour_semantics.proofs.EqualLeaves.{like_move}
+use Rattle.behaviour_semantics.proofs.RelatedTerms.{canon_represents, given_represents}
+use Rattle.behaviour_semantics.proofs.DraftFineness.{FineDraft, fine_draft}
+use Rattle.behaviour_semantics.proofs.MenuLemmas.{same_members}
+use Rattle.behaviour_semantics.proofs.OptionLemmas.{some_value}
+use Rattle.behaviour_semantics.proofs.SolvingAnyDraft.{solving_any}
+use Rattle.event_offers.specs.Instances.{canonical_derivation}
+use Rattle.session_histories.specs.Session.{SessionBasis, Item, Situation, Progress, stepped}
+use Rattle.session_histories.specs.Refusal.{entry_numbered, step_refusal}
+use Rattle.session_histories.specs.Lawful.{IsSituation, IsLawfulItem, HasStepped}
+use Rattle.session_histories.specs.SessionLaws.{IsStateOver}
+use Rattle.session_histories.specs.StepLaws.{AreGroundTerms, HasItem}
+use Rattle.session_histories.proofs.RefusalLemmas.{IsFree, free, freed, sorts_fit, fit_sorts, as_many, none_unmet, condition_free, free_of_conditions}
+
+-- ---- Entries of a menu
+
+pub is_listed : (menu : List Entry) (number : ℕ) (entry : Entry) → entry_numbered menu number ≡ Some entry → IsEntry menu entry
+is_listed menu zero entry e = absurd (cc e)
+is_listed menu (suc position) entry e = (position, e)
+
+-- an entry of the menu of a state is the solved form of its draft
+pub solved_entry : (basis : SessionBasis) (before : Situation) → IsStateOver basis before.state → IsSituation basis before
+    → (entry : Entry) → IsEntry before.menu entry → (draft : Draft) × IsSolvedFrom basis.data_.signature basis.canon draft entry
+solved_entry basis before over menu entry listed =
+    let solved : (draft : Draft)
+    × (draft_of basis.data_ basis.canon basis.specification.processes entry.shape before.state ≡ Some draft)
+    × SolvesTo basis.canon draft (Some entry) = menu.solved entry listed in
+    let fine : FineDraft basis.data_ solved.0 =
+    fine_draft basis.data_ basis.canon basis.specification before.state over entry.shape solved.0 solved.1 in
+    (solved.0, solving_any.solved basis.data_ basis.canon solved.0 entry over.is_canon fine.order solved.2)
+
+-- values that are not refused meet their entry
+pub meets : (basis : SessionBasis) (before : Situation) → IsStateOver basis before.state → IsSituation basis before → (number : ℕ)
+    (values : List Term) (f : IsFree basis (entry_numbered before.menu number) values) → AreGroundTerms basis values
+    → Meets basis.data_ f.entry values
+meets basis before over menu number values f ground =
+    let solved : (draft : Draft) × IsSolvedFrom basis.data_.signature basis.canon draft f.entry =
+    solved_entry basis before over menu f.entry (is_listed before.menu number f.entry f.is) in
+    let sorted : AreValues basis.data_.signature f.entry.variables values =
+    sorts_fit basis.data_.signature 0 f.entry.variables values f.counted ground f.sorted in
+    record {
+      sorted = sorted;
+      met = (none_unmet basis.data_ basis.canon over.is_canon f.entry.variables values sorted f.entry.leaves f.entry.conditions
+          solved.1.as_draft.conditions solved.1.over_left solved.1.over_right).0 (condition_free basis.canon f.entry values f.met);
+    }
+
+-- values that meet their entry are not refused
+pub met_free : (basis : SessionBasis) (before : Situation) → IsStateOver basis before.state → IsSituation basis before → (number : ℕ)
+    (values : List Term) (entry : Entry) → entry_numbered before.menu number ≡ Some entry → Meets basis.data_ entry values
+    → IsFree basis (entry_numbered before.menu number) values
+met_free basis before over menu number values entry listed h =
+    let solved : (draft : Draft) × IsSolvedFrom basis.data_.signature basis.canon draft entry =
+    solved_entry basis before over menu entry (is_listed before.menu number entry listed) in
+    record {
+      entry = entry;
+      is = listed;
+      counted = as_many basis.data_.signature entry.variables values h.sorted;
+      sorted = fit_sorts basis.data_.signature 0 entry.variables values h.sorted;
+      met = free_of_conditions basis.canon entry values ((none_unmet basis.data_ basis.canon over.is_canon entry.variables values h.sorted
+          entry.leaves entry.conditions solved.1.as_draft.conditions solved.1.over_left solved.1.over_right).1 h.met);
+    }
+
+-- ---- The canonical derivation of an entry
+
+module _ (data_ : Data) (canon : Term → Term) (is_canon : IsCanon data_ canon) (put : Term → Term) where
+  canonical_values : (sorts : List ℕ) (leaves : List Term) → AreValues data_.signature sorts (map put leaves)
+      → AreValues data_.signature sorts (map (λ (t : Term). canon (put t)) leaves)
+      × EqualTerms data_ (map put leaves) (map (λ (t : Term). canon (put t)) leaves)
+  canonical_values [] [] h = (tt, tt)
+  canonical_values [] (leaf ∷ leaves) h = absurd h
+  canonical_values (sort ∷ sorts) [] h = absurd h
+  canonical_values (sort ∷ sorts) (leaf ∷ leaves) h =
+      let rest : AreValues data_.signature sorts (map (λ (t : Term). canon (put t)) leaves)
+      × EqualTerms data_ (map put leaves) (map (λ (t : Term). canon (put t)) leaves) = canonical_values sorts leaves h.1 in (
+        (canon_ground data_ canon (put leaf) sort is_canon h.0, rest.0),
+        (equal_back (canon_equal data_ canon (put leaf) sort is_canon h.0), rest.1),
+      )
+
+-- values that meet an entry of the menu make a lawful item
+pub lawful_item : EqualLeavesGiveLikeMoves → (basis : SessionBasis) (before : Situation) → IsStateOver basis before.state
+    → IsSituation basis before → (number : ℕ) (values : List Term) (entry : Entry) → entry_numbered before.menu number ≡ Some entry
+    → Meets basis.data_ entry values → HasItem basis before number values
+lawful_item equal basis before over menu number values entry listed h =
+    let derived : (label : Label) × (target : Behaviour)
+    × Derives basis.data_ basis.specification.processes before.state (derivation_at entry values) label target
+    × EqualLabels basis.data_ (label_at entry values) label =
+    menu.sound entry (is_listed before.menu number entry listed) values h in
+    let made : Derivation = canonical_derivation basis.canon entry values in
+    let both : AreValues basis.data_.signature derived.2.sorts made.leaves
+    × EqualTerms basis.data_ (derivation_at entry values).leaves made.leaves =
+    canonical_values basis.data_ basis.canon over.is_canon (substituted (leaves_in values)) derived.2.sorts entry.leaves
+    derived.2.leaves in
+    let like : LikeMove basis.data_ basis.canon basis.specification.processes before.state made derived.0 derived.1 =
+    equal.kept_from_derived basis.data_ basis.canon basis.specification before.state over (derivation_at entry values) made
+    derived.0 derived.1
+    (record { shape = refl; sorts = derived.2.sorts; first = derived.2.leaves; second = both.0; equal = both.1 }) derived.2 in
+    record {
+      item = record { number = number; values = values; derivation = made; label = like.label_given };
+      next = like.target_given;
+      numbered = refl;
+      valued = refl;
+      lawful = record { entry = entry; listed = listed; meets = h; derivation = refl; keeps = like.gives };
+    }
+
+pub taken : EqualLeavesGiveLikeMoves → (basis : SessionBasis) (before : Situation) (number : ℕ) (values : List Term)
+    → IsStateOver basis before.state → IsSituation basis before → AreGroundTerms basis values
+    → step_refusal basis before.menu number values ≡ None → HasItem basis before number values
+taken equal basis before number values over menu ground e =
+    let f : IsFree basis (entry_numbered before.menu number) values = free basis number _ (entry_numbered before.menu number) values e in
+    lawful_item equal basis before over menu number values f.entry f.is (meets basis before over menu number values f ground)
+
+pub not_refused : (basis : SessionBasis) (before : Situation) (item : Item) (next : Behaviour) → IsStateOver basis before.state
+    → IsSituation basis before → IsLawfulItem basis before item next
+    → step_refusal basis before.menu item.number item.values ≡ None
+not_refused basis before item next over menu h =
+    freed basis item.number _ (entry_numbered before.menu item.number) item.values
+    (met_free basis before over menu item.number item.values h.entry h.listed h.meets)
+
+-- ---- Steps lead to one place
+
+pub stepped_once : MovesAreDetermined → AtMostOneMenuIsExact → (basis : SessionBasis) (old new other : Progress) (number : ℕ)
+    (values : List Term) (label another : Label) → HasStepped basis old number values label new
+    → HasStepped basis old number values another other → (new ≡ other) × (label ≡ another)
+stepped_once determined menu_once basis old new other number values label another h k =
+    let numbers : h.item.number ≡ k.item.number = h.numbered ∙ sym k.numbered in
+    let given : h.item.values ≡ k.item.values = h.valued ∙ sym k.valued in
+    let entries : h.lawful.entry ≡ k.lawful.entry =
+    some_value (sym h.lawful.listed ∙ (ap (entry_numbered old.situation.menu) numbers ∙ k.lawful.listed)) in
+    let derivations : h.item.derivation ≡ k.item.derivation =
+    h.lawful.derivation ∙ (ap₂ (canonical_derivation basis.canon) entries given ∙ sym k.lawful.derivation) in
+    let keeps : Keeps basis.data_ basis.canon basis.specification.processes old.situation.state h.item.derivation k.item.label
+    k.next.state = subst
+    (λ (it : Derivation). Keeps basis.data_ basis.canon basis.specification.processes old.situation.state it k.item.label k.next.state)
+    (sym derivations) k.lawful.keeps in
+    let move : SameMove basis.data_ basis.canon basis.specification.processes old.situation.state h.item.derivation h.item.label
+    k.item.label h.next.state k.next.state h.lawful.keeps keeps =
+    determined basis.data_ basis.canon basis.specification.processes old.situation.state h.item.derivation h.item.label k.item.label
+    h.next.state k.next.state h.lawful.keeps keeps in
+    let menus : h.next.menu ≡ k.next.menu =
+    menu_once basis.data_ basis.canon basis.specification.processes h.next.state h.next.menu k.next.menu h.menu
+    (subst (λ (it : Behaviour). Exact basis.data_ basis.canon basis.specification.processes it k.next.menu) (sym move.targets) k.menu) in
+    let items : h.item ≡ k.item =
+    λ i. record { number = numbers i; values = given i; derivation = derivations i; label = move.labels i } in
+    let nexts : h.next ≡ k.next = λ i. record { state = move.targets i; menu = menus i } in
+    (h.appended ∙ (ap₂ (stepped old) items nexts ∙ sym k.appended), sym h.labelled ∙ (move.labels ∙ k.labelled))
+
+-- ---- A lawful item has no fault
+
+pub equal_leaves : EqualLeavesGiveLikeMoves
+equal_leaves = record {
+  kept_from_derived = λ data_ canon specification b over. like_move data_ canon as_given canon specification b over
+      (given_represents data_) (canon_represents data_ canon over.is_canon);
+  derived_from_kept = λ data_ canon specification b over. like_move data_ canon canon as_given specification b over
+      (canon_represents data_ canon over.is_canon) (given_represents data_);
+  derived = λ data_ canon specification b over. like_move data_ canon as_given as_given specification b over (given_represents data_)
+      (given_represents data_);
+  kept = λ data_ canon specification b over. like_move data_ canon canon canon specification b over
+      (canon_represents data_ canon over.is_canon) (canon_represents data_ canon over.is_canon);
+}
+
+-- ---- A state has one menu
+
+entries_within : (data_ : Data) (canon : Term → Term) (processes : List Process) (b : Behaviour) (menu other : List Entry)
+    → Exact data_ canon processes b menu → Exact data_ canon processes b other → (x : Entry) → IsEntry menu x → IsEntry other x
+entries_within data_ canon processes b menu other exact another x inside =
+    let draft : _ = exact.solved x inside in another.every_solved x.shape draft.0 x draft.1 draft.2
+
+pub one_menu : AtMostOneMenuIsExact
+one_menu = λ data_ canon processes b menu other exact another.
+    same_members menu other exact.rising another.rising (entries_within data_ canon processes b menu other exact another)
+    (entries_within data_ canon processes b other menu another exact)
+
+-- two situations of one state are one
+pub one_situation : (basis : SessionBasis) (one other : Situation) → one.state ≡ other.state → IsSituation basis one
+    → IsSituation basis other → one ≡ other
+one_situation basis one other same h k =
+    let menus : one.menu ≡ other.menu =
+    one_menu basis.data_ basis.canon basis.specification.processes other.state one.menu other.menu
+    (subst (λ (it : Behaviour). Exact basis.data_ basis.canon basis.specification.processes it one.menu) same h) k in
+    λ i. record { state = same i; menu = menus i }

@@ -1,0 +1,289 @@
+-- The lines of a trace say what its items are.
+use Rattle.std.proofs.Common.{◌≡◌, ◌⊎◌, inl, inr, ◌+◌, ◌%◌, ◌<◌, ◌^◌, ℕ, List, [], ◌∷◌, ◌++◌, drop, length, get_or, Bool, true, false, not, ◌||◌, ◌&&◌, nat_eq, nat_lt, nat_le, if◌then◌else◌, Some, None, option_map, codes, decimal, refl, ap, ap₂, sym, ◌∙◌, subst, arith, append_assoc, append-nil, eqb-true, lt-ltb, le-leb, ne_eqb, mod-lt, eq-zero-or-pos, suc-le-suc}
+use Rattle.std.specs.List.{list_any, list_all, starts_with}
+use Rattle.std.specs.Char.{is_ascii_digit}
+use Rattle.std.specs.Str.Parse.{digits_value}
+use Rattle.std.proofs.lemmas.Fmt.{decimal_by_steps, decimal_is_IsNumeral, decimal_digit, decimal_nonempty, first_decimal, length-decimal-le}
+use Rattle.std.proofs.lemmas.List.Folds.{list_any-append, list_all-append}
+use Rattle.term_algebra.specs.Signature.{Signature}
+use Rattle.term_algebra.specs.Term.{Term}
+use Rattle.behaviour_semantics.specs.Label.{Label}
+use Rattle.behaviour_semantics.specs.WellFormed.{Every}
+use Rattle.printed_texts.specs.Brackets.{commas}
+use Rattle.printed_texts.specs.MenuText.{label_text, term_texts}
+use Rattle.session_histories.specs.Session.{SessionBasis, Item, Situation, PastStep, stepped, items_of}
+use Rattle.session_histories.specs.Lawful.{IsSituation, IsLawfulItem, LeadTo}
+use Rattle.session_histories.specs.Replay.{goes_on, LineComesTo, is_replayed, LinesComeTo, all_done, one_goes_on, ReplayIs}
+use Rattle.session_histories.specs.TraceLaws.{HavePlainNames, IsReadable, ReadBack}
+use Rattle.session_histories.specs.TraceLine.{StepLine, with_byte, around_arrow, first_digits, behind_digits, leads_with_zero, is_number, with_terms, with_number, with_arrow, step_line, with_first, lines_of}
+use Rattle.session_histories.specs.TraceText.{given_text, arrow, step_text, ended, steps_text, trace_text}
+use Rattle.session_histories.proofs.LineBytes.{Seen, nothing, see_byte, is_calm, run, Leads, joined, piece, ends_calm, without, no_arrow_begun, no_whole_arrow, decimal_leads, commas_lead, texts_lead, label_leads}
+
+-- ---- Line feeds
+
+-- a line without a line feed is cut off
+line_cut : (line more : List ℕ) → list_any (nat_eq 10) line ≡ false → lines_of (line ++ (10 ∷ more)) ≡ line ∷ lines_of more
+line_cut [] more h = refl
+line_cut (byte ∷ line) more h = by (nat_eq 10 byte) (line_cut line more) h
+  where
+    by : (b : Bool) → (list_any (nat_eq 10) line ≡ false → lines_of (line ++ (10 ∷ more)) ≡ line ∷ lines_of more)
+        → (b || list_any (nat_eq 10) line) ≡ false
+        → (if b then [] ∷ lines_of (line ++ (10 ∷ more)) else with_first byte (lines_of (line ++ (10 ∷ more))))
+        ≡ (byte ∷ line) ∷ lines_of more
+    by true rest k = absurd (cc k)
+    by false rest k = ap (with_first byte) (rest k)
+
+pub ended_cut : (line more : List ℕ) → list_any (nat_eq 10) line ≡ false → lines_of (ended line ++ more) ≡ line ∷ lines_of more
+ended_cut line more h = ap lines_of (append_assoc line (codes "\n") more) ∙ line_cut line more h
+
+-- ---- The first arrow
+
+-- no arrow begins in calm bytes
+not_here : (seen : Seen) (byte : ℕ) (bytes label : List ℕ) → is_calm (run seen (byte ∷ bytes)) ≡ true
+    → starts_with nat_eq (byte ∷ (bytes ++ (arrow ++ label))) arrow ≡ false
+not_here seen byte [] label h = by (nat_eq 32 byte)
+  where
+    by : (a : Bool) → (a && false) ≡ false
+    by true = refl
+    by false = refl
+not_here seen byte (second ∷ []) label h = by (nat_eq 32 byte) (nat_eq 61 second)
+  where
+    by : (a b : Bool) → (a && (b && false)) ≡ false
+    by true true = refl
+    by true false = refl
+    by false b = refl
+not_here seen byte (second ∷ third ∷ []) label h = by (nat_eq 32 byte) (nat_eq 61 second) (nat_eq 62 third) refl refl refl
+  where
+    by : (a b c : Bool) → nat_eq 32 byte ≡ a → nat_eq 61 second ≡ b → nat_eq 62 third ≡ c → (a && (b && (c && (true && true)))) ≡ false
+    by true true true p q r = absurd (no_arrow_begun seen byte second third (eqb-true 32 byte p) (eqb-true 61 second q)
+        (eqb-true 62 third r) h)
+    by true true false p q r = refl
+    by true false c p q r = refl
+    by false b c p q r = refl
+not_here seen byte (second ∷ third ∷ fourth ∷ bytes) label h =
+    by (nat_eq 32 byte) (nat_eq 61 second) (nat_eq 62 third) (nat_eq 32 fourth) refl refl refl refl
+  where
+    by : (a b c d : Bool) → nat_eq 32 byte ≡ a → nat_eq 61 second ≡ b → nat_eq 62 third ≡ c → nat_eq 32 fourth ≡ d
+        → (a && (b && (c && (d && true)))) ≡ false
+    by true true true true p q r s = absurd (no_whole_arrow seen byte second third fourth bytes (eqb-true 32 byte p)
+        (eqb-true 61 second q) (eqb-true 62 third r) (eqb-true 32 fourth s) h)
+    by true true true false p q r s = refl
+    by true true false d p q r s = refl
+    by true false c d p q r s = refl
+    by false b c d p q r s = refl
+
+pub arrow_at : (seen : Seen) (text label : List ℕ) → is_calm (run seen text) ≡ true
+    → around_arrow (text ++ (arrow ++ label)) ≡ Some (record { before = text; behind = label })
+arrow_at seen [] label h = refl
+arrow_at seen (byte ∷ text) label h =
+    ap (λ (b : Bool). if b then Some (record { before = []; behind = drop 3 (text ++ (arrow ++ label)) })
+    else option_map (with_byte byte) (around_arrow (text ++ (arrow ++ label)))) (not_here seen byte text label h)
+    ∙ ap (option_map (with_byte byte)) (arrow_at (see_byte seen byte) text label h)
+
+-- ---- Numbers
+
+both : (a b : Bool) → a ≡ true → b ≡ true → (a && b) ≡ true
+both true b e k = k
+both false b e k = absurd (cc e)
+
+either : (a b : Bool) → b ≡ true → (a || b) ≡ true
+either true b e = refl
+either false b e = e
+
+digit_glyph : (d : ℕ) → d < 10 → is_ascii_digit (48 + d) ≡ true
+digit_glyph d h = both (nat_le 48 (48 + d)) (nat_le (48 + d) 57) (le-leb 48 (48 + d) (omega arith)) (le-leb (48 + d) 57 (omega (arith, h)))
+
+all_digits : (n : ℕ) → n < 2 ^ 64 → list_all is_ascii_digit (decimal n) ≡ true
+all_digits n small =
+    decimal_by_steps (λ n ds. list_all is_ascii_digit ds ≡ true)
+    (λ n h. both (is_ascii_digit (48 + n)) true (digit_glyph n h) refl)
+    (λ n ds le h. list_all-append is_ascii_digit ds ((48 + n % 10) ∷ [])
+    ∙ both (list_all is_ascii_digit ds) (is_ascii_digit (48 + n % 10) && true) h
+    (both (is_ascii_digit (48 + n % 10)) true (digit_glyph (n % 10) (mod-lt n (omega arith))) refl)) n small
+
+-- bytes that are all digits, before others
+parts : (a b : Bool) → (a && b) ≡ true → (a ≡ true) × (b ≡ true)
+parts true b e = (refl, e)
+parts false b e = absurd (cc e)
+
+digits_first : (digits more : List ℕ) → list_all is_ascii_digit digits ≡ true → first_digits more ≡ []
+    → first_digits (digits ++ more) ≡ digits
+digits_first [] more h none = none
+digits_first (digit ∷ digits) more h none =
+    let all : (is_ascii_digit digit ≡ true) × (list_all is_ascii_digit digits ≡ true) =
+    parts (is_ascii_digit digit) (list_all is_ascii_digit digits) h in
+    ap (λ (b : Bool). if b then digit ∷ first_digits (digits ++ more) else []) all.0
+    ∙ ap (λ (it : List ℕ). digit ∷ it) (digits_first digits more all.1 none)
+
+digits_behind : (digits more : List ℕ) → list_all is_ascii_digit digits ≡ true → behind_digits more ≡ more
+    → behind_digits (digits ++ more) ≡ more
+digits_behind [] more h none = none
+digits_behind (digit ∷ digits) more h none =
+    let all : (is_ascii_digit digit ≡ true) × (list_all is_ascii_digit digits ≡ true) =
+    parts (is_ascii_digit digit) (list_all is_ascii_digit digits) h in
+    ap (λ (b : Bool). if b then behind_digits (digits ++ more) else digit ∷ (digits ++ more)) all.0
+    ∙ digits_behind digits more all.1 none
+
+no_zero : (digits : List ℕ) → 48 < get_or digits 0 0 → leads_with_zero digits ≡ false
+no_zero [] h = refl
+no_zero (digit ∷ digits) h = ne_eqb digit 48 (λ e. omega (arith, e, h))
+
+number_form : (n : ℕ) → n < 10000000000 → n < 2 ^ 64 → is_number (decimal n) ≡ true
+number_form n small wide =
+    both (nat_lt 0 (length (decimal n)) && nat_lt (length (decimal n)) 11)
+    (nat_eq (length (decimal n)) 1 || not (leads_with_zero (decimal n)))
+    (both (nat_lt 0 (length (decimal n))) (nat_lt (length (decimal n)) 11) (lt-ltb 0 (length (decimal n)) (decimal_nonempty n wide))
+    (lt-ltb (length (decimal n)) 11 (suc-le-suc (length-decimal-le 10 n (omega arith) small wide))))
+    (by n (eq-zero-or-pos n) wide)
+  where
+    by : (n : ℕ) → (n ≡ 0) ⊎ (0 < n) → n < 2 ^ 64
+        → (nat_eq (length (decimal n)) 1 || not (leads_with_zero (decimal n))) ≡ true
+    by n (inl nought) wide =
+        ap (λ (it : List ℕ). nat_eq (length it) 1 || not (leads_with_zero it)) (ap decimal nought ∙ decimal_digit 0 (omega arith))
+    by n (inr some) wide =
+        either (nat_eq (length (decimal n)) 1) (not (leads_with_zero (decimal n)))
+        (ap not (no_zero (decimal n) (first_decimal n some wide)))
+
+-- ---- The line of a step
+
+abbrev said_by : Signature → List (List ℕ) → Item → StepLine
+said_by signature gates item = record {
+  number = item.number;
+  terms = commas (term_texts signature item.values);
+  label = label_text signature gates item.label;
+}
+
+given_first : (signature : Signature) (values : List Term) → first_digits (given_text signature values) ≡ []
+given_first signature [] = refl
+given_first signature (value ∷ values) = refl
+
+given_behind : (signature : Signature) (values : List Term) → behind_digits (given_text signature values) ≡ given_text signature values
+given_behind signature [] = refl
+given_behind signature (value ∷ values) = refl
+
+given_terms : (signature : Signature) (number : ℕ) (values : List Term) (label : List ℕ)
+    → with_terms number (given_text signature values) label
+    ≡ Some (record { number = number; terms = commas (term_texts signature values); label = label })
+given_terms signature number [] label = refl
+given_terms signature number (value ∷ values) label = refl
+
+module _ (basis : SessionBasis) (plain : HavePlainNames basis) where
+  given_leads : (values : List Term) → Leads is_calm is_calm (given_text basis.data_.signature values)
+  given_leads [] = record { leads = λ seen e. e }
+  given_leads (value ∷ values) =
+      joined (codes " ") (commas (term_texts basis.data_.signature (value ∷ values))) (piece (codes " ") refl refl refl)
+      (commas_lead (term_texts basis.data_.signature (value ∷ values))
+      (texts_lead basis.data_.signature plain.sorts plain.operations (value ∷ values)))
+
+  -- the bytes before the arrow, and those of the label
+  before_calm : (item : Item) → is_calm (run nothing (decimal item.number ++ given_text basis.data_.signature item.values)) ≡ true
+  before_calm item =
+      (joined (decimal item.number) (given_text basis.data_.signature item.values)
+      (ends_calm (decimal item.number) (decimal_leads item.number)) (given_leads item.values)).leads nothing refl
+
+  label_calm : (label : Label) → is_calm (run nothing (label_text basis.data_.signature basis.specification.gate_names label)) ≡ true
+  label_calm label =
+      (label_leads basis.data_.signature plain.sorts plain.operations basis.specification.gate_names plain.gates label).leads nothing
+      refl
+
+  line_without : (code : ℕ) → list_any (nat_eq code) arrow ≡ false
+      → ((bytes : List ℕ) → is_calm (run nothing bytes) ≡ true → list_any (nat_eq code) bytes ≡ false) → (item : Item)
+      → list_any (nat_eq code) (step_text basis.data_.signature basis.specification.gate_names item) ≡ false
+  line_without code no_arrow none item =
+      let before : List ℕ = decimal item.number ++ given_text basis.data_.signature item.values in
+      let label : List ℕ = label_text basis.data_.signature basis.specification.gate_names item.label in
+      list_any-append (nat_eq code) (before ++ arrow) label
+      ∙ neither (list_any (nat_eq code) (before ++ arrow)) (list_any (nat_eq code) label)
+      (list_any-append (nat_eq code) before arrow
+      ∙ neither (list_any (nat_eq code) before) (list_any (nat_eq code) arrow) (none before (before_calm item)) no_arrow)
+      (none label (label_calm item.label))
+    where
+      neither : (a b : Bool) → a ≡ false → b ≡ false → (a || b) ≡ false
+      neither true b e k = absurd (cc e)
+      neither false b e k = k
+
+  pub line_ends : (item : Item)
+      → list_any (nat_eq 10) (step_text basis.data_.signature basis.specification.gate_names item) ≡ false
+  line_ends item = line_without 10 refl (without 10 refl nothing) item
+
+  pub line_says : (item : Item) → item.number < 10000000000
+      → step_line (step_text basis.data_.signature basis.specification.gate_names item)
+      ≡ Some (said_by basis.data_.signature basis.specification.gate_names item)
+  line_says item small =
+      let digits : List ℕ = decimal item.number in
+      let given : List ℕ = given_text basis.data_.signature item.values in
+      let label : List ℕ = label_text basis.data_.signature basis.specification.gate_names item.label in
+      let wide : item.number < 2 ^ 64 = omega (arith, small) in
+      let all : list_all is_ascii_digit digits ≡ true = all_digits item.number wide in
+      ap (λ (b : Bool). if b then None else with_arrow (around_arrow (digits ++ given ++ arrow ++ label)))
+      (line_without 13 refl (without 13 refl nothing) item)
+      ∙ (ap (λ (it : List ℕ). with_arrow (around_arrow it)) (append_assoc (digits ++ given) arrow label)
+      ∙ (ap with_arrow (arrow_at nothing (digits ++ given) label (before_calm item))
+      ∙ (ap₂ (λ (it rest : List ℕ). with_number it rest label)
+      (digits_first digits given all (given_first basis.data_.signature item.values))
+      (digits_behind digits given all (given_behind basis.data_.signature item.values))
+      ∙ (ap (λ (b : Bool). if b then with_terms (digits_value 10 digits) given label else None) (number_form item.number small wide)
+      ∙ (ap (λ (n : ℕ). with_terms n given label) (decimal_is_IsNumeral item.number wide).1
+      ∙ given_terms basis.data_.signature item.number item.values label)))))
+
+  -- ---- The lines of a trace
+
+  abbrev item_lines : List PastStep → List ℕ
+  item_lines steps = steps_text basis.data_.signature basis.specification.gate_names (items_of steps)
+
+  one_line : (first next : Situation) (done : List PastStep) (item : Item) → IsLawfulItem basis first item next.state
+      → IsSituation basis next → IsReadable basis item
+      → LineComesTo basis (record { situation = first; steps = done })
+      (step_text basis.data_.signature basis.specification.gate_names item)
+      (goes_on (stepped (record { situation = first; steps = done }) item next))
+  one_line first next done item lawful menu readable =
+      let back : ReadBack basis.data_.signature lawful.entry.variables item.values =
+      readable.values lawful.entry.variables lawful.meets.sorted in
+      is_replayed (said_by basis.data_.signature basis.specification.gate_names item) lawful.entry item.values item.label
+      (stepped (record { situation = first; steps = done }) item next)
+      (record {
+        terms = back.0;
+        is_line = record { form = line_says item readable.number; read = back.1 };
+        listed = lawful.listed;
+        read = back.2;
+      })
+      (record {
+        item = item;
+        next = next;
+        numbered = refl;
+        valued = refl;
+        labelled = refl;
+        lawful = lawful;
+        menu = menu;
+        appended = refl;
+      }) refl
+
+  pub item_lines_lead : (number : ℕ) (first last : Situation) (done steps : List PastStep) → LeadTo basis first steps last
+      → Every (IsReadable basis) (items_of steps)
+      → LinesComeTo basis number (record { situation = first; steps = done }) (lines_of (item_lines steps))
+      (goes_on (record { situation = last; steps = done ++ steps }))
+  item_lines_lead number first last done [] h readable =
+      subst (λ (it : Situation). LinesComeTo basis number (record { situation = first; steps = done }) []
+      (goes_on (record { situation = it; steps = done ++ [] }))) h
+      (subst (λ (it : List PastStep). LinesComeTo basis number (record { situation = first; steps = done }) []
+      (goes_on (record { situation = first; steps = it }))) (sym (append-nil done)) all_done)
+  item_lines_lead number first last done (step ∷ steps) h readable =
+      let here : PastStep = record { item = step.item; before = first } in
+      let same : here ≡ step = λ i. record { item = step.item; before = sym h.0 i } in
+      let rest : LinesComeTo basis (number + 1) (record { situation = h.1; steps = done ++ (here ∷ []) }) (lines_of (item_lines steps))
+      (goes_on (record { situation = last; steps = done ++ (here ∷ []) ++ steps })) =
+      item_lines_lead (number + 1) h.1 last (done ++ (here ∷ [])) steps h.4 readable.1 in
+      subst (λ (it : List PastStep). LinesComeTo basis number (record { situation = first; steps = done })
+      (lines_of (item_lines (step ∷ steps))) (goes_on (record { situation = last; steps = it })))
+      (append_assoc done (here ∷ []) steps ∙ ap (λ (it : PastStep). done ++ (it ∷ steps)) same)
+      (subst (λ (it : List (List ℕ)). LinesComeTo basis number (record { situation = first; steps = done }) it
+      (goes_on (record { situation = last; steps = done ++ (here ∷ []) ++ steps })))
+      (sym (ended_cut (step_text basis.data_.signature basis.specification.gate_names step.item) (item_lines steps)
+      (line_ends step.item)))
+      (one_goes_on (one_line first h.1 done step.item h.2 h.3 readable.0) rest))
+
+  pub trace_leads_back : (first last : Situation) (steps : List PastStep) → LeadTo basis first steps last
+      → Every (IsReadable basis) (items_of steps)
+      → ReplayIs basis first (trace_text basis.data_.signature basis.specification.gate_names (items_of steps))
+      (goes_on (record { situation = last; steps = steps }))
+  trace_leads_back first last steps h readable = item_lines_lead 2 first last [] steps h readable

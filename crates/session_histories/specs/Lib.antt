@@ -1,0 +1,12 @@
+pub mod Session
+pub mod Refusal
+pub mod Lawful
+pub mod SessionLaws
+pub mod StepLaws
+pub mod TraceText
+pub mod TraceLine
+pub mod Replay
+pub mod ReplayLaws
+pub mod TraceLaws
+pub mod LineCases
+pub mod RefusalCases

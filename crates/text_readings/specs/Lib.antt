@@ -1,0 +1,5 @@
+pub mod TextNames
+pub mod TermDepth
+pub mod ReadBack
+pub mod ReadBackLaws
+pub mod SampleTexts

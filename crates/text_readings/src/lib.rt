@@ -1,0 +1,4 @@
+//! The texts of ground terms, read back.
+#![tactic(auto)]
+
+pub mod laws;

@@ -1,0 +1,4 @@
+//! The traces of sessions over specifications that were read from texts.
+#![tactic(auto)]
+
+pub mod laws;

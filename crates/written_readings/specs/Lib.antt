@@ -1,0 +1,2 @@
+pub mod WrittenAs
+pub mod WrittenLaws

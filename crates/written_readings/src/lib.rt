@@ -1,0 +1,4 @@
+//! Ground terms and what they are written as.
+#![tactic(auto)]
+
+pub mod laws;
