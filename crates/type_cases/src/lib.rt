@@ -31,8 +31,6 @@ mod order;
 #[cfg(test)]
 mod pairs;
 #[cfg(test)]
-mod presentations;
-#[cfg(test)]
 mod readings;
 #[cfg(test)]
 mod renamings;
