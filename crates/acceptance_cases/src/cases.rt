@@ -81,9 +81,10 @@ fn came(alloc: Global, case: Case<'_>, failing: u64) -> Result<Vec<u8>, Fail> {
     } else {
         Some(case.order)
     };
+    let values = Vec::new(alloc);
     said(
         alloc,
-        Accepted::read(alloc, "s", order, &mut shelf),
+        Accepted::read(alloc, "s", order, values.as_slice(), &mut shelf),
         case.order,
     )
 }

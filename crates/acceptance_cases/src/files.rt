@@ -29,7 +29,7 @@ o^s^refused 402 Unguarded at s:1:70 P -> P^s#specification S [g] : noexit behavi
 ^s^refused 207 UnknownOperation at s:1:107 e^s#specification S [g] : noexit type A is sorts X opns c : -> X endtype type B is A renamedby opnnames d for e endtype behaviour stop endspec~
 ^s^refused 208 NotFormal at s:1:66 A^s#specification S [g] : noexit type A is sorts X endtype type B is A actualizedby A using endtype behaviour stop endspec~
 ^s^refused 602 Unjoined at s:1:101 with s:1:111: f(a) gives b and c^s#specification S [g] (x : N) : noexit type T is sorts N opns a, b, c : -> N f : N -> N eqns ofsort N f(a) = b; f(a) = c; endtype behaviour stop endspec~
-^s^refused 100 Unbuilt at s:1:21^s#specification S [g] (x : N) : noexit type T is sorts N endtype behaviour stop endspec~
+^s^refused 701 StartValues wanted 1 given 0^s#specification S [g] (x : N) : noexit type T is sorts N endtype behaviour stop endspec~
 o^s o^refused 501 OrderOperation at o:2:1 f^s#specification S [g] : noexit type T is sorts N opns _+_ : N, N -> N eqns forall x, y : N ofsort N x + y = y + x; endtype behaviour stop endspec^o#_+_;
 f;~
 o^s o^refused 601 Unorientable at s:1:99 x + y = y + x^s#specification S [g] : noexit type T is sorts N opns _+_ : N, N -> N eqns forall x, y : N ofsort N x + y = y + x; endtype behaviour stop endspec^o#_+_;";

@@ -13,7 +13,12 @@ fn came(
     order: Option<&str>,
 ) -> Result<Vec<u8>, Fail> {
     let mut shelf = MemShelf::new(files, Vec::new(alloc));
-    said(alloc, Accepted::read(alloc, "s", order, &mut shelf), "o")
+    let values = Vec::new(alloc);
+    said(
+        alloc,
+        Accepted::read(alloc, "s", order, values.as_slice(), &mut shelf),
+        "o",
+    )
 }
 
 // The file of the name with the text.

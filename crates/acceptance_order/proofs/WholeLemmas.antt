@@ -1,18 +1,15 @@
 -- The whole of the acceptance is determined.
-use Rattle.std.proofs.Common.{refl, ap, sym, ◌∙◌, ◌≡◌, ◌≢◌, subst, ℕ, List, []}
-use Rattle.term_algebra.specs.Equation.{Place, Data}
+use Rattle.std.proofs.Common.{refl, ap, sym, ◌∙◌, ◌≡◌, subst}
+use Rattle.term_algebra.specs.Equation.{Data}
 use Rattle.syntax_trees.specs.WrittenDefinition.{WrittenSpecification}
 use Rattle.syntax_trees.specs.TakenItems.{without_items}
 use Rattle.behaviour_semantics.specs.Behaviour.{Specification}
-use Rattle.lotos_lexer.specs.declared.tokens.Token.{Token}
-use Rattle.lotos_lexer.specs.Tokens as lexed
-use Rattle.lotos_lexer.specs.declared.kinds.TheConstants as kinds
 use Rattle.type_mentions.specs.DeclaredTypes.{types_of}
 use Rattle.static_scope.specs.ScopeFault.{ScopeFault}
 use Rattle.static_scope.specs.Resolution.{Resolution, resolved, faulty}
 use Rattle.static_scope.specs.Definitions.{SpecificationIs}
 use Rattle.static_scope.proofs.BehavioursOnce.{specification_once}
-use Rattle.spec_faults.specs.Refusal.{Refusal, unbuilt, too_long, bad_byte, open_comment, wrong_syntax, too_deep, too_many_libraries, wrong_names, wrong_types, wrong_scopes, mismatch, unguarded, unknown_operation, twice_listed, unorientable, unjoined, start_values, start_term}
+use Rattle.spec_faults.specs.Refusal.{Refusal, too_long, bad_byte, open_comment, wrong_syntax, too_deep, too_many_libraries, wrong_names, wrong_types, wrong_scopes, mismatch, unguarded, unknown_operation, twice_listed, unorientable, unjoined, start_values, start_term}
 use Rattle.acceptance_order.specs.Ending.{with_libraries, with_data, with_spec}
 use Rattle.acceptance_order.specs.PartLaws.{IsDecided}
 use Rattle.acceptance_order.specs.Texts.{Gets, ReadsSpecification, Gathers, Orders}
@@ -20,7 +17,9 @@ use Rattle.acceptance_order.specs.Types.{HaveData, HaveFault, Flattens}
 use Rattle.acceptance_order.specs.Scopes.{StandsFor, Breaks, Resolves}
 use Rattle.acceptance_order.specs.Checks.{Agree, Disagree, Agrees, Guarded, Cyclic, IsGuardedIn}
 use Rattle.acceptance_order.specs.Book.{Opens, DoesNotOpen, OpensBook}
-use Rattle.acceptance_order.specs.Acceptance.{first_of_kind, opening, OpensAt, HasNone, HasSome, IsBuilt, accepted_with}
+use Rattle.start_values.specs.StartValues.{Start, AreStartValues, IsStartFault}
+use Rattle.start_values.proofs.OutcomeLemmas.{starts_have_one_outcome}
+use Rattle.acceptance_order.specs.Acceptance.{start_of, Starts, accepted_with}
 use Rattle.acceptance_order.specs.AcceptanceLaws.{ScopesAreDecided, AcceptanceIsDetermined}
 use Rattle.acceptance_order.proofs.PartLemmas.{has_determined, looks_determined, then_determined}
 use Rattle.acceptance_order.proofs.TextLemmas.{gets_determined, reads_determined, gathers_determined, orders_determined}
@@ -29,7 +28,6 @@ use Rattle.acceptance_order.proofs.TextLemmas.{gets_determined, reads_determined
 
 breaks : (data_ : Data) (tree : WrittenSpecification) (refusal : Refusal) → Breaks data_ tree refusal →
     (fault : ScopeFault) × (refusal ≡ wrong_scopes fault) × SpecificationIs data_.signature (without_items tree) (faulty fault)
-breaks data_ tree (unbuilt place) is = absurd is
 breaks data_ tree (too_long number) is = absurd is
 breaks data_ tree (bad_byte place) is = absurd is
 breaks data_ tree (open_comment place) is = absurd is
@@ -76,47 +74,13 @@ scopes_are_decided data_ tree = record {
       (specification_once data_.signature (without_items tree) (faulty told.0) (faulty tells.0) told.2 tells.2) ∙ sym tells.1;
 }
 
--- ---- What is not built
+-- ---- Start values
 
-unbuilt_at : (text : List ℕ) (spec : Specification) (refusal : Refusal) → HasSome text spec refusal →
-    (place : Place) × (refusal ≡ unbuilt place) × (spec.parameters ≢ []) × OpensAt text place
-unbuilt_at text spec (unbuilt place) is = (place, refl, is.0, is.1)
-unbuilt_at text spec (too_long number) is = absurd is
-unbuilt_at text spec (bad_byte place) is = absurd is
-unbuilt_at text spec (open_comment place) is = absurd is
-unbuilt_at text spec (wrong_syntax place) is = absurd is
-unbuilt_at text spec (too_deep place) is = absurd is
-unbuilt_at text spec (too_many_libraries place name) is = absurd is
-unbuilt_at text spec (wrong_names fault) is = absurd is
-unbuilt_at text spec (wrong_types fault) is = absurd is
-unbuilt_at text spec (wrong_scopes fault) is = absurd is
-unbuilt_at text spec (mismatch place left right) is = absurd is
-unbuilt_at text spec (unguarded place process cycle) is = absurd is
-unbuilt_at text spec (unknown_operation place name) is = absurd is
-unbuilt_at text spec (twice_listed place name) is = absurd is
-unbuilt_at text spec (unorientable equation) is = absurd is
-unbuilt_at text spec (unjoined first second peak left right) is = absurd is
-unbuilt_at text spec (start_values wanted given) is = absurd is
-unbuilt_at text spec (start_term refusal) is = absurd is
-
-abbrev tokens_in : List Token → lexed.Lexed → List Token
-tokens_in other (lexed.Tokens tokens) = tokens
-tokens_in other (lexed.BadByte place) = other
-tokens_in other (lexed.OpenComment place) = other
-
-opens_once : (text : List ℕ) (place other : Place) → OpensAt text place → OpensAt text other → place ≡ other
-opens_once text place other is also =
-    let tokens : is.tokens ≡ also.tokens = ap (λ (cut : lexed.Lexed). tokens_in is.tokens cut) (sym is.cut_into ∙ also.cut_into) in
-    sym is.placed ∙ ap (λ (ts : List Token). opening (first_of_kind kinds.LEFT_PARENTHESIS ts)) tokens ∙ also.placed
-
-built_decided : (text : List ℕ) (spec : Specification) → IsDecided (HasNone spec) (HasSome text spec)
-built_decided text spec = record {
-  one_value = λ b c is also. is.0 ∙ sym also.0;
-  not_both = λ b refusal is not. let told = unbuilt_at text spec refusal not in told.2 is.1;
-  one_fault = λ refusal other is also.
-      let told = unbuilt_at text spec refusal is in
-      let tells = unbuilt_at text spec other also in
-      told.1 ∙ ap (λ (p : Place). unbuilt p) (opens_once text told.0 tells.0 told.3 tells.3) ∙ sym tells.1;
+starts_decided : (start : Start) → IsDecided (AreStartValues start) (IsStartFault start)
+starts_decided start = record {
+  one_value = starts_have_one_outcome.one_list start;
+  not_both = starts_have_one_outcome.not_both start;
+  one_fault = starts_have_one_outcome.one_fault start;
 }
 
 -- ---- All of it
@@ -143,6 +107,7 @@ acceptance_is_determined types fine exits ranks books asked got =
     then_determined (OpensBook gathered data_ spec items) _ got
     (looks_determined (Opens items data_) (DoesNotOpen items data_) (with_spec gathered.read data_ spec) got
     (books items data_ (fine (types_of gathered.types) data_ have.1))) (λ opened f8 i8.
-    then_determined (IsBuilt text gathered spec) _ got
-    (looks_determined (HasNone spec) (HasSome text spec) (with_libraries gathered.read) got (built_decided text spec)) (λ built f9 i9.
-    has_determined (accepted_with gathered data_ spec items) got))))))))))
+    then_determined (Starts gathered data_ spec asked.values) _ got
+    (looks_determined (AreStartValues (start_of data_ spec asked.values)) (IsStartFault (start_of data_ spec asked.values))
+    (with_spec gathered.read data_ spec) got (starts_decided (start_of data_ spec asked.values))) (λ values f9 i9.
+    has_determined (accepted_with gathered data_ spec items values) got))))))))))

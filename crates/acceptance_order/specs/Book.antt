@@ -10,7 +10,7 @@ use Rattle.operation_order.specs.Listing.{IsUnknown, IsTwice, IsFirstWrong}
 use Rattle.critical_pairs.specs.Joining.{AreUnjoinedBy}
 use Rattle.equation_book.specs.Refusal.{IsBookPrecedence, IsOpenedBy}
 use Rattle.library_reading.specs.Gathering.{Gathered}
-use Rattle.spec_faults.specs.Refusal.{Refusal, unbuilt, too_long, bad_byte, open_comment, wrong_syntax, too_deep, too_many_libraries, wrong_names, wrong_types, wrong_scopes, mismatch, unguarded, unknown_operation, twice_listed, unorientable, unjoined, start_values, start_term}
+use Rattle.spec_faults.specs.Refusal.{Refusal, too_long, bad_byte, open_comment, wrong_syntax, too_deep, too_many_libraries, wrong_names, wrong_types, wrong_scopes, mismatch, unguarded, unknown_operation, twice_listed, unorientable, unjoined, start_values, start_term}
 use Rattle.acceptance_order.specs.Ending.{with_spec}
 use Rattle.acceptance_order.specs.Part.{Part, Looks}
 
@@ -31,7 +31,6 @@ DoesNotOpen items data_ (unorientable equation) =
 DoesNotOpen items data_ (unjoined first second peak left right) =
     (precedence : Precedence) × (rules : List NumberedRule) × IsBookPrecedence data_.signature items precedence
     × IsOrientation precedence data_ rules × AreUnjoinedBy data_.signature rules first second peak left right
-DoesNotOpen items data_ (unbuilt place) = ⊥
 DoesNotOpen items data_ (too_long number) = ⊥
 DoesNotOpen items data_ (bad_byte place) = ⊥
 DoesNotOpen items data_ (open_comment place) = ⊥

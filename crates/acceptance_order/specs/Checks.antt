@@ -16,7 +16,7 @@ use Rattle.process_checks.specs.Ranks.{IsUnguarded}
 use Rattle.definition_scopes.specs.TextPlaces.{text_places}
 use Rattle.definition_scopes.specs.KeptPlaces.{places_of}
 use Rattle.library_reading.specs.Gathering.{Gathered}
-use Rattle.spec_faults.specs.Refusal.{Refusal, unbuilt, too_long, bad_byte, open_comment, wrong_syntax, too_deep, too_many_libraries, wrong_names, wrong_types, wrong_scopes, mismatch, unguarded, unknown_operation, twice_listed, unorientable, unjoined, start_values, start_term}
+use Rattle.spec_faults.specs.Refusal.{Refusal, too_long, bad_byte, open_comment, wrong_syntax, too_deep, too_many_libraries, wrong_names, wrong_types, wrong_scopes, mismatch, unguarded, unknown_operation, twice_listed, unorientable, unjoined, start_values, start_term}
 use Rattle.acceptance_order.specs.Ending.{with_spec}
 use Rattle.acceptance_order.specs.Part.{Part, Looks}
 
@@ -38,7 +38,6 @@ IsFirst (first ∷ others) place left right = (text_place_of first.place ≡ pla
 abbrev pub Disagree : Data → WrittenSpecification → Specification → Refusal → Type 0
 Disagree data_ tree spec (mismatch place left right) =
     (kept : Spec) × Keeps data_ tree spec kept × IsFirst (all_disagreements kept) place left right
-Disagree data_ tree spec (unbuilt place) = ⊥
 Disagree data_ tree spec (too_long number) = ⊥
 Disagree data_ tree spec (bad_byte place) = ⊥
 Disagree data_ tree spec (open_comment place) = ⊥
@@ -67,7 +66,6 @@ Guarded spec same = (same ≡ spec) × IsGuarded spec.processes
 abbrev pub Cyclic : Data → WrittenSpecification → Specification → Refusal → Type 0
 Cyclic data_ tree spec (unguarded place process cycle) =
     (kept : Spec) × (at : Place) × Keeps data_ tree spec kept × (text_place_of at ≡ place) × IsUnguarded kept at process cycle
-Cyclic data_ tree spec (unbuilt place) = ⊥
 Cyclic data_ tree spec (too_long number) = ⊥
 Cyclic data_ tree spec (bad_byte place) = ⊥
 Cyclic data_ tree spec (open_comment place) = ⊥

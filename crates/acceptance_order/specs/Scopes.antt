@@ -6,7 +6,7 @@ use Rattle.behaviour_semantics.specs.Behaviour.{Specification}
 use Rattle.static_scope.specs.Resolution.{resolved, faulty}
 use Rattle.static_scope.specs.Definitions.{SpecificationIs}
 use Rattle.library_reading.specs.Gathering.{Gathered}
-use Rattle.spec_faults.specs.Refusal.{Refusal, unbuilt, too_long, bad_byte, open_comment, wrong_syntax, too_deep, too_many_libraries, wrong_names, wrong_types, wrong_scopes, mismatch, unguarded, unknown_operation, twice_listed, unorientable, unjoined, start_values, start_term}
+use Rattle.spec_faults.specs.Refusal.{Refusal, too_long, bad_byte, open_comment, wrong_syntax, too_deep, too_many_libraries, wrong_names, wrong_types, wrong_scopes, mismatch, unguarded, unknown_operation, twice_listed, unorientable, unjoined, start_values, start_term}
 use Rattle.acceptance_order.specs.Ending.{with_data}
 use Rattle.acceptance_order.specs.Part.{Part, Looks}
 
@@ -17,7 +17,6 @@ StandsFor data_ tree spec = SpecificationIs data_.signature (without_items tree)
 -- the fault is the first rule that it breaks
 abbrev pub Breaks : Data → WrittenSpecification → Refusal → Type 0
 Breaks data_ tree (wrong_scopes fault) = SpecificationIs data_.signature (without_items tree) (faulty fault)
-Breaks data_ tree (unbuilt place) = ⊥
 Breaks data_ tree (too_long number) = ⊥
 Breaks data_ tree (bad_byte place) = ⊥
 Breaks data_ tree (open_comment place) = ⊥

@@ -6,7 +6,7 @@ use Rattle.type_mentions.specs.MentionFaults.{IsMentionFault, AreDeclaredOnce, A
 use Rattle.type_mentions.specs.TypeGraph.{IsAcyclic}
 use Rattle.type_flatten.specs.Flattened.{IsFlattening, IsFlatteningFault}
 use Rattle.library_reading.specs.Gathering.{Gathered}
-use Rattle.spec_faults.specs.Refusal.{Refusal, unbuilt, too_long, bad_byte, open_comment, wrong_syntax, too_deep, too_many_libraries, wrong_names, wrong_types, wrong_scopes, mismatch, unguarded, unknown_operation, twice_listed, unorientable, unjoined, start_values, start_term}
+use Rattle.spec_faults.specs.Refusal.{Refusal, too_long, bad_byte, open_comment, wrong_syntax, too_deep, too_many_libraries, wrong_names, wrong_types, wrong_scopes, mismatch, unguarded, unknown_operation, twice_listed, unorientable, unjoined, start_values, start_term}
 use Rattle.acceptance_order.specs.Ending.{with_libraries}
 use Rattle.acceptance_order.specs.Part.{Part, Looks}
 
@@ -22,7 +22,6 @@ HaveData types data_ = AreNamesFine types × IsFlattening types data_
 abbrev pub HaveFault : List DeclaredType → Refusal → Type 0
 HaveFault types (wrong_names fault) = IsMentionFault types fault
 HaveFault types (wrong_types fault) = AreNamesFine types × IsFlatteningFault types fault
-HaveFault types (unbuilt place) = ⊥
 HaveFault types (too_long text) = ⊥
 HaveFault types (bad_byte place) = ⊥
 HaveFault types (open_comment place) = ⊥

@@ -11,7 +11,7 @@ use Rattle.type_flatten.specs.TypeFault.{TypeFault}
 use Rattle.type_flatten.specs.Flattened.{IsFlattening, IsFlatteningFault}
 use Rattle.flattening_outcomes.proofs.OneOutcome.{flattening_is_decided}
 use Rattle.flattened_data_laws.proofs.TypesFine.{flattened_data}
-use Rattle.spec_faults.specs.Refusal.{Refusal, unbuilt, too_long, bad_byte, open_comment, wrong_syntax, too_deep, too_many_libraries, wrong_names, wrong_types, wrong_scopes, mismatch, unguarded, unknown_operation, twice_listed, unorientable, unjoined, start_values, start_term}
+use Rattle.spec_faults.specs.Refusal.{Refusal, too_long, bad_byte, open_comment, wrong_syntax, too_deep, too_many_libraries, wrong_names, wrong_types, wrong_scopes, mismatch, unguarded, unknown_operation, twice_listed, unorientable, unjoined, start_values, start_term}
 use Rattle.acceptance_order.specs.AcceptanceLaws.{TypesAreDecided, DataAreWellFormed}
 use Rattle.acceptance_order.specs.Types.{AreNamesFine, HaveFault}
 use Rattle.acceptance_order.proofs.WholeLemmas.{acceptance_is_determined}
@@ -42,7 +42,6 @@ data Fault (types : List DeclaredType) : Refusal → Type 0 where
 fault_of : (types : List DeclaredType) (refusal : Refusal) → HaveFault types refusal → Fault types refusal
 fault_of types (wrong_names fault) is = of_names fault is
 fault_of types (wrong_types fault) is = of_types fault is.0 is.1
-fault_of types (unbuilt place) is = absurd is
 fault_of types (too_long text) is = absurd is
 fault_of types (bad_byte place) is = absurd is
 fault_of types (open_comment place) is = absurd is

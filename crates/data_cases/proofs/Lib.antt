@@ -1,3 +1,2 @@
 pub mod OneSortLemmas
 pub mod SortedLemmas
-pub mod UnifierLemmas

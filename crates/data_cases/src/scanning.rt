@@ -122,8 +122,7 @@ fn behind(text: &[u8], byte: u8) -> Option<&[u8]> {
 fn after_blanks(text: &[u8]) -> &[u8] {
     for i in 0..text.len() {
         if text[i] != b' ' {
-            let (_, rest) = text.split_at(i);
-            return rest;
+            return &text[i..];
         }
     }
     &[]

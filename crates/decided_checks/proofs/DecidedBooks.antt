@@ -11,7 +11,7 @@ use Rattle.termination_theory.proofs.OrientationLemmas.{oriented_well_formed, ru
 use Rattle.operation_order.specs.Listing.{IsFirstWrong}
 use Rattle.critical_pairs.specs.Joining.{AreUnjoinedBy}
 use Rattle.equation_book.specs.Refusal.{IsBookPrecedence}
-use Rattle.spec_faults.specs.Refusal.{Refusal, unbuilt, too_long, bad_byte, open_comment, wrong_syntax, too_deep, too_many_libraries, wrong_names, wrong_types, wrong_scopes, mismatch, unguarded, unknown_operation, twice_listed, unorientable, unjoined, start_values, start_term}
+use Rattle.spec_faults.specs.Refusal.{Refusal, too_long, bad_byte, open_comment, wrong_syntax, too_deep, too_many_libraries, wrong_names, wrong_types, wrong_scopes, mismatch, unguarded, unknown_operation, twice_listed, unorientable, unjoined, start_values, start_term}
 use Rattle.acceptance_order.specs.AcceptanceLaws.{BooksAreDecided}
 use Rattle.acceptance_order.specs.Book.{Opens, DoesNotOpen}
 use Rattle.acceptance_order.specs.PartLaws.{IsDecided}
@@ -59,7 +59,6 @@ fault_of items data_ (twice_listed place name) is = is_twice place name is
 fault_of items data_ (unorientable equation) is = is_unorientable equation is.0 is.1 is.2
 fault_of items data_ (unjoined first second peak left right) is =
     is_unjoined first second peak left right is.0 is.1 is.2 is.3 is.4
-fault_of items data_ (unbuilt place) is = absurd is
 fault_of items data_ (too_long number) is = absurd is
 fault_of items data_ (bad_byte place) is = absurd is
 fault_of items data_ (open_comment place) is = absurd is

@@ -20,7 +20,7 @@ use Rattle.process_checks.specs.Ranks.{IsSiteAt, IsUnguarded}
 use Rattle.process_checks.specs.declared.calls.CallSite.{CallSite}
 use Rattle.process_checks.proofs.CallLemmas.{not_guarded}
 use Rattle.process_checks.proofs.WayLemmas.{way_of_leads}
-use Rattle.spec_faults.specs.Refusal.{Refusal, unbuilt, too_long, bad_byte, open_comment, wrong_syntax, too_deep, too_many_libraries, wrong_names, wrong_types, wrong_scopes, mismatch, unguarded, unknown_operation, twice_listed, unorientable, unjoined, start_values, start_term}
+use Rattle.spec_faults.specs.Refusal.{Refusal, too_long, bad_byte, open_comment, wrong_syntax, too_deep, too_many_libraries, wrong_names, wrong_types, wrong_scopes, mismatch, unguarded, unknown_operation, twice_listed, unorientable, unjoined, start_values, start_term}
 use Rattle.acceptance_order.specs.PartLaws.{IsDecided}
 use Rattle.acceptance_order.specs.Checks.{Keeps, Agree, IsFirst, Disagree, Guarded, Cyclic}
 use Rattle.acceptance_order.specs.AcceptanceLaws.{ExitsAreDecided, RanksAreDecided}
@@ -75,7 +75,6 @@ module _ (data_ : Data) (tree : WrittenSpecification) (spec : Specification) whe
     subst (λ (ds : List PlacedDisagreement). IsFirstTold ds place left right) (seen_are_told is.0 is.1)
         (first_told (all_disagreements is.0) place left right is.2),
   )
-  mismatched (unbuilt place) is = absurd is
   mismatched (too_long number) is = absurd is
   mismatched (bad_byte place) is = absurd is
   mismatched (open_comment place) is = absurd is
@@ -228,7 +227,6 @@ module _ (data_ : Data) (tree : WrittenSpecification) (spec : Specification) whe
     refl,
     subst (λ (p : Place). IsToldCycle calls_all p process cycle) is.3 (cycle_told is.0 is.1 process cycle is.2 is.4),
   )
-  cyclic (unbuilt place) is = absurd is
   cyclic (too_long number) is = absurd is
   cyclic (bad_byte place) is = absurd is
   cyclic (open_comment place) is = absurd is
@@ -250,7 +248,6 @@ module _ (data_ : Data) (tree : WrittenSpecification) (spec : Specification) whe
   kept_cyclic (unguarded place process cycle) is guarded =
       not_guarded is.0.processes.items (cycle_of is.0 process is.4.position is.4.first.on_cycle)
       (subst (λ (s : Specification). IsGuarded s.processes) (sym is.2.same) guarded)
-  kept_cyclic (unbuilt place) is guarded = absurd is
   kept_cyclic (too_long number) is guarded = absurd is
   kept_cyclic (bad_byte place) is guarded = absurd is
   kept_cyclic (open_comment place) is guarded = absurd is

@@ -55,13 +55,21 @@ fn rules_keep_the_order(rt: HostRuntime) -> Result<(), Fail> {
 #[test]
 fn both_sides_meet_at_one_gate(rt: HostRuntime) -> Result<(), Fail> {
     let alloc = rt.alloc();
-    let lefts = events(alloc, 3, 4)?;
-    let rights = events(alloc, 4, 3)?;
-    let made = both_sides(&lefts, &rights, &Meet::Everything, 10)?;
+    let made = both_sides(
+        events(alloc, 3, 4)?,
+        events(alloc, 4, 3)?,
+        &Meet::Everything,
+        10,
+    )?;
     assert_eq!(rt; made.len(), 2);
     assert_eq!(rt; gate_of(&made[0]), 3);
     assert_eq!(rt; gate_of(&made[1]), 4);
-    let none = both_sides(&lefts, &rights, &Meet::Nothing, 10)?;
+    let none = both_sides(
+        events(alloc, 3, 4)?,
+        events(alloc, 4, 3)?,
+        &Meet::Nothing,
+        10,
+    )?;
     assert_eq!(rt; none.len(), 0);
     Ok(())
 }

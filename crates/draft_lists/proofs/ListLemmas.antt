@@ -1,19 +1,17 @@
 -- Lists of drafts made one by one.
-use Rattle.std.proofs.Common.{◌≡◌, ◌<◌, ◌++◌, ℕ, suc, ◌+◌, List, [], ◌∷◌, map, filter_map, length, drop, reverse, get_or, Option, None, Some, option_map, option_to_list, refl, ap, sym, ◌∙◌, subst, add-one, append_assoc, append-nil, arith, ◌≤◌, ◌↔◌, IsSome}
+use Rattle.std.proofs.Common.{◌≡◌, ◌<◌, ◌++◌, ℕ, suc, ◌+◌, List, [], ◌∷◌, filter_map, length, drop, reverse, get_or, Option, None, Some, option_map, option_to_list, refl, ap, sym, ◌∙◌, subst, add-one, append_assoc, append-nil, arith, ◌↔◌, IsSome}
 use Rattle.std.specs.Prelude.{IfSome}
 use Rattle.std.specs.List.{cons_option}
 use Rattle.std.proofs.Math.Seq.{drop-cons}
-use Rattle.std.proofs.lemmas.List.{map-append, reverse-append, reverse-reverse, drop_all}
+use Rattle.std.proofs.lemmas.List.{map-append, reverse-append, reverse-reverse}
 use Rattle.term_algebra.specs.Signature.{Signature}
-use Rattle.behaviour_semantics.specs.Behaviour.{SynchronisationSet}
 use Rattle.behaviour_semantics.specs.Draft as plain
-use Rattle.behaviour_semantics.specs.Join.{raised_from}
 use Rattle.behaviour_semantics.specs.WellFormed.{Every}
 use Rattle.behaviour_semantics.proofs.ListLemmas.{Every-append}
 use Rattle.event_offers.specs.OfferView.{plain_draft}
 use Rattle.event_offers.specs.declared.drafts.Draft.{Draft}
 use Rattle.menu_builder.specs.DraftTerms.{HasTermsOf}
-use Rattle.draft_lists.specs.Lists.{plain_drafts, AreMadeBy, meet_each, both_lists}
+use Rattle.draft_lists.specs.Lists.{plain_drafts, AreMadeBy}
 
 -- one more draft, or none
 added : (made : List Draft) (o : Option Draft) (p : Option plain.Draft) (rest : List plain.Draft) → option_map plain_draft o ≡ p
@@ -93,39 +91,6 @@ at_index signature drafts i d within is h =
     subst (λ (ds : List Draft). Every (HasTermsOf signature) ds) here h in
     (both.0, subst (λ (j : ℕ). Every (HasTermsOf signature) (drop j drafts)) (sym (add-one i)) both.1)
 
-pub met_more : (f : plain.Draft → Option plain.Draft) (rights : List Draft) (i : ℕ) (right : Draft) (made more : List Draft)
-    (o : Option Draft) (whole : List plain.Draft) → i < length rights → right ≡ get_or rights i right
-    → option_map plain_draft o ≡ f (plain_draft right) → more ≡ made ++ option_to_list o
-    → plain_drafts made ++ filter_map f (plain_drafts (drop i rights)) ≡ whole
-    → plain_drafts more ++ filter_map f (plain_drafts (drop (i + 1) rights)) ≡ whole
-met_more f rights i right made more o whole within is e m h =
-    let here : drop i rights ≡ right ∷ drop (suc i) rights =
-    drop-cons rights i right within ∙ ap (λ (y : Draft). y ∷ drop (suc i) rights) (sym is) in
-    ap (λ (j : ℕ). plain_drafts more ++ filter_map f (plain_drafts (drop j rights))) (add-one i)
-    ∙ (ap (λ (ds : List Draft). plain_drafts ds ++ filter_map f (plain_drafts (drop (suc i) rights))) m
-    ∙ (added made o (f (plain_draft right)) (filter_map f (plain_drafts (drop (suc i) rights))) e
-    ∙ (ap (λ (ds : List Draft). plain_drafts made ++ filter_map f (plain_drafts ds)) (sym here) ∙ h)))
-
--- the drafts of one more left draft
-pub sides_more : (signature : Signature) (meet : SynchronisationSet) (first by : ℕ) (lefts rights : List Draft) (i : ℕ) (left : Draft)
-    (made more : List Draft) (whole : List plain.Draft) → i < length lefts → left ≡ get_or lefts i left
-    → by ≡ length (plain_draft left).leaves
-    → plain_drafts more ≡ plain_drafts made ++ filter_map (meet_each signature meet (raised_from first by) (plain_draft left))
-    (plain_drafts rights)
-    → plain_drafts made ++ both_lists signature meet first (plain_drafts (drop i lefts)) (plain_drafts rights) ≡ whole
-    → plain_drafts more ++ both_lists signature meet first (plain_drafts (drop (i + 1) lefts)) (plain_drafts rights) ≡ whole
-sides_more signature meet first by lefts rights i left made more whole within is count m h =
-    let here : drop i lefts ≡ left ∷ drop (suc i) lefts =
-    drop-cons lefts i left within ∙ ap (λ (y : Draft). y ∷ drop (suc i) lefts) (sym is) in
-    let rest : List plain.Draft = both_lists signature meet first (plain_drafts (drop (suc i) lefts)) (plain_drafts rights) in
-    let pairs : ℕ → List plain.Draft = λ (n : ℕ). filter_map (meet_each signature meet (raised_from first n) (plain_draft left))
-    (plain_drafts rights) in
-    ap (λ (j : ℕ). plain_drafts more ++ both_lists signature meet first (plain_drafts (drop j lefts)) (plain_drafts rights)) (add-one i)
-    ∙ (ap (λ (ds : List plain.Draft). ds ++ rest) (m ∙ ap (λ (n : ℕ). plain_drafts made ++ pairs n) count)
-    ∙ (append_assoc (plain_drafts made) (pairs (length (plain_draft left).leaves)) rest
-    ∙ (ap (λ (ds : List Draft). plain_drafts made ++ both_lists signature meet first (plain_drafts ds) (plain_drafts rights)) (sym here)
-    ∙ h)))
-
 -- ---- What the answers of the rules say of a draft that is there.
 pub some_weaker : (draft : Draft) (R : Signature → Type 0) (o : Option Draft)
     → IfSome o (λ (made : Draft). (signature : Signature) → HasTermsOf signature draft → HasTermsOf signature made)
@@ -139,13 +104,6 @@ pub some_at : (signature : Signature) (draft : Draft) (R : Signature → Type 0)
 some_at signature draft R None h r k = tt
 some_at signature draft R (Some made) h r k = h signature r k
 
-pub some_met : (signature : Signature) (left right : Draft) (o : Option Draft)
-    → IfSome o (λ (made : Draft). (signature : Signature) → HasTermsOf signature left → HasTermsOf signature right
-    → HasTermsOf signature made)
-    → HasTermsOf signature left → HasTermsOf signature right → IfSome o (λ (made : Draft). HasTermsOf signature made)
-some_met signature left right None h l r = tt
-some_met signature left right (Some made) h l r = h signature l r
-
 -- ---- The ends of the loops.
 none_there : (popped : Option Draft) → ((d : Draft) → popped ≡ Some d → ⊥) → popped ≡ None
 none_there None apart = refl
@@ -157,9 +115,3 @@ empty_rest popped [] n some long apart = refl
 empty_rest popped (v ∷ rest) n some long apart =
     let none : popped ≡ None = none_there popped apart in
     let there : IsSome popped = some.1 (omega arith) in absurd (cc (there, none))
-
-pub met_done : (f : plain.Draft → Option plain.Draft) (rights : List Draft) (i : ℕ) (made : List Draft) (whole : List plain.Draft)
-    → length rights ≤ i → plain_drafts made ++ filter_map f (plain_drafts (drop i rights)) ≡ whole → plain_drafts made ≡ whole
-met_done f rights i made whole past h =
-    sym (append-nil (plain_drafts made))
-    ∙ (ap (λ (ds : List Draft). plain_drafts made ++ filter_map f (plain_drafts ds)) (sym (drop_all i rights past)) ∙ h)

@@ -1,3 +1,5 @@
 pub mod RuleView
 pub mod Lists
+pub mod MetDrafts
+pub mod Parting
 pub mod ListLaws

@@ -3,8 +3,10 @@
 #![tactic(auto)]
 
 pub mod laws;
+pub mod parting;
 pub mod rule;
 pub mod sides;
 
+pub use parting::{SideDrafts, parted};
 pub use rule::Rule;
 pub use sides::both_sides;

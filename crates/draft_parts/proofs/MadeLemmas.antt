@@ -10,12 +10,16 @@ use Rattle.term_algebra.specs.Signature.{Signature}
 use Rattle.behaviour_semantics.specs.Behaviour.{Relabelling, SynchronisationSet}
 use Rattle.behaviour_semantics.specs.Draft as plain
 use Rattle.behaviour_semantics.specs.Label.{gate_under}
+use Rattle.behaviour_semantics.specs.Shape.{Shape}
 use Rattle.behaviour_semantics.specs.WellFormed.{Every}
 use Rattle.behaviour_semantics.proofs.ListLemmas.{Every-append}
 use Rattle.event_offers.specs.OfferView.{plain_draft}
 use Rattle.event_offers.specs.declared.drafts.Draft.{Draft}
 use Rattle.menu_builder.specs.DraftTerms.{HasTermsOf}
-use Rattle.draft_lists.specs.Lists.{plain_drafts, AreMadeBy}
+use Rattle.menu_builder.specs.DraftRules.{alone_draft}
+use Rattle.draft_lists.specs.Lists.{both_lists, plain_drafts, AreMadeBy}
+use Rattle.draft_lists.specs.Parting.{alone_among, meeting_among}
+use Rattle.draft_lists.proofs.PartingLemmas.{alone_same, alone_over, both_same, meeting_over}
 use Rattle.form_drafts.specs.HasDrafts.{beside_drafts, gate_drafts, row_drafts}
 use Rattle.form_drafts.specs.Rows.{call_pairs}
 use Rattle.draft_parts.specs.Made.{AreThese}
@@ -42,6 +46,39 @@ pub by_rule_of : (signature : Signature) (rule : plain.Draft → Option plain.Dr
     → AreThese signature (filter_map rule (plain_drafts part)) made
 by_rule_of signature rule part copy made e h =
     record { same = h.same ∙ ap (filter_map rule) e; over = h.over }
+
+-- ---- The sides of a parallel, those that move alone apart from the others.
+pub alone_made : (signature : Signature) (meet : SynchronisationSet) (variant : Shape → Shape) (given among made : List Draft)
+    → among ≡ alone_among meet given → Every (HasTermsOf signature) given
+    → (Every (HasTermsOf signature) among → AreMadeBy signature (alone_draft meet variant) among made)
+    → AreThese signature (filter_map (alone_draft meet variant) (plain_drafts given)) made
+alone_made signature meet variant given among made e h k =
+    let m : AreMadeBy signature (alone_draft meet variant) among made =
+    k (subst (λ (ds : List Draft). Every (HasTermsOf signature) ds) (sym e) (alone_over (HasTermsOf signature) meet given h)) in
+    record {
+      same = m.same ∙ (ap (λ (ds : List Draft). filter_map (alone_draft meet variant) (plain_drafts ds)) e ∙ alone_same meet variant given);
+      over = m.over;
+    }
+
+pub both_made : (signature : Signature) (meet : SynchronisationSet) (first : ℕ) (lefts rights some others made : List Draft)
+    → some ≡ meeting_among meet lefts → others ≡ meeting_among meet rights
+    → Every (HasTermsOf signature) lefts → Every (HasTermsOf signature) rights
+    → (Every (HasTermsOf signature) some → Every (HasTermsOf signature) others
+    → plain_drafts made ≡ both_lists signature meet first (plain_drafts some) (plain_drafts others))
+    → (Every (HasTermsOf signature) some → Every (HasTermsOf signature) others → Every (HasTermsOf signature) made)
+    → AreThese signature (both_lists signature meet first (plain_drafts lefts) (plain_drafts rights)) made
+both_made signature meet first lefts rights some others made e f h k same over =
+    let some_over : Every (HasTermsOf signature) some =
+    subst (λ (ds : List Draft). Every (HasTermsOf signature) ds) (sym e) (meeting_over (HasTermsOf signature) meet lefts h) in
+    let others_over : Every (HasTermsOf signature) others =
+    subst (λ (ds : List Draft). Every (HasTermsOf signature) ds) (sym f) (meeting_over (HasTermsOf signature) meet rights k) in
+    record {
+      same = same some_over others_over
+          ∙ (ap (λ (ds : List Draft). both_lists signature meet first (plain_drafts ds) (plain_drafts others)) e
+          ∙ (ap (λ (ds : List Draft). both_lists signature meet first (plain_drafts (meeting_among meet lefts)) (plain_drafts ds)) f
+          ∙ both_same signature meet first lefts rights));
+      over = over some_over others_over;
+    }
 
 -- ---- Gate choices, gate after gate.
 -- The drafts for the gates that are done are made, and those for the rest, with them, are those of all gates.

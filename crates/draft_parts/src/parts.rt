@@ -10,15 +10,13 @@ ghost use Rattle.draft_parts.specs.Made.{AreThese, inner_of};
 ghost use Rattle.std.specs.Prelude.{◌≡◌, ◌∷◌, [], IfOk};
 ghost use Rattle.term_algebra.specs.Signature.{Signature};
 
-use behaviour_tree::copies::term_copies;
 use behaviour_tree::{Label, Meet, Shape};
-use draft_lists::{Rule, both_sides};
+use draft_lists::{Rule, both_sides, parted};
 use event_offers::Draft;
-use event_offers::labels::{condition_copies, label_copy};
 use event_offers::lists::appended;
-use event_offers::shapes::shape_copy;
 use lotos_base::NoMemory;
 use menu_builder::Variant;
+use menu_builder::copies::copied;
 use std::alloc::Global;
 
 /// The list of one draft.
@@ -43,24 +41,6 @@ pub fn inner_draft(alloc: Global) -> Draft
     }
 }
 
-/// The same draft.
-pub fn draft_copy(alloc: Global, draft: &Draft) -> Result<Draft, NoMemory>
-    ensures same { IfOk result (λ made. plain_draft made ≡ plain_draft draft.now) }
-    ensures over { IfOk result (λ made. (signature : Signature)
-        → HasTermsOf signature draft.now → HasTermsOf signature made) }
-{
-    let shape = shape_copy(alloc, &draft.shape)?;
-    let label = label_copy(alloc, &draft.label)?;
-    let leaves = term_copies(alloc, &draft.leaves)?;
-    let conditions = condition_copies(alloc, &draft.conditions)?;
-    Ok(Draft {
-        shape,
-        label,
-        leaves,
-        conditions,
-    })
-}
-
 /// The same drafts.
 pub fn draft_copies(alloc: Global, drafts: &Vec<Draft>) -> Result<Vec<Draft>, NoMemory>
     ensures same { IfOk result
@@ -71,7 +51,7 @@ pub fn draft_copies(alloc: Global, drafts: &Vec<Draft>) -> Result<Vec<Draft>, No
 {
     let mut made = Vec::with_capacity(alloc, drafts.len())?;
     for draft in drafts {
-        made.push(draft_copy(alloc, draft)?)?;
+        made.push(copied(draft)?)?;
     }
     Ok(made)
 }
@@ -100,8 +80,10 @@ pub fn beside(
         → AreThese signature (beside_drafts signature (meet_of meet.now) first
         (plain_drafts lefts.items) (plain_drafts rights.items)) made.items) }
 {
-    let both = both_sides(&lefts, &rights, meet, first)?;
-    let left = Rule::Alone(meet, Variant::Left).apply_to_all(lefts)?;
-    let right = Rule::Alone(meet, Variant::Right).apply_to_all(rights)?;
-    appended(appended(left, right)?, both)
+    let left = parted(lefts, meet)?;
+    let right = parted(rights, meet)?;
+    let both = both_sides(left.meeting, right.meeting, meet, first)?;
+    let lefts = Rule::Alone(meet, Variant::Left).apply_to_all(left.alone)?;
+    let rights = Rule::Alone(meet, Variant::Right).apply_to_all(right.alone)?;
+    appended(appended(lefts, rights)?, both)
 }

@@ -3,6 +3,7 @@
 #![tactic(auto)]
 
 pub mod changing;
+pub mod copies;
 pub mod drafts;
 pub mod entries;
 pub mod joining;

@@ -22,6 +22,8 @@ ghost use Rattle.std.specs.Prelude.{
   ◌≡◌,
   ◌+◌,
   IfOk,
+  IsTrue,
+  ℕ,
   if◌then◌else◌,
   map,
   nat_lt,
@@ -122,6 +124,75 @@ impl Renaming {
             made.push((left, right))?;
         }
         Ok(made)
+    }
+
+    /// The term with the numbers of its variables changed. A term without variables stays where it
+    /// is.
+    pub fn changed(&self, term: Sorted) -> Result<Sorted, NoMemory>
+        ensures same { IfOk result
+            (λ t. term_in t ≡ substituted (renaming_of self.now) (term_in term)) }
+        ensures profiles { IfOk result (λ t. profiled_in t
+            ≡ profiled_instance (profiled_renaming_of self.now) (profiled_in term)) }
+    {
+        if term.ground() {
+            return Ok(term);
+        }
+        self.term(&term)
+    }
+
+    /// The terms with the numbers of their variables changed. Where no number changes the terms
+    /// stay where they are.
+    pub fn all_changed(&self, terms: Vec<Sorted>) -> Result<Vec<Sorted>, NoMemory>
+        ensures same { IfOk result (λ made. terms_of made.items
+            ≡ map (substituted (renaming_of self.now)) (terms_of terms.items)) }
+        ensures profiles { IfOk result (λ made. profiles_of made.items
+            ≡ map (profiled_instance (profiled_renaming_of self.now))
+            (profiles_of terms.items)) }
+    {
+        if self.changes_nothing() {
+            return Ok(terms);
+        }
+        let mut made = Vec::with_capacity(*terms.allocator(), terms.len())?;
+        for term in terms {
+            let next = self.changed(term)?;
+            made.push(next)?;
+        }
+        Ok(made)
+    }
+
+    /// The conditions with the numbers of their variables changed. Where no number changes the
+    /// conditions stay where they are.
+    pub fn changed_conditions(
+        &self,
+        conditions: Vec<(Sorted, Sorted)>,
+    ) -> Result<Vec<(Sorted, Sorted)>, NoMemory>
+        ensures same { IfOk result (λ made. conditions_of made.items
+            ≡ map (test_with (renaming_of self.now)) (conditions_of conditions.items)) }
+        ensures profiles { IfOk result (λ made. condition_profiles made.items
+            ≡ map (pair_instance (profiled_renaming_of self.now))
+            (condition_profiles conditions.items)) }
+    {
+        if self.changes_nothing() {
+            return Ok(conditions);
+        }
+        let mut made = Vec::with_capacity(*conditions.allocator(), conditions.len())?;
+        for (left, right) in conditions {
+            let first = self.changed(left)?;
+            let second = self.changed(right)?;
+            made.push((first, second))?;
+        }
+        Ok(made)
+    }
+
+    // Whether it is seen at once that each number stays.
+    fn changes_nothing(&self) -> bool
+        ensures { IsTrue result → (n : ℕ) → number_under self.now n ≡ n }
+    {
+        match self {
+            Renaming::Raised { from: _, by } => *by == 0,
+            Renaming::Lowered(by) => *by == 0,
+            Renaming::Placed(_) => false,
+        }
     }
 }
 

@@ -30,7 +30,7 @@ either_short : (n : ℕ) (test : Bool) (one other : List ℕ) → length one ≤
 either_short n true one other first second = first
 either_short n false one other first second = second
 
-blanks_short : (line : List ℕ) → length (behind_blanks line) ≤ length line
+pub blanks_short : (line : List ℕ) → length (behind_blanks line) ≤ length line
 blanks_short [] = omega arith
 blanks_short (byte ∷ bytes) =
     either_short (length (byte ∷ bytes)) (is_blank byte) (behind_blanks bytes) (byte ∷ bytes)
@@ -42,11 +42,11 @@ spaces_short (byte ∷ bytes) =
     either_short (length (byte ∷ bytes)) (nat_eq byte 32) (behind_spaces bytes) (byte ∷ bytes)
     (omega (arith, spaces_short bytes)) (omega arith)
 
-end_short : (line : List ℕ) → length (before_blanks line) ≤ length line
+pub end_short : (line : List ℕ) → length (before_blanks line) ≤ length line
 end_short line =
     omega (arith, length-reverse (behind_blanks (reverse line)), blanks_short (reverse line), length-reverse line)
 
-word_short : (line : List ℕ) → length (behind_word line) ≤ length line
+pub word_short : (line : List ℕ) → length (behind_word line) ≤ length line
 word_short line =
     omega (arith, spaces_short (drop (word_length line) line), length-drop (word_length line) line)
 

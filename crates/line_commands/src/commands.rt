@@ -82,7 +82,7 @@ fn only<'a>(command: Command<'a>, rest: &[u8]) -> Command<'a>
 }
 
 // The line without the blanks at both ends.
-fn without_blanks(line: &[u8]) -> &[u8]
+pub(crate) fn without_blanks(line: &[u8]) -> &[u8]
     ensures { result.now ≡ stripped line.now }
 {
     without_last_blanks(without_first_blanks(line))
@@ -122,7 +122,7 @@ fn blank(byte: u8) -> bool
 }
 
 // How many bytes stand before the first space.
-fn first_word_length(line: &[u8]) -> usize
+pub(crate) fn first_word_length(line: &[u8]) -> usize
     ensures counted { result ≡ word_length line.now }
     ensures within { result ≤ length line.now }
 {
@@ -138,7 +138,7 @@ fn first_word_length(line: &[u8]) -> usize
 }
 
 // The bytes without the spaces before them.
-fn without_spaces(bytes: &[u8]) -> &[u8]
+pub(crate) fn without_spaces(bytes: &[u8]) -> &[u8]
     ensures { result.now ≡ behind_spaces bytes.now }
 {
     let mut rest = bytes;

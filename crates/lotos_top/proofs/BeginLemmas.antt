@@ -1,5 +1,5 @@
 -- Where the session of an accepted specification begins.
-use Rattle.std.proofs.Common.{◌≡◌, ℕ, List, [], refl, sym, subst, ◌∙◌}
+use Rattle.std.proofs.Common.{◌≡◌, ℕ, List, map, refl, sym, subst, ◌∙◌}
 use Rattle.term_algebra.specs.Term.{Term}
 use Rattle.term_algebra.specs.Equation.{Data}
 use Rattle.termination_theory.specs.Orientation.{rules_of}
@@ -50,8 +50,10 @@ begins_so acceptance accepted book menu holds same_data same_canon exact = recor
   );
   specification_is = holds.spec_is;
   state_is =
-      subst (λ (s : Specification). state_of accepted.start ≡ with_values (binding_of s.parameters []) s.body) holds.spec_is
-      holds.begins;
+      subst (λ (f : Term → Term). state_of accepted.start
+      ≡ with_values (binding_of acceptance.spec.parameters (map f acceptance.values)) acceptance.spec.body) (sym same_canon)
+      (subst (λ (s : Specification). state_of accepted.start
+      ≡ with_values (binding_of s.parameters (map (book_canon accepted.book) acceptance.values)) s.body) holds.spec_is holds.begins);
   menu_is =
       exact_moved (data_of book.flat) (data_of accepted.book.flat) (book_canon book) (book_canon accepted.book)
       (specification_of accepted.spec).processes (state_of accepted.start) (entries_in menu) same_data same_canon exact;

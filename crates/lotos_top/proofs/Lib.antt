@@ -4,3 +4,4 @@ mod OpeningLemmas
 mod ReadyLemmas
 mod RunLemmas
 mod ServingLemmas
+mod WordsLemmas

@@ -77,7 +77,7 @@ refused_line found r text spec order is made = rw is at made
 
 -- `check` of what is accepted
 pub last_opened : (spec : List ℕ) (order : Option (List ℕ)) (values : List (List ℕ)) (before after : ShelfState) (opened : Opened)
-    (alone : Alone) → IsOpened (asked_for spec order) before after opened → alone.text.items ≡ opening_text (begun opened)
+    (alone : Alone) → IsOpened (asked_for spec order values) before after opened → alone.text.items ≡ opening_text (begun opened)
     → alone.ended ≡ Done → IsLast (Some (check spec order values)) before after alone
 last_opened spec order values before after opened alone is text ended = record {
   is = record { outcome = accepted (begun opened); possible = is; text = text; ended = ended };
@@ -86,7 +86,7 @@ last_opened spec order values before after opened alone is text ended = record {
 
 -- `run` of what is accepted
 pub served_opened : (spec : List ℕ) (order : Option (List ℕ)) (values : List (List ℕ)) (before after : ShelfState) (opened : Opened)
-    → IsOpened (asked_for spec order) before after opened → IsServed (Some (session spec order values)) before after opened
+    → IsOpened (asked_for spec order values) before after opened → IsServed (Some (session spec order values)) before after opened
 served_opened spec order values before after opened is = record { follows = λ first last answer serves. serves; possible = is }
 
 -- words that ask for no file

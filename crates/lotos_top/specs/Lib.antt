@@ -1,4 +1,3 @@
-pub mod Limits
 pub mod Outcome
 pub mod Prepared
 pub mod Run

@@ -1,5 +1,5 @@
 -- What comes of the words, and what is printed for it.
-use Rattle.std.specs.Prelude.{◌≡◌, ℕ, List, [], ◌++◌, Option, Some, None}
+use Rattle.std.specs.Prelude.{◌≡◌, ℕ, List, [], ◌++◌, map, Option, Some, None}
 use Rattle.term_algebra.specs.Term.{Term}
 use Rattle.termination_theory.specs.Precedence.{Precedence}
 use Rattle.termination_theory.specs.Orientation.{NumberedRule, rules_of}
@@ -30,11 +30,11 @@ pub data Outcome : Type 0 where
   refused : Refused → Outcome
   accepted : Session → Outcome
 
--- the files that a line asks for
+-- the files that a line asks for, and its start values
 abbrev pub files_of : Option CommandLine → Option Asked
 files_of None = None
-files_of (Some (check spec order values)) = Some (asked_for spec order)
-files_of (Some (session spec order values)) = Some (asked_for spec order)
+files_of (Some (check spec order values)) = Some (asked_for spec order values)
+files_of (Some (session spec order values)) = Some (asked_for spec order values)
 files_of (Some (demonstration cells)) = None
 
 -- the normal forms are those by the rules that the order's items make of the equations
@@ -43,12 +43,14 @@ AreNormalForms acceptance canon =
     (precedence : Precedence) × (rules : List NumberedRule) × IsOpenedBy acceptance.items acceptance.data_ precedence rules
     × Chooses (rules_of rules) canon
 
--- the session of what was accepted begins in the body of the specification, with the exact menu of it, and without steps
+-- the session of what was accepted begins in the body of the specification, in which the normal forms of the start values stand
+-- for the parameters, with the exact menu of it, and without steps
 pub record Begins (acceptance : Acceptance) (begun : Session) : Type 0 where
   pub data_is : begun.data_ ≡ acceptance.data_
   pub canonical : AreNormalForms acceptance begun.canon
   pub specification_is : begun.specification ≡ acceptance.spec
-  pub state_is : begun.state ≡ with_values (binding_of acceptance.spec.parameters []) acceptance.spec.body
+  pub state_is :
+      begun.state ≡ with_values (binding_of acceptance.spec.parameters (map begun.canon acceptance.values)) acceptance.spec.body
   pub menu_is : Exact begun.data_ begun.canon begun.specification.processes begun.state begun.menu
   pub at_start : begun.history ≡ []
 

@@ -1,14 +1,12 @@
 -- The lines of words that the program takes.
-use Rattle.std.specs.Prelude.{ℕ, ◌+◌, Bool, ◌&&◌, not, List, [], ◌∷◌, map, length, codes, if◌then◌else◌, nat_le, Option, Some, None, option_map, String, string_bytes}
+use Rattle.std.specs.Prelude.{ℕ, Bool, List, [], ◌∷◌, codes, if◌then◌else◌, Option, Some, None, option_map}
 use Rattle.std.specs.Str.{bytes_eq}
-use Rattle.std.specs.declared.alloc.Global.{Global}
-use Rattle.lotos_top.specs.Limits.{words_limit, word_bytes_limit}
+use Rattle.start_values.specs.WordLimits.{words_of, are_within}
+use Rattle.acceptance_order.specs.Acceptance.{Asked}
+use Rattle.spec_acceptance.specs.AcceptedView.{asked_for}
 use Rattle.lotos_top.specs.declared.commands.Command.{Command}
+use Rattle.lotos_top.specs.declared.commands.Files.{Files}
 use Rattle.lotos_top.specs.declared.commands.Command.TheVariants.{Check, Run, Demo}
-
--- the bytes of each word
-abbrev pub words_of : List (String Global) → List (List ℕ)
-words_of words = map string_bytes words
 
 -- a line of words
 pub data CommandLine : Type 0 where
@@ -22,32 +20,50 @@ line_of (Check spec order values) = check spec.now (option_map (λ name. name.no
 line_of (Run spec order values) = session spec.now (option_map (λ name. name.now) order) (words_of values.now)
 line_of (Demo cells) = demonstration cells
 
--- how many bytes the words have together
-abbrev pub total_length : List (List ℕ) → ℕ
-total_length [] = 0
-total_length (word ∷ words) = length word + total_length words
+-- what names of files and start values of the code ask for
+abbrev pub asked_by : Files → Asked
+asked_by files = asked_for files.spec.now (option_map (λ name. name.now) files.order) (words_of files.values.now)
 
--- the words are within the limits on their number and on their bytes
-abbrev pub are_within : List (List ℕ) → Bool
-are_within words = nat_le (length words) words_limit && nat_le (total_length words) word_bytes_limit
+-- `with` ends the names of files
+abbrev pub ends_names : List ℕ → Bool
+ends_names word = bytes_eq word (codes "with")
 
--- `with` ends the names of files. What stands behind it is not built yet
-abbrev pub is_name : List ℕ → Bool
-is_name word = not (bytes_eq word (codes "with"))
+-- The names of the specification and of the order file, if there is one, and the words behind `with`. Behind the names of files
+-- either nothing stands, or `with` and the start values
+abbrev pub behind_order : (spec order : List ℕ) → List (List ℕ) → Option Asked
+behind_order spec order [] = Some (asked_for spec (Some order) [])
+behind_order spec order (word ∷ values) = if ends_names word then Some (asked_for spec (Some order) values) else None
 
--- `check` or `run` with the names of the specification and of the order file, if there is one
-abbrev pub verb_line : (verb spec : List ℕ) → Option (List ℕ) → Option CommandLine
-verb_line verb spec order =
-    if bytes_eq verb (codes "check") then Some (check spec order [])
-    else if bytes_eq verb (codes "run") then Some (session spec order [])
+abbrev pub behind_spec : (spec : List ℕ) → List (List ℕ) → Option Asked
+behind_spec spec [] = Some (asked_for spec None [])
+behind_spec spec (word ∷ words) = if ends_names word then Some (asked_for spec None words) else behind_order spec word words
+
+abbrev pub files_in : List (List ℕ) → Option Asked
+files_in [] = None
+files_in (spec ∷ words) = if ends_names spec then None else behind_spec spec words
+
+-- `check` or `run` with these files and start values
+abbrev pub verb_line : (verb : List ℕ) → Asked → Option CommandLine
+verb_line verb asked =
+    if bytes_eq verb (codes "check") then Some (check asked.spec asked.order asked.values)
+    else if bytes_eq verb (codes "run") then Some (session asked.spec asked.order asked.values)
     else None
+
+abbrev pub verb_with : (verb : List ℕ) → Option Asked → Option CommandLine
+verb_with verb None = None
+verb_with verb (Some asked) = verb_line verb asked
 
 -- the line that the words are, if they are one
 abbrev pub words_line : List (List ℕ) → Option CommandLine
-words_line (verb ∷ spec ∷ []) = if is_name spec then verb_line verb spec None else None
-words_line (verb ∷ spec ∷ order ∷ []) = if is_name spec && is_name order then verb_line verb spec (Some order) else None
-words_line _ = None
+words_line [] = None
+words_line (verb ∷ words) = verb_with verb (files_in words)
 
 -- the line that the words of a command are, if they are one and within the limits
 abbrev pub command_line : List (List ℕ) → Option CommandLine
 command_line words = if are_within words then words_line words else None
+
+-- the start values of a line
+abbrev pub values_in : CommandLine → List (List ℕ)
+values_in (check spec order values) = values
+values_in (session spec order values) = values
+values_in (demonstration cells) = []

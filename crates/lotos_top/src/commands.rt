@@ -1,16 +1,19 @@
 //! The words of the command line.
 
-ghost use Rattle.std.specs.Prelude.{◌≡◌, None, Some, [], MatchOption, option_map};
 ghost use Rattle.lotos_top.specs.Words.{
-  are_within,
+  asked_by,
+  behind_order,
+  behind_spec,
   command_line,
-  is_name,
+  ends_names,
+  files_in,
   line_of,
   verb_line,
-  words_of,
 };
+ghost use Rattle.start_values.specs.WordLimits.{words_of};
+ghost use Rattle.std.specs.Prelude.{◌≡◌, None, Some, MatchOption};
 
-use crate::{WORD_BYTES_LIMIT, WORDS_LIMIT};
+use start_values::limits::are_within_limits;
 
 /// What the words ask for.
 #[derive(Clone, Copy, Debug)]
@@ -43,8 +46,8 @@ pub enum Command<'a> {
 /// What the words ask for, and `None` exactly where they are no line that is built.
 ///
 /// Built are `check SPEC`, `check SPEC ORDER`, `run SPEC` and `run SPEC ORDER`, where neither SPEC
-/// nor ORDER is `with`. The words are at most 65,536 and have at most 1,048,576 bytes together.
-/// Takes no memory.
+/// nor ORDER is `with`, and each of these with `with` and any number of words behind it. The words
+/// are at most 65,536 and have at most 1,048,576 bytes together. Takes no memory.
 pub fn parse_command(words: &[String]) -> Option<Command<'_>>
     ensures { MatchOption result (command_line (words_of words.now) ≡ None)
         (λ command. command_line (words_of words.now) ≡ Some (line_of command)) }
@@ -52,48 +55,102 @@ pub fn parse_command(words: &[String]) -> Option<Command<'_>>
     if !are_within_limits(words) {
         return None;
     }
-    match words {
-        [verb, spec] => {
-            if !name(spec.as_str()) {
-                return None;
-            }
-            by_verb(verb.as_str(), spec.as_str(), None, &words[2..])
-        }
-        [verb, spec, order] => {
-            if !name(spec.as_str()) || !name(order.as_str()) {
-                return None;
-            }
-            by_verb(
-                verb.as_str(),
-                spec.as_str(),
-                Some(order.as_str()),
-                &words[3..],
-            )
-        }
-        _ => None,
+    let [verb, rest @ ..] = words else {
+        return None;
+    };
+    match named_files(rest) {
+        Some(files) => by_verb(verb.as_str(), files),
+        None => None,
     }
 }
 
-// Whether the word may be the name of a file.
-fn name(word: &str) -> bool
-    ensures { result ≡ is_name word.now }
-{
-    word != "with"
+/// The names of files and the start values that words have.
+#[derive(Clone, Copy, Debug)]
+pub struct Files<'a> {
+    /// The name of the specification's file.
+    pub spec: &'a str,
+    /// The name of the order file, if there is one.
+    pub order: Option<&'a str>,
+    /// The start values.
+    pub values: &'a [String],
 }
 
-// What the verb asks for with these files.
-fn by_verb<'a>(
-    verb: &str,
-    spec: &'a str,
-    order: Option<&'a str>,
-    values: &'a [String],
-) -> Option<Command<'a>>
-    requires { words_of values.now ≡ [] }
-    ensures { MatchOption result
-        (verb_line verb.now spec.now (option_map (λ name. name.now) order.entry) ≡ None)
-        (λ command. verb_line verb.now spec.now (option_map (λ name. name.now) order.entry)
-        ≡ Some (line_of command)) }
+// The names of files, up to `with`, and what stands behind it.
+fn named_files(words: &[String]) -> Option<Files<'_>>
+    ensures { MatchOption result (files_in (words_of words.now) ≡ None)
+        (λ files. files_in (words_of words.now) ≡ Some (asked_by files)) }
 {
+    let [spec, rest @ ..] = words else {
+        return None;
+    };
+    if ends(spec.as_str()) {
+        return None;
+    }
+    files_behind(spec.as_str(), rest)
+}
+
+// The same, behind the name of the specification's file.
+fn files_behind<'a>(spec: &'a str, words: &'a [String]) -> Option<Files<'a>>
+    ensures { MatchOption result (behind_spec spec.now (words_of words.now) ≡ None)
+        (λ files. behind_spec spec.now (words_of words.now) ≡ Some (asked_by files)) }
+{
+    let [order, rest @ ..] = words else {
+        return Some(Files {
+            spec,
+            order: None,
+            values: words,
+        });
+    };
+    if ends(order.as_str()) {
+        return Some(Files {
+            spec,
+            order: None,
+            values: rest,
+        });
+    }
+    values_behind(spec, order.as_str(), rest)
+}
+
+// The same, behind the name of the order file.
+fn values_behind<'a>(spec: &'a str, order: &'a str, words: &'a [String]) -> Option<Files<'a>>
+    ensures { MatchOption result (behind_order spec.now order.now (words_of words.now) ≡ None)
+        (λ files. behind_order spec.now order.now (words_of words.now)
+        ≡ Some (asked_by files)) }
+{
+    let [word, rest @ ..] = words else {
+        return Some(Files {
+            spec,
+            order: Some(order),
+            values: words,
+        });
+    };
+    if !ends(word.as_str()) {
+        return None;
+    }
+    Some(Files {
+        spec,
+        order: Some(order),
+        values: rest,
+    })
+}
+
+// Whether the word ends the names of files.
+fn ends(word: &str) -> bool
+    ensures { result ≡ ends_names word.now }
+{
+    word == "with"
+}
+
+// What the verb asks for with these files and start values.
+fn by_verb<'a>(verb: &str, files: Files<'a>) -> Option<Command<'a>>
+    ensures { MatchOption result (verb_line verb.now (asked_by files.entry) ≡ None)
+        (λ command. verb_line verb.now (asked_by files.entry) ≡ Some (line_of command)) }
+{
+    let Files {
+        spec,
+        order,
+        values,
+    } = files;
     if verb == "check" {
         return Some(Command::Check {
             spec,
@@ -109,21 +166,4 @@ fn by_verb<'a>(
         });
     }
     None
-}
-
-/// Whether the words are within the limits on a command line.
-fn are_within_limits(words: &[String]) -> bool
-    ensures { result ≡ are_within (words_of words.now) }
-{
-    if words.len() > WORDS_LIMIT {
-        return false;
-    }
-    let mut total = 0;
-    for word in words {
-        if word.len() > WORD_BYTES_LIMIT - total {
-            return false;
-        }
-        total += word.len();
-    }
-    true
 }

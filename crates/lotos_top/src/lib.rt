@@ -12,9 +12,4 @@ pub use running::run;
 pub use session_lines::SessionLines;
 pub use spec_acceptance::{Accepted, NotAccepted};
 pub use spec_faults::{Refused, SpecFault};
-
-/// How many words a command line may have.
-pub const WORDS_LIMIT: usize = 65_536;
-
-/// How many bytes the words of a command line may have together.
-pub const WORD_BYTES_LIMIT: usize = 1_048_576;
+pub use start_values::limits::{WORD_BYTES_LIMIT, WORDS_LIMIT};

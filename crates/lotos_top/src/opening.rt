@@ -5,7 +5,7 @@ ghost use Rattle.acceptance_order.specs.Acceptance.{IsAccepted};
 ghost use Rattle.library_reading.specs.ShelfUse.{ShelfState, shelf_state};
 ghost use Rattle.lotos_top.specs.Outcome.{files_of, opening_text, word_or_none};
 ghost use Rattle.lotos_top.specs.Prepared.{IsLast, IsOpened, IsReady, begun};
-ghost use Rattle.lotos_top.specs.Words.{CommandLine, check, command_line, session, words_of};
+ghost use Rattle.lotos_top.specs.Words.{CommandLine, check, command_line, session};
 ghost use Rattle.sort_terms.specs.EquationView.{data_of};
 ghost use Rattle.sort_terms.specs.SignatureView.{signature_of};
 ghost use Rattle.spec_acceptance.specs.AcceptedView.{Holds, asked_for};
@@ -22,6 +22,7 @@ ghost use Rattle.lotos_top.specs.declared.ended.Ended.TheVariants.{
 ghost use Rattle.printed_texts.specs.ReportLines.{head_text, unread_text, usage_text};
 ghost use Rattle.refusal_lines.specs.RefusalText.{refusal_text};
 ghost use Rattle.spec_faults.specs.RefusalView.{refused_of};
+ghost use Rattle.start_values.specs.WordLimits.{are_within, words_of};
 ghost use Rattle.std.specs.Prelude.{
   ◌≡◌,
   ◌++◌,
@@ -32,6 +33,7 @@ ghost use Rattle.std.specs.Prelude.{
   Some,
   IfOk,
   IfSome,
+  IsTrue,
   MatchResult,
   OnOk,
   option_map,
@@ -101,8 +103,20 @@ pub fn prepare<F: Shelf>(alloc: Global, words: &[String], shelf: &mut F) -> Resu
     ensures texts { F.texts shelf.new ≡ F.texts shelf.old }
 {
     match parse_command(words) {
-        Some(Command::Check { spec, order, .. }) => checked(alloc, spec, order, shelf),
-        Some(Command::Run { spec, order, .. }) => served(alloc, spec, order, shelf),
+        Some(
+            Command::Check {
+                spec,
+                order,
+                values,
+            },
+        ) => checked(alloc, spec, order, values, shelf),
+        Some(
+            Command::Run {
+                spec,
+                order,
+                values,
+            },
+        ) => served(alloc, spec, order, values, shelf),
         Some(Command::Demo { .. }) => usage_ready(alloc),
         None => usage_ready(alloc),
     }
@@ -113,15 +127,18 @@ fn checked<F: Shelf>(
     alloc: Global,
     spec: &str,
     order: Option<&str>,
+    values: &[String],
     shelf: &mut F,
 ) -> Result<Ready, NoMemory>
-    ensures ready { (values : List (List ℕ)) → IfOk result
-        (IsReady (Some (check spec.now (option_map (λ word. word.now) order.entry) values))
+    requires { IsTrue (are_within (words_of values.now)) }
+    ensures ready { IfOk result
+        (IsReady (Some (check spec.now (option_map (λ word. word.now) order.entry)
+        (words_of values.now)))
         (shelf_state (F.texts shelf.old) (F.faults shelf.old) (F.calls shelf.old))
         (shelf_state (F.texts shelf.new) (F.faults shelf.new) (F.calls shelf.new))) }
     ensures texts { F.texts shelf.new ≡ F.texts shelf.old }
 {
-    match open(alloc, spec, order, shelf) {
+    match open(alloc, spec, order, values, shelf) {
         Ok(opened) => Ok(Ready::Alone(opened_alone(alloc, &opened)?)),
         Err(fault) => Ok(Ready::Alone(failed_alone(alloc, spec, order, &fault)?)),
     }
@@ -132,15 +149,18 @@ fn served<F: Shelf>(
     alloc: Global,
     spec: &str,
     order: Option<&str>,
+    values: &[String],
     shelf: &mut F,
 ) -> Result<Ready, NoMemory>
-    ensures ready { (values : List (List ℕ)) → IfOk result
-        (IsReady (Some (session spec.now (option_map (λ word. word.now) order.entry) values))
+    requires { IsTrue (are_within (words_of values.now)) }
+    ensures ready { IfOk result
+        (IsReady (Some (session spec.now (option_map (λ word. word.now) order.entry)
+        (words_of values.now)))
         (shelf_state (F.texts shelf.old) (F.faults shelf.old) (F.calls shelf.old))
         (shelf_state (F.texts shelf.new) (F.faults shelf.new) (F.calls shelf.new))) }
     ensures texts { F.texts shelf.new ≡ F.texts shelf.old }
 {
-    match open(alloc, spec, order, shelf) {
+    match open(alloc, spec, order, values, shelf) {
         Ok(opened) => Ok(Ready::Session(opened)),
         Err(fault) => Ok(Ready::Alone(failed_alone(alloc, spec, order, &fault)?)),
     }
@@ -151,17 +171,21 @@ pub fn open<F: Shelf>(
     alloc: Global,
     spec: &str,
     order: Option<&str>,
+    values: &[String],
     shelf: &mut F,
 ) -> Result<Opened, NotAccepted>
+    requires { IsTrue (are_within (words_of values.now)) }
     ensures { MatchResult result
-        (IsOpened (asked_for spec.now (option_map (λ word. word.now) order.entry))
+        (IsOpened (asked_for spec.now (option_map (λ word. word.now) order.entry)
+        (words_of values.now))
         (shelf_state (F.texts shelf.old) (F.faults shelf.old) (F.calls shelf.old))
         (shelf_state (F.texts shelf.new) (F.faults shelf.new) (F.calls shelf.new)))
         (Failed (shelf_state (F.texts shelf.old) (F.faults shelf.old) (F.calls shelf.old))
         (shelf_state (F.texts shelf.new) (F.faults shelf.new) (F.calls shelf.new))
-        (IsAccepted (asked_for spec.now (option_map (λ word. word.now) order.entry)))) }
+        (IsAccepted (asked_for spec.now (option_map (λ word. word.now) order.entry)
+        (words_of values.now)))) }
 {
-    let accepted = Accepted::read(alloc, spec, order, shelf)?;
+    let accepted = Accepted::read(alloc, spec, order, values, shelf)?;
     Ok(begin(alloc, accepted)?)
 }
 
@@ -250,10 +274,13 @@ pub fn failed_alone(
     order: Option<&str>,
     fault: &NotAccepted,
 ) -> Result<Alone, NoMemory>
-    ensures { IfOk result (λ alone. (line : CommandLine) (before after : ShelfState)
-        → files_of (Some line) ≡ Some (asked_for spec.now (option_map (λ word. word.now) order.entry))
+    ensures { IfOk result (λ alone. (line : CommandLine) (words : List (List ℕ))
+        (before after : ShelfState)
+        → files_of (Some line)
+        ≡ Some (asked_for spec.now (option_map (λ word. word.now) order.entry) words)
         → Failed before after
-        (IsAccepted (asked_for spec.now (option_map (λ word. word.now) order.entry))) fault.now
+        (IsAccepted (asked_for spec.now (option_map (λ word. word.now) order.entry) words))
+        fault.now
         → IsLast (Some line) before after alone) }
 {
     match fault {

@@ -12,9 +12,10 @@ ghost use Rattle.lotos_top.specs.Run.{
   ended_by,
   streams,
 };
-ghost use Rattle.lotos_top.specs.Words.{command_line, words_of};
+ghost use Rattle.lotos_top.specs.Words.{command_line};
 ghost use Rattle.session_lines.specs.View.{IsOverData, session_of};
 ghost use Rattle.sort_terms.specs.SignatureView.{signature_of};
+ghost use Rattle.start_values.specs.WordLimits.{words_of};
 ghost use Rattle.std.specs.Prelude.{◌≡◌, ℕ, List, MatchResult, Option};
 
 use crate::ended::Ended;

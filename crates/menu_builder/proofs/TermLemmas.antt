@@ -21,6 +21,18 @@ zipped_of signature [] us h k = tt
 zipped_of signature (t ∷ ts) [] h k = tt
 zipped_of signature (t ∷ ts) (u ∷ us) h k = ((h.0, k.0), zipped_of signature ts us h.1 k.1)
 
+-- a copy
+pub copy_over : (signature : Signature) (draft made : Draft)
+    → label_profiles made.label ≡ label_profiles draft.label
+    → profiles_of made.leaves.items ≡ profiles_of draft.leaves.items
+    → condition_profiles made.conditions.items ≡ condition_profiles draft.conditions.items
+    → HasTermsOf signature draft → HasTermsOf signature made
+copy_over signature draft made values leaves conditions h = record {
+  values = subst (AreTermsOf signature) (sym values) h.values;
+  leaves = subst (AreTermsOf signature) (sym leaves) h.leaves;
+  conditions = subst (AreConditionsOf signature) (sym conditions) h.conditions;
+}
+
 -- both sides of a parallel
 pub both_over : (signature : Signature) (left right made : Draft) (r : Renaming)
     → label_profiles made.label ≡ label_profiles left.label

@@ -2,6 +2,7 @@
 //! behaviour (ISO 8807:1989, behaviour expressions). The call that lists them is not there yet.
 #![tactic(auto)]
 
+pub mod copies;
 pub mod laws;
 pub mod meeting;
 pub mod rules;

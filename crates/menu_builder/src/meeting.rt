@@ -4,11 +4,9 @@ ghost use Rattle.behaviour_semantics.specs.Behaviour.{sorts_of};
 ghost use Rattle.behaviour_semantics.specs.Draft.{draft_with};
 ghost use Rattle.behaviour_semantics.specs.Join.{both_drafts};
 ghost use Rattle.behaviour_semantics.specs.Label.{inner_event};
-ghost use Rattle.behaviour_semantics.specs.Rule.{move_together};
 ghost use Rattle.behaviour_semantics.specs.Shape.{enabled as enabled_shape};
 ghost use Rattle.behaviour_tree.specs.BehaviourTerms.{profiles_of};
 ghost use Rattle.behaviour_tree.specs.BehaviourView.{meet_of, variables_of};
-ghost use Rattle.behaviour_tree.specs.MoveView.{label_of};
 ghost use Rattle.behaviour_tree.specs.Over.{AreTermsOf};
 ghost use Rattle.event_offers.specs.OfferView.{label_profiles, plain_draft};
 ghost use Rattle.event_offers.specs.Renaming.{renaming_of};
@@ -16,47 +14,34 @@ ghost use Rattle.menu_builder.specs.DraftRules.{enable_draft, ended_draft};
 ghost use Rattle.menu_builder.specs.DraftTerms.{HasTermsOf};
 ghost use Rattle.menu_builder.specs.Meeting.{may_be_met, meet_told, sorts_told};
 ghost use Rattle.std.specs.Option.{option_map};
-ghost use Rattle.std.specs.Prelude.{◌≡◌, IfOk, IfSome, None, Some, if◌then◌else◌};
+ghost use Rattle.std.specs.Prelude.{◌≡◌, IfOk, IfSome};
 ghost use Rattle.term_algebra.specs.Signature.{Signature};
 
 use crate::rules::{below, meet_at};
 use crate::variants::Variant;
 use behaviour_tree::{Label, Meet};
 use event_offers::Draft;
-use event_offers::joining::both_sides;
+use event_offers::joining::both_taken;
 use event_offers::labels::alike;
 use event_offers::renaming::Renaming;
 use lotos_base::NoMemory;
 use sort_terms::{Sorted, Variable};
 
-/// The draft of both sides of a parallel, with other numbers for the right variables, or `None`
-/// where their labels are not those of one event at which the sides synchronise.
-pub fn together(
-    left: &Draft,
-    right: &Draft,
-    renaming: &Renaming,
-    meet: &Meet,
-) -> Result<Option<Draft>, NoMemory>
-    ensures same { IfOk result (λ o. (signature : Signature)
-        → AreTermsOf signature (label_profiles left.now.label)
-        → AreTermsOf signature (label_profiles right.now.label)
-        → option_map plain_draft o
-        ≡ (if move_together signature (meet_of meet.now) (label_of left.now.label)
-        (label_of right.now.label) then Some (both_drafts (plain_draft left.now)
-        (draft_with (renaming_of renaming.now) (plain_draft right.now))) else None)) }
-    ensures over { IfOk result (λ o. IfSome o (λ made. (signature : Signature)
-        → HasTermsOf signature left.now → HasTermsOf signature right.now
-        → HasTermsOf signature made)) }
+/// The draft of both sides of a parallel, which are taken, with other numbers for the right
+/// variables.
+pub fn together(left: Draft, right: Draft, renaming: &Renaming) -> Result<Draft, NoMemory>
+    ensures same { IfOk result (λ made. plain_draft made ≡ both_drafts (plain_draft left)
+        (draft_with (renaming_of renaming.now) (plain_draft right))) }
+    ensures over { IfOk result (λ made. (signature : Signature)
+        → HasTermsOf signature left → HasTermsOf signature right
+        → HasTermsOf signature made) }
 {
-    if !may_meet(meet, &left.label, &right.label) {
-        return Ok(None);
-    }
-    let made = both_sides(left, right, renaming)?;
-    Ok(Some(made))
+    let made = both_taken(left, right, renaming)?;
+    Ok(made)
 }
 
-// Whether the labels are those of one event at which the sides synchronise.
-fn may_meet(meet: &Meet, left: &Label, right: &Label) -> bool
+/// Whether the labels are those of one event at which the sides of a parallel synchronise.
+pub fn may_meet(meet: &Meet, left: &Label, right: &Label) -> bool
     ensures { result ≡ meet_told (meet_of meet.now) left.now right.now }
 {
     if !alike(left, right) {

@@ -58,8 +58,8 @@ pub fn alone(draft: Draft, meet: &Meet, variant: Variant) -> Result<Option<Draft
     Ok(Some(below(draft, variant)?))
 }
 
-// Whether a side of a parallel moves alone with the label.
-fn may_move_alone(meet: &Meet, label: &Label) -> bool
+/// Whether a side of a parallel moves alone with the label.
+pub fn may_move_alone(meet: &Meet, label: &Label) -> bool
     ensures { result ≡ moves_alone (meet_of meet.now) (label_of label.now) }
 {
     match label {

@@ -1,18 +1,8 @@
-//! Whole texts with the menus that they begin with (ISO 8807:1989, dynamic semantics). Nothing
-//! stands on this crate.
+//! Whole texts and the menus that they begin with (ISO 8807:1989, dynamic semantics), for the tables
+//! of the crates of tests.
 #![tactic(auto)]
 
-#[cfg(test)]
-mod cases;
-#[cfg(test)]
-mod data;
 pub mod failing;
 pub mod first_menus;
-#[cfg(test)]
-mod forms;
 pub mod grown;
 pub mod printed;
-#[cfg(test)]
-mod sizes;
-#[cfg(test)]
-mod tests;

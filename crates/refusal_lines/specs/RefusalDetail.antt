@@ -9,7 +9,7 @@ use Rattle.type_flatten.specs.TypeFault.{TypeFault, double_sort, unknown_sort, d
 use Rattle.static_scope.specs.ScopeFault as scope
 use Rattle.printed_texts.specs.Brackets.{round, commas}
 use Rattle.printed_texts.specs.TermText.{sort_text, term_text}
-use Rattle.spec_faults.specs.Refusal.{Refusal, unbuilt, too_long, bad_byte, open_comment, wrong_syntax, too_deep, too_many_libraries, wrong_names, wrong_types, wrong_scopes, mismatch, unguarded, unknown_operation, twice_listed, unorientable, unjoined, start_values, start_term}
+use Rattle.spec_faults.specs.Refusal.{Refusal, too_long, bad_byte, open_comment, wrong_syntax, too_deep, too_many_libraries, wrong_names, wrong_types, wrong_scopes, mismatch, unguarded, unknown_operation, twice_listed, unorientable, unjoined, start_values, start_term}
 use Rattle.refusal_lines.specs.TextNames.{TextNames, place_text}
 use Rattle.refusal_lines.specs.RefusalPlace.{place_of_equation}
 
@@ -117,7 +117,6 @@ pair_detail names (Some data_) second peak left right =
 
 -- of all
 abbrev pub detail_of : TextNames → Option Data → Option Specification → Refusal → List ℕ
-detail_of names data_ spec (unbuilt place) = []
 detail_of names data_ spec (bad_byte place) = []
 detail_of names data_ spec (open_comment place) = []
 detail_of names data_ spec (too_long text) = []

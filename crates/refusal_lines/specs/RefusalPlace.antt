@@ -5,7 +5,7 @@ use Rattle.term_algebra.specs.Equation.{Place, Equation, Data}
 use Rattle.type_mentions.specs.MentionFaults.{MentionFault, double_type, unknown_type, type_cycle}
 use Rattle.type_flatten.specs.TypeFault.{TypeFault, double_sort, unknown_sort, double_operation, unknown_operation as no_operation, not_formal, missing_actual, premised, unknown_name, no_reading, two_readings, too_large}
 use Rattle.static_scope.specs.ScopeFault.{fault_place, refusal_place}
-use Rattle.spec_faults.specs.Refusal.{Refusal, unbuilt, too_long, bad_byte, open_comment, wrong_syntax, too_deep, too_many_libraries, wrong_names, wrong_types, wrong_scopes, mismatch, unguarded, unknown_operation, twice_listed, unorientable, unjoined, start_values, start_term}
+use Rattle.spec_faults.specs.Refusal.{Refusal, too_long, bad_byte, open_comment, wrong_syntax, too_deep, too_many_libraries, wrong_names, wrong_types, wrong_scopes, mismatch, unguarded, unknown_operation, twice_listed, unorientable, unjoined, start_values, start_term}
 
 -- where a text begins
 abbrev pub beginning : ℕ → Place
@@ -41,7 +41,6 @@ place_of_equation (Some data_) number = option_map place_in (slice_get data_.equ
 
 -- of all
 abbrev pub place_of : Option Data → Refusal → Option Place
-place_of known (unbuilt place) = Some place
 place_of known (bad_byte place) = Some place
 place_of known (open_comment place) = Some place
 place_of known (too_long text) = Some (beginning text)

@@ -4,7 +4,7 @@ use Rattle.sort_terms.specs.ReadingOutcome as reading
 use Rattle.type_mentions.specs.MentionFaults.{MentionFault, double_type, unknown_type, type_cycle}
 use Rattle.type_flatten.specs.TypeFault.{TypeFault, double_sort, unknown_sort, double_operation, unknown_operation as no_operation, not_formal, missing_actual, premised, unknown_name, no_reading, two_readings, too_large}
 use Rattle.static_scope.specs.ScopeFault as scope
-use Rattle.spec_faults.specs.Refusal.{Refusal, unbuilt, too_long, bad_byte, open_comment, wrong_syntax, too_deep, too_many_libraries, wrong_names, wrong_types, wrong_scopes, mismatch, unguarded, unknown_operation, twice_listed, unorientable, unjoined, start_values, start_term}
+use Rattle.spec_faults.specs.Refusal.{Refusal, too_long, bad_byte, open_comment, wrong_syntax, too_deep, too_many_libraries, wrong_names, wrong_types, wrong_scopes, mismatch, unguarded, unknown_operation, twice_listed, unorientable, unjoined, start_values, start_term}
 
 -- of the names of types
 abbrev pub words_of_names : MentionFault → List ℕ
@@ -46,7 +46,6 @@ words_of_scopes (scope.refused_term refusal) = words_of_term refusal
 
 -- of all
 abbrev pub words_of : Refusal → List ℕ
-words_of (unbuilt place) = codes "100 Unbuilt"
 words_of (bad_byte place) = codes "101 BadByte"
 words_of (open_comment place) = codes "102 OpenComment"
 words_of (too_long text) = codes "103 TooLong"

@@ -36,7 +36,6 @@ pub fn push_detail(names: &TextNames, refused: &Refused, into: &mut Vec<u8>) -> 
         (data_in refused.now.flat) (spec_in refused.now.spec) (refusal_of refused.now.fault)) }
 {
     match &refused.fault {
-        SpecFault::Unbuilt { .. } => Ok(()),
         SpecFault::Read { .. } => Ok(()),
         SpecFault::Libraries { name, .. } => push_name(name, into),
         SpecFault::Types(fault) => push_type_detail(fault, into),

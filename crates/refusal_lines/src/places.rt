@@ -35,7 +35,6 @@ pub fn place(fault: &SpecFault, flat: &Option<Flat>) -> Option<Place>
         ≡ place_told (data_in flat.now) (refusal_of fault.now) }
 {
     match fault {
-        SpecFault::Unbuilt { place } => Some(*place),
         SpecFault::Read { text, fault } => text_place(*text, fault),
         SpecFault::Libraries { place, .. } => Some(*place),
         SpecFault::Types(fault) => type_place(fault),

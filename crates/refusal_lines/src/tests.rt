@@ -19,7 +19,6 @@ const READING: &str = "103 TooLong at library BOOLEAN:1:1
 104 Syntax at q.lib:3:14
 105 TooDeep at with:3:14
 106 Libraries at s.lotos:3:14 Nat
-100 Unbuilt at s.lotos:3:14
 701 StartValues wanted 1 given 0
 211 UnknownName at with:3:14";
 
@@ -100,8 +99,7 @@ fn reading(alloc: Global, index: usize) -> Result<SpecFault, AllocError> {
             place: place(0),
             name: name(alloc, NAT)?,
         },
-        6 => SpecFault::Unbuilt { place: place(0) },
-        7 => SpecFault::StartValues {
+        6 => SpecFault::StartValues {
             wanted: 1,
             given: 0,
         },

@@ -28,7 +28,6 @@ pub fn words(fault: &SpecFault) -> &'static [u8]
     ensures { result.now ≡ words_told (refusal_of fault.now) }
 {
     match fault {
-        SpecFault::Unbuilt { .. } => b"100 Unbuilt",
         SpecFault::Read { fault, .. } => text_words(fault),
         SpecFault::Libraries { .. } => b"106 Libraries",
         SpecFault::Types(fault) => type_words(fault),

@@ -3,11 +3,7 @@ use Rattle.std.proofs.Common.{refl, sym, ◌≡◌, subst, ℕ, List, [], map, O
 use Rattle.std.specs.Prelude.{Result, MatchResult}
 use Rattle.lotos_base.specs.WrittenTerm.{ListedOperation}
 use Rattle.lotos_base.specs.WrittenView.{listed_operation_of}
-use Rattle.lotos_lexer.specs.Tokens as lexed
-use Rattle.lotos_lexer.specs.Tokens.{tokens_of}
-use Rattle.lotos_lexer.specs.declared.tokens.Token.{Token}
 use Rattle.lotos_reading.specs.Reading.{IsSpecificationReading}
-use Rattle.term_algebra.specs.Signature.{Signature}
 use Rattle.term_algebra.specs.Equation.{Data}
 use Rattle.sort_terms.specs.EquationView.{IsSortedFlat, data_of}
 use Rattle.syntax_trees.specs.WrittenDefinition.{WrittenSpecification}
@@ -16,8 +12,8 @@ use Rattle.syntax_trees.specs.TakenItems.{items_of_specification, without_items}
 use Rattle.static_scope.specs.GateLists.{TextHasGateLists}
 use Rattle.gate_lists.proofs.GateListLemmas.{read_texts_have_gate_lists, gate_lists_stay}
 use Rattle.behaviour_semantics.specs.Behaviour.{Specification}
+use Rattle.behaviour_tree.specs.BehaviourView.{terms_of}
 use Rattle.behaviour_tree.specs.DefinitionView.{specification_of}
-use Rattle.behaviour_tree.specs.Over.{IsSpecOver}
 use Rattle.library_reading.specs.Gathering.{Gathered}
 use Rattle.library_reading.specs.ShelfUse.{ShelfState}
 use Rattle.type_mentions.specs.DeclaredTypes.{types_of}
@@ -28,21 +24,23 @@ use Rattle.acceptance_order.specs.Types.{HaveData, HaveFault}
 use Rattle.acceptance_order.specs.Scopes.{StandsFor, Breaks}
 use Rattle.acceptance_order.specs.Checks.{Agree, Disagree, Guarded, Cyclic}
 use Rattle.acceptance_order.specs.Book.{Opens, DoesNotOpen}
-use Rattle.acceptance_order.specs.Acceptance.{Acceptance, AfterText, HasNone, HasSome}
+use Rattle.start_values.specs.StartValues.{IsStartFault}
+use Rattle.acceptance_order.specs.Acceptance.{Acceptance, AfterText, start_of}
 use Rattle.spec_acceptance.specs.AcceptedView.{AcceptsWith}
 use Rattle.spec_acceptance.specs.Doing.{Did, Failed, Faulty}
-use Rattle.spec_acceptance.specs.Known.{KnowsData, Resolved, KnowsSpec, KnowsRanks, KnowsOrder, OrdersWith, KnowsBook, StartsWith}
+use Rattle.spec_acceptance.specs.Known.{KnowsData, Resolved, KnowsSpec, KnowsRanks, KnowsOrder, OrdersWith, KnowsBook, KnowsValues, MayStart, StartsWith}
 use Rattle.spec_acceptance.specs.declared.accepted.Accepted.{Accepted}
 use Rattle.spec_acceptance.specs.declared.books.WithBook.{WithBook}
 use Rattle.spec_acceptance.specs.declared.not_accepted.NotAccepted.{NotAccepted}
 use Rattle.spec_acceptance.specs.declared.not_accepted.NotAccepted.TheVariants.{NoMemory}
+use Rattle.spec_acceptance.specs.declared.starts.WithValues.{WithValues}
 use Rattle.spec_acceptance.specs.declared.stages.WithData.{WithData}
 use Rattle.spec_acceptance.specs.declared.stages.WithOrder.{WithOrder}
 use Rattle.spec_acceptance.specs.declared.stages.WithRanks.{WithRanks}
 use Rattle.spec_acceptance.specs.declared.stages.WithSpec.{WithSpec}
-use Rattle.spec_acceptance.proofs.AcceptLemmas.{Leads, AfterTypes, AfterOrder, Stands, types_failed, scopes_failed, exits_failed, ranks_failed, order_failed, reached_order, book_failed, built_failed, reached_end, ended}
+use Rattle.spec_acceptance.proofs.AcceptLemmas.{Leads, AfterTypes, AfterOrder, Stands, types_failed, scopes_failed, exits_failed, ranks_failed, order_failed, reached_order, book_failed, start_failed, reached_end, ended}
 use Rattle.spec_acceptance.proofs.DoingLemmas.{failed_first}
-use Rattle.spec_acceptance.proofs.ParameterLemmas.{none_kept}
+use Rattle.spec_acceptance.proofs.StartLemmas.{may_start}
 
 -- ---- What the text gives
 
@@ -54,34 +52,30 @@ lists_there text tree now read left =
     (gate_lists_stay tree (read_texts_have_gate_lists 0 text tree read))
 
 -- want of memory before anything is got
-pub nothing_out : (a : ShelfState) (order : Option (List ℕ)) (text : List ℕ) (tree : WrittenSpecification)
-    → Failed a a (AfterText order text tree) NoMemory
-nothing_out a order text tree = record { texts = refl; faults = refl }
-
-pub cut_there : (text : List ℕ) (tree : WrittenSpecification) → IsSpecificationReading 0 text tree
-    → (tokens : List Token) × (tokens_of 0 text ≡ lexed.Tokens tokens)
-cut_there text tree read = (read.1.tokens, read.1.cut_into)
+pub nothing_out : (a : ShelfState) (order : Option (List ℕ)) (words : List (List ℕ)) (tree : WrittenSpecification)
+    → Failed a a (AfterText order words tree) NoMemory
+nothing_out a order words tree = record { texts = refl; faults = refl }
 
 -- ---- The libraries end it
 
-pub gather_out : (a b : ShelfState) (order : Option (List ℕ)) (text : List ℕ) (tree : WrittenSpecification) (items : List WrittenItem)
+pub gather_out : (a b : ShelfState) (order : Option (List ℕ)) (words : List (List ℕ)) (tree : WrittenSpecification) (items : List WrittenItem)
     (fault : NotAccepted) → items ≡ items_of_specification tree → Failed a b (GathersTypes items) fault
-    → Failed a b (AfterText order text tree) fault
-gather_out a b order text tree items fault same is =
-    failed_first {B = Acceptance} a b (Gathers tree) (AfterTypes order text tree) fault
+    → Failed a b (AfterText order words tree) fault
+gather_out a b order words tree items fault same is =
+    failed_first {B = Acceptance} a b (Gathers tree) (AfterTypes order words tree) fault
     (subst (λ (is : List WrittenItem). Failed a b (GathersTypes is) fault) same is)
 
 -- ---- What comes behind them
 
-module _ (a b : ShelfState) (order : Option (List ℕ)) (text : List ℕ) (tree : WrittenSpecification) (items : List WrittenItem) (g :
+module _ (a b : ShelfState) (order : Option (List ℕ)) (words : List (List ℕ)) (tree : WrittenSpecification) (items : List WrittenItem) (g :
     Gathered)
     (same : items ≡ items_of_specification tree) (did : Did a b (GathersTypes items) (goes_on g)) where
   gathers : Did a b (Gathers tree) (goes_on g)
   gathers = subst (λ (is : List WrittenItem). Did a b (GathersTypes is) (goes_on g)) same did
 
   pub types_out : (fault : NotAccepted) → Faulty (HaveFault (types_of g.types)) (with_libraries g.read) fault
-      → Failed a b (AfterText order text tree) fault
-  types_out fault is = types_failed a order text tree b g fault gathers is
+      → Failed a b (AfterText order words tree) fault
+  types_out fault is = types_failed a order words tree b g fault gathers is
 
   module _ (flat : WithData) (flattened : KnowsData g.read (data_of flat.flat) flat × HaveData (types_of g.types) (data_of flat.flat))
       (now : WrittenSpecification) (left : now ≡ without_items tree) where
@@ -91,8 +85,8 @@ module _ (a b : ShelfState) (order : Option (List ℕ)) (text : List ℕ) (tree 
     pub scopes_out : (fault : NotAccepted)
         → ((t : WrittenSpecification) (read : List (List ℕ)) (data_ : Data) → now ≡ without_items t → KnowsData read data_ flat
         → Faulty (Breaks data_ t) (with_data read data_) fault)
-        → Failed a b (AfterText order text tree) fault
-    scopes_out fault is = scopes_failed a order text tree b g d fault gathers flattened.1 (is tree g.read d left flattened.0)
+        → Failed a b (AfterText order words tree) fault
+    scopes_out fault is = scopes_failed a order words tree b g d fault gathers flattened.1 (is tree g.read d left flattened.0)
 
     module _ (stood : WithSpec)
         (stands : (t : WrittenSpecification) (read : List (List ℕ)) (data_ : Data) → now ≡ without_items t → KnowsData read data_ flat
@@ -109,8 +103,8 @@ module _ (a b : ShelfState) (order : Option (List ℕ)) (text : List ℕ) (tree 
 
       pub exits_out : (fault : NotAccepted)
           → ((w : Resolved) → KnowsSpec w stood → Faulty (Disagree w.data_ w.tree w.spec) (with_spec w.read w.data_ w.spec) fault)
-          → Failed a b (AfterText order text tree) fault
-      exits_out fault is = exits_failed a order text tree b g d s fault gathers flattened.1 stands_there.1 (is whole stands_there.0)
+          → Failed a b (AfterText order words tree) fault
+      exits_out fault is = exits_failed a order words tree b g d s fault gathers flattened.1 stands_there.1 (is whole stands_there.0)
 
       module _ (checked : WithSpec)
           (agrees : (w : Resolved) → KnowsSpec w stood → KnowsSpec w checked × Agree w.data_ w.tree w.spec w.spec) where
@@ -119,16 +113,16 @@ module _ (a b : ShelfState) (order : Option (List ℕ)) (text : List ℕ) (tree 
 
         pub ranks_out : (fault : NotAccepted)
             → ((w : Resolved) → KnowsSpec w checked → Faulty (Cyclic w.data_ w.tree w.spec) (with_spec w.read w.data_ w.spec) fault)
-            → Failed a b (AfterText order text tree) fault
+            → Failed a b (AfterText order words tree) fault
         ranks_out fault is =
-            ranks_failed a order text tree b g d s fault gathers flattened.1 stands_there.1 agrees_there.1 (is whole agrees_there.0)
+            ranks_failed a order words tree b g d s fault gathers flattened.1 stands_there.1 agrees_there.1 (is whole agrees_there.0)
 
         module _ (ranked : WithRanks)
             (falls : (w : Resolved) → KnowsSpec w checked → KnowsRanks w ranked × Guarded w.spec w.spec) where
           falls_there : KnowsRanks whole ranked × Guarded s s
           falls_there = falls whole agrees_there.0
 
-          stands_all : Stands a order text tree b g d s
+          stands_all : Stands a order words tree b g d s
           stands_all = record {
             data_had = flattened.1;
             stands = stands_there.1;
@@ -138,8 +132,8 @@ module _ (a b : ShelfState) (order : Option (List ℕ)) (text : List ℕ) (tree 
 
           pub order_out : (c : ShelfState) (fault : NotAccepted)
               → ((w : Resolved) → KnowsRanks w ranked → Failed b c (Orders (with_spec w.read w.data_ w.spec) order) fault)
-              → Failed a c (AfterText order text tree) fault
-          order_out c fault is = order_failed a order text tree b g c d s fault gathers stands_all (is whole falls_there.0)
+              → Failed a c (AfterText order words tree) fault
+          order_out c fault is = order_failed a order words tree b g c d s fault gathers stands_all (is whole falls_there.0)
 
           module _ (c : ShelfState) (made : WithOrder)
               (orders : (w : Resolved) → KnowsRanks w ranked → OrdersWith w b c order made) where
@@ -149,8 +143,8 @@ module _ (a b : ShelfState) (order : Option (List ℕ)) (text : List ℕ) (tree 
             orders_there : OrdersWith whole b c order made
             orders_there = orders whole falls_there.0
 
-            leads : Leads a c (AfterText order text tree) (AfterOrder text g d s os)
-            leads = reached_order a order text tree b g c d s os gathers stands_all orders_there.1
+            leads : Leads a c (AfterText order words tree) (AfterOrder words g d s os)
+            leads = reached_order a order words tree b g c d s os gathers stands_all orders_there.1
 
             pub sorted_there : IsSortedFlat made.known.known.flat
             sorted_there = orders_there.0.ranks_known.spec_known.sorted
@@ -158,8 +152,8 @@ module _ (a b : ShelfState) (order : Option (List ℕ)) (text : List ℕ) (tree 
             pub book_out : (fault : NotAccepted)
                 → ((w : Resolved) (is : List ListedOperation) → KnowsOrder w is made
                 → Faulty (DoesNotOpen is w.data_) (with_spec w.read w.data_ w.spec) fault)
-                → Failed a c (AfterText order text tree) fault
-            book_out fault is = book_failed a order text tree c g d s os fault leads (is whole os orders_there.0)
+                → Failed a c (AfterText order words tree) fault
+            book_out fault is = book_failed a order words tree c g d s os fault leads (is whole os orders_there.0)
 
             module _ (booked : WithBook)
                 (opens : (w : Resolved) (is : List ListedOperation) → KnowsOrder w is made → KnowsBook w is booked × Opens is w.data_ is)
@@ -167,27 +161,23 @@ module _ (a b : ShelfState) (order : Option (List ℕ)) (text : List ℕ) (tree 
                 opens_there : KnowsBook whole os booked × Opens os d os
                 opens_there = opens whole os orders_there.0
 
-                pub built_out : (fault : NotAccepted)
+                pub start_out : (fault : NotAccepted)
                     → ((w : Resolved) (is : List ListedOperation) → KnowsBook w is booked
-                    → Faulty (HasSome text w.spec) (with_libraries w.read) fault)
-                    → Failed a c (AfterText order text tree) fault
-                built_out fault is =
-                    built_failed a order text tree c g d s os fault leads opens_there.1 (is whole os opens_there.0)
+                    → Faulty (IsStartFault (start_of w.data_ w.spec words)) (with_spec w.read w.data_ w.spec) fault)
+                    → Failed a c (AfterText order words tree) fault
+                start_out fault is =
+                    start_failed a order words tree c g d s os fault leads opens_there.1 (is whole os opens_there.0)
 
-                module _ (last : WithBook)
-                    (builds : (w : Resolved) (is : List ListedOperation) → KnowsBook w is booked
-                    → KnowsBook w is last × HasNone w.spec w.spec) where
-                  builds_there : KnowsBook whole os last × HasNone s s
-                  builds_there = builds whole os opens_there.0
+                module _ (last : WithValues)
+                    (begins : (w : Resolved) (is : List ListedOperation) → KnowsBook w is booked → KnowsValues w is words last) where
+                  begins_there : KnowsValues whole os words last
+                  begins_there = begins whole os opens_there.0
 
-                  pub over_there : (signature : Signature) × IsSpecOver signature last.spec
-                  over_there = (d.signature, builds_there.0.keeps.over)
-
-                  pub none_there : last.spec.parameters.items ≡ []
-                  none_there = none_kept whole os last builds_there.0 builds_there.1
+                  pub state_there : MayStart last
+                  state_there = may_start whole os words last begins_there
 
                   pub finished : (answer : Result Accepted NotAccepted) → StartsWith last answer
-                      → MatchResult answer (AcceptsWith a c (AfterText order text tree)) (Failed a c (AfterText order text tree))
+                      → MatchResult answer (AcceptsWith a c (AfterText order words tree)) (Failed a c (AfterText order words tree))
                   finished answer starts =
-                      ended a c order text g whole os last answer refl builds_there.0
-                      (reached_end a order text tree c g d s os leads opens_there.1 builds_there.1) starts
+                      ended a c order words g whole os last answer refl begins_there
+                      (reached_end a order words tree c g d s os (terms_of last.values.items) leads opens_there.1 begins_there.valued) starts

@@ -79,7 +79,7 @@ refused_as IsFault known IsWanting r (Spec found) is tells =
 refused_as IsFault known IsWanting r NoMemory is tells = tt
 
 -- what a refusal then tells
-told_spec : (libraries read : List (List ℕ)) (data_ other : Data) (spec also : Specification) (IsFault : Refusal → Type 0) (answer :
+pub told_spec : (libraries read : List (List ℕ)) (data_ other : Data) (spec also : Specification) (IsFault : Refusal → Type 0) (answer :
     NotAccepted)
     → libraries ≡ read → data_ ≡ other → spec ≡ also → Faulty IsFault (with_spec libraries data_ spec) answer
     → Faulty IsFault (with_spec read other also) answer

@@ -2,7 +2,6 @@ pub mod DoingLemmas
 pub mod FaultLemmas
 pub mod LibraryLemmas
 pub mod KnownLemmas
-pub mod ParameterLemmas
 pub mod OrderLemmas
 pub mod StartLemmas
 pub mod AcceptLemmas

@@ -1,14 +1,22 @@
--- The state in which a specification without parameters begins.
-use Rattle.std.proofs.Common.{ap, sym, ◌∙◌, ◌≡◌, subst, List, [], ◌++◌, length}
-use Rattle.std.specs.Prelude.{Result, Ok, Err, IfOk, IsErrAnd}
-use Rattle.std.proofs.lemmas.List.{append-nil}
+-- Start values, and the state in which the specification begins with them.
+use Rattle.std.proofs.Common.{refl, ap, sym, ◌∙◌, ◌≡◌, subst, ℕ, List, [], ◌∷◌, ◌++◌, map, length, Option, None, Some, option_map}
+use Rattle.std.specs.Prelude.{Result, Ok, Err, IsErrAnd}
+use Rattle.lotos_base.specs.Name.{spelling}
+use Rattle.lotos_base.specs.WrittenTerm.{ListedOperation}
+use Rattle.term_algebra.proofs.CanonLemmas.{canon_ground}
+use Rattle.term_algebra.specs.Canon.{IsCanon}
+use Rattle.term_algebra.specs.Equation.{Data}
 use Rattle.term_algebra.specs.Signature.{Signature}
-use Rattle.behaviour_semantics.specs.Behaviour.{Behaviour, sorts_of}
+use Rattle.term_algebra.specs.Term.{Term}
+use Rattle.behaviour_semantics.specs.Behaviour.{Behaviour, Specification, sorts_of}
 use Rattle.behaviour_semantics.specs.Replacement.{with_values, binding_of}
 use Rattle.behaviour_semantics.specs.Rule.{AreValues}
-use Rattle.behaviour_semantics.specs.WellFormed.{IsBehaviour}
+use Rattle.behaviour_semantics.specs.WellFormed.{Every, IsBehaviour}
 use Rattle.behaviour_semantics.proofs.PutTerms.{closed_by}
-use Rattle.sort_terms.specs.ProfiledTerm.{ProfiledTerm}
+use Rattle.sort_terms.specs.EquationView.{data_of}
+use Rattle.sort_terms.specs.ProfiledTerm.{ProfiledTerm, IsOf}
+use Rattle.sort_terms.specs.SignatureView.{signature_of}
+use Rattle.sort_terms.specs.declared.equations.Flat.{Flat}
 use Rattle.sort_terms.specs.declared.equations.Variable.{Variable}
 use Rattle.sort_terms.specs.declared.sorted.Sorted.{Sorted}
 use Rattle.behaviour_tree.specs.BehaviourTerms.{profiles_in, profiles_of}
@@ -17,71 +25,185 @@ use Rattle.behaviour_tree.specs.Closed.{IsClosedNode}
 use Rattle.behaviour_tree.specs.DefinitionView.{specification_of}
 use Rattle.behaviour_tree.specs.Over.{AreTermsOf, IsSpecOver, IsStateOf, IsStart}
 use Rattle.behaviour_tree.specs.StateView.{node_profiles, state_of}
-use Rattle.behaviour_tree.specs.declared.definitions.Spec.{Spec}
+use Rattle.behaviour_tree.specs.declared.definitions.Spec.{Spec as CodeSpec}
 use Rattle.behaviour_tree.specs.declared.states.State.{State}
-use Rattle.lotos_base.specs.declared.faults.NoMemory.{NoMemory}
-use Rattle.spec_acceptance.specs.Known.{IsFirstState, StartsWith}
+use Rattle.equation_book.specs.BookCanon.{book_canon, book_is_canon}
+use Rattle.equation_book.specs.declared.book.Book.{Book}
+use Rattle.spec_faults.specs.Refusal as plain
+use Rattle.spec_faults.specs.Refusal.{Refusal}
+use Rattle.spec_faults.specs.RefusalView.{refusal_of, with_known}
+use Rattle.spec_faults.specs.declared.spec_fault.SpecFault.{SpecFault}
+use Rattle.start_values.specs.StartValues.{Start, AreStartValues, IsStartFault}
+use Rattle.start_values.specs.StartView as code
+use Rattle.start_values.specs.StartView.{FailsAs, parameter_sorts}
+use Rattle.start_values.specs.declared.faults.StartFault.{StartFault}
+use Rattle.start_values.specs.declared.faults.StartFault.TheVariants as start_fault
+use Rattle.start_values.proofs.OutcomeLemmas.{start_values_are_ground}
+use Rattle.acceptance_order.specs.Acceptance.{start_of}
+use Rattle.acceptance_order.specs.Ending.{with_spec}
+use Rattle.spec_acceptance.specs.Doing.{Faulty, with_spec_refused}
+use Rattle.spec_acceptance.specs.Known.{Resolved, KnowsBook, KnowsValues, MayStart, Starts, StartsWith, RefusesStarts}
 use Rattle.spec_acceptance.specs.declared.accepted.Accepted.{Accepted}
 use Rattle.spec_acceptance.specs.declared.books.WithBook.{WithBook}
 use Rattle.spec_acceptance.specs.declared.not_accepted.NotAccepted.{NotAccepted}
-use Rattle.spec_acceptance.specs.declared.not_accepted.NotAccepted.TheVariants.{NoMemory as not_there}
+use Rattle.spec_acceptance.specs.declared.not_accepted.NotAccepted.TheVariants.{Spec, NoMemory}
+use Rattle.spec_acceptance.specs.declared.starts.WithValues.{WithValues}
+use Rattle.spec_acceptance.specs.declared.stages.WithSpec.{WithSpec}
+use Rattle.spec_acceptance.proofs.KnownLemmas.{told_spec}
 
-no_values : (signature : Signature) (parameters : List Variable) → parameters ≡ [] → AreValues signature (sorts_of (variables_of
-    parameters)) []
-no_values signature parameters none =
-    subst (λ (xs : List Variable). AreValues signature (sorts_of (variables_of xs)) []) (sym none) tt
+-- ---- What the words are read for
 
--- it may begin without values
-pub starts : (spec : Spec) (signature : Signature) (values : List Sorted) → IsSpecOver signature spec → spec.parameters.items ≡ []
-    → values ≡ [] → IsStart spec values
-starts spec signature values over none empty =
-    subst (λ (vs : List Sorted). IsStart spec vs) (sym empty) (record {
-      signature = signature;
-      over = over;
-      fitting = no_values signature spec.parameters.items none;
-      profiles = tt;
-    })
+abbrev start_at : List (List ℕ) → Signature → List ℕ → Start
+start_at words signature sorts = record { signature = signature; sorts = sorts; words = words }
 
-lawful : (spec : Spec) (state : State) → spec.parameters.items ≡ []
-    → state_of state ≡ with_values (binding_of (variables_of spec.parameters.items) []) (behaviour_of spec.body)
-    → node_profiles state.node ≡ profiles_in spec.body → (signature : Signature) → IsSpecOver signature spec → IsStateOf signature spec
-    state
-lawful spec state none begins terms signature over = record {
-  closed =
-      subst (λ (b : Behaviour). IsBehaviour signature (length (specification_of spec).gate_names) (specification_of spec).processes [] b)
-      (sym begins)
-      (closed_by signature (length (specification_of spec).gate_names) (specification_of spec).processes
-      (variables_of spec.parameters.items) [] (behaviour_of spec.body) (no_values signature spec.parameters.items none)
-      over.well_formed.whole.behaviour);
-  terms = subst (λ (ts : List ProfiledTerm). AreTermsOf signature ts) (sym terms) over.body;
+same_start : (whole : Resolved) (items : List ListedOperation) (words : List (List ℕ)) (known : WithBook) (flat : Flat)
+    (parameters : List Variable) → KnowsBook whole items known → flat ≡ known.book.flat → parameters ≡ known.spec.parameters.items
+    → code.start_of flat.signature parameters words ≡ start_of whole.data_ whole.spec words
+same_start whole items words known flat parameters knows same shown =
+    ap (λ (g : Signature). start_at words g (parameter_sorts parameters))
+    (ap (λ (f : Flat). signature_of f.signature) same ∙ ap (λ (d : Data). d.signature) knows.data_is)
+    ∙ ap (λ (sorts : List ℕ). start_at words whole.data_.signature sorts)
+    (ap (λ (xs : List Variable). parameter_sorts xs) shown ∙ ap (λ (s : Specification). sorts_of s.parameters) knows.keeps.same)
+
+pub valued_fine : (words : List (List ℕ)) (known : WithBook) (flat : Flat) (parameters : List Variable) (made : WithValues)
+    → flat ≡ known.book.flat → parameters ≡ known.spec.parameters.items → made.known ≡ known
+    → AreStartValues (code.start_of flat.signature parameters words) (terms_of made.values.items)
+    → AreTermsOf (signature_of flat.signature) (profiles_of made.values.items)
+    → (whole : Resolved) (items : List ListedOperation) → KnowsBook whole items known → KnowsValues whole items words made
+valued_fine words known flat parameters made same shown kept are terms whole items knows = record {
+  book_known = subst (λ (k : WithBook). KnowsBook whole items k) (sym kept) knows;
+  valued =
+      subst (λ (start : Start). AreStartValues start (terms_of made.values.items))
+      (same_start whole items words known flat parameters knows same shown) are;
+  profiles =
+      subst (λ (g : Signature). AreTermsOf g (profiles_of made.values.items))
+      (ap (λ (f : Flat). signature_of f.signature) same ∙ ap (λ (d : Data). d.signature) knows.data_is) terms;
 }
 
-pub first_state : (spec : Spec) (state : State) (values : List Sorted) → spec.parameters.items ≡ [] → values ≡ []
-    → state_of state ≡ with_values (binding_of (variables_of spec.parameters.items) (terms_of values)) (behaviour_of spec.body)
-    → node_profiles state.node ≡ profiles_in spec.body ++ profiles_of values → IsClosedNode state.node → IsFirstState spec state
-first_state spec state values none empty begins terms closed = record {
-  begins = begins_so;
-  lawful = lawful spec state none begins_so
-      (terms ∙ ap (λ (vs : List Sorted). profiles_in spec.body ++ profiles_of vs) empty ∙ append-nil (profiles_in spec.body));
-  closed = closed;
+-- the refusal with what is known by then
+refused_there : (known : WithBook) (found : SpecFault) (answer : NotAccepted) (IsFault : Refusal → Type 0) → RefusesStarts known found answer
+    → FailsAs IsFault (start_fault.Refused found) → (whole : Resolved) (items : List ListedOperation) → KnowsBook whole items known
+    → Faulty IsFault (with_spec whole.read whole.data_ whole.spec) answer
+refused_there known found answer IsFault refuses is whole items knows =
+    told_spec (map spelling known.libraries.items) whole.read (data_of refuses.flat) whole.data_ (specification_of known.spec)
+    whole.spec IsFault answer knows.libraries (refuses.same_data ∙ knows.data_is) knows.keeps.same
+    (subst (λ (a : NotAccepted).
+    Faulty IsFault (with_spec (map spelling known.libraries.items) (data_of refuses.flat) (specification_of known.spec)) a)
+    (sym refuses.refused)
+    (is.0, is.1, ap (λ (told : Option Refusal). option_map (with_known (with_spec_refused kept found)) told) is.2))
+  where
+    kept : WithSpec
+    kept = record { libraries = known.libraries; flat = refuses.flat; spec = known.spec }
+
+pub valued_faulty : (words : List (List ℕ)) (known : WithBook) (flat : Flat) (parameters : List Variable) (given : StartFault)
+    (found : SpecFault) (answer : NotAccepted) → flat ≡ known.book.flat → parameters ≡ known.spec.parameters.items
+    → given ≡ start_fault.Refused found → FailsAs (IsStartFault (code.start_of flat.signature parameters words)) given
+    → RefusesStarts known found answer
+    → (whole : Resolved) (items : List ListedOperation) → KnowsBook whole items known
+    → Faulty (IsStartFault (start_of whole.data_ whole.spec words)) (with_spec whole.read whole.data_ whole.spec) answer
+valued_faulty words known flat parameters given found answer same shown refused is refuses whole items knows =
+    refused_there known found answer (IsStartFault (start_of whole.data_ whole.spec words)) refuses
+    (subst (λ (start : Start). FailsAs (IsStartFault start) (start_fault.Refused found))
+    (same_start whole items words known flat parameters knows same shown)
+    (subst (λ (f : StartFault). FailsAs (IsStartFault (code.start_of flat.signature parameters words)) f) refused is)) whole items knows
+
+-- ---- The first state
+
+pub may_start : (whole : Resolved) (items : List ListedOperation) (words : List (List ℕ)) (known : WithValues)
+    → KnowsValues whole items words known → MayStart known
+may_start whole items words known knows = record {
+  over = subst (λ (d : Data). IsSpecOver d.signature known.known.spec) (sym knows.book_known.data_is) knows.book_known.keeps.over;
+  fitting =
+      subst (λ (d : Data). AreValues d.signature (parameter_sorts known.known.spec.parameters.items) (terms_of known.values.items))
+      (sym knows.book_known.data_is)
+      (subst (λ (s : Specification). AreValues whole.data_.signature (sorts_of s.parameters) (terms_of known.values.items))
+      (sym knows.book_known.keeps.same)
+      (start_values_are_ground (start_of whole.data_ whole.spec words) (terms_of known.values.items) knows.valued));
+  profiles =
+      subst (λ (d : Data). AreTermsOf d.signature (profiles_of known.values.items)) (sym knows.book_known.data_is) knows.profiles;
+}
+
+-- normal forms of values are values
+normal_fitting : (data_ : Data) (canon : Term → Term) → IsCanon data_ canon → (sorts : List ℕ) (values : List Term)
+    → AreValues data_.signature sorts values → AreValues data_.signature sorts (map canon values)
+normal_fitting data_ canon is [] [] fit = tt
+normal_fitting data_ canon is [] (value ∷ values) fit = absurd fit
+normal_fitting data_ canon is (sort ∷ sorts) [] fit = absurd fit
+normal_fitting data_ canon is (sort ∷ sorts) (value ∷ values) fit =
+    (canon_ground data_ canon value sort is fit.0, normal_fitting data_ canon is sorts values fit.1)
+
+normal_fit : (known : WithBook) (values normal : List Sorted) → terms_of normal ≡ map (book_canon known.book) (terms_of values)
+    → AreValues (data_of known.book.flat).signature (parameter_sorts known.spec.parameters.items) (terms_of values)
+    → AreValues (data_of known.book.flat).signature (parameter_sorts known.spec.parameters.items) (terms_of normal)
+normal_fit known values normal are fit =
+    subst (λ (ts : List Term). AreValues (data_of known.book.flat).signature (parameter_sorts known.spec.parameters.items) ts) (sym are)
+    (normal_fitting (data_of known.book.flat) (book_canon known.book) (book_is_canon known.book)
+    (parameter_sorts known.spec.parameters.items) (terms_of values) fit)
+
+pub starts : (valued : WithValues) (normal : List Sorted)
+    → terms_of normal ≡ map (book_canon valued.known.book) (terms_of valued.values.items)
+    → AreTermsOf (data_of valued.known.book.flat).signature (profiles_of normal) → MayStart valued
+    → IsStart valued.known.spec normal
+starts valued normal are terms may = record {
+  signature = (data_of valued.known.book.flat).signature;
+  over = may.over;
+  fitting = normal_fit valued.known valued.values.items normal are may.fitting;
+  profiles = terms;
+}
+
+every_of : {X : Type 0} (P : X → Type 0) (xs ys : List X) → Every P xs → Every P ys → Every P (xs ++ ys)
+every_of P [] ys one other = other
+every_of P (x ∷ xs) ys one other = (one.0, every_of P xs ys one.1 other)
+
+state_over : (valued : WithValues) (normal : List Sorted) (state : State)
+    → AreValues (data_of valued.known.book.flat).signature (parameter_sorts valued.known.spec.parameters.items) (terms_of normal)
+    → AreTermsOf (data_of valued.known.book.flat).signature (profiles_of normal) → MayStart valued
+    → state_of state ≡ with_values (binding_of (variables_of valued.known.spec.parameters.items) (terms_of normal))
+    (behaviour_of valued.known.spec.body)
+    → node_profiles state.node ≡ profiles_in valued.known.spec.body ++ profiles_of normal
+    → IsStateOf (data_of valued.known.book.flat).signature valued.known.spec state
+state_over valued normal state fit terms may begins kept = record {
+  closed =
+      subst (λ (b : Behaviour). IsBehaviour signature (length spec.gate_names) spec.processes [] b) (sym begins)
+      (closed_by signature (length spec.gate_names) spec.processes (variables_of valued.known.spec.parameters.items) (terms_of normal)
+      (behaviour_of valued.known.spec.body) fit may.over.well_formed.whole.behaviour);
+  terms =
+      subst (λ (ts : List ProfiledTerm). AreTermsOf signature ts) (sym kept)
+      (every_of (IsOf signature) (profiles_in valued.known.spec.body) (profiles_of normal) may.over.body terms);
 }
   where
-    begins_so : state_of state ≡ with_values (binding_of (variables_of spec.parameters.items) []) (behaviour_of spec.body)
-    begins_so =
-        begins
-        ∙ ap (λ (vs : List Sorted). with_values (binding_of (variables_of spec.parameters.items) (terms_of vs)) (behaviour_of
-        spec.body)) empty
+    signature : Signature
+    signature = (data_of valued.known.book.flat).signature
 
-pub first_state_made : (spec : Spec) (made : Result State NoMemory) (values : List Sorted) → spec.parameters.items ≡ [] → values ≡ []
-    → IfOk made (λ state. state_of state
-    ≡ with_values (binding_of (variables_of spec.parameters.items) (terms_of values)) (behaviour_of spec.body))
-    → IfOk made (λ state. node_profiles state.node ≡ profiles_in spec.body ++ profiles_of values)
-    → IfOk made (λ state. IsClosedNode state.node) → IfOk made (IsFirstState spec)
-first_state_made spec (Ok state) values none empty begins terms closed = first_state spec state values none empty begins terms closed
-first_state_made spec (Err fault) values none empty begins terms closed = tt
+    spec : Specification
+    spec = specification_of valued.known.spec
+
+pub started_so : (valued : WithValues) (normal : List Sorted) (state : State) (accepted : Accepted)
+    → terms_of normal ≡ map (book_canon valued.known.book) (terms_of valued.values.items)
+    → AreTermsOf (data_of valued.known.book.flat).signature (profiles_of normal) → MayStart valued
+    → state_of state ≡ with_values (binding_of (variables_of valued.known.spec.parameters.items) (terms_of normal))
+    (behaviour_of valued.known.spec.body)
+    → node_profiles state.node ≡ profiles_in valued.known.spec.body ++ profiles_of normal → IsClosedNode state.node
+    → accepted ≡ record {
+      spec = valued.known.spec;
+      ranks = valued.known.ranks;
+      book = valued.known.book;
+      start = state;
+    } → Starts valued accepted
+started_so valued normal state accepted are terms may begins kept closed made =
+    subst (λ (a : Accepted). Starts valued a) (sym made) (record {
+      same_spec = refl;
+      same_ranks = refl;
+      same_book = refl;
+      begins =
+          begins ∙ ap (λ (ts : List Term). with_values (binding_of (variables_of valued.known.spec.parameters.items) ts)
+          (behaviour_of valued.known.spec.body)) are;
+      state = state_over valued normal state (normal_fit valued.known valued.values.items normal are may.fitting) terms may begins kept;
+      closed = closed;
+    })
 
 -- want of memory
-pub start_fails : (known : WithBook) (answer : Result Accepted NotAccepted) → IsErrAnd answer (λ (e : NotAccepted). e ≡ not_there)
+pub start_fails : (known : WithValues) (answer : Result Accepted NotAccepted) → IsErrAnd answer (λ (e : NotAccepted). e ≡ NoMemory)
     → StartsWith known answer
 start_fails known (Ok accepted) is = absurd is
 start_fails known (Err fault) is = is

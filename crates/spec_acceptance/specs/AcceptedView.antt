@@ -1,5 +1,5 @@
 -- What an accepted specification of the code is.
-use Rattle.std.specs.Prelude.{◌≡◌, ℕ, List, [], Option}
+use Rattle.std.specs.Prelude.{◌≡◌, ℕ, List, map, Option}
 use Rattle.term_algebra.specs.Equation.{IsWellFormedData}
 use Rattle.behaviour_semantics.specs.Replacement.{with_values, binding_of}
 use Rattle.behaviour_tree.specs.BehaviourView.{behaviour_of, variables_of}
@@ -7,6 +7,7 @@ use Rattle.behaviour_tree.specs.DefinitionView.{specification_of}
 use Rattle.behaviour_tree.specs.Closed.{IsClosedNode}
 use Rattle.behaviour_tree.specs.Over.{IsSpecOver, IsStateOf}
 use Rattle.behaviour_tree.specs.StateView.{state_of}
+use Rattle.equation_book.specs.BookCanon.{book_canon}
 use Rattle.equation_book.specs.Refusal.{IsOpenedBy}
 use Rattle.library_reading.specs.ShelfUse.{ShelfState}
 use Rattle.path_order.specs.RulesView.{precedence_in, rules_in}
@@ -18,12 +19,12 @@ use Rattle.acceptance_order.specs.Part.{goes_on, Part}
 use Rattle.spec_acceptance.specs.Doing.{Did}
 use Rattle.spec_acceptance.specs.declared.accepted.Accepted.{Accepted}
 
-abbrev pub asked_for : List ℕ → Option (List ℕ) → Asked
-asked_for spec order = record { spec = spec; order = order }
+abbrev pub asked_for : List ℕ → Option (List ℕ) → List (List ℕ) → Asked
+asked_for spec order values = record { spec = spec; order = order; values = values }
 
 -- It is what was accepted: the specification, which is over the data's signature, with its ranks; the data, which are well
 -- formed, with the precedence of the order's items and the confluent rules of the equations; and the closed state in which
--- it begins.
+-- it begins, its body with the normal forms of the start values.
 pub record Holds (acceptance : Acceptance) (accepted : Accepted) : Type 0 where
   pub spec_is : specification_of accepted.spec ≡ acceptance.spec
   pub data_is : data_of accepted.book.flat ≡ acceptance.data_
@@ -34,7 +35,8 @@ pub record Holds (acceptance : Acceptance) (accepted : Accepted) : Type 0 where
       IsOpenedBy acceptance.items acceptance.data_ (precedence_in accepted.book.joined.rules) (rules_in accepted.book.joined.rules)
   pub begins :
       state_of accepted.start
-      ≡ with_values (binding_of (variables_of accepted.spec.parameters.items) []) (behaviour_of accepted.spec.body)
+      ≡ with_values (binding_of (variables_of accepted.spec.parameters.items) (map (book_canon accepted.book) acceptance.values))
+      (behaviour_of accepted.spec.body)
   pub state : IsStateOf (signature_of accepted.book.flat.signature) accepted.spec accepted.start
   pub closed : IsClosedNode accepted.start.node
 

@@ -1,39 +1,45 @@
 -- What is known of a specification on the way, as plain values: the libraries that were read and the data, and then what the
 -- code keeps of the specification, its ranks, the items of the order and the book.
-use Rattle.std.specs.Prelude.{◌≡◌, ℕ, List, [], map, Option, Result, Ok, Err}
+use Rattle.std.specs.Prelude.{◌≡◌, ℕ, List, map, Option, Result, Ok, Err}
 use Rattle.lotos_base.specs.Name.{spelling}
 use Rattle.lotos_base.specs.WrittenTerm.{ListedOperation}
 use Rattle.lotos_base.specs.WrittenView.{listed_operation_of}
-use Rattle.term_algebra.specs.Signature.{Signature}
 use Rattle.term_algebra.specs.Equation.{Data, IsWellFormedData}
 use Rattle.sort_terms.specs.EquationView.{IsSortedFlat, data_of}
+use Rattle.sort_terms.specs.declared.equations.Flat.{Flat}
 use Rattle.syntax_trees.specs.WrittenDefinition.{WrittenSpecification}
 use Rattle.behaviour_semantics.specs.Behaviour.{Specification}
 use Rattle.behaviour_semantics.specs.Replacement.{with_values, binding_of}
-use Rattle.behaviour_tree.specs.BehaviourView.{behaviour_of, variables_of}
+use Rattle.behaviour_semantics.specs.Rule.{AreValues}
+use Rattle.behaviour_tree.specs.BehaviourTerms.{profiles_of}
+use Rattle.behaviour_tree.specs.BehaviourView.{behaviour_of, terms_of, variables_of}
 use Rattle.behaviour_tree.specs.Closed.{IsClosedNode}
-use Rattle.behaviour_tree.specs.Over.{IsSpecOver, IsStateOf}
+use Rattle.behaviour_tree.specs.Over.{AreTermsOf, IsSpecOver, IsStateOf}
 use Rattle.behaviour_tree.specs.StateView.{state_of}
-use Rattle.behaviour_tree.specs.declared.definitions.Spec.{Spec}
-use Rattle.behaviour_tree.specs.declared.states.State.{State}
 use Rattle.process_checks.specs.Ranks.{AreRanksOf}
 use Rattle.library_reading.specs.ShelfUse.{ShelfState}
 use Rattle.lotos_reading.specs.Reading.{IsOrderReading}
 use Rattle.path_order.specs.RulesView.{precedence_in, rules_in}
+use Rattle.equation_book.specs.BookCanon.{book_canon}
 use Rattle.equation_book.specs.Refusal.{IsOpenedBy}
+use Rattle.spec_faults.specs.declared.spec_fault.SpecFault.{SpecFault}
+use Rattle.start_values.specs.StartValues.{AreStartValues}
+use Rattle.start_values.specs.StartView.{parameter_sorts}
+use Rattle.acceptance_order.specs.Acceptance.{start_of}
 use Rattle.acceptance_order.specs.Checks.{Keeps}
 use Rattle.acceptance_order.specs.Ending.{with_spec}
 use Rattle.acceptance_order.specs.Part.{goes_on}
 use Rattle.acceptance_order.specs.Texts.{Orders}
-use Rattle.spec_acceptance.specs.Doing.{Did}
+use Rattle.spec_acceptance.specs.Doing.{Did, with_spec_refused}
 use Rattle.spec_acceptance.specs.declared.accepted.Accepted.{Accepted}
 use Rattle.spec_acceptance.specs.declared.books.WithBook.{WithBook}
 use Rattle.spec_acceptance.specs.declared.not_accepted.NotAccepted.{NotAccepted}
-use Rattle.spec_acceptance.specs.declared.not_accepted.NotAccepted.TheVariants.{NoMemory}
+use Rattle.spec_acceptance.specs.declared.not_accepted.NotAccepted.TheVariants.{Spec, NoMemory}
 use Rattle.spec_acceptance.specs.declared.stages.WithData.{WithData}
 use Rattle.spec_acceptance.specs.declared.stages.WithOrder.{WithOrder}
 use Rattle.spec_acceptance.specs.declared.stages.WithRanks.{WithRanks}
 use Rattle.spec_acceptance.specs.declared.stages.WithSpec.{WithSpec}
+use Rattle.spec_acceptance.specs.declared.starts.WithValues.{WithValues}
 
 -- the libraries and the data, which are well formed
 pub record KnowsData (read : List (List ℕ)) (data_ : Data) (known : WithData) : Type 0 where
@@ -89,19 +95,41 @@ pub record KnowsBook (whole : Resolved) (items : List ListedOperation) (known : 
   pub ranks_known : AreRanksOf known.spec known.ranks
   pub opened : IsOpenedBy items whole.data_ (precedence_in known.book.joined.rules) (rules_in known.book.joined.rules)
 
--- the state in which a specification without parameters begins: it is closed, and of the specification
-pub record IsFirstState (spec : Spec) (state : State) : Type 0 where
-  pub begins : state_of state ≡ with_values (binding_of (variables_of spec.parameters.items) []) (behaviour_of spec.body)
-  pub lawful : (signature : Signature) → IsSpecOver signature spec → IsStateOf signature spec state
-  pub closed : IsClosedNode state.node
+-- with the start values as they are read, over the words behind `with`
+pub record KnowsValues (whole : Resolved) (items : List ListedOperation) (words : List (List ℕ)) (known : WithValues) : Type 0 where
+  pub book_known : KnowsBook whole items known.known
+  pub valued : AreStartValues (start_of whole.data_ whole.spec words) (terms_of known.values.items)
+  pub profiles : AreTermsOf whole.data_.signature (profiles_of known.values.items)
 
--- the specification with its ranks, its book and the state in which it begins; or memory was wanted
-pub record Starts (known : WithBook) (accepted : Accepted) : Type 0 where
-  pub same_spec : accepted.spec ≡ known.spec
-  pub same_ranks : accepted.ranks ≡ known.ranks
-  pub same_book : accepted.book ≡ known.book
-  pub first : IsFirstState known.spec accepted.start
+-- the specification is over the data of the book, and the values are ground terms of it at the sorts of the parameters
+pub record MayStart (known : WithValues) : Type 0 where
+  pub over : IsSpecOver (data_of known.known.book.flat).signature known.known.spec
+  pub fitting :
+      AreValues (data_of known.known.book.flat).signature (parameter_sorts known.known.spec.parameters.items)
+      (terms_of known.values.items)
+  pub profiles : AreTermsOf (data_of known.known.book.flat).signature (profiles_of known.values.items)
 
-abbrev pub StartsWith : WithBook → Result Accepted NotAccepted → Type 0
+-- the specification with its ranks, its book and the state in which it begins with the normal forms of the values: it is
+-- closed, and of the specification
+pub record Starts (known : WithValues) (accepted : Accepted) : Type 0 where
+  pub same_spec : accepted.spec ≡ known.known.spec
+  pub same_ranks : accepted.ranks ≡ known.known.ranks
+  pub same_book : accepted.book ≡ known.known.book
+  pub begins :
+      state_of accepted.start
+      ≡ with_values (binding_of (variables_of known.known.spec.parameters.items)
+      (map (book_canon known.known.book) (terms_of known.values.items))) (behaviour_of known.known.spec.body)
+  pub state : IsStateOf (data_of known.known.book.flat).signature known.known.spec accepted.start
+  pub closed : IsClosedNode accepted.start.node
+
+-- or memory was wanted
+abbrev pub StartsWith : WithValues → Result Accepted NotAccepted → Type 0
 StartsWith known (Ok accepted) = Starts known accepted
 StartsWith known (Err fault) = fault ≡ NoMemory
+
+-- the refusal of start values, with the data of the book and the specification
+pub record RefusesStarts (known : WithBook) (found : SpecFault) (answer : NotAccepted) : Type 0 where
+  pub flat : Flat
+  pub same_data : data_of flat ≡ data_of known.book.flat
+  pub refused :
+      answer ≡ Spec (with_spec_refused (record { libraries = known.libraries; flat = flat; spec = known.spec }) found)

@@ -1,26 +1,24 @@
 //! The acceptance of a specification.
 
 ghost use Rattle.acceptance_order.specs.Acceptance.{AfterText, IsAccepted};
-ghost use Rattle.behaviour_tree.specs.Over.{IsSpecOver};
 ghost use Rattle.library_reading.specs.ShelfUse.{shelf_state};
 ghost use Rattle.lotos_reading.specs.Reading.{IsSpecificationReading};
 ghost use Rattle.spec_acceptance.specs.AcceptedView.{AcceptsWith, asked_for};
 ghost use Rattle.spec_acceptance.specs.Doing.{Failed};
-ghost use Rattle.spec_acceptance.specs.Known.{IsFirstState, StartsWith};
-ghost use Rattle.std.specs.Prelude.{◌≡◌, [], IfOk, MatchResult, option_map};
+ghost use Rattle.start_values.specs.WordLimits.{are_within, words_of};
+ghost use Rattle.std.specs.Prelude.{ℕ, IsTrue, List, MatchResult, option_map};
 ghost use Rattle.syntax_trees.specs.TreeViews.{specification_of};
-ghost use Rattle.term_algebra.specs.Signature.{Signature};
 
 use crate::books::{WithBook, opened};
 use crate::definitions::{agreed, ranked, resolved};
 use crate::files::file;
 use crate::not_accepted::NotAccepted;
-use crate::parameters::built;
+use crate::starts::{started, valued};
 use crate::texts::{order_items, specification, types_of};
 use crate::types::data;
 use behaviour_tree::{Spec, State};
 use equation_book::Book;
-use lotos_base::{NoMemory, Shelf};
+use lotos_base::Shelf;
 use process_checks::Ranks;
 use std::alloc::Global;
 use syntax_trees::SpecText;
@@ -40,7 +38,8 @@ pub struct Accepted {
 }
 
 impl Accepted {
-    /// Accepts the specification under the name `spec`, with the order file under the name `order`.
+    /// Accepts the specification under the name `spec`, with the order file under the name `order`
+    /// and the words `values` for its parameters, which keep the limits of a command line.
     /// It gets the specification, the files of the libraries that it mentions and the order file,
     /// once each and in this order, and nothing else.
     ///
@@ -48,25 +47,29 @@ impl Accepted {
     /// is named before that file's turn. `Spec` comes exactly where the order of faults names one,
     /// with that fault: of the text, of the libraries, of the types, of the scopes, of
     /// functionalities, of recursion, of the order file, of its items, of the orientation of an
-    /// equation, of a critical pair; parameters are not built yet.
+    /// equation, of a critical pair, of the start values: of their words, of their number, of the
+    /// readings of their terms.
     pub fn read<F: Shelf>(
         alloc: Global,
         spec: &str,
         order: Option<&str>,
+        values: &[String],
         shelf: &mut F,
     ) -> Result<Accepted, NotAccepted>
+        requires { IsTrue (are_within (words_of values.now)) }
         ensures { MatchResult result
             (AcceptsWith (shelf_state (F.texts shelf.old) (F.faults shelf.old) (F.calls shelf.old))
             (shelf_state (F.texts shelf.new) (F.faults shelf.new) (F.calls shelf.new))
-            (IsAccepted (asked_for spec.now (option_map (λ word. word.now) order.entry))))
+            (IsAccepted (asked_for spec.now (option_map (λ word. word.now) order.entry)
+            (words_of values.now))))
             (Failed (shelf_state (F.texts shelf.old) (F.faults shelf.old) (F.calls shelf.old))
             (shelf_state (F.texts shelf.new) (F.faults shelf.new) (F.calls shelf.new))
-            (IsAccepted (asked_for spec.now (option_map (λ word. word.now) order.entry)))) }
+            (IsAccepted (asked_for spec.now (option_map (λ word. word.now) order.entry)
+            (words_of values.now)))) }
     {
         let text = file(alloc, spec, shelf)?;
-        let bytes = text.as_slice();
-        let mut tree = specification(alloc, bytes)?;
-        let accepted = accept(alloc, bytes, &mut tree, order, shelf);
+        let mut tree = specification(alloc, text.as_slice())?;
+        let accepted = accept(alloc, &mut tree, order, values, shelf);
         discard(tree);
         accepted
     }
@@ -75,20 +78,21 @@ impl Accepted {
 // Accepts the specification of the tree, whose types are taken out of it.
 fn accept<F: Shelf>(
     alloc: Global,
-    text: &[u8],
     tree: &mut SpecText,
     order: Option<&str>,
+    values: &[String],
     shelf: &mut F,
 ) -> Result<Accepted, NotAccepted>
-    requires { IsSpecificationReading 0 text.now (specification_of tree.old) }
+    requires read { (text : List ℕ) × IsSpecificationReading 0 text (specification_of tree.old) }
+    requires within { IsTrue (are_within (words_of values.now)) }
     ensures { MatchResult result
         (AcceptsWith (shelf_state (F.texts shelf.old) (F.faults shelf.old) (F.calls shelf.old))
         (shelf_state (F.texts shelf.new) (F.faults shelf.new) (F.calls shelf.new))
-        (AfterText (option_map (λ word. word.now) order.entry) text.now
+        (AfterText (option_map (λ word. word.now) order.entry) (words_of values.now)
         (specification_of tree.old)))
         (Failed (shelf_state (F.texts shelf.old) (F.faults shelf.old) (F.calls shelf.old))
         (shelf_state (F.texts shelf.new) (F.faults shelf.new) (F.calls shelf.new))
-        (AfterText (option_map (λ word. word.now) order.entry) text.now
+        (AfterText (option_map (λ word. word.now) order.entry) (words_of values.now)
         (specification_of tree.old))) }
 {
     let items = tree.take_items(alloc)?;
@@ -99,36 +103,6 @@ fn accept<F: Shelf>(
     let guarded = ranked(alloc, checked)?;
     let ordered = order_items(alloc, order, guarded, shelf)?;
     let with_book = opened(ordered)?;
-    let whole = built(alloc, text, with_book)?;
+    let whole = valued(alloc, values, with_book)?;
     started(alloc, whole)
-}
-
-// The specification with the state in which it begins.
-fn started(alloc: Global, known: WithBook) -> Result<Accepted, NotAccepted>
-    requires over { (signature : Signature) × IsSpecOver signature known.spec }
-    requires parameters { known.spec.parameters.items ≡ [] }
-    ensures { StartsWith known result }
-{
-    let start = first_state(alloc, &known.spec)?;
-    let WithBook {
-        spec,
-        ranks,
-        book,
-        ..
-    } = known;
-    Ok(Accepted {
-        spec,
-        ranks,
-        book,
-        start,
-    })
-}
-
-// The state in which a specification without parameters begins.
-fn first_state(alloc: Global, spec: &Spec) -> Result<State, NoMemory>
-    requires over { (signature : Signature) × IsSpecOver signature spec.now }
-    requires parameters { spec.now.parameters.items ≡ [] }
-    ensures { IfOk result (IsFirstState spec.now) }
-{
-    State::start(alloc, spec, Vec::new(alloc))
 }

@@ -3,12 +3,13 @@
 
 pub mod accepted;
 pub mod books;
+pub mod copies;
 pub mod definitions;
 pub mod files;
 pub mod not_accepted;
-pub mod parameters;
 pub mod refusals;
 pub mod stages;
+pub mod starts;
 pub mod texts;
 pub mod types;
 

@@ -15,7 +15,6 @@ use Rattle.behaviour_semantics.specs.Behaviour.{Specification}
 -- the rules of these equations with this peak is not joined, and its sides have these two chosen forms; the start values are
 -- too few or too many, or a term among them is refused.
 pub data Refusal : Type 0 where
-  unbuilt : Place → Refusal
   too_long : (text : ℕ) → Refusal
   bad_byte open_comment wrong_syntax too_deep : Place → Refusal
   too_many_libraries : Place → (name : List ℕ) → Refusal

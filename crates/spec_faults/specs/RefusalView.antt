@@ -22,7 +22,7 @@ use Rattle.process_checks.specs.declared.rank_table.RankFault.TheVariants as ran
 use Rattle.equation_book.specs.declared.book_fault.BookFault.{BookFault}
 use Rattle.equation_book.specs.declared.book_fault.BookFault.TheVariants as book
 use Rattle.spec_faults.specs.Refusal as plain
-use Rattle.spec_faults.specs.Refusal.{Refusal, unbuilt, too_long, bad_byte, open_comment, wrong_syntax, too_deep, too_many_libraries, wrong_names, wrong_types, wrong_scopes, mismatch, unguarded, unknown_operation, twice_listed, unorientable, unjoined, start_values, start_term}
+use Rattle.spec_faults.specs.Refusal.{Refusal, too_long, bad_byte, open_comment, wrong_syntax, too_deep, too_many_libraries, wrong_names, wrong_types, wrong_scopes, mismatch, unguarded, unknown_operation, twice_listed, unorientable, unjoined, start_values, start_term}
 use Rattle.spec_faults.specs.declared.spec_fault.SpecFault.{SpecFault}
 use Rattle.spec_faults.specs.declared.spec_fault.SpecFault.TheVariants as fault
 use Rattle.spec_faults.specs.declared.refused.Refused.{Refused}
@@ -98,7 +98,6 @@ told_of_start sort.NoMemory = None
 
 -- all of them
 abbrev pub refusal_of : SpecFault → Option Refusal
-refusal_of (fault.Unbuilt place) = Some (unbuilt (text_place_of place))
 refusal_of (fault.Read text found) = told_of_text text found
 refusal_of (fault.Libraries place name) = Some (too_many_libraries (text_place_of place) (spelling name))
 refusal_of (fault.Types found) = told_of_types found

@@ -11,11 +11,6 @@ use type_faults::TypeFault;
 /// Why a specification is refused. Want of memory does not stand in any of them.
 #[derive(Debug, Drop)]
 pub enum SpecFault {
-    /// A form at the place is not built yet.
-    Unbuilt {
-        /// The place of the form.
-        place: Place,
-    },
     /// A text is not read.
     Read {
         /// The number of the text: 0 for the specification, 1 for the order file, from 2 on the

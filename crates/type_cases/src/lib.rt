@@ -11,6 +11,10 @@ mod coming;
 #[cfg(test)]
 mod declarations;
 #[cfg(test)]
+mod declared;
+#[cfg(test)]
+mod equations;
+#[cfg(test)]
 mod faults;
 #[cfg(test)]
 mod growth;
@@ -25,11 +29,15 @@ mod makers;
 #[cfg(test)]
 mod mentions;
 #[cfg(test)]
+mod names;
+#[cfg(test)]
 mod numbering;
 #[cfg(test)]
 mod order;
 #[cfg(test)]
 mod pairs;
+#[cfg(test)]
+mod presentations;
 #[cfg(test)]
 mod readings;
 #[cfg(test)]
@@ -38,6 +46,10 @@ mod renamings;
 mod sections;
 #[cfg(test)]
 mod sides;
+#[cfg(test)]
+mod texts;
+#[cfg(test)]
+mod told;
 #[cfg(test)]
 mod unions;
 #[cfg(test)]

@@ -1,51 +1,32 @@
 //! Faults of small lists of pairs, worked out by hand.
 
-use lotos_base::{Name, Place};
+use crate::names::{letter_name, names};
+use crate::texts::{first_sort_pairs, types};
+use crate::told::fault_told;
 use name_positions::NamePositions;
 use std::alloc::{AllocError, Global};
 use std::test::Fail;
 use syntax_trees::PairText;
-use type_faults::TypeFault;
 use type_pairs::operation_pairs::look_at_op_pairs;
 use type_pairs::sort_pairs::look_at_sort_pairs;
 
-// The base has the names a, b and c. Pairs, each its new name before its old one; then what is
-// wrong with them as pairs of sorts, and as pairs of operations, with the number of the pair.
-const CASES: &str = "XA > fine > fine
-XA,YB > fine > fine
-XA,YZ > unknown 1 > unknown 1
-XA,Ya > double 1 > double 1
-XA,xb > double 1 > fine
-XA,YB,YB > double 2 > double 2
-XZ,YA,YA > unknown 0 > unknown 0";
+// The base has the names a, b and c. Pairs, on the second line of the text; then what is wrong with
+// them as pairs of sorts, and as pairs of operations.
+const CASES: &str = "X for A > fine > fine
+X for A Y for B > fine > fine
+X for A Y for Z > UnknownSort 2:15 Z > UnknownOperation 2:15 Z
+X for A Y for a > DoubleSort 2:9 Y > DoubleOperation 2:9 Y
+X for A x for b > DoubleSort 2:9 x > fine
+X for A Y for B Y for B > DoubleSort 2:17 Y > DoubleOperation 2:17 Y
+X for Z Y for A Y for A > UnknownSort 2:7 Z > UnknownOperation 2:7 Z";
 
 #[test]
 fn pairs_are_looked_at_in_text_order(rt: HostRuntime) -> Result<(), Fail> {
     let alloc = rt.alloc();
-    let mut names = NamePositions::new(alloc);
-    for (number, letter) in [(0, b'a'), (1, b'b'), (2, b'c')] {
-        names.add(alloc, &Name::of(vec![in alloc; letter]?), number)?;
-    }
     for case in CASES.split('\n') {
-        let mut parts = case.split(" > ");
-        let (Some(written), Some(of_sorts), Some(of_ops)) = (
-            parts.next(),
-            parts.next(),
-            parts.next(),
-        ) else {
-            return Err(Fail::from("a case with fewer than three parts"));
-        };
-        let pairs = pairs_written(alloc, written)?;
-        let mut told = format!(in alloc; "fine")?;
-        if let Err(fault) = look_at_sort_pairs(alloc, &names, pairs.as_slice()) {
-            told = fault_told(alloc, &fault)?;
-        }
-        assert_eq!(rt; told.as_str(), of_sorts);
-        told = format!(in alloc; "fine")?;
-        if let Err(fault) = look_at_op_pairs(alloc, &names, pairs.as_slice()) {
-            told = fault_told(alloc, &fault)?;
-        }
-        assert_eq!(rt; told.as_str(), of_ops);
+        let (pairs, expected) = case.split_once(" > ").unwrap_or((case, ""));
+        let told = case_told(alloc, pairs)?;
+        assert_eq!(rt; told.as_str(), expected);
     }
     Ok(())
 }
@@ -53,55 +34,54 @@ fn pairs_are_looked_at_in_text_order(rt: HostRuntime) -> Result<(), Fail> {
 #[test]
 fn the_pair_of_a_name_is_found(rt: HostRuntime) -> Result<(), Fail> {
     let alloc = rt.alloc();
-    let mut names = NamePositions::new(alloc);
-    names.add(alloc, &Name::of(vec![in alloc; b'a']?), 0)?;
-    let pairs = pairs_written(alloc, "Xa")?;
-    let Ok(index) = look_at_op_pairs(alloc, &names, pairs.as_slice()) else {
-        return Err(Fail::from("the pairs are refused"));
-    };
-    let found = index.pair_for(alloc, &Name::of(vec![in alloc; b'A']?))?;
-    assert!(rt; found.is_some());
-    let found = index.pair_for(alloc, &Name::of(vec![in alloc; b'x']?))?;
-    assert!(rt; found.is_none());
+    let items = types(alloc, "type R is T renamedby sortnames X for a endtype")?;
+    assert!(rt; has_pair(alloc, first_sort_pairs(items.as_slice()), b'A')?);
+    assert!(rt; !has_pair(alloc, first_sort_pairs(items.as_slice()), b'x')?);
     Ok(())
 }
 
-fn fault_told(alloc: Global, fault: &TypeFault) -> Result<String, AllocError> {
-    match fault {
-        TypeFault::UnknownSort { place, .. } | TypeFault::UnknownOperation { place, .. } => {
-            format!(in alloc; "unknown {}", place.line)
-        }
-        TypeFault::DoubleSort { place, .. } | TypeFault::DoubleOperation { place, .. } => {
-            format!(in alloc; "double {}", place.line)
-        }
-        _ => format!(in alloc; "another fault"),
+// Whether the name of this letter has a pair.
+fn has_pair(alloc: Global, pairs: &[PairText], letter: u8) -> Result<bool, Fail> {
+    let names = names(alloc, "a")?;
+    let Ok(index) = look_at_op_pairs(alloc, &names, pairs) else {
+        return Err(Fail::from("the pairs are refused"));
+    };
+    let name = letter_name(alloc, letter)?;
+    let found = index.pair_for(alloc, &name)?;
+    Ok(found.is_some())
+}
+
+fn case_told(alloc: Global, pairs: &str) -> Result<String, Fail> {
+    let text = format!(in alloc; "type R is T renamedby sortnames\n{pairs} endtype")?;
+    let items = types(alloc, text.as_str())?;
+    pairs_told(alloc, first_sort_pairs(items.as_slice()))
+}
+
+fn pairs_told(alloc: Global, pairs: &[PairText]) -> Result<String, Fail> {
+    let names = names(alloc, "abc")?;
+    let of_sorts = sorts_told(alloc, &names, pairs)?;
+    let of_ops = ops_told(alloc, &names, pairs)?;
+    Ok(format!(in alloc; "{} > {}", of_sorts.as_str(), of_ops.as_str())?)
+}
+
+fn sorts_told(
+    alloc: Global,
+    names: &NamePositions,
+    pairs: &[PairText],
+) -> Result<String, AllocError> {
+    match look_at_sort_pairs(alloc, names, pairs) {
+        Ok(_) => String::from_str(alloc, "fine"),
+        Err(fault) => fault_told(alloc, &fault),
     }
 }
 
-fn pairs_written(alloc: Global, written: &str) -> Result<Vec<PairText>, AllocError> {
-    let mut made = Vec::new(alloc);
-    for pair in written.split(',') {
-        let line = (made.len() & 0xffff) as u32;
-        let place = Place {
-            text: 0,
-            line,
-            col: 1,
-        };
-        let letters = pair.as_bytes();
-        let mut given = Vec::new(alloc);
-        let mut old = Vec::new(alloc);
-        for letter in letters {
-            if given.is_empty() {
-                given.push(*letter)?;
-            } else {
-                old.push(*letter)?;
-            }
-        }
-        made.push(PairText {
-            place,
-            given: Name::of(given),
-            replaced: (place, Name::of(old)),
-        })?;
+fn ops_told(
+    alloc: Global,
+    names: &NamePositions,
+    pairs: &[PairText],
+) -> Result<String, AllocError> {
+    match look_at_op_pairs(alloc, names, pairs) {
+        Ok(_) => String::from_str(alloc, "fine"),
+        Err(fault) => fault_told(alloc, &fault),
     }
-    Ok(made)
 }

@@ -14,6 +14,8 @@ mod fault_order;
 #[cfg(test)]
 mod forms;
 #[cfg(test)]
+mod given_values;
+#[cfg(test)]
 mod large;
 #[cfg(test)]
 mod outside;

@@ -204,7 +204,12 @@ walk x^^usage: lotos check SPEC [ORDER] [with TERM...] | run SPEC [ORDER] [with 
 ^2^s.lotos^specification S : noexit behaviour stop endspec~
 check none^^cannot read none
 ^3~
-check s.lotos^^refused 100 Unbuilt at s.lotos:1:21
+check s.lotos with Succ(0)^^accepted S
+data: 2 sorts, 21 operations, 28 equations
+events 1
+1: g !Succ(Succ(0))
+^0^s.lotos^specification S [g] (x:Nat) : noexit library NaturalNumber endlib behaviour g !x + x; stop endspec~
+check s.lotos^^refused 701 StartValues wanted 1 given 0
 ^1^s.lotos^specification S [g] (x:Nat) : noexit library NaturalNumber endlib behaviour g !x + x; stop endspec";
 
 #[test]

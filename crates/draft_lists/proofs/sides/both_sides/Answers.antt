@@ -1,31 +1,25 @@
-use Rattle.std.proofs.Common.{◌≡◌, List, length, arith, sym, ◌∙◌, subst}
-use Rattle.std.proofs.lemmas.List.{length-map}
-use Rattle.sort_terms.specs.SortedView.{term_in}
-use Rattle.behaviour_semantics.specs.WellFormed.{Every}
+use Rattle.std.proofs.Common.{◌≡◌, length, arith, vec_len}
 use Rattle.behaviour_tree.specs.BehaviourView.{meet_of}
-use Rattle.event_offers.specs.declared.drafts.Draft.{Draft}
-use Rattle.menu_builder.specs.DraftTerms.{HasTermsOf}
-use Rattle.draft_lists.proofs.ListLemmas.{at_index, sides_more}
+use Rattle.draft_lists.proofs.ListLemmas.{empty_rest}
+use Rattle.draft_lists.proofs.MetLemmas.{half_more, half_done}
 use Rattle.draft_lists.proofs.sides.both_sides.Goals as goal
 
 pub loop-left-preserved : goal.loop-left-preserved
-loop-left-preserved c = record {
-  same = λ signature h k.
-      let count : c.len.result ≡ length c.left-item.result.leaves.items = omega arith in
-      sides_more signature (meet_of c.args.meet.now) c.args.first c.len.result c.deref-left-items.result.now c.args.rights.now.items
-      c.loop-left.left-index c.left-item.result c.loop-left.made.items c.push_met.new.drafts.items _ c.loop-left-test.true c.left-item.is
-      (count ∙ sym (length-map c.left-item.result.leaves.items term_in))
-      (c.in_ok-push_met.ensures.same signature
-      (at_index signature c.deref-left-items.result.now c.loop-left.left-index c.left-item.result c.loop-left-test.true c.left-item.is
-      (c.loop-left.invariant.left signature h)).0 k) (c.loop-left.invariant.same signature h k);
-  over = λ signature h k. c.in_ok-push_met.ensures.over signature
-      (at_index signature c.deref-left-items.result.now c.loop-left.left-index c.left-item.result c.loop-left-test.true c.left-item.is
-      (c.loop-left.invariant.left signature h)).0 k (c.loop-left.invariant.over signature h k);
-  left = λ signature h. (at_index signature c.deref-left-items.result.now c.loop-left.left-index c.left-item.result
-      c.loop-left-test.true c.left-item.is (c.loop-left.invariant.left signature h)).1;
-}
+loop-left-preserved c =
+    half_more (meet_of c.args.meet.now) c.args.first c.len.result c.args.lefts.items c.args.rights.items c.loop-left.rest.items
+    c.pop.new.self.items c.loop-left.others.items c.met_rights.new.rights.items c.loop-left.made.items c.push_met.new.drafts.items
+    c.in_ok-met.met.items c.in-Some.left c.in-Some.ensures.items
+    (let count : c.len.result ≡ length c.in-Some.left.leaves.items = omega arith in count)
+    c.in_ok-met.ensures.same c.in_ok-push_met.ensures.same c.in_ok-met.ensures.kept
+    (λ signature h k made. c.in_ok-push_met.ensures.over signature h (c.in_ok-met.ensures.over signature k) made)
+    (λ signature k. c.in_ok-met.ensures.kept_over signature k) c.loop-left.invariant
+
+pub returns-clause-same : goal.returns-clause-same
+returns-clause-same c = λ signature h k.
+    half_done (meet_of c.args.meet.now) c.args.first c.args.lefts.items c.args.rights.items c.loop-left.rest.items
+    c.loop-left.others.items c.loop-left.made.items signature
+    (empty_rest c.pop.result c.loop-left.rest.items (vec_len c.loop-left.rest) c.pop.ensures.variant c.loop-left.rest.ok.0
+    c.in_default.not-Some) c.loop-left.invariant h k
 
 pub returns-clause-over : goal.returns-clause-over
-returns-clause-over c = λ signature h k.
-    c.loop-left.invariant.over signature
-    (subst (λ (ds : List Draft). Every (HasTermsOf signature) ds) (sym c.deref-left-items.ensures.value) h) k
+returns-clause-over c = λ signature h k. (c.loop-left.invariant.over signature h k).0

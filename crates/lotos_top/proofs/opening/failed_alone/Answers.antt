@@ -11,15 +11,15 @@ use Rattle.lotos_top.proofs.OpeningLemmas.{last_unread, last_refused, refused_li
 use Rattle.lotos_top.proofs.opening.failed_alone.Goals as goal
 
 pub returns-in-File : goal.returns-in-File
-returns-in-File c = IfOk-weaker c.unread_alone.result _ _ (λ alone made line before after asks failed.
-    let asked = asked_for c.args.spec.now (option_map (λ (word : Bor (List ℕ)). word.now) c.args.order) in
+returns-in-File c = IfOk-weaker c.unread_alone.result _ _ (λ alone made line words before after asks failed.
+    let asked = asked_for c.args.spec.now (option_map (λ (word : Bor (List ℕ)). word.now) c.args.order) words in
     last_unread line asked before after c.in-File.name.items alone asks
     (subst (λ (f : NotAccepted). Failed before after (IsAccepted asked) f) c.in-File.is failed)
     (made.0 ∙ ap unread_text c.as_slice.ensures.value) made.1) c.unread_alone.ensures
 
 pub returns-in-Spec : goal.returns-in-Spec
-returns-in-Spec c = IfOk-weaker c.refused_alone.result _ _ (λ alone made line before after asks failed.
-    let asked = asked_for c.args.spec.now (option_map (λ (word : Bor (List ℕ)). word.now) c.args.order) in
+returns-in-Spec c = IfOk-weaker c.refused_alone.result _ _ (λ alone made line words before after asks failed.
+    let asked = asked_for c.args.spec.now (option_map (λ (word : Bor (List ℕ)). word.now) c.args.order) words in
     let stopped = subst (λ (f : NotAccepted). Failed before after (IsAccepted asked) f) c.in-Spec.is failed in
     last_refused line asked before after stopped.0 alone asks stopped.2
     (refused_line (refused_of c.in-Spec.refused) stopped.0 alone.text.items c.args.spec.now c.order_name.result.now stopped.1 made.0

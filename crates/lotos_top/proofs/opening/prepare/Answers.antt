@@ -3,9 +3,21 @@ use Rattle.std.proofs.lemmas.Result.{IfOk-weaker}
 use Rattle.library_reading.specs.ShelfUse.{shelf_state}
 use Rattle.lotos_top.specs.Outcome.{files_of}
 use Rattle.lotos_top.specs.Prepared.{IsReady}
-use Rattle.lotos_top.specs.Words.{CommandLine, command_line, words_of, line_of}
+use Rattle.start_values.specs.WordLimits.{words_of}
+use Rattle.lotos_top.specs.Words.{CommandLine, command_line, line_of}
 use Rattle.lotos_top.specs.declared.commands.Command.{Command}
+use Rattle.lotos_top.proofs.WordsLemmas.{values_within}
 use Rattle.lotos_top.proofs.opening.prepare.Goals as goal
+
+pub checked-requires : goal.checked-requires
+checked-requires g c =
+    values_within (words_of c.args.words.now) _
+    (c.in-Some-Check.ensures ∙ ap (λ (command : Command). Some (line_of command)) c.in-Some-Check.field-0-is)
+
+pub served-requires : goal.served-requires
+served-requires g c =
+    values_within (words_of c.args.words.now) _
+    (c.in-Some-Run.ensures ∙ ap (λ (command : Command). Some (line_of command)) c.in-Some-Run.field-0-is)
 
 pub returns-in-Some-Check-clause-ready : goal.returns-in-Some-Check-clause-ready
 returns-in-Some-Check-clause-ready g c =
@@ -13,7 +25,7 @@ returns-in-Some-Check-clause-ready g c =
     (shelf_state (g.F.Shelf.texts c.args.shelf.now) (g.F.Shelf.faults c.args.shelf.now) (g.F.Shelf.calls c.args.shelf.now))
     (shelf_state (g.F.Shelf.texts c.checked.new.shelf) (g.F.Shelf.faults c.checked.new.shelf) (g.F.Shelf.calls c.checked.new.shelf))))
     (sym (c.in-Some-Check.ensures ∙ ap (λ (command : Command). Some (line_of command)) c.in-Some-Check.field-0-is))
-    (c.checked.ensures.ready _)
+    c.checked.ensures.ready
 
 pub returns-in-Some-Check-clause-texts : goal.returns-in-Some-Check-clause-texts
 returns-in-Some-Check-clause-texts g c = c.checked.ensures.texts
@@ -24,7 +36,7 @@ returns-in-Some-Run-clause-ready g c =
     (shelf_state (g.F.Shelf.texts c.args.shelf.now) (g.F.Shelf.faults c.args.shelf.now) (g.F.Shelf.calls c.args.shelf.now))
     (shelf_state (g.F.Shelf.texts c.served.new.shelf) (g.F.Shelf.faults c.served.new.shelf) (g.F.Shelf.calls c.served.new.shelf))))
     (sym (c.in-Some-Run.ensures ∙ ap (λ (command : Command). Some (line_of command)) c.in-Some-Run.field-0-is))
-    (c.served.ensures.ready _)
+    c.served.ensures.ready
 
 pub returns-in-Some-Run-clause-texts : goal.returns-in-Some-Run-clause-texts
 returns-in-Some-Run-clause-texts g c = c.served.ensures.texts

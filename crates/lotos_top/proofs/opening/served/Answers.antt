@@ -2,33 +2,38 @@ use Rattle.std.proofs.Common.{ℕ, List, Bor, option_map, refl}
 use Rattle.acceptance_order.specs.Acceptance.{IsAccepted}
 use Rattle.library_reading.specs.ShelfUse.{shelf_state}
 use Rattle.spec_acceptance.specs.AcceptedView.{asked_for}
+use Rattle.start_values.specs.WordLimits.{words_of}
 use Rattle.lotos_top.specs.Words.{session}
 use Rattle.lotos_top.proofs.OpeningLemmas.{served_opened, opened_texts, failed_texts}
 use Rattle.lotos_top.proofs.opening.served.Goals as goal
+
+pub open-requires : goal.open-requires
+open-requires g c = c.requires
 
 pub returns-in_err-failed_alone-in-Err-clause-texts : goal.returns-in_err-failed_alone-in-Err-clause-texts
 returns-in_err-failed_alone-in-Err-clause-texts g c =
     failed_texts (shelf_state (g.F.Shelf.texts c.args.shelf.now) (g.F.Shelf.faults c.args.shelf.now) (g.F.Shelf.calls c.args.shelf.now))
     (shelf_state (g.F.Shelf.texts c.open.new.shelf) (g.F.Shelf.faults c.open.new.shelf) (g.F.Shelf.calls c.open.new.shelf))
-    (IsAccepted (asked_for c.args.spec.now (option_map (λ (word : Bor (List ℕ)). word.now) c.args.order))) c.in-Err.fault c.in-Err.ensures
+    (IsAccepted (asked_for c.args.spec.now (option_map (λ (word : Bor (List ℕ)). word.now) c.args.order) (words_of c.args.values.now))) c.in-Err.fault c.in-Err.ensures
 
 pub returns-in-Ok-clause-ready : goal.returns-in-Ok-clause-ready
 returns-in-Ok-clause-ready g c =
-    λ values. served_opened c.args.spec.now (option_map (λ (word : Bor (List ℕ)). word.now) c.args.order) values
+    served_opened c.args.spec.now (option_map (λ (word : Bor (List ℕ)). word.now) c.args.order) (words_of c.args.values.now)
     (shelf_state (g.F.Shelf.texts c.args.shelf.now) (g.F.Shelf.faults c.args.shelf.now) (g.F.Shelf.calls c.args.shelf.now))
     (shelf_state (g.F.Shelf.texts c.open.new.shelf) (g.F.Shelf.faults c.open.new.shelf) (g.F.Shelf.calls c.open.new.shelf))
     c.in-Ok.opened c.in-Ok.ensures
 
 pub returns-in-Ok-clause-texts : goal.returns-in-Ok-clause-texts
 returns-in-Ok-clause-texts g c =
-    opened_texts (asked_for c.args.spec.now (option_map (λ (word : Bor (List ℕ)). word.now) c.args.order))
+    opened_texts (asked_for c.args.spec.now (option_map (λ (word : Bor (List ℕ)). word.now) c.args.order) (words_of c.args.values.now))
     (shelf_state (g.F.Shelf.texts c.args.shelf.now) (g.F.Shelf.faults c.args.shelf.now) (g.F.Shelf.calls c.args.shelf.now))
     (shelf_state (g.F.Shelf.texts c.open.new.shelf) (g.F.Shelf.faults c.open.new.shelf) (g.F.Shelf.calls c.open.new.shelf))
     c.in-Ok.opened c.in-Ok.ensures
 
 pub returns-in_ok-failed_alone-in-Err-clause-ready : goal.returns-in_ok-failed_alone-in-Err-clause-ready
 returns-in_ok-failed_alone-in-Err-clause-ready g c =
-    λ values. c.in_ok-failed_alone-in-Err.ensures (session c.args.spec.now (option_map (λ (word : Bor (List ℕ)). word.now) c.args.order) values)
+    c.in_ok-failed_alone-in-Err.ensures (session c.args.spec.now (option_map (λ (word : Bor (List ℕ)). word.now) c.args.order)
+    (words_of c.args.values.now)) (words_of c.args.values.now)
     (shelf_state (g.F.Shelf.texts c.args.shelf.now) (g.F.Shelf.faults c.args.shelf.now) (g.F.Shelf.calls c.args.shelf.now))
     (shelf_state (g.F.Shelf.texts c.open.new.shelf) (g.F.Shelf.faults c.open.new.shelf) (g.F.Shelf.calls c.open.new.shelf))
     refl c.in-Err.ensures
@@ -37,4 +42,4 @@ pub returns-in_ok-failed_alone-in-Err-clause-texts : goal.returns-in_ok-failed_a
 returns-in_ok-failed_alone-in-Err-clause-texts g c =
     failed_texts (shelf_state (g.F.Shelf.texts c.args.shelf.now) (g.F.Shelf.faults c.args.shelf.now) (g.F.Shelf.calls c.args.shelf.now))
     (shelf_state (g.F.Shelf.texts c.open.new.shelf) (g.F.Shelf.faults c.open.new.shelf) (g.F.Shelf.calls c.open.new.shelf))
-    (IsAccepted (asked_for c.args.spec.now (option_map (λ (word : Bor (List ℕ)). word.now) c.args.order))) c.in-Err.fault c.in-Err.ensures
+    (IsAccepted (asked_for c.args.spec.now (option_map (λ (word : Bor (List ℕ)). word.now) c.args.order) (words_of c.args.values.now))) c.in-Err.fault c.in-Err.ensures

@@ -2,7 +2,8 @@ use Rattle.std.proofs.Common.{subst}
 use Rattle.library_reading.specs.ShelfUse.{shelf_state}
 use Rattle.lotos_top.specs.Prepared.{IsReady}
 use Rattle.lotos_top.specs.Run.{streams}
-use Rattle.lotos_top.specs.Words.{command_line, words_of}
+use Rattle.start_values.specs.WordLimits.{words_of}
+use Rattle.lotos_top.specs.Words.{command_line}
 use Rattle.lotos_top.specs.declared.opening.Ready.{Ready}
 use Rattle.lotos_top.proofs.ReadyLemmas.{ran_alone, ran_served, ran_stopped, untouched_at}
 use Rattle.lotos_top.proofs.RunLemmas.{completes}

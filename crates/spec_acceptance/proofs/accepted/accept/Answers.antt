@@ -1,96 +1,87 @@
-use Rattle.std.proofs.Common.{ℕ, List, length, option_map, Bor}
+use Rattle.std.proofs.Common.{ℕ, List, option_map, Bor}
+use Rattle.start_values.specs.WordLimits.{words_of}
 use Rattle.syntax_trees.specs.TreeViews.{specification_of}
 use Rattle.spec_acceptance.specs.declared.not_accepted.NotAccepted.TheVariants.{NoMemory}
 use Rattle.spec_acceptance.proofs.DoingLemmas.{err_out}
-use Rattle.spec_acceptance.proofs.FlowLemmas.{lists_there, nothing_out, cut_there, gather_out, types_out, scopes_out, exits_out, ranks_out, order_out, sorted_there, book_out, built_out, over_there, none_there, finished}
-use Rattle.spec_acceptance.proofs.ParameterLemmas.{short_text}
+use Rattle.spec_acceptance.proofs.FlowLemmas.{lists_there, nothing_out, gather_out, types_out, scopes_out, exits_out, ranks_out, order_out, sorted_there, book_out, start_out, state_there, finished}
 use Rattle.spec_acceptance.proofs.accepted.accept.Goals as goal
 
 pub returns-in_err-items : goal.returns-in_err-items
 returns-in_err-items g c =
     err_out _ NoMemory _ _ c.from_residual.ensures.1 (nothing_out _ (option_map (λ (word : Bor (List ℕ)). word.now) c.args.order)
-    c.args.text.now (specification_of c.args.tree.now))
+    (words_of c.args.values.now) (specification_of c.args.tree.now))
 
 pub resolved-requires : goal.resolved-requires
-resolved-requires g c = lists_there c.args.text.now (specification_of c.args.tree.now) _ c.requires c.in_ok-items.ensures.left
+resolved-requires g c = lists_there c.requires.read.0 (specification_of c.args.tree.now) _ c.requires.read.1 c.in_ok-items.ensures.left
 
 pub opened-requires : goal.opened-requires
 opened-requires g c =
-    sorted_there _ _ _ c.args.text.now (specification_of c.args.tree.now) _ _ c.in_ok-items.ensures.taken c.in_ok-gathered.ensures
+    sorted_there _ _ _ (words_of c.args.values.now) (specification_of c.args.tree.now) _ _ c.in_ok-items.ensures.taken c.in_ok-gathered.ensures
     _ c.in_ok-flattened.ensures _ c.in_ok-items.ensures.left _ c.in_ok-stood.ensures _ c.in_ok-checked.ensures _
     c.in_ok-guarded.ensures _ _ c.in_ok-ordered.ensures
 
-pub built-requires-clause-cut : goal.built-requires-clause-cut
-built-requires-clause-cut g c = cut_there c.args.text.now (specification_of c.args.tree.now) c.requires
+pub valued-requires : goal.valued-requires
+valued-requires g c = c.requires.within
 
-pub built-requires-clause-short : goal.built-requires-clause-short
-built-requires-clause-short g c = short_text (length c.args.text.now) c.requires.0
-
-pub started-requires-clause-over : goal.started-requires-clause-over
-started-requires-clause-over g c =
-    over_there _ _ _ c.args.text.now (specification_of c.args.tree.now) _ _ c.in_ok-items.ensures.taken c.in_ok-gathered.ensures
-    _ c.in_ok-flattened.ensures _ c.in_ok-items.ensures.left _ c.in_ok-stood.ensures _ c.in_ok-checked.ensures _
-    c.in_ok-guarded.ensures _ _ c.in_ok-ordered.ensures _ c.in_ok-with_book.ensures _ c.in_ok-whole.ensures
-
-pub started-requires-clause-parameters : goal.started-requires-clause-parameters
-started-requires-clause-parameters g c =
-    none_there _ _ _ c.args.text.now (specification_of c.args.tree.now) _ _ c.in_ok-items.ensures.taken c.in_ok-gathered.ensures
+pub started-requires : goal.started-requires
+started-requires g c =
+    state_there _ _ _ (words_of c.args.values.now) (specification_of c.args.tree.now) _ _ c.in_ok-items.ensures.taken c.in_ok-gathered.ensures
     _ c.in_ok-flattened.ensures _ c.in_ok-items.ensures.left _ c.in_ok-stood.ensures _ c.in_ok-checked.ensures _
     c.in_ok-guarded.ensures _ _ c.in_ok-ordered.ensures _ c.in_ok-with_book.ensures _ c.in_ok-whole.ensures
 
 pub returns-in_err-gathered : goal.returns-in_err-gathered
 returns-in_err-gathered g c =
     err_out _ c.in_err-gathered.field-0.0 _ _ c.from_residual-in_err-gathered.ensures.1
-    (gather_out _ _ _ c.args.text.now (specification_of c.args.tree.now) _ _ c.in_ok-items.ensures.taken c.in_err-gathered.ensures)
+    (gather_out _ _ _ (words_of c.args.values.now) (specification_of c.args.tree.now) _ _ c.in_ok-items.ensures.taken c.in_err-gathered.ensures)
 
 pub returns-in_err-flattened : goal.returns-in_err-flattened
 returns-in_err-flattened g c =
     err_out _ c.in_err-flattened.field-0.0 _ _ c.from_residual-in_err-flattened.ensures.1
-    (types_out _ _ _ c.args.text.now (specification_of c.args.tree.now) _ _ c.in_ok-items.ensures.taken c.in_ok-gathered.ensures _
+    (types_out _ _ _ (words_of c.args.values.now) (specification_of c.args.tree.now) _ _ c.in_ok-items.ensures.taken c.in_ok-gathered.ensures _
     c.in_err-flattened.ensures)
 
 pub returns-in_err-stood : goal.returns-in_err-stood
 returns-in_err-stood g c =
     err_out _ c.in_err-stood.field-0.0 _ _ c.from_residual-in_err-stood.ensures.1
-    (scopes_out _ _ _ c.args.text.now (specification_of c.args.tree.now) _ _ c.in_ok-items.ensures.taken c.in_ok-gathered.ensures
+    (scopes_out _ _ _ (words_of c.args.values.now) (specification_of c.args.tree.now) _ _ c.in_ok-items.ensures.taken c.in_ok-gathered.ensures
     _ c.in_ok-flattened.ensures _ c.in_ok-items.ensures.left _ c.in_err-stood.ensures)
 
 pub returns-in_err-checked : goal.returns-in_err-checked
 returns-in_err-checked g c =
     err_out _ c.in_err-checked.field-0.0 _ _ c.from_residual-in_err-checked.ensures.1
-    (exits_out _ _ _ c.args.text.now (specification_of c.args.tree.now) _ _ c.in_ok-items.ensures.taken c.in_ok-gathered.ensures
+    (exits_out _ _ _ (words_of c.args.values.now) (specification_of c.args.tree.now) _ _ c.in_ok-items.ensures.taken c.in_ok-gathered.ensures
     _ c.in_ok-flattened.ensures _ c.in_ok-items.ensures.left _ c.in_ok-stood.ensures _ c.in_err-checked.ensures)
 
 pub returns-in_err-guarded : goal.returns-in_err-guarded
 returns-in_err-guarded g c =
     err_out _ c.in_err-guarded.field-0.0 _ _ c.from_residual-in_err-guarded.ensures.1
-    (ranks_out _ _ _ c.args.text.now (specification_of c.args.tree.now) _ _ c.in_ok-items.ensures.taken c.in_ok-gathered.ensures
+    (ranks_out _ _ _ (words_of c.args.values.now) (specification_of c.args.tree.now) _ _ c.in_ok-items.ensures.taken c.in_ok-gathered.ensures
     _ c.in_ok-flattened.ensures _ c.in_ok-items.ensures.left _ c.in_ok-stood.ensures _ c.in_ok-checked.ensures _ c.in_err-guarded.ensures)
 
 pub returns-in_err-ordered : goal.returns-in_err-ordered
 returns-in_err-ordered g c =
     err_out _ c.in_err-ordered.field-0.0 _ _ c.from_residual-in_err-ordered.ensures.1
-    (order_out _ _ _ c.args.text.now (specification_of c.args.tree.now) _ _ c.in_ok-items.ensures.taken c.in_ok-gathered.ensures
+    (order_out _ _ _ (words_of c.args.values.now) (specification_of c.args.tree.now) _ _ c.in_ok-items.ensures.taken c.in_ok-gathered.ensures
     _ c.in_ok-flattened.ensures _ c.in_ok-items.ensures.left _ c.in_ok-stood.ensures _ c.in_ok-checked.ensures _
     c.in_ok-guarded.ensures _ _ c.in_err-ordered.ensures)
 
 pub returns-in_err-with_book : goal.returns-in_err-with_book
 returns-in_err-with_book g c =
     err_out _ c.in_err-with_book.field-0.0 _ _ c.from_residual-in_err-with_book.ensures.1
-    (book_out _ _ _ c.args.text.now (specification_of c.args.tree.now) _ _ c.in_ok-items.ensures.taken c.in_ok-gathered.ensures
+    (book_out _ _ _ (words_of c.args.values.now) (specification_of c.args.tree.now) _ _ c.in_ok-items.ensures.taken c.in_ok-gathered.ensures
     _ c.in_ok-flattened.ensures _ c.in_ok-items.ensures.left _ c.in_ok-stood.ensures _ c.in_ok-checked.ensures _
     c.in_ok-guarded.ensures _ _ c.in_ok-ordered.ensures _ c.in_err-with_book.ensures)
 
 pub returns-in_err-whole : goal.returns-in_err-whole
 returns-in_err-whole g c =
     err_out _ c.in_err-whole.field-0.0 _ _ c.from_residual-in_err-whole.ensures.1
-    (built_out _ _ _ c.args.text.now (specification_of c.args.tree.now) _ _ c.in_ok-items.ensures.taken c.in_ok-gathered.ensures
+    (start_out _ _ _ (words_of c.args.values.now) (specification_of c.args.tree.now) _ _ c.in_ok-items.ensures.taken c.in_ok-gathered.ensures
     _ c.in_ok-flattened.ensures _ c.in_ok-items.ensures.left _ c.in_ok-stood.ensures _ c.in_ok-checked.ensures _
     c.in_ok-guarded.ensures _ _ c.in_ok-ordered.ensures _ c.in_ok-with_book.ensures _ c.in_err-whole.ensures)
 
 pub returns : goal.returns
 returns g c =
-    finished _ _ _ c.args.text.now (specification_of c.args.tree.now) _ _ c.in_ok-items.ensures.taken c.in_ok-gathered.ensures
+    finished _ _ _ (words_of c.args.values.now) (specification_of c.args.tree.now) _ _ c.in_ok-items.ensures.taken c.in_ok-gathered.ensures
     _ c.in_ok-flattened.ensures _ c.in_ok-items.ensures.left _ c.in_ok-stood.ensures _ c.in_ok-checked.ensures _
     c.in_ok-guarded.ensures _ _ c.in_ok-ordered.ensures _ c.in_ok-with_book.ensures _ c.in_ok-whole.ensures
     c.started.result c.started.ensures

@@ -1,0 +1,238 @@
+-- Entries of menus and values for them.
+use Rattle.std.proofs.Common.{◌≡◌, ◌≢◌, ◌<◌, ◌≤◌, ◌-◌, ◌+◌, ℕ, zero, suc, List, [], ◌∷◌, map, drop, get_or, length, Option, Some, None, slice_get, nat_eq, if◌then◌else◌, Bool, true, false, refl, ap, ap₂, sym, ◌∙◌, subst, arith, add-one, drop-cons, eqb-true, eq-eqb, ne_eqb}
+use Rattle.std.specs.Option.{option_map}
+use Rattle.term_algebra.specs.Signature.{Signature}
+use Rattle.term_algebra.specs.Term.{Term}
+use Rattle.term_algebra.specs.Sorting.{IsGround, IsGroundOf, sort_of}
+use Rattle.term_algebra.proofs.SortLemmas.{sort_of_sorted}
+use Rattle.behaviour_semantics.specs.Behaviour.{Test}
+use Rattle.behaviour_semantics.specs.Derives.{leaves_in}
+use Rattle.behaviour_semantics.specs.Fault.{first_of_two}
+use Rattle.behaviour_semantics.specs.Rule.{AreValues, is_same_sort}
+use Rattle.behaviour_semantics.proofs.OptionLemmas.{some_value}
+use Rattle.behaviour_semantics.specs.Solving.{Entry as PlainEntry}
+use Rattle.behaviour_semantics.specs.WellFormed.{Every}
+use Rattle.behaviour_semantics.proofs.DraftsInOrder.{at_map}
+use Rattle.behaviour_tree.specs.BehaviourTerms.{profiles_of}
+use Rattle.behaviour_tree.specs.BehaviourView.{terms_of}
+use Rattle.behaviour_tree.specs.Over.{AreTermsOf}
+use Rattle.event_offers.specs.Instances.{unmet_among}
+use Rattle.event_offers.specs.OfferView.{plain_entry}
+use Rattle.event_offers.specs.Offers.{IsEntryOver}
+use Rattle.event_offers.specs.declared.drafts.Entry.{Entry}
+use Rattle.event_offers.specs.declared.menus.Menu.{Menu}
+use Rattle.menu_listing.specs.Menus.{entries_in}
+use Rattle.sort_terms.specs.ProfiledTerm.{head_sort, IsOf}
+use Rattle.sort_terms.specs.SortedView.{profiled_in, term_in}
+use Rattle.sort_terms.specs.declared.sorted.Sorted.{Sorted}
+use Rattle.sort_terms.proofs.ProfiledTermLemmas.{fitting_has_sort}
+use Rattle.session_histories.specs.Refusal as plain
+use Rattle.session_histories.specs.Refusal.{no_entry, value_count, value_sort, unmet, entry_numbered, count_refusal, number_refusal, sort_refusal, condition_refusal, value_refusal, step_refusal}
+use Rattle.session_histories.specs.Session.{SessionBasis}
+use Rattle.session_log.specs.Entries.{AreGiven, IsEntryAt}
+use Rattle.session_log.specs.Kept.{IsKeptMenu}
+use Rattle.session_log.specs.RefusalView.{TellsStep}
+use Rattle.session_histories.proofs.RefusalLemmas.{sorts_fit}
+use Rattle.session_log.specs.declared.refusals.StepRefusal.{StepRefusal}
+use Rattle.session_log.specs.declared.refusals.StepRefusal.TheVariants as step
+
+-- ---- Entries by their numbers
+
+pub entry_there : (menu : Menu) (number : ℕ) (entry : Entry) → IsEntryAt menu number entry
+    → entry_numbered (entries_in menu) number ≡ Some (plain_entry entry)
+entry_there menu number entry h =
+    subst (λ (n : ℕ). entry_numbered (entries_in menu) n ≡ Some (plain_entry entry)) (sym h.numbered)
+    (at_map plain_entry menu.entries.items h.position entry h.found)
+
+pub mapped_length : {X Y : Type 0} (f : X → Y) (xs : List X) → length (map f xs) ≡ length xs
+mapped_length f [] = refl
+mapped_length f (x ∷ xs) = ap suc (mapped_length f xs)
+
+none_mapped : {X Y : Type 0} (f : X → Y) (xs : List X) (position : ℕ) → slice_get xs position ≡ None → slice_get (map f xs) position ≡ None
+none_mapped f [] position e = refl
+none_mapped f (x ∷ xs) zero e = absurd (cc e)
+none_mapped f (x ∷ xs) (suc position) e = none_mapped f xs position e
+
+none_past : {X : Type 0} (xs : List X) (position : ℕ) → length xs ≤ position → slice_get xs position ≡ None
+none_past [] position e = refl
+none_past (x ∷ xs) zero e = absurd (omega (arith, e))
+none_past (x ∷ xs) (suc position) e = none_past xs position (omega (arith, e))
+
+-- a number without an entry is refused
+refused : (menu : Menu) (number count given : ℕ) → count ≡ length menu.entries.items → entry_numbered (entries_in menu) number ≡ None
+    → number_refusal (entries_in menu) number given ≡ Some (no_entry number count)
+refused menu number count given counted none =
+    ap (λ (it : Option PlainEntry). count_refusal number (length (entries_in menu)) it given) none
+    ∙ ap (λ (it : ℕ). Some (no_entry number it)) (mapped_length plain_entry menu.entries.items ∙ sym counted)
+
+pub refused_at_zero : (menu : Menu) (number count given : ℕ) → count ≡ length menu.entries.items → number ≡ 0
+    → number_refusal (entries_in menu) number given ≡ Some (no_entry number count)
+refused_at_zero menu number count given counted e =
+    refused menu number count given counted (ap (entry_numbered (entries_in menu)) e)
+
+before_number : (number : ℕ) → 0 < number → number ≡ suc (number - 1)
+before_number number h = omega (arith, h)
+
+pub refused_without : (menu : Menu) (number count given : ℕ) → count ≡ length menu.entries.items → 0 < number
+    → slice_get menu.entries.items (number - 1) ≡ None
+    → number_refusal (entries_in menu) number given ≡ Some (no_entry number count)
+refused_without menu number count given counted some none =
+    refused menu number count given counted (ap (entry_numbered (entries_in menu)) (before_number number some)
+    ∙ none_mapped plain_entry menu.entries.items (number - 1) none)
+
+pub refused_past : (menu : Menu) (number count given : ℕ) → count ≡ length menu.entries.items → count < number
+    → number_refusal (entries_in menu) number given ≡ Some (no_entry number count)
+refused_past menu number count given counted past =
+    refused_without menu number count given counted (omega (arith, past))
+    (none_past menu.entries.items (number - 1) (omega (arith, counted, past)))
+
+pub found_at : (menu : Menu) (number : ℕ) (entry : Entry) → 0 < number → slice_get menu.entries.items (number - 1) ≡ Some entry
+    → IsEntryAt menu number entry
+found_at menu number entry some found =
+    record { position = number - 1; numbered = before_number number some; found = found }
+
+pub miscounted : (menu : Menu) (number given wanted : ℕ) (entry : Entry) → IsEntryAt menu number entry
+    → wanted ≡ length entry.vars.items → given ≢ wanted
+    → number_refusal (entries_in menu) number given ≡ Some (value_count wanted given)
+miscounted menu number given wanted entry h counted differ =
+    ap (λ (it : Option PlainEntry). count_refusal number (length (entries_in menu)) it given) (entry_there menu number entry h)
+    ∙ (ap (λ (b : Bool). if b then None else Some (value_count (length entry.vars.items) given)) (apart (nat_eq given
+    (length entry.vars.items)) refl)
+    ∙ ap (λ (it : ℕ). Some (value_count it given)) (sym counted))
+  where
+    apart : (b : Bool) → nat_eq given (length entry.vars.items) ≡ b → nat_eq given (length entry.vars.items) ≡ false
+    apart true e = absurd (differ (eqb-true given (length entry.vars.items) e ∙ sym counted))
+    apart false e = e
+
+pub well_counted : (menu : Menu) (number given : ℕ) (entry : Entry) → IsEntryAt menu number entry → given ≡ length entry.vars.items
+    → number_refusal (entries_in menu) number given ≡ None
+well_counted menu number given entry h counted =
+    ap (λ (it : Option PlainEntry). count_refusal number (length (entries_in menu)) it given) (entry_there menu number entry h)
+    ∙ ap (λ (b : Bool). if b then None else Some (value_count (length entry.vars.items) given)) (eq-eqb given (length entry.vars.items)
+    counted)
+
+-- ---- Refusals that are told
+
+pub tells_more : (expected other : Option plain.StepRefusal) → ((why : plain.StepRefusal) → expected ≡ Some why → other ≡ Some why)
+    → (refusal : StepRefusal) → TellsStep expected refusal → TellsStep other refusal
+tells_more expected other so (step.NoEntry number length) h = so (no_entry number length) h
+tells_more expected other so (step.ValueCount wanted given) h = so (value_count wanted given) h
+tells_more expected other so (step.ValueSort variable) h = so (value_sort variable) h
+tells_more expected other so (step.Unmet left right) h = so (unmet (term_in left) (term_in right)) h
+tells_more expected other so step.NoMemory h = tt
+
+-- a refusal of the number is one of the step
+pub number_told : (basis : SessionBasis) (menu : List PlainEntry) (number : ℕ) (values : List Term) (refusal : StepRefusal)
+    → TellsStep (number_refusal menu number (length values)) refusal → TellsStep (step_refusal basis menu number values) refusal
+number_told basis menu number values refusal h =
+    tells_more (number_refusal menu number (length values)) (step_refusal basis menu number values)
+    (λ why e. ap (λ (it : Option plain.StepRefusal). first_of_two it (value_refusal basis.data_.signature basis.canon
+    (entry_numbered menu number) values)) e) refusal h
+
+-- a refusal of the values is one of the step, where the number is not refused
+pub values_told : (basis : SessionBasis) (menu : List PlainEntry) (number : ℕ) (values : List Term) (entry : PlainEntry)
+    → entry_numbered menu number ≡ Some entry → number_refusal menu number (length values) ≡ None → (refusal : StepRefusal)
+    → TellsStep (value_refusal basis.data_.signature basis.canon (Some entry) values) refusal
+    → TellsStep (step_refusal basis menu number values) refusal
+values_told basis menu number values entry listed free refusal h =
+    tells_more (value_refusal basis.data_.signature basis.canon (Some entry) values) (step_refusal basis menu number values)
+    (λ why e. ap (λ (it : Option plain.StepRefusal). first_of_two it (value_refusal basis.data_.signature basis.canon
+    (entry_numbered menu number) values)) free
+    ∙ (ap (λ (it : Option PlainEntry). value_refusal basis.data_.signature basis.canon it values) listed ∙ e)) refusal h
+
+pub sort_is_told : (signature : Signature) (canon : Term → Term) (entry : PlainEntry) (values : List Term) (variable : ℕ)
+    → sort_refusal signature 0 entry.variables values ≡ Some (value_sort variable)
+    → value_refusal signature canon (Some entry) values ≡ Some (value_sort variable)
+sort_is_told signature canon entry values variable e =
+    ap (λ (it : Option plain.StepRefusal). first_of_two it (condition_refusal canon entry values)) e
+
+pub condition_is_told : (signature : Signature) (canon : Term → Term) (entry : PlainEntry) (values : List Term) (test : Test)
+    → sort_refusal signature 0 entry.variables values ≡ None → Some test ≡ unmet_among canon (leaves_in values) entry.conditions
+    → value_refusal signature canon (Some entry) values ≡ Some (unmet test.left test.right)
+condition_is_told signature canon entry values test free e =
+    ap (λ (it : Option plain.StepRefusal). first_of_two it (condition_refusal canon entry values)) free
+    ∙ ap (option_map (λ (it : Test). unmet it.left it.right)) (sym e)
+
+-- ---- Values that are given
+
+-- the members of a list from this one on
+pub from_here : {X : Type 0} (xs : List X) (index : ℕ) (x : X) → index < length xs → x ≡ get_or xs index x
+    → drop index xs ≡ x ∷ drop (index + 1) xs
+from_here xs index x below is =
+    drop-cons xs index x below
+    ∙ ((λ i. sym is i ∷ drop (suc index) xs) ∙ ap (λ (n : ℕ). x ∷ drop n xs) (sym (add-one index)))
+
+pub given_ground : (signature : Signature) (values : List Sorted) → AreTermsOf signature (profiles_of values)
+    → Every (λ (value : Sorted). IsGround (term_in value)) values
+    → Every (λ (t : Term). (sort : ℕ) × IsGroundOf signature sort t) (terms_of values)
+given_ground signature [] terms ground = tt
+given_ground signature (value ∷ values) terms ground = (
+  (
+    head_sort (profiled_in value),
+    record {
+      ground = ground.0;
+      sorted = fitting_has_sort signature (profiled_in value) terms.0 value.fits;
+    },
+  ),
+  given_ground signature values terms.1 ground.1,
+)
+
+-- the sort that a value tells is the one that its term has
+pub told_sort : (signature : Signature) (value : Sorted) → IsOf signature (profiled_in value)
+    → sort_of signature (term_in value) ≡ Some value.sort
+told_sort signature value is_of =
+    sort_of_sorted signature (term_in value) (head_sort (profiled_in value))
+    (fitting_has_sort signature (profiled_in value) is_of value.fits)
+    ∙ ap (λ (s : ℕ). Some s) value.headed
+
+every_at : {X : Type 0} (P : X → Type 0) (xs : List X) (position : ℕ) (x : X) → Every P xs → slice_get xs position ≡ Some x → P x
+every_at P [] position x h e = absurd (cc e)
+every_at P (y ∷ xs) zero x h e = subst P (some_value e) h.0
+every_at P (y ∷ xs) (suc position) x h e = every_at P xs position x h.1 e
+
+pub entry_over : (signature : Signature) (menu : Menu) (number : ℕ) (entry : Entry) → IsKeptMenu signature menu
+    → IsEntryAt menu number entry → IsEntryOver signature entry
+entry_over signature menu number entry kept h = every_at (IsEntryOver signature) menu.entries.items h.position entry kept h.found
+
+-- values of their sorts, which meet an entry with the conditions
+pub given_sorts : (signature : Signature) (sorts : List ℕ) (values : List Sorted) → AreGiven signature values
+    → length values ≡ length sorts → sort_refusal signature 0 sorts (terms_of values) ≡ None
+    → AreValues signature sorts (terms_of values)
+given_sorts signature sorts values given counted free =
+    sorts_fit signature 0 sorts (terms_of values) (mapped_length term_in values ∙ counted)
+    (given_ground signature values given.terms given.ground) free
+
+-- ---- Values one after another
+
+pub sort_here : (signature : Signature) (index : ℕ) (sorts : List ℕ) (values : List Sorted) (sort : ℕ) (value : Sorted)
+    → index < length values → value ≡ get_or values index value → index < length sorts → sort ≡ get_or sorts index sort
+    → AreTermsOf signature (profiles_of (drop index values)) → value.sort ≢ sort
+    → sort_refusal signature index (drop index sorts) (terms_of (drop index values)) ≡ Some (value_sort index)
+sort_here signature index sorts values sort value below is below_sorts is_sort terms differ =
+    let rest : drop index sorts ≡ sort ∷ drop (index + 1) sorts = from_here sorts index sort below_sorts is_sort in
+    let left : drop index values ≡ value ∷ drop (index + 1) values = from_here values index value below is in
+    let here : AreTermsOf signature (profiles_of (value ∷ drop (index + 1) values)) =
+    subst (λ (it : List Sorted). AreTermsOf signature (profiles_of it)) left terms in
+    ap₂ (λ (ss : List ℕ) (vs : List Sorted). sort_refusal signature index ss (terms_of vs)) rest left
+    ∙ ap (λ (b : Bool). if b then sort_refusal signature (suc index) (drop (index + 1) sorts) (terms_of (drop (index + 1) values))
+    else Some (value_sort index)) (ap (λ (o : Option ℕ). is_same_sort o (Some sort)) (told_sort signature value here.0)
+    ∙ ne_eqb value.sort sort differ)
+
+pub sort_after : (signature : Signature) (index : ℕ) (sorts : List ℕ) (values : List Sorted) (sort : ℕ) (value : Sorted)
+    → index < length values → value ≡ get_or values index value → index < length sorts → sort ≡ get_or sorts index sort
+    → AreTermsOf signature (profiles_of (drop index values)) → value.sort ≡ sort
+    → (sort_refusal signature index (drop index sorts) (terms_of (drop index values))
+    ≡ sort_refusal signature (index + 1) (drop (index + 1) sorts) (terms_of (drop (index + 1) values)))
+    × AreTermsOf signature (profiles_of (drop (index + 1) values))
+sort_after signature index sorts values sort value below is below_sorts is_sort terms same =
+    let rest : drop index sorts ≡ sort ∷ drop (index + 1) sorts = from_here sorts index sort below_sorts is_sort in
+    let left : drop index values ≡ value ∷ drop (index + 1) values = from_here values index value below is in
+    let here : AreTermsOf signature (profiles_of (value ∷ drop (index + 1) values)) =
+    subst (λ (it : List Sorted). AreTermsOf signature (profiles_of it)) left terms in (
+      ap₂ (λ (ss : List ℕ) (vs : List Sorted). sort_refusal signature index ss (terms_of vs)) rest left
+          ∙ (ap (λ (b : Bool). if b then sort_refusal signature (suc index) (drop (index + 1) sorts) (terms_of (drop (index + 1) values))
+          else Some (value_sort index)) (ap (λ (o : Option ℕ). is_same_sort o (Some sort)) (told_sort signature value here.0)
+          ∙ eq-eqb value.sort sort same)
+          ∙ ap (λ (n : ℕ). sort_refusal signature n (drop (index + 1) sorts) (terms_of (drop (index + 1) values))) (sym (add-one index))),
+      here.1,
+    )

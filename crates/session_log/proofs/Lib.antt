@@ -1,0 +1,6 @@
+pub mod ResultLemmas
+pub mod LineLemmas
+pub mod EntryLemmas
+pub mod TextLemmas
+pub mod CourseLemmas
+pub mod ReplayLemmas

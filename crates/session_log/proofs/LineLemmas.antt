@@ -1,0 +1,189 @@
+-- How the lines of a trace are read.
+use Rattle.std.proofs.Common.{◌≡◌, ◌<◌, ◌≤◌, ◌+◌, ◌*◌, ◌-◌, ◌^◌, ℕ, suc, zero, List, [], ◌∷◌, ◌++◌, take, drop, length, get_or, Bool, true, false, ◌&&◌, nat_eq, nat_lt, nat_le, cond, if◌then◌else◌, Option, Some, None, option_map, refl, ap, ap₂, sym, ◌∙◌, subst, arith, add-one, length-drop, take_all, append_assoc, append-nil, drop-drop, leb-true, ltb-true, ltb-false, lt_of_lt_of_le, pow-suc}
+use Rattle.std.proofs.Math.Nat.{pow-le-pow_right}
+use Rattle.std.specs.List.{list_all, starts_with}
+use Rattle.std.specs.Char.{is_ascii_digit, digit_value}
+use Rattle.std.specs.Str.Parse.{digits_value_after}
+use Rattle.session_histories.specs.TraceLine.{AroundArrow, with_byte, around_arrow, first_digits, behind_digits, with_first, lines_of}
+use Rattle.session_histories.specs.TraceText.{arrow}
+use Rattle.session_log.proofs.EntryLemmas.{from_here}
+use Rattle.session_log.specs.Lines.{line_length, digit_count, around_at, with_bytes}
+
+-- ---- The first line
+
+pub first_cut : (text : List ℕ) → 0 < length text
+    → lines_of text ≡ take (line_length text) text ∷ lines_of (drop (line_length text + 1) text)
+first_cut [] h = absurd (omega (arith, h))
+first_cut (byte ∷ []) h = by (nat_eq 10 byte)
+  where
+    by : (b : Bool) → (if b then [] ∷ lines_of [] else with_first byte (lines_of []))
+        ≡ take (if b then 0 else 1) (byte ∷ []) ∷ lines_of (drop ((if b then 0 else 1) + 1) (byte ∷ []))
+    by true = refl
+    by false = refl
+first_cut (byte ∷ next ∷ bytes) h =
+    by (nat_eq 10 byte) (first_cut (next ∷ bytes) (omega arith))
+  where
+    more : List ℕ
+    more = next ∷ bytes
+
+    by : (b : Bool) → lines_of more ≡ take (line_length more) more ∷ lines_of (drop (line_length more + 1) more)
+        → (if b then [] ∷ lines_of more else with_first byte (lines_of more))
+        ≡ take (if b then 0 else line_length more + 1) (byte ∷ more)
+        ∷ lines_of (drop ((if b then 0 else line_length more + 1) + 1) (byte ∷ more))
+    by true rest = refl
+    by false rest =
+        ap (with_first byte) rest
+        ∙ ap₂ (λ (n m : ℕ). take n (byte ∷ more) ∷ lines_of (drop m (byte ∷ more))) (sym (add-one (line_length more)))
+        (sym (add-one (line_length more + 1)))
+
+-- ---- The digits of a text
+
+pub digits_taken : (text : List ℕ) → first_digits text ≡ take (digit_count text) text
+digits_taken [] = refl
+digits_taken (byte ∷ bytes) = by (is_ascii_digit byte) (digits_taken bytes)
+  where
+    by : (b : Bool) → first_digits bytes ≡ take (digit_count bytes) bytes
+        → (if b then byte ∷ first_digits bytes else []) ≡ take (if b then digit_count bytes + 1 else 0) (byte ∷ bytes)
+    by true rest = ap (λ (it : List ℕ). byte ∷ it) rest ∙ ap (λ (n : ℕ). take n (byte ∷ bytes)) (sym (add-one (digit_count bytes)))
+    by false rest = refl
+
+pub digits_dropped : (text : List ℕ) → behind_digits text ≡ drop (digit_count text) text
+digits_dropped [] = refl
+digits_dropped (byte ∷ bytes) = by (is_ascii_digit byte) (digits_dropped bytes)
+  where
+    by : (b : Bool) → behind_digits bytes ≡ drop (digit_count bytes) bytes
+        → (if b then behind_digits bytes else byte ∷ bytes) ≡ drop (if b then digit_count bytes + 1 else 0) (byte ∷ bytes)
+    by true rest = rest ∙ ap (λ (n : ℕ). drop n (byte ∷ bytes)) (sym (add-one (digit_count bytes)))
+    by false rest = refl
+
+pub all_are_digits : (text : List ℕ) → list_all is_ascii_digit (first_digits text) ≡ true
+all_are_digits [] = refl
+all_are_digits (byte ∷ bytes) = by (is_ascii_digit byte) refl (all_are_digits bytes)
+  where
+    by : (b : Bool) → is_ascii_digit byte ≡ b → list_all is_ascii_digit (first_digits bytes) ≡ true
+        → list_all is_ascii_digit (if b then byte ∷ first_digits bytes else []) ≡ true
+    by true e rest = ap (λ (b : Bool). b && list_all is_ascii_digit (first_digits bytes)) e ∙ rest
+    by false e rest = refl
+
+-- ---- The first arrow
+
+pub arrow_here : (position : ℕ) (line rest : List ℕ) → starts_with nat_eq rest arrow ≡ true → 0 < length rest
+    → rest ≡ drop position line
+    → option_map (with_bytes (take position line)) (around_arrow rest) ≡ around_arrow line
+    → Some (around_at line position) ≡ around_arrow line
+arrow_here position line [] here some is whole = absurd (omega (arith, some))
+arrow_here position line (byte ∷ bytes) here some is whole =
+    let found : around_arrow (byte ∷ bytes) ≡ Some (record { before = []; behind = drop 4 (byte ∷ bytes) }) =
+    ap (λ (b : Bool). if b then Some (record { before = []; behind = drop 3 bytes })
+    else option_map (with_byte byte) (around_arrow bytes)) here in
+    let behind : drop (position + 4) line ≡ drop 4 (byte ∷ bytes) =
+    sym (drop-drop 4 position line) ∙ ap (drop 4) (sym is) in
+    (λ i. Some (record { before = sym (append-nil (take position line)) i; behind = behind i }))
+    ∙ (ap (option_map (with_bytes (take position line))) (sym found) ∙ whole)
+
+take_next : (position : ℕ) (line : List ℕ) (byte : ℕ) (bytes : List ℕ) → byte ∷ bytes ≡ drop position line
+    → take (suc position) line ≡ take position line ++ (byte ∷ [])
+take_next zero [] byte bytes e = absurd (cc e)
+take_next zero (first ∷ line) byte bytes e = ap (λ (it : ℕ). it ∷ []) (sym (heads e))
+  where
+    heads : byte ∷ bytes ≡ first ∷ line → byte ≡ first
+    heads e = cc e
+take_next (suc position) [] byte bytes e = absurd (cc e)
+take_next (suc position) (first ∷ line) byte bytes e = ap (λ (it : List ℕ). first ∷ it) (take_next position line byte bytes e)
+
+put_before : (before : List ℕ) (byte : ℕ) (o : Option AroundArrow)
+    → option_map (with_bytes (before ++ (byte ∷ []))) o ≡ option_map (with_bytes before) (option_map (with_byte byte) o)
+put_before before byte None = refl
+put_before before byte (Some around) =
+    λ i. Some (record { before = append_assoc before (byte ∷ []) around.before i; behind = around.behind })
+
+pub arrow_later : (position : ℕ) (line : List ℕ) (byte : ℕ) (bytes : List ℕ) → starts_with nat_eq (byte ∷ bytes) arrow ≡ false
+    → byte ∷ bytes ≡ drop position line
+    → option_map (with_bytes (take position line)) (around_arrow (byte ∷ bytes)) ≡ around_arrow line
+    → option_map (with_bytes (take (position + 1) line)) (around_arrow bytes) ≡ around_arrow line
+arrow_later position line byte bytes here is whole =
+    let next : around_arrow (byte ∷ bytes) ≡ option_map (with_byte byte) (around_arrow bytes) =
+    ap (λ (b : Bool). if b then Some (record { before = []; behind = drop 3 bytes })
+    else option_map (with_byte byte) (around_arrow bytes)) here in
+    let longer : take (position + 1) line ≡ take position line ++ (byte ∷ []) =
+    ap (λ (n : ℕ). take n line) (add-one position) ∙ take_next position line byte bytes is in
+    ap (λ (it : List ℕ). option_map (with_bytes it) (around_arrow bytes)) longer
+    ∙ (put_before (take position line) byte (around_arrow bytes)
+    ∙ (ap (option_map (with_bytes (take position line))) (sym next) ∙ whole))
+
+-- the same of a rest that was taken apart
+pub arrow_behind : (position : ℕ) (line rest more : List ℕ) → 0 < length rest → more ≡ drop 1 rest
+    → starts_with nat_eq rest arrow ≡ false → rest ≡ drop position line
+    → option_map (with_bytes (take position line)) (around_arrow rest) ≡ around_arrow line
+    → (option_map (with_bytes (take (position + 1) line)) (around_arrow more) ≡ around_arrow line) × (more ≡ drop (position + 1) line)
+arrow_behind position line [] more some is here whole_rest whole = absurd (omega (arith, some))
+arrow_behind position line (byte ∷ bytes) more some is here whole_rest whole = (
+  ap (λ (it : List ℕ). option_map (with_bytes (take (position + 1) line)) (around_arrow it)) is
+      ∙ arrow_later position line byte bytes here whole_rest whole,
+  is ∙ (ap (drop 1) whole_rest ∙ drop-drop 1 position line),
+)
+
+pub no_arrow : (position : ℕ) (line rest : List ℕ) → length rest < 1
+    → option_map (with_bytes (take position line)) (around_arrow rest) ≡ around_arrow line → around_arrow line ≡ None
+no_arrow position line [] none whole = sym whole
+no_arrow position line (byte ∷ rest) none whole = absurd (omega (arith, none))
+
+-- ---- Numbers
+
+both : (a b : Bool) → (a && b) ≡ true → (a ≡ true) × (b ≡ true)
+both true b e = (refl, e)
+both false b e = absurd (cc e)
+
+digit_is : (byte : ℕ) → is_ascii_digit byte ≡ true → (48 ≤ byte) × (byte ≤ 57)
+digit_is byte h =
+    let parts : (nat_le 48 byte ≡ true) × (nat_le byte 57 ≡ true) = both (nat_le 48 byte) (nat_le byte 57) h in
+    (leb-true 48 byte parts.0, leb-true byte 57 parts.1)
+
+digit_value_is : (byte : ℕ) → 48 ≤ byte → byte ≤ 57 → digit_value byte ≡ byte - 48
+digit_value_is byte low high = by (nat_lt byte 48) (nat_lt byte 58) refl refl
+  where
+    by : (a b : Bool) → nat_lt byte 48 ≡ a → nat_lt byte 58 ≡ b
+        → cond a 36 (cond b (byte - 48) (cond (nat_lt byte 65) 36 (cond (nat_lt byte 91) (byte - 55) (cond (nat_lt byte 97) 36
+        (cond (nat_lt byte 123) (byte - 87) 36))))) ≡ byte - 48
+    by true b p q = absurd (omega (arith, low, ltb-true byte 48 p))
+    by false true p q = refl
+    by false false p q = absurd (omega (arith, high, ltb-false byte 58 q))
+
+pub record IsDigitRead (digits : List ℕ) (index value digit : ℕ) : Type 0 where
+  pub value_ : digits_value_after 10 value (drop index digits) ≡ digits_value_after 10 (value * 10 + (digit - 48)) (drop (index + 1) digits)
+  pub low : 48 ≤ digit
+  pub high : digit ≤ 57
+  pub rest : list_all is_ascii_digit (drop (index + 1) digits) ≡ true
+
+pub digit_read : (digits : List ℕ) (index value digit : ℕ) → index < length digits → digit ≡ get_or digits index digit
+    → list_all is_ascii_digit (drop index digits) ≡ true → IsDigitRead digits index value digit
+digit_read digits index value digit below is all =
+    let cut : drop index digits ≡ digit ∷ drop (index + 1) digits = from_here digits index digit below is in
+    let parts : (is_ascii_digit digit ≡ true) × (list_all is_ascii_digit (drop (index + 1) digits) ≡ true) =
+    both (is_ascii_digit digit) (list_all is_ascii_digit (drop (index + 1) digits))
+    (subst (λ (it : List ℕ). list_all is_ascii_digit it ≡ true) cut all) in
+    let range : (48 ≤ digit) × (digit ≤ 57) = digit_is digit parts.0 in
+    record {
+      value_ = ap (digits_value_after 10 value) cut
+          ∙ ap (λ (d : ℕ). digits_value_after 10 (value * 10 + d) (drop (index + 1) digits)) (digit_value_is digit range.0 range.1);
+      low = range.0;
+      high = range.1;
+      rest = parts.1;
+    }
+
+-- ten digits fit
+pub fits_ten : (index value : ℕ) → index < 10 → value < 10 ^ index → value < 1000000000
+fits_ten index value small below = lt_of_lt_of_le below (pow-le-pow_right {n = 10} (omega arith) {i = index} {j = 9} (omega (arith, small)))
+
+pub one_digit_more : (index value digit : ℕ) → value < 10 ^ index → digit ≤ 57 → 48 ≤ digit
+    → value * 10 + (digit - 48) < 10 ^ (index + 1)
+one_digit_more index value digit below high low =
+    let next : 10 ^ (index + 1) ≡ 10 ^ index * 10 = ap (λ (n : ℕ). 10 ^ n) (add-one index) ∙ pow-suc 10 index in
+    omega (arith, next, below, high, low)
+
+-- the rest behind so many members, and that behind the first one, as slices have them
+pub whole_rest : (count : ℕ) (xs : List ℕ) → take (length xs - count) (drop count xs) ≡ drop count xs
+whole_rest count xs = take_all (length xs - count) (drop count xs) (omega (arith, length-drop count xs))
+
+pub rest_is_whole : (xs : List ℕ) → take (length xs - 1) (drop 1 xs) ≡ drop 1 xs
+rest_is_whole xs = take_all (length xs - 1) (drop 1 xs) (omega (arith, length-drop 1 xs))

@@ -1,0 +1,580 @@
+-- What comes of the lines of a trace.
+use Rattle.std.proofs.Common.{◌≡◌, ◌≢◌, inl, inr, ◌<◌, ◌≤◌, ◌+◌, ℕ, zero, suc, List, [], ◌∷◌, ◌++◌, map, drop, length, get_or, Bool, true, false, bytes_eq, Option, Some, None, refl, ap, sym, ◌∙◌, subst, arith, append-nil, append_assoc}
+use Rattle.std.proofs.lemmas.List.{map-append}
+use Rattle.std.proofs.lemmas.Option.{none-some}
+use Rattle.term_algebra.specs.Signature.{Signature}
+use Rattle.term_algebra.specs.Term.{Term, Terms, variable, node, no_terms, term_then}
+use Rattle.term_algebra.specs.Sorting.{IsGround, AreGround}
+use Rattle.term_algebra.specs.Equation.{Data, Place, Variable}
+use Rattle.lotos_base.specs.WrittenTerm.{WrittenTerm, WrittenTerms, written, no_written, written_then}
+use Rattle.lotos_base.specs.WrittenView.{text_place_of, written_term_of}
+use Rattle.lotos_base.specs.Name.{spelling}
+use Rattle.lotos_base.specs.declared.written_terms.Written.{Written}
+use Rattle.lotos_reading.specs.Reading.{IsTermsReading, IsTermsFault}
+use Rattle.lotos_reading.specs.declared.fault.ReadFault.{ReadFault}
+use Rattle.lotos_reading.specs.declared.fault.ReadFault.TheVariants.{NoMemory}
+use Rattle.lotos_reading.specs.declared.fault.ReadFault.TheVariants as text_fault
+use Rattle.sort_terms.specs.Reading.{Reads, AllRead, IsScopeOver}
+use Rattle.sort_terms.proofs.ReadsLemmas.{reads_sorted}
+use Rattle.sort_terms.specs.RefusalView.{UnlessNoMemory}
+use Rattle.sort_terms.specs.SignatureView.{signature_of}
+use Rattle.sort_terms.specs.declared.signatures.Signature.{Signature as CodeSignature}
+use Rattle.sort_terms.specs.declared.sort_faults.SortFault.{SortFault}
+use Rattle.sort_terms.specs.declared.sort_faults.SortFault.TheVariants as term_fault
+use Rattle.sort_terms.specs.ReadingOutcome as reading
+use Rattle.sort_terms.specs.ReadingOutcome.{ReadingIs, SortedTerm, answered, ComesTo, IsReading}
+use Rattle.sort_terms.specs.SortedView.{profiled_in, term_in}
+use Rattle.sort_terms.specs.declared.sorted.Sorted.{Sorted}
+use Rattle.behaviour_semantics.specs.Fault.{first_of_two}
+use Rattle.behaviour_semantics.specs.Rule.{AreValues}
+use Rattle.behaviour_semantics.specs.Label as plain_label
+use Rattle.behaviour_semantics.specs.Solving.{Entry as PlainEntry}
+use Rattle.behaviour_semantics.proofs.ListLemmas.{Every-append}
+use Rattle.behaviour_tree.specs.BehaviourTerms.{profiles_of}
+use Rattle.behaviour_tree.specs.BehaviourView.{terms_of}
+use Rattle.behaviour_tree.specs.Over.{AreTermsOf}
+use Rattle.sort_terms.specs.ProfiledTerm.{IsOf}
+use Rattle.session_histories.specs.Session.{SessionBasis, Situation, Progress, first_situation, opened}
+use Rattle.session_histories.specs.Lawful.{HasStepped}
+use Rattle.event_offers.specs.OfferView.{plain_entry}
+use Rattle.event_offers.specs.declared.drafts.Entry.{Entry}
+use Rattle.event_offers.specs.declared.menus.Menu.{Menu}
+use Rattle.behaviour_tree.specs.MoveView.{label_of}
+use Rattle.behaviour_tree.specs.declared.definitions.Spec.{Spec}
+use Rattle.behaviour_tree.specs.declared.moves.Label.{Label}
+use Rattle.printed_texts.specs.MenuText.{label_text}
+use Rattle.printed_texts.specs.TextView.{written_label}
+use Rattle.std.specs.Prelude.{Result, MatchResult}
+use Rattle.std.proofs.lemmas.Result.{MatchResult-weaker}
+use Rattle.menu_listing.specs.Menus.{entries_in}
+use Rattle.session_histories.specs.Refusal as plain
+use Rattle.session_histories.specs.Refusal.{StepRefusal, entry_numbered, count_refusal, number_refusal, condition_refusal, value_refusal, step_refusal}
+use Rattle.session_histories.specs.Replay.{has_no_form, LineRefusal, bad_line, step_refused, label_differs, Outcome, goes_on, stops, ReplayRefusal, AreRead, IsOneMisread, IsReadStep, shown_label, LineComesTo, is_not_read, is_miscounted, is_misread, is_unmet, is_mislabelled, is_replayed, LinesComeTo, all_done, one_stops, one_goes_on, no_heading, ComeBehind, TraceComesTo, ReplayIs}
+use Rattle.session_histories.specs.TraceLine.{StepLine, step_line, lines_of}
+use Rattle.session_histories.specs.TraceText.{trace_heading}
+use Rattle.session_histories.proofs.RefusalLemmas.{free_of_count, as_many, fit_sorts}
+use Rattle.session_log.proofs.EntryLemmas.{entry_there, from_here, mapped_length}
+use Rattle.session_log.specs.Entries.{AreGiven, IsEntryAt}
+use Rattle.session_log.specs.RefusalView.{TellsStep, TellsLine, TellsReplay, fault_at, line_fault_of, line_fault_of_text, line_fault_of_term}
+use Rattle.session_log.specs.CourseView.{basis_over, pasts_of, progress_of, situation_of}
+use Rattle.session_log.specs.declared.courses.Course.{Course}
+use Rattle.session_log.specs.declared.courses.Past.{Past}
+use Rattle.session_log.specs.Lines.{said_by}
+use Rattle.session_log.specs.Replayed.{AreReadAt, IsMisreadAt, IsReadAt, IsReadRefusal, are_miscounted, are_misread}
+use Rattle.session_log.specs.declared.lines.StepLine.{StepLine as CodeLine}
+use Rattle.session_log.specs.declared.refusals.LineFault.{LineFault}
+use Rattle.session_log.specs.declared.refusals.LineFault.TheVariants as line_fault
+use Rattle.session_log.specs.declared.refusals.ReplayFault.{ReplayFault}
+use Rattle.session_log.specs.declared.refusals.ReplayFault.TheVariants as replay
+use Rattle.session_log.specs.declared.refusals.StepRefusal.{StepRefusal as CodeRefusal}
+use Rattle.session_log.specs.declared.refusals.StepRefusal.TheVariants as step
+
+-- ---- Faults of lines with their numbers
+
+pub told_at : (Is : LineRefusal → Type 0) (line : ℕ) (fault : LineFault) → TellsLine Is fault
+    → TellsReplay (λ (refusal : ReplayRefusal). (refusal.line ≡ line) × Is refusal.why) (fault_at fault line)
+told_at Is line line_fault.BadLine h = (refl, h)
+told_at Is line (line_fault.LabelDiffers kept found) h = (refl, h)
+told_at Is line (line_fault.Step refusal) h = (h.0, h.1, (refl, h.2))
+told_at Is line line_fault.NoMemory h = tt
+
+pub told_as : (Is : LineRefusal → Type 0) (line : ℕ) (fault : LineFault) (told : ReplayFault) → told ≡ fault_at fault line
+    → TellsLine Is fault → TellsReplay (λ (refusal : ReplayRefusal). (refusal.line ≡ line) × Is refusal.why) told
+told_as Is line fault told is h =
+    subst (TellsReplay (λ (refusal : ReplayRefusal). (refusal.line ≡ line) × Is refusal.why)) (sym is) (told_at Is line fault h)
+
+pub tells_line : (Is Other : LineRefusal → Type 0) → ((why : LineRefusal) → Is why → Other why) → (fault : LineFault) → TellsLine Is fault
+    → TellsLine Other fault
+tells_line Is Other so line_fault.BadLine h = so bad_line h
+tells_line Is Other so (line_fault.LabelDiffers kept found) h = so (label_differs kept.items found.items) h
+tells_line Is Other so (line_fault.Step refusal) h = (h.0, h.1, so (step_refused h.0) h.2)
+tells_line Is Other so line_fault.NoMemory h = tt
+
+-- ---- Terms that are read without variables are ground
+
+mutual
+  read_ground : (signature : Signature) (w : WrittenTerm) (t : Term) (sort : ℕ) → Reads signature [] w t sort → IsGround t
+  read_ground signature (written head arguments) (variable n s) sort reads = absurd (none-some _ reads.0.last.found)
+  read_ground signature (written head arguments) (node f ts) sort reads = all_ground signature arguments ts _ reads.3
+
+  all_ground : (signature : Signature) (ws : WrittenTerms) (ts : Terms) (sorts : List ℕ) → AllRead signature [] ws ts sorts → AreGround ts
+  all_ground signature no_written no_terms [] reads = tt
+  all_ground signature no_written no_terms (s ∷ ss) reads = absurd reads
+  all_ground signature no_written (term_then t ts) ss reads = absurd reads
+  all_ground signature (written_then w ws) no_terms ss reads = absurd reads
+  all_ground signature (written_then w ws) (term_then t ts) [] reads = absurd reads
+  all_ground signature (written_then w ws) (term_then t ts) (s ∷ ss) reads =
+      (read_ground signature w t s reads.0, all_ground signature ws ts ss reads.1)
+
+is_reading : {A : Type 0} (unknown : List reading.Refusal) (place : Place) (Is : A → Type 0) (one : A)
+    → ComesTo unknown place Is (answered one) → Is one
+is_reading (first ∷ rest) place Is one comes = absurd comes
+is_reading [] place Is one comes = comes.is_answer
+
+pub reading_ground : (signature : Signature) (scope : List Variable) (term : WrittenTerm) (expected : Option ℕ) (one : SortedTerm)
+    → scope ≡ [] → ReadingIs signature scope term expected (answered one) → IsGround one.term
+reading_ground signature scope term expected one none h =
+    let is : IsReading signature [] term expected one =
+    is_reading _ _ (IsReading signature [] term expected) one
+    (subst (λ (it : List Variable). ReadingIs signature it term expected (answered one)) none h) in
+    read_ground signature term one.term one.sort is.0
+
+pub value_ground : (signature : Signature) (term : WrittenTerm) (sort : ℕ) (value : Sorted) → IsReadAt signature term sort value
+    → IsGround (term_in value)
+value_ground signature term sort value h =
+    let is : IsReading signature [] term (Some sort) (record { term = term_in value; sort = sort }) =
+    is_reading _ _ (IsReading signature [] term (Some sort)) (record { term = term_in value; sort = sort }) h.read in
+    read_ground signature term (term_in value) sort is.0
+
+-- ---- Terms of a line that are read or not
+
+pub terms_told : (text : List ℕ) (fault : ReadFault) → IsTermsFault 0 text fault
+    → TellsLine (λ (why : LineRefusal). (why ≡ bad_line) × (other : ReadFault) × IsTermsFault 0 text other × (other ≢ NoMemory))
+    (line_fault_of_text fault)
+terms_told text text_fault.TooLong h = (refl, text_fault.TooLong, h, λ e. absurd (cc e))
+terms_told text (text_fault.BadByte place) h = (refl, text_fault.BadByte place, h, λ e. absurd (cc e))
+terms_told text (text_fault.OpenComment place) h = (refl, text_fault.OpenComment place, h, λ e. absurd (cc e))
+terms_told text (text_fault.Syntax place) h = (refl, text_fault.Syntax place, h, λ e. absurd (cc e))
+terms_told text (text_fault.TooDeep place) h = (refl, text_fault.TooDeep place, h, λ e. absurd (cc e))
+terms_told text text_fault.NoMemory h = tt
+
+pub scope_of_none : (signature : Signature) (scope : List Variable) → scope ≡ [] → IsScopeOver signature scope
+scope_of_none signature scope none = subst (IsScopeOver signature) (sym none) (λ i v found. absurd (none-some _ found))
+
+pub term_read : (signature other : Signature) (scope : List Variable) (term : WrittenTerm) (sort : ℕ) (value : Sorted) → scope ≡ []
+    → other ≡ signature → IsOf other (profiled_in value)
+    → ReadingIs other scope term (Some sort) (answered (record { term = term_in value; sort = value.sort }))
+    → IsReadAt signature term sort value
+term_read signature other scope term sort value none same is_of read =
+    let answer : SortedTerm = record { term = term_in value; sort = value.sort } in
+    let here : ReadingIs signature [] term (Some sort) (answered answer) =
+    subst (λ (it : Signature). ReadingIs it [] term (Some sort) (answered answer)) same
+    (subst (λ (it : List Variable). ReadingIs other it term (Some sort) (answered answer)) none read) in
+    let is : IsReading signature [] term (Some sort) answer =
+    is_reading _ _ (IsReading signature [] term (Some sort)) answer here in
+    record {
+      is_of = subst (λ (it : Signature). IsOf it (profiled_in value)) same is_of;
+      read = subst (λ (it : ℕ). ReadingIs signature [] term (Some sort) (answered (record { term = term_in value; sort = it }))) is.1 here;
+    }
+
+misread : (signature other : Signature) (scope : List Variable) (term : WrittenTerm) (sort : ℕ) (refusal : reading.Refusal) → scope ≡ []
+    → other ≡ signature → ReadingIs other scope term (Some sort) (reading.refused refusal) → IsMisreadAt signature term sort
+misread signature other scope term sort refusal none same h = (
+  refusal,
+  subst (λ (it : Signature). ReadingIs it [] term (Some sort) (reading.refused refusal)) same
+      (subst (λ (it : List Variable). ReadingIs other it term (Some sort) (reading.refused refusal)) none h),
+)
+
+pub term_told : (signature other : Signature) (scope : List Variable) (term : WrittenTerm) (sort : ℕ) (fault : SortFault) → scope ≡ []
+    → other ≡ signature
+    → UnlessNoMemory fault (λ (refusal : reading.Refusal). ReadingIs other scope term (Some sort) (reading.refused refusal))
+    → TellsLine (λ (why : LineRefusal). (why ≡ bad_line) × IsMisreadAt signature term sort) (line_fault_of_term fault)
+term_told signature other scope term sort (term_fault.UnknownName place) none same h =
+    (refl, misread signature other scope term sort (reading.unknown_name (text_place_of place)) none same h)
+term_told signature other scope term sort (term_fault.UnknownSort place) none same h =
+    (refl, misread signature other scope term sort (reading.unknown_sort (text_place_of place)) none same h)
+term_told signature other scope term sort (term_fault.NoReading place) none same h =
+    (refl, misread signature other scope term sort (reading.no_reading (text_place_of place)) none same h)
+term_told signature other scope term sort (term_fault.TwoReadings place) none same h =
+    (refl, misread signature other scope term sort (reading.two_readings (text_place_of place)) none same h)
+term_told signature other scope term sort term_fault.NoMemory none same h = tt
+
+-- ---- Values read one after another
+
+pub record AreHalfRead (signature : Signature) (sorts : List ℕ) (terms : List WrittenTerm) (index : ℕ) (values : List Sorted) : Type 0 where
+  pub read : (more : List Term) → AreRead signature (drop index sorts) (drop index terms) more
+      → AreRead signature sorts terms (terms_of values ++ more)
+  pub misread : IsOneMisread signature (drop index sorts) (drop index terms) → IsOneMisread signature sorts terms
+  pub given : AreGiven signature values
+
+pub none_read : (signature : Signature) (sorts : List ℕ) (terms : List WrittenTerm) (values : List Sorted) → values ≡ []
+    → AreHalfRead signature sorts terms 0 values
+none_read signature sorts terms values e =
+    subst (AreHalfRead signature sorts terms 0) (sym e)
+    (record { read = λ more h. h; misread = λ h. h; given = record { terms = tt; ground = tt } })
+
+pub one_read : (signature : Signature) (sorts : List ℕ) (terms : List WrittenTerm) (index : ℕ) (values : List Sorted)
+    (term : WrittenTerm) (sort : ℕ) (value : Sorted) → index < length terms → term ≡ get_or terms index term → index < length sorts
+    → sort ≡ get_or sorts index sort → AreHalfRead signature sorts terms index values → IsReadAt signature term sort value
+    → AreHalfRead signature sorts terms (index + 1) (values ++ (value ∷ []))
+one_read signature sorts terms index values term sort value below is below_sorts is_sort half h =
+    let rest : drop index sorts ≡ sort ∷ drop (index + 1) sorts = from_here sorts index sort below_sorts is_sort in
+    let left : drop index terms ≡ term ∷ drop (index + 1) terms = from_here terms index term below is in
+    record {
+      read = λ more k.
+          subst (λ (it : List Term). AreRead signature sorts terms it)
+          (sym (append_assoc (terms_of values) (term_in value ∷ []) more)
+          ∙ ap (λ (it : List Term). it ++ more) (sym (map-append term_in values (value ∷ []))))
+          (half.read (term_in value ∷ more)
+          (subst (λ (it : List ℕ). AreRead signature it (drop index terms) (term_in value ∷ more)) (sym rest)
+          (subst (λ (it : List WrittenTerm). AreRead signature (sort ∷ drop (index + 1) sorts) it (term_in value ∷ more)) (sym left)
+          (h.read, k))));
+      misread = λ k. half.misread
+          (subst (λ (it : List ℕ). IsOneMisread signature it (drop index terms)) (sym rest)
+          (subst (λ (it : List WrittenTerm). IsOneMisread signature (sort ∷ drop (index + 1) sorts) it) (sym left) (inr k)));
+      given = record {
+        terms = subst (AreTermsOf signature) (sym (map-append profiled_in values (value ∷ [])))
+            (Every-append (IsOf signature) (profiles_of values) (profiled_in value ∷ []) half.given.terms (h.is_of, tt));
+        ground = Every-append (λ (it : Sorted). IsGround (term_in it)) values (value ∷ []) half.given.ground
+            (value_ground signature term sort value h, tt);
+      };
+    }
+
+pub one_misread : (signature : Signature) (sorts : List ℕ) (terms : List WrittenTerm) (index : ℕ) (values : List Sorted)
+    (term : WrittenTerm) (sort : ℕ) → index < length terms → term ≡ get_or terms index term → index < length sorts
+    → sort ≡ get_or sorts index sort → AreHalfRead signature sorts terms index values → IsMisreadAt signature term sort
+    → IsOneMisread signature sorts terms
+one_misread signature sorts terms index values term sort below is below_sorts is_sort half h =
+    half.misread
+    (subst (λ (it : List ℕ). IsOneMisread signature it (drop index terms)) (sym (from_here sorts index sort below_sorts is_sort))
+    (subst (λ (it : List WrittenTerm). IsOneMisread signature (sort ∷ drop (index + 1) sorts) it)
+    (sym (from_here terms index term below is)) (inl h)))
+
+none_left : {X : Type 0} (xs : List X) (index : ℕ) → length xs ≤ index → drop index xs ≡ []
+none_left [] zero h = refl
+none_left [] (suc index) h = refl
+none_left (x ∷ xs) zero h = absurd (omega (arith, h))
+none_left (x ∷ xs) (suc index) h = none_left xs index (omega (arith, h))
+
+pub all_read : (signature : Signature) (sorts : List ℕ) (terms : List WrittenTerm) (index : ℕ) (values : List Sorted)
+    → length terms ≤ index → length sorts ≤ index → AreHalfRead signature sorts terms index values
+    → AreRead signature sorts terms (terms_of values)
+all_read signature sorts terms index values past past_sorts half =
+    subst (AreRead signature sorts terms) (append-nil (terms_of values))
+    (half.read []
+    (subst (λ (it : List ℕ). AreRead signature it (drop index terms) []) (sym (none_left sorts index past_sorts))
+    (subst (λ (it : List WrittenTerm). AreRead signature [] it []) (sym (none_left terms index past)) tt)))
+
+mapped_at : {X Y : Type 0} (f : X → Y) (xs : List X) (index : ℕ) (x : X) → get_or (map f xs) index (f x) ≡ f (get_or xs index x)
+mapped_at f [] zero x = refl
+mapped_at f [] (suc index) x = refl
+mapped_at f (y ∷ xs) zero x = refl
+mapped_at f (y ∷ xs) (suc index) x = mapped_at f xs index x
+
+pub next_read : (signature : Signature) (sorts : List ℕ) (terms : List Written) (index : ℕ) (values : List Sorted) (term : Written)
+    (sort : ℕ) (value : Sorted) → index < length terms → length terms ≡ length sorts → term ≡ get_or terms index term
+    → sort ≡ get_or sorts index sort → AreHalfRead signature sorts (map written_term_of terms) index values
+    → IsReadAt signature (written_term_of term) sort value
+    → AreHalfRead signature sorts (map written_term_of terms) (index + 1) (values ++ (value ∷ []))
+next_read signature sorts terms index values term sort value below counted is is_sort half h =
+    one_read signature sorts (map written_term_of terms) index values (written_term_of term) sort value
+    (omega (arith, below, mapped_length written_term_of terms))
+    (ap written_term_of is ∙ sym (mapped_at written_term_of terms index term)) (omega (arith, below, counted)) is_sort half h
+
+pub next_misread : (signature : Signature) (sorts : List ℕ) (terms : List Written) (index : ℕ) (values : List Sorted) (term : Written)
+    (sort : ℕ) → index < length terms → length terms ≡ length sorts → term ≡ get_or terms index term → sort ≡ get_or sorts index sort
+    → AreHalfRead signature sorts (map written_term_of terms) index values → IsMisreadAt signature (written_term_of term) sort
+    → IsOneMisread signature sorts (map written_term_of terms)
+next_misread signature sorts terms index values term sort below counted is is_sort half h =
+    one_misread signature sorts (map written_term_of terms) index values (written_term_of term) sort
+    (omega (arith, below, mapped_length written_term_of terms))
+    (ap written_term_of is ∙ sym (mapped_at written_term_of terms index term)) (omega (arith, below, counted)) is_sort half h
+
+pub next_told : (signature : Signature) (sorts : List ℕ) (terms : List Written) (index : ℕ) (values : List Sorted) (term : Written)
+    (sort : ℕ) → index < length terms → length terms ≡ length sorts → term ≡ get_or terms index term → sort ≡ get_or sorts index sort
+    → AreHalfRead signature sorts (map written_term_of terms) index values → (fault : LineFault)
+    → TellsLine (λ (why : LineRefusal). (why ≡ bad_line) × IsMisreadAt signature (written_term_of term) sort) fault
+    → TellsLine (λ (why : LineRefusal). (why ≡ bad_line) × IsOneMisread signature sorts (map written_term_of terms)) fault
+next_told signature sorts terms index values term sort below counted is is_sort half fault h =
+    tells_line (λ (why : LineRefusal). (why ≡ bad_line) × IsMisreadAt signature (written_term_of term) sort)
+    (λ (why : LineRefusal). (why ≡ bad_line) × IsOneMisread signature sorts (map written_term_of terms))
+    (λ why m. (m.0, next_misread signature sorts terms index values term sort below counted is is_sort half m.1)) fault h
+
+pub values_read : (signature : Signature) (sorts : List ℕ) (terms : List Written) (index : ℕ) (values : List Sorted)
+    → length terms ≤ index → length terms ≡ length sorts → AreHalfRead signature sorts (map written_term_of terms) index values
+    → AreRead signature sorts (map written_term_of terms) (terms_of values) × AreGiven signature values
+values_read signature sorts terms index values past counted half = (
+  all_read signature sorts (map written_term_of terms) index values (omega (arith, past, mapped_length written_term_of terms))
+      (omega (arith, past, counted)) half,
+  half.given,
+)
+
+-- ---- Why values are not read
+
+counts_told : (signature : Signature) (menu : Menu) (number : ℕ) (terms : List WrittenTerm) (refusal : CodeRefusal)
+    → TellsStep (number_refusal (entries_in menu) number (length terms)) refusal
+    → TellsLine (IsReadRefusal signature menu number terms) (line_fault_of refusal)
+counts_told signature menu number terms (step.NoEntry n count) h =
+    (plain.no_entry n count, refl, are_miscounted (plain.no_entry n count) h)
+counts_told signature menu number terms (step.ValueCount wanted found) h =
+    (plain.value_count wanted found, refl, are_miscounted (plain.value_count wanted found) h)
+counts_told signature menu number terms (step.ValueSort at) h =
+    (plain.value_sort at, refl, are_miscounted (plain.value_sort at) h)
+counts_told signature menu number terms (step.Unmet left right) h =
+    (plain.unmet (term_in left) (term_in right), refl, are_miscounted (plain.unmet (term_in left) (term_in right)) h)
+counts_told signature menu number terms step.NoMemory h = tt
+
+pub count_told : (signature : Signature) (menu : Menu) (number : ℕ) (terms : List Written) (refusal : CodeRefusal)
+    → TellsStep (number_refusal (entries_in menu) number (length terms)) refusal
+    → TellsLine (IsReadRefusal signature menu number (map written_term_of terms)) (line_fault_of refusal)
+count_told signature menu number terms refusal h =
+    counts_told signature menu number (map written_term_of terms) refusal
+    (subst (λ (n : ℕ). TellsStep (number_refusal (entries_in menu) number n) refusal) (sym (mapped_length written_term_of terms)) h)
+
+pub entry_misread : (signature : Signature) (menu : Menu) (number : ℕ) (entry : Entry) (terms : List Written) → IsEntryAt menu number entry
+    → length terms ≡ length entry.vars.items → (fault : LineFault)
+    → TellsLine (λ (why : LineRefusal). (why ≡ bad_line) × IsOneMisread signature entry.vars.items (map written_term_of terms)) fault
+    → TellsLine (IsReadRefusal signature menu number (map written_term_of terms)) fault
+entry_misread signature menu number entry terms listed counted fault h =
+    tells_line (λ (why : LineRefusal). (why ≡ bad_line) × IsOneMisread signature entry.vars.items (map written_term_of terms))
+    (IsReadRefusal signature menu number (map written_term_of terms))
+    (λ why m. subst (IsReadRefusal signature menu number (map written_term_of terms)) (sym m.0)
+    (are_misread (plain_entry entry) (entry_there menu number entry listed) (mapped_length written_term_of terms ∙ counted) m.1)) fault h
+
+-- ---- What a line comes to
+
+no_scope : (signature : Signature) → IsScopeOver signature []
+no_scope signature i v e = absurd (none-some _ e)
+
+-- values that are read are ground terms of their sorts
+pub read_values : (signature : Signature) (sorts : List ℕ) (terms : List WrittenTerm) (values : List Term)
+    → AreRead signature sorts terms values → AreValues signature sorts values
+read_values signature [] [] [] h = tt
+read_values signature [] [] (value ∷ values) h = absurd h
+read_values signature [] (term ∷ terms) values h = absurd h
+read_values signature (sort ∷ sorts) [] values h = absurd h
+read_values signature (sort ∷ sorts) (term ∷ terms) [] h = absurd h
+read_values signature (sort ∷ sorts) (term ∷ terms) (value ∷ values) h =
+    let is : IsReading signature [] term (Some sort) (record { term = value; sort = sort }) =
+    is_reading _ _ (IsReading signature [] term (Some sort)) (record { term = value; sort = sort }) h.0 in (
+      record {
+        ground = read_ground signature term value sort is.0;
+        sorted = reads_sorted signature [] (no_scope signature) term value sort is.0;
+      },
+      read_values signature sorts terms values h.1,
+    )
+
+module _ (basis : SessionBasis) (progress : Progress) (line : List ℕ) (said : StepLine) (form : step_line line ≡ Some said) where
+  pub stops_unread : (why : LineRefusal)
+      → (why ≡ bad_line) × (fault : ReadFault) × IsTermsFault 0 said.terms fault × (fault ≢ NoMemory)
+      → LineComesTo basis progress line (stops why)
+  stops_unread why h =
+      subst (λ (it : LineRefusal). LineComesTo basis progress line (stops it)) (sym h.0) (is_not_read said h.1 form h.2 h.3)
+
+  module _ (terms : List WrittenTerm) (read : IsTermsReading 0 said.terms terms) where
+    pub stops_misread : (menu : Menu) → progress.situation.menu ≡ entries_in menu → (why : LineRefusal)
+        → IsReadRefusal basis.data_.signature menu said.number terms why → LineComesTo basis progress line (stops why)
+    stops_misread menu same _ (are_miscounted refusal e) =
+        is_miscounted said terms refusal (record { form = form; read = read })
+        (subst (λ (it : List PlainEntry). number_refusal it said.number (length terms) ≡ Some refusal) (sym same) e)
+    stops_misread menu same _ (are_misread entry listed counted mis) =
+        is_misread said terms entry (record { form = form; read = read })
+        (subst (λ (it : List PlainEntry). entry_numbered it said.number ≡ Some entry) (sym same) listed) counted mis
+
+    module _ (entry : PlainEntry) (values : List Term) (listed : entry_numbered progress.situation.menu said.number ≡ Some entry)
+        (given : AreRead basis.data_.signature entry.variables terms values) where
+      is_step : IsReadStep basis progress.situation.menu line said entry values
+      is_step = record { terms = terms; is_line = record { form = form; read = read }; listed = listed; read = given }
+
+      sorted : AreValues basis.data_.signature entry.variables values
+      sorted = read_values basis.data_.signature entry.variables terms values given
+
+      -- nothing but a condition can refuse the step
+      conditions_alone : step_refusal basis progress.situation.menu said.number values ≡ condition_refusal basis.canon entry values
+      conditions_alone =
+          ap (λ (it : Option PlainEntry). first_of_two (count_refusal said.number (length progress.situation.menu) it (length values))
+          (value_refusal basis.data_.signature basis.canon it values)) listed
+          ∙ (ap (λ (it : Option StepRefusal). first_of_two it (value_refusal basis.data_.signature basis.canon (Some entry) values))
+          (free_of_count said.number (length progress.situation.menu) entry (length values)
+          (as_many basis.data_.signature entry.variables values sorted))
+          ∙ ap (λ (it : Option StepRefusal). first_of_two it (condition_refusal basis.canon entry values))
+          (fit_sorts basis.data_.signature 0 entry.variables values sorted))
+
+      pub stops_refused : (why : StepRefusal) → step_refusal basis progress.situation.menu said.number values ≡ Some why
+          → LineComesTo basis progress line (stops (step_refused why))
+      stops_refused why e = is_unmet said entry values why is_step (sym conditions_alone ∙ e)
+
+      pub step_told : (refusal : CodeRefusal) → TellsStep (step_refusal basis progress.situation.menu said.number values) refusal
+          → TellsLine (λ (why : LineRefusal). LineComesTo basis progress line (stops why)) (line_fault_of refusal)
+      step_told (step.NoEntry number count) h = (plain.no_entry number count, refl, stops_refused (plain.no_entry number count) h)
+      step_told (step.ValueCount wanted found) h = (plain.value_count wanted found, refl, stops_refused (plain.value_count wanted found) h)
+      step_told (step.ValueSort at) h = (plain.value_sort at, refl, stops_refused (plain.value_sort at) h)
+      step_told (step.Unmet left right) h =
+          (plain.unmet (term_in left) (term_in right), refl, stops_refused (plain.unmet (term_in left) (term_in right)) h)
+      step_told step.NoMemory h = tt
+
+      module _ (label : plain_label.Label) (new : Progress) (stepped : HasStepped basis progress said.number values label new) where
+        pub goes_on_replayed : said.label ≡ shown_label basis label → LineComesTo basis progress line (goes_on new)
+        goes_on_replayed same = is_replayed said entry values label new is_step stepped same
+
+        pub stops_mislabelled : (shown : List ℕ) → shown ≡ shown_label basis label → (why : LineRefusal)
+            → (said.label ≢ shown) × (why ≡ label_differs said.label shown) → LineComesTo basis progress line (stops why)
+        stops_mislabelled shown is why h =
+            subst (λ (it : LineRefusal). LineComesTo basis progress line (stops it))
+            (sym (h.1 ∙ ap (λ (it : List ℕ). label_differs said.label it) is))
+            (is_mislabelled said entry values label new is_step stepped (λ e. h.0 (e ∙ sym is)))
+
+-- ---- What a line of the code comes to
+
+pub no_form : (basis : SessionBasis) (progress : Progress) (line : List ℕ) (why : LineRefusal) → (why ≡ bad_line) × (step_line line ≡ None)
+    → LineComesTo basis progress line (stops why)
+no_form basis progress line why h =
+    subst (λ (it : LineRefusal). LineComesTo basis progress line (stops it)) (sym h.0) (has_no_form h.1)
+
+pub label_shown : (data_ : Data) (canon : Term → Term) (spec : Spec) (signature : CodeSignature) (label : Label)
+    → signature_of signature ≡ data_.signature
+    → written_label signature spec.gate_names.items label ≡ shown_label (basis_over data_ canon spec) (label_of label)
+label_shown data_ canon spec signature label same =
+    ap (λ (it : Signature). label_text it (map spelling spec.gate_names.items) (label_of label)) same
+
+module _ (data_ : Data) (canon : Term → Term) (spec : Spec) (progress : Progress) (line : List ℕ) (said : CodeLine)
+    (form : step_line line ≡ Some (said_by said)) (terms : List WrittenTerm) (read : IsTermsReading 0 said.terms.now terms) (menu : Menu)
+    (same : progress.situation.menu ≡ entries_in menu) (values : List Sorted)
+    (at : AreReadAt data_.signature menu said.number terms values) where
+  there : entry_numbered progress.situation.menu said.number ≡ Some (plain_entry at.entry)
+  there = ap (λ (it : List PlainEntry). entry_numbered it said.number) same ∙ entry_there menu said.number at.entry at.listed
+
+  pub step_told_of_line : (refusal : CodeRefusal)
+      → TellsStep (step_refusal (basis_over data_ canon spec) progress.situation.menu said.number (terms_of values)) refusal
+      → TellsLine (λ (why : LineRefusal). LineComesTo (basis_over data_ canon spec) progress line (stops why)) (line_fault_of refusal)
+  step_told_of_line refusal h =
+      step_told (basis_over data_ canon spec) progress line (said_by said) form terms read (plain_entry at.entry) (terms_of values) there
+      at.read refusal h
+
+  pub label_told_of_line : (signature : CodeSignature) → signature_of signature ≡ data_.signature → (label : Label) (new : Progress)
+      → HasStepped (basis_over data_ canon spec) progress said.number (terms_of values) (label_of label) new
+      → {T : Type 0} (r : Result T LineFault)
+      → MatchResult r (λ _. said.label.now ≡ written_label signature spec.gate_names.items label)
+      (TellsLine (λ (why : LineRefusal). (said.label.now ≢ written_label signature spec.gate_names.items label)
+      × (why ≡ label_differs said.label.now (written_label signature spec.gate_names.items label))))
+      → MatchResult r (λ _. LineComesTo (basis_over data_ canon spec) progress line (goes_on new))
+      (TellsLine (λ (why : LineRefusal). LineComesTo (basis_over data_ canon spec) progress line (stops why)))
+  label_told_of_line signature printed label new stepped r h =
+      MatchResult-weaker r h
+      (λ _ e. goes_on_replayed (basis_over data_ canon spec) progress line (said_by said) form terms read (plain_entry at.entry)
+      (terms_of values) there at.read (label_of label) new stepped (e ∙ label_shown data_ canon spec signature label printed))
+      (λ fault k. tells_line (λ (why : LineRefusal). (said.label.now ≢ written_label signature spec.gate_names.items label)
+      × (why ≡ label_differs said.label.now (written_label signature spec.gate_names.items label)))
+      (λ (why : LineRefusal). LineComesTo (basis_over data_ canon spec) progress line (stops why))
+      (stops_mislabelled (basis_over data_ canon spec) progress line (said_by said) form terms read (plain_entry at.entry)
+      (terms_of values) there at.read (label_of label) new stepped (written_label signature spec.gate_names.items label)
+      (label_shown data_ canon spec signature label printed)) fault k)
+
+-- ---- What a trace comes to
+
+-- a heading, and lines behind it
+pub behind_heading : (basis : SessionBasis) (first : Situation) (text line rest : List ℕ) (outcome : Outcome ReplayRefusal)
+    → lines_of text ≡ line ∷ lines_of rest → bytes_eq line trace_heading ≡ true
+    → LinesComeTo basis 2 (opened first) (lines_of rest) outcome → ReplayIs basis first text outcome
+behind_heading basis first text line rest outcome cut heading h =
+    subst (λ (it : List (List ℕ)). TraceComesTo basis first it outcome) (sym cut)
+    (subst (λ (b : Bool). ComeBehind basis first b (lines_of rest) outcome) (sym heading) h)
+
+pub without_heading : (basis : SessionBasis) (first : Situation) (text line : List ℕ) (lines : List (List ℕ))
+    → lines_of text ≡ line ∷ lines → bytes_eq line trace_heading ≡ false → ReplayIs basis first text no_heading
+without_heading basis first text line lines cut heading =
+    subst (λ (it : List (List ℕ)). TraceComesTo basis first it no_heading) (sym cut)
+    (subst (λ (b : Bool). ComeBehind basis first b lines no_heading) (sym heading) refl)
+
+pub nothing_to_replay : (basis : SessionBasis) (first : Situation) (text : List ℕ) → text ≡ [] → ReplayIs basis first text no_heading
+nothing_to_replay basis first text none =
+    subst (λ (it : List ℕ). ReplayIs basis first it no_heading) (sym none) refl
+
+-- What is left of the lines decides what the whole trace comes to.
+abbrev pub Decides : SessionBasis → ℕ → Progress → List ℕ → (Outcome ReplayRefusal → Type 0) → Type 0
+Decides basis number progress rest Whole =
+    (outcome : Outcome ReplayRefusal) → LinesComeTo basis number progress (lines_of rest) outcome → Whole outcome
+
+pub line_done : (basis : SessionBasis) (number : ℕ) (progress new : Progress) (line rest more : List ℕ)
+    (Whole : Outcome ReplayRefusal → Type 0) → Decides basis number progress rest Whole → lines_of rest ≡ line ∷ lines_of more
+    → LineComesTo basis progress line (goes_on new) → Decides basis (number + 1) new more Whole
+line_done basis number progress new line rest more Whole decides cut is = λ outcome h.
+    decides outcome (subst (λ (it : List (List ℕ)). LinesComeTo basis number progress it outcome) (sym cut) (one_goes_on is h))
+
+pub line_refused : (basis : SessionBasis) (number : ℕ) (progress : Progress) (line rest more : List ℕ) (why : LineRefusal)
+    (Whole : Outcome ReplayRefusal → Type 0) → Decides basis number progress rest Whole → lines_of rest ≡ line ∷ lines_of more
+    → LineComesTo basis progress line (stops why) → Whole (stops (record { line = number; why = why }))
+line_refused basis number progress line rest more why Whole decides cut is =
+    decides (stops (record { line = number; why = why }))
+    (subst (λ (it : List (List ℕ)). LinesComeTo basis number progress it (stops (record { line = number; why = why }))) (sym cut)
+    (one_stops is))
+
+pub all_replayed : (basis : SessionBasis) (number : ℕ) (progress : Progress) (rest : List ℕ) (Whole : Outcome ReplayRefusal → Type 0)
+    → Decides basis number progress rest Whole → rest ≡ [] → Whole (goes_on progress)
+all_replayed basis number progress rest Whole decides none =
+    decides (goes_on progress)
+    (subst (λ (it : List ℕ). LinesComeTo basis number progress (lines_of it) (goes_on progress)) (sym none) all_done)
+
+pub lines_ended : (basis : SessionBasis) (number : ℕ) (progress : Progress) (rest : List ℕ) (Whole : Outcome ReplayRefusal → Type 0)
+    → Decides basis number progress rest Whole → length rest < 1 → Whole (goes_on progress)
+lines_ended basis number progress [] Whole decides short = all_replayed basis number progress [] Whole decides refl
+lines_ended basis number progress (byte ∷ rest) Whole decides short = absurd (omega (arith, short))
+
+-- the faults of a line as those of the trace
+pub faults_told : (Is Other : ReplayRefusal → Type 0) → ((refusal : ReplayRefusal) → Is refusal → Other refusal) → (fault : ReplayFault)
+    → TellsReplay Is fault → TellsReplay Other fault
+faults_told Is Other so (replay.BadLine line) h = so (record { line = line; why = bad_line }) h
+faults_told Is Other so (replay.LabelDiffers line kept found) h =
+    so (record { line = line; why = label_differs kept.items found.items }) h
+faults_told Is Other so (replay.Step line refusal) h = (h.0, h.1, so (record { line = line; why = step_refused h.0 }) h.2)
+faults_told Is Other so replay.NoMemory h = tt
+
+-- the first line of a text, which may be empty
+pub bad_heading : (basis : SessionBasis) (first : Situation) (text line rest : List ℕ)
+    → (0 < length text → lines_of text ≡ line ∷ lines_of rest) → bytes_eq line trace_heading ≡ false
+    → ReplayIs basis first text no_heading
+bad_heading basis first [] line rest cut heading = refl
+bad_heading basis first (byte ∷ text) line rest cut heading =
+    without_heading basis first (byte ∷ text) line (lines_of rest) (cut (omega arith)) heading
+
+pub good_heading : (basis : SessionBasis) (first : Situation) (text line rest : List ℕ)
+    → (0 < length text → lines_of text ≡ line ∷ lines_of rest) → 0 < length text → bytes_eq line trace_heading ≡ true
+    → Decides basis 2 (opened first) rest (ReplayIs basis first text)
+good_heading basis first text line rest cut some heading = λ outcome h.
+    behind_heading basis first text line rest outcome (cut some) heading h
+
+-- a line that is refused stops the trace
+pub refused_at : (basis : SessionBasis) (number : ℕ) (progress : Progress) (line rest more : List ℕ)
+    (Whole : Outcome ReplayRefusal → Type 0) → Decides basis number progress rest Whole → lines_of rest ≡ line ∷ lines_of more
+    → (fault : ReplayFault)
+    → TellsReplay (λ (refusal : ReplayRefusal). (refusal.line ≡ number) × LineComesTo basis progress line (stops refusal.why)) fault
+    → TellsReplay (λ (refusal : ReplayRefusal). Whole (stops refusal)) fault
+refused_at basis number progress line rest more Whole decides cut fault h =
+    faults_told (λ (refusal : ReplayRefusal). (refusal.line ≡ number) × LineComesTo basis progress line (stops refusal.why))
+    (λ (refusal : ReplayRefusal). Whole (stops refusal))
+    (λ refusal k. subst (λ (n : ℕ). Whole (stops (record { line = n; why = refusal.why }))) (sym k.0)
+    (line_refused basis number progress line rest more refusal.why Whole decides cut k.1)) fault h
+
+-- what holds over data that have not changed
+pub over_same : (data_ other : Data) (canon also : Term → Term) (P : Data → (Term → Term) → Type 0) → other ≡ data_ → also ≡ canon
+    → P other also → P data_ canon
+over_same data_ other canon also P same same_canon h = subst (λ (d : Data). P d canon) same (subst (P other) same_canon h)
+
+-- ---- A trace with its heading
+
+pub heading_some : (line text : List ℕ) → bytes_eq line trace_heading ≡ true → length line ≤ length text → 0 < length text
+heading_some [] text heading within = absurd (cc heading)
+heading_some (byte ∷ line) text heading within = omega (arith, within)
+
+pub replayed_behind : (basis : SessionBasis) (course : Course) (text line rest : List ℕ)
+    → (0 < length text → lines_of text ≡ line ∷ lines_of rest) → length line ≤ length text → bytes_eq line trace_heading ≡ true
+    → course.history.items ≡ [] → (outcome : Outcome ReplayRefusal)
+    → LinesComeTo basis 2 (progress_of course) (lines_of rest) outcome
+    → ReplayIs basis (situation_of course.state course.menu) text outcome
+replayed_behind basis course text line rest cut within heading none outcome h =
+    good_heading basis (situation_of course.state course.menu) text line rest cut (heading_some line text heading within) heading outcome
+    (subst (λ (it : List Past). LinesComeTo basis 2 (record { situation = situation_of course.state course.menu; steps = pasts_of it })
+    (lines_of rest) outcome) none h)
+
+-- ---- A replay from the beginning of a session
+
+pub replayed_here : (data_ other : Data) (canon also : Term → Term) (spec : Spec) (old begun : Course) (text : List ℕ) → other ≡ data_
+    → also ≡ canon → situation_of begun.state begun.menu ≡ first_situation (progress_of old) → (outcome : Outcome ReplayRefusal)
+    → ReplayIs (basis_over other also spec) (situation_of begun.state begun.menu) text outcome
+    → ReplayIs (basis_over data_ canon spec) (first_situation (progress_of old)) text outcome
+replayed_here data_ other canon also spec old begun text same same_canon start outcome h =
+    subst (λ (it : Situation). ReplayIs (basis_over data_ canon spec) it text outcome) start
+    (over_same data_ other canon also (λ (d : Data) (k : Term → Term). ReplayIs (basis_over d k spec)
+    (situation_of begun.state begun.menu) text outcome) same same_canon h)
+
+pub replay_told_here : (data_ other : Data) (canon also : Term → Term) (spec : Spec) (old begun : Course) (text : List ℕ) → other ≡ data_
+    → also ≡ canon → situation_of begun.state begun.menu ≡ first_situation (progress_of old) → (fault : ReplayFault)
+    → TellsReplay (λ (why : ReplayRefusal). ReplayIs (basis_over other also spec) (situation_of begun.state begun.menu) text (stops why))
+    fault
+    → TellsReplay (λ (why : ReplayRefusal). ReplayIs (basis_over data_ canon spec) (first_situation (progress_of old)) text (stops why))
+    fault
+replay_told_here data_ other canon also spec old begun text same same_canon start fault h =
+    faults_told
+    (λ (why : ReplayRefusal). ReplayIs (basis_over other also spec) (situation_of begun.state begun.menu) text (stops why))
+    (λ (why : ReplayRefusal). ReplayIs (basis_over data_ canon spec) (first_situation (progress_of old)) text (stops why))
+    (λ why k. replayed_here data_ other canon also spec old begun text same same_canon start (stops why) k) fault h

@@ -1,0 +1,7 @@
+pub mod CourseView
+pub mod Courses
+pub mod Kept
+pub mod RefusalView
+pub mod Lines
+pub mod Entries
+pub mod Replayed

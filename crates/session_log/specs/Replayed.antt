@@ -1,0 +1,54 @@
+-- What the code replays lines of traces over, and what comes of them.
+use Rattle.std.specs.Prelude.{◌≡◌, ℕ, List, [], length, Some}
+use Rattle.lotos_base.specs.WrittenTerm.{WrittenTerm}
+use Rattle.term_algebra.specs.Signature.{Signature}
+use Rattle.sort_terms.specs.ReaderView.{signature_read}
+use Rattle.sort_terms.specs.ReadingOutcome as reading
+use Rattle.sort_terms.specs.ReadingOutcome.{ReadingIs, answered}
+use Rattle.sort_terms.specs.SignatureView.{signature_of}
+use Rattle.sort_terms.specs.SortedView.{profiled_in, term_in}
+use Rattle.sort_terms.specs.ProfiledTerm.{IsOf}
+use Rattle.sort_terms.specs.declared.sorted.Sorted.{Sorted}
+use Rattle.behaviour_tree.specs.BehaviourView.{terms_of}
+use Rattle.behaviour_semantics.specs.Solving.{Entry as PlainEntry}
+use Rattle.event_offers.specs.declared.drafts.Entry.{Entry}
+use Rattle.event_offers.specs.declared.menus.Menu.{Menu}
+use Rattle.menu_listing.specs.Menus.{entries_in}
+use Rattle.session_histories.specs.Refusal.{StepRefusal, entry_numbered, number_refusal}
+use Rattle.session_histories.specs.Replay.{LineRefusal, bad_line, step_refused, AreRead, IsOneMisread}
+use Rattle.session_log.specs.Entries.{AreGiven, IsEntryAt}
+use Rattle.session_log.specs.declared.replaying.TraceGround.{TraceGround}
+
+-- The signature by which labels are printed and that over which terms are read are those of the data.
+pub record IsGroundOver (signature : Signature) (base : TraceGround) : Type 0 where
+  pub printed : signature_of base.signature.now ≡ signature
+  pub read : signature_read base.reader ≡ signature
+
+-- The reading of a term at a sort.
+pub record IsReadAt (signature : Signature) (term : WrittenTerm) (sort : ℕ) (value : Sorted) : Type 0 where
+  pub is_of : IsOf signature (profiled_in value)
+  pub read : ReadingIs signature [] term (Some sort) (answered (record { term = term_in value; sort = sort }))
+
+-- The term has not one reading at the sort.
+abbrev pub IsMisreadAt : Signature → WrittenTerm → ℕ → Type 0
+IsMisreadAt signature term sort = (refusal : reading.Refusal) × ReadingIs signature [] term (Some sort) (reading.refused refusal)
+
+-- The values are the readings of the terms at the sorts of the variables of the entry with this number.
+pub record AreReadAt (signature : Signature) (menu : Menu) (number : ℕ) (terms : List WrittenTerm) (values : List Sorted) : Type 0 where
+  pub entry : Entry
+  pub listed : IsEntryAt menu number entry
+  pub read : AreRead signature entry.vars.items terms (terms_of values)
+  pub given : AreGiven signature values
+
+-- Why they are not read: there is no such entry, or not as many terms as it has variables; or one of them has not one reading.
+pub data IsReadRefusal (signature : Signature) (menu : Menu) (number : ℕ) (terms : List WrittenTerm) : LineRefusal → Type 0 where
+  are_miscounted :
+      (refusal : StepRefusal) →
+      number_refusal (entries_in menu) number (length terms) ≡ Some refusal →
+      IsReadRefusal signature menu number terms (step_refused refusal)
+  are_misread :
+      (entry : PlainEntry) →
+      entry_numbered (entries_in menu) number ≡ Some entry →
+      length terms ≡ length entry.variables →
+      IsOneMisread signature entry.variables terms →
+      IsReadRefusal signature menu number terms bad_line

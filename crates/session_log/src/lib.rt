@@ -1,0 +1,14 @@
+//! Sessions: a state with its menu, steps by the entries of the menu, undo, and traces that are
+//! written and replayed.
+#![tactic(auto)]
+
+pub mod courses;
+pub mod entries;
+pub mod lines;
+pub mod refusals;
+pub mod replaying;
+pub mod sessions;
+pub mod traces;
+
+pub use refusals::{ReplayFault, StepRefusal};
+pub use sessions::Session;

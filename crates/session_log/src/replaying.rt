@@ -1,0 +1,356 @@
+//! The replay of a trace.
+
+ghost use Rattle.behaviour_tree.specs.BehaviourView.{terms_of};
+ghost use Rattle.lotos_base.specs.WrittenView.{written_term_of};
+ghost use Rattle.lotos_reading.specs.Reading.{IsTermsFault, IsTermsReading};
+ghost use Rattle.lotos_reading.specs.declared.fault.ReadFault as read_fault;
+ghost use Rattle.lotos_reading.specs.declared.fault.ReadFault.TheVariants as read_cause;
+ghost use Rattle.printed_texts.specs.TextView.{written_label};
+ghost use Rattle.session_histories.specs.Replay.{
+  bad_line,
+  goes_on,
+  label_differs,
+  AreRead,
+  IsOneMisread,
+  LineComesTo,
+  LinesComeTo,
+  ReplayIs,
+  stops,
+};
+ghost use Rattle.session_histories.specs.TraceLine as plain;
+ghost use Rattle.session_histories.specs.TraceLine.{lines_of};
+ghost use Rattle.session_histories.specs.TraceText.{trace_heading};
+ghost use Rattle.session_log.specs.CourseView.{basis_over, progress_of, situation_of};
+ghost use Rattle.session_log.specs.Entries.{AreGiven};
+ghost use Rattle.session_log.specs.Kept.{AreSuited, IsKeptCourse};
+ghost use Rattle.session_log.specs.Lines.{said_by};
+ghost use Rattle.session_log.specs.RefusalView.{TellsLine, TellsReplay};
+ghost use Rattle.session_log.specs.Replayed.{
+  AreReadAt,
+  IsGroundOver,
+  IsMisreadAt,
+  IsReadAt,
+  IsReadRefusal,
+};
+ghost use Rattle.sort_terms.specs.ScopeView.{variables_in};
+ghost use Rattle.std.specs.Prelude.{
+  ◌≡◌,
+  ◌≢◌,
+  ◌+◌,
+  ◌++◌,
+  ◌∷◌,
+  ◌<◌,
+  ◌≤◌,
+  ◌^◌,
+  [],
+  IfOk,
+  MatchResult,
+  None,
+  OnOk,
+  Some,
+  length,
+  map,
+};
+ghost use Rattle.std.specs.Str.{bytes_eq};
+ghost use Rattle.term_algebra.specs.Signature.{Signature as PlainSignature};
+
+use crate::courses::Course;
+use crate::entries::counted_entry;
+use crate::lines::{StepLine, first_line, step_line};
+use crate::refusals::{LineFault, ReplayFault};
+use behaviour_tree::{Label, Spec};
+use event_offers::Menu;
+use lotos_base::{NoMemory, Written};
+use menu_listing::MenuMaker;
+use printed_texts::label_text;
+use process_checks::Ranks;
+use sort_terms::{Deciding, Reader, Scope, Signature, Sorted};
+use std::alloc::Global;
+use text_reading::read_terms;
+
+/// What a trace is replayed over.
+#[derive(Drop)]
+pub struct TraceGround<'a> {
+    /// The specification.
+    pub spec: &'a Spec,
+    /// Its ranks.
+    pub ranks: &'a Ranks,
+    /// The signature of the data, by which labels are printed.
+    pub signature: &'a Signature,
+    /// What reads terms over it.
+    pub reader: Reader<'a>,
+}
+
+/// Replays the trace in the course, which has taken no step.
+pub fn replay_text<M: MenuMaker, D: Deciding>(
+    alloc: Global,
+    base: &TraceGround<'_>,
+    maker: &mut M,
+    course: &mut Course,
+    text: &[u8],
+    data: &mut D,
+) -> Result<(), ReplayFault>
+    requires suited { AreSuited M.suits (D.known_data data.old) (D.canon data.old)
+        base.now.spec.now base.now.ranks.now maker.old }
+    requires over { IsGroundOver (D.known_data data.old).signature base.now }
+    requires kept { IsKeptCourse (D.known_data data.old) (D.canon data.old) base.now.spec.now
+        course.old }
+    requires opened { course.old.history.items ≡ [] }
+    requires short { length text.now < 2 ^ 32 }
+    ensures answered { MatchResult result
+        (λ _. ReplayIs (basis_over (D.known_data data.old) (D.canon data.old) base.now.spec.now)
+        (situation_of course.old.state course.old.menu) text.now
+        (goes_on (progress_of course.new)))
+        (TellsReplay (λ why. ReplayIs
+        (basis_over (D.known_data data.old) (D.canon data.old) base.now.spec.now)
+        (situation_of course.old.state course.old.menu) text.now (stops why))) }
+    ensures kept_after { OnOk result (IsKeptCourse (D.known_data data.old) (D.canon data.old)
+        base.now.spec.now course.new) }
+    ensures suited_after { AreSuited M.suits (D.known_data data.old) (D.canon data.old)
+        base.now.spec.now base.now.ranks.now maker.new }
+    ensures same_data { D.known_data data.new ≡ D.known_data data.old }
+    ensures same_canon { D.canon data.new ≡ D.canon data.old }
+{
+    let head = first_line(text);
+    if !is_heading(head.0) {
+        return Err(ReplayFault::BadLine { line: 1 });
+    }
+    replay_steps(alloc, base, maker, course, head.1, data)
+}
+
+// Whether the line is `lotos-trace 1`.
+fn is_heading(line: &[u8]) -> bool
+    ensures { result ≡ bytes_eq line.now trace_heading }
+{
+    line == b"lotos-trace 1".as_slice()
+}
+
+// Replays the lines behind the first one.
+fn replay_steps<M: MenuMaker, D: Deciding>(
+    alloc: Global,
+    base: &TraceGround<'_>,
+    maker: &mut M,
+    course: &mut Course,
+    steps: &[u8],
+    data: &mut D,
+) -> Result<(), ReplayFault>
+    requires suited { AreSuited M.suits (D.known_data data.old) (D.canon data.old)
+        base.now.spec.now base.now.ranks.now maker.old }
+    requires over { IsGroundOver (D.known_data data.old).signature base.now }
+    requires kept { IsKeptCourse (D.known_data data.old) (D.canon data.old) base.now.spec.now
+        course.old }
+    requires short { length steps.now + 1 < 2 ^ 32 }
+    ensures answered { MatchResult result
+        (λ _. LinesComeTo (basis_over (D.known_data data.old) (D.canon data.old)
+        base.now.spec.now) 2 (progress_of course.old) (lines_of steps.now)
+        (goes_on (progress_of course.new)))
+        (TellsReplay (λ why. LinesComeTo (basis_over (D.known_data data.old)
+        (D.canon data.old) base.now.spec.now) 2 (progress_of course.old) (lines_of steps.now)
+        (stops why))) }
+    ensures kept_after { OnOk result (IsKeptCourse (D.known_data data.old) (D.canon data.old)
+        base.now.spec.now course.new) }
+    ensures suited_after { AreSuited M.suits (D.known_data data.old) (D.canon data.old)
+        base.now.spec.now base.now.ranks.now maker.new }
+    ensures same_data { D.known_data data.new ≡ D.known_data data.old }
+    ensures same_canon { D.canon data.new ≡ D.canon data.old }
+{
+    let mut number = 1u32;
+    let mut rest = steps;
+    while let [_, ..] = rest {
+        let cut = first_line(rest);
+        number += 1;
+        replay_at(alloc, base, maker, course, cut.0, number, data)?;
+        rest = cut.1;
+    }
+    Ok(())
+}
+
+// Replays the line with this number.
+fn replay_at<M: MenuMaker, D: Deciding>(
+    alloc: Global,
+    base: &TraceGround<'_>,
+    maker: &mut M,
+    course: &mut Course,
+    line: &[u8],
+    number: u32,
+    data: &mut D,
+) -> Result<(), ReplayFault>
+    requires suited { AreSuited M.suits (D.known_data data.old) (D.canon data.old)
+        base.now.spec.now base.now.ranks.now maker.old }
+    requires over { IsGroundOver (D.known_data data.old).signature base.now }
+    requires kept { IsKeptCourse (D.known_data data.old) (D.canon data.old) base.now.spec.now
+        course.old }
+    requires short { length line.now + 1 < 2 ^ 32 }
+    ensures answered { MatchResult result
+        (λ _. LineComesTo (basis_over (D.known_data data.old) (D.canon data.old) base.now.spec.now)
+        (progress_of course.old) line.now (goes_on (progress_of course.new)))
+        (TellsReplay (λ refusal. (refusal.line ≡ number) × LineComesTo
+        (basis_over (D.known_data data.old) (D.canon data.old) base.now.spec.now)
+        (progress_of course.old) line.now (stops refusal.why))) }
+    ensures kept_after { OnOk result (IsKeptCourse (D.known_data data.old) (D.canon data.old)
+        base.now.spec.now course.new) }
+    ensures suited_after { AreSuited M.suits (D.known_data data.old) (D.canon data.old)
+        base.now.spec.now base.now.ranks.now maker.new }
+    ensures same_data { D.known_data data.new ≡ D.known_data data.old }
+    ensures same_canon { D.canon data.new ≡ D.canon data.old }
+{
+    match replay_line(alloc, base, maker, course, line, data) {
+        Ok(()) => Ok(()),
+        Err(fault) => Err(fault.at(number)),
+    }
+}
+
+// Replays a line.
+fn replay_line<M: MenuMaker, D: Deciding>(
+    alloc: Global,
+    base: &TraceGround<'_>,
+    maker: &mut M,
+    course: &mut Course,
+    line: &[u8],
+    data: &mut D,
+) -> Result<(), LineFault>
+    requires suited { AreSuited M.suits (D.known_data data.old) (D.canon data.old)
+        base.now.spec.now base.now.ranks.now maker.old }
+    requires over { IsGroundOver (D.known_data data.old).signature base.now }
+    requires kept { IsKeptCourse (D.known_data data.old) (D.canon data.old) base.now.spec.now
+        course.old }
+    requires short { length line.now + 1 < 2 ^ 32 }
+    ensures answered { MatchResult result
+        (λ _. LineComesTo (basis_over (D.known_data data.old) (D.canon data.old) base.now.spec.now)
+        (progress_of course.old) line.now (goes_on (progress_of course.new)))
+        (TellsLine (λ why. LineComesTo
+        (basis_over (D.known_data data.old) (D.canon data.old) base.now.spec.now)
+        (progress_of course.old) line.now (stops why))) }
+    ensures kept_after { OnOk result (IsKeptCourse (D.known_data data.old) (D.canon data.old)
+        base.now.spec.now course.new) }
+    ensures suited_after { AreSuited M.suits (D.known_data data.old) (D.canon data.old)
+        base.now.spec.now base.now.ranks.now maker.new }
+    ensures same_data { D.known_data data.new ≡ D.known_data data.old }
+    ensures same_canon { D.canon data.new ≡ D.canon data.old }
+{
+    let said = said_on(line)?;
+    let terms = terms_of_line(alloc, said.terms)?;
+    let values = values_of_line(alloc, base, course.menu(), said.number, terms.as_slice())?;
+    let label = course.step(base.spec, base.ranks, maker, said.number, values, data)?;
+    same_label(alloc, base, &label, said.label)
+}
+
+// What the line says.
+fn said_on(line: &[u8]) -> Result<StepLine<'_>, LineFault>
+    ensures answered { MatchResult result
+        (λ said. plain.step_line line.now ≡ Some (said_by said))
+        (TellsLine (λ why. (why ≡ bad_line) × (plain.step_line line.now ≡ None))) }
+    ensures within { IfOk result (λ said. length said.terms.now ≤ length line.now) }
+{
+    match step_line(line) {
+        Some(said) => Ok(said),
+        None => Err(LineFault::BadLine),
+    }
+}
+
+// The terms of a line.
+fn terms_of_line(alloc: Global, text: &[u8]) -> Result<Vec<Written>, LineFault>
+    requires { length text.now + 1 < 2 ^ 32 }
+    ensures { MatchResult result
+        (λ terms. IsTermsReading 0 text.now (map written_term_of terms.items))
+        (TellsLine (λ why. (why ≡ bad_line) × (fault : read_fault.ReadFault)
+        × IsTermsFault 0 text.now fault × (fault ≢ read_cause.NoMemory))) }
+{
+    Ok(read_terms(alloc, text, 0)?)
+}
+
+// The readings of the terms at the sorts of the variables of the entry with this number.
+fn values_of_line(
+    alloc: Global,
+    base: &TraceGround<'_>,
+    menu: &Menu,
+    number: u64,
+    terms: &[Written],
+) -> Result<Vec<Sorted>, LineFault>
+    ensures { (signature : PlainSignature) → IsGroundOver signature base.now → MatchResult result
+        (λ values. AreReadAt signature menu.now number (map written_term_of terms.now)
+        values.items)
+        (TellsLine (IsReadRefusal signature menu.now number
+        (map written_term_of terms.now))) }
+{
+    let entry = counted_entry(menu, number, terms.len())?;
+    values_at(alloc, base, &entry.vars, terms)
+}
+
+// The readings of the terms at the sorts, of which there are as many.
+fn values_at(
+    alloc: Global,
+    base: &TraceGround<'_>,
+    sorts: &Vec<u32>,
+    terms: &[Written],
+) -> Result<Vec<Sorted>, LineFault>
+    requires { length terms.now ≡ length sorts.now.items }
+    ensures { (signature : PlainSignature) → IsGroundOver signature base.now → MatchResult result
+        (λ values. AreRead signature sorts.now.items (map written_term_of terms.now)
+        (terms_of values.items) × AreGiven signature values.items)
+        (TellsLine (λ why. (why ≡ bad_line) × IsOneMisread signature sorts.now.items
+        (map written_term_of terms.now))) }
+{
+    let scope = Scope::new(alloc);
+    let mut values = Vec::new(alloc);
+    for (index, term) in terms.iter().enumerate() {
+        let value = value_at(base, &scope, term, sorts[index])?;
+        push_value(&mut values, value)?;
+    }
+    Ok(values)
+}
+
+// Puts the value behind the others.
+fn push_value(values: &mut Vec<Sorted>, value: Sorted) -> Result<(), NoMemory>
+    ensures { OnOk result (values.new.items ≡ values.old.items ++ value ∷ []) }
+{
+    Ok(values.push(value)?)
+}
+
+// The reading of a term at a sort.
+fn value_at(
+    base: &TraceGround<'_>,
+    scope: &Scope,
+    term: &Written,
+    sort: u32,
+) -> Result<Sorted, LineFault>
+    requires { variables_in scope.now ≡ [] }
+    ensures { (signature : PlainSignature) → IsGroundOver signature base.now → MatchResult result
+        (IsReadAt signature (written_term_of term.now) sort)
+        (TellsLine (λ why. (why ≡ bad_line)
+        × IsMisreadAt signature (written_term_of term.now) sort)) }
+{
+    Ok(base.reader.read_in(scope, term, Some(sort))?)
+}
+
+// Compares the label of a line with that of its step.
+fn same_label(
+    alloc: Global,
+    base: &TraceGround<'_>,
+    label: &Label,
+    kept: &[u8],
+) -> Result<(), LineFault>
+    ensures { MatchResult result
+        (λ _. kept.now ≡ written_label base.now.signature.now
+        base.now.spec.now.gate_names.items label.now)
+        (TellsLine (λ why. (kept.now ≢ written_label base.now.signature.now
+        base.now.spec.now.gate_names.items label.now) × (why ≡ label_differs kept.now
+        (written_label base.now.signature.now base.now.spec.now.gate_names.items
+        label.now)))) }
+{
+    let mut found = Vec::new(alloc);
+    label_text(base.signature, base.spec, label, &mut found)?;
+    if found.as_slice() == kept {
+        Ok(())
+    } else {
+        let kept = bytes_copy(alloc, kept)?;
+        Err(LineFault::LabelDiffers { kept, found })
+    }
+}
+
+// The same bytes.
+fn bytes_copy(alloc: Global, bytes: &[u8]) -> Result<Vec<u8>, NoMemory>
+    ensures { IfOk result (λ made. made.items ≡ bytes.now) }
+{
+    Ok(Vec::from_slice(alloc, bytes)?)
+}

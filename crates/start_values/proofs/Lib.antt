@@ -1,0 +1,4 @@
+pub mod ListLemmas
+pub mod OutcomeLemmas
+pub mod WordLemmas
+pub mod ValueLemmas

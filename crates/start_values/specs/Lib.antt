@@ -1,0 +1,4 @@
+pub mod WordLimits
+pub mod StartValues
+pub mod StartLaws
+pub mod StartView

@@ -1,0 +1,11 @@
+pub mod TargetLemmas
+pub mod BinderLemmas
+pub mod FreedLemmas
+pub mod AcceptLemmas
+pub mod NodeLemmas
+pub mod CheckedLemmas
+pub mod LeafLemmas
+pub mod TestLemmas
+pub mod OfferLemmas
+pub mod PairLemmas
+pub mod PlacedLemmas

@@ -1,0 +1,8 @@
+use Rattle.std.proofs.Common.{sym, ◌∙◌}
+use Rattle.behaviour_tree.specs.BehaviourView.{meet_of}
+use Rattle.menu_builder.proofs.MeetingLemmas.{together_told}
+use Rattle.step_parts.proofs.labels.may_move_together.Goals as goal
+
+pub returns : goal.returns
+returns c = λ signature h k.
+    c.is_one_event.ensures ∙ sym (together_told signature (meet_of c.args.meet.now) c.args.left.now c.args.right.now h k)

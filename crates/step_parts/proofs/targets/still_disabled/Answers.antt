@@ -1,0 +1,26 @@
+use Rattle.std.proofs.Common.{Bool, if◌then◌else◌, ap, sym, ◌∙◌, subst}
+use Rattle.behaviour_semantics.specs.Behaviour.{disable}
+use Rattle.behaviour_tree.specs.Over.{AreTermsOf}
+use Rattle.behaviour_tree.specs.StateView.{node_profiles, stands_for}
+use Rattle.behaviour_tree.specs.declared.states.Node.{Node}
+use Rattle.step_parts.specs.TargetNodes.{HasClosedParts}
+use Rattle.step_parts.proofs.NodeLemmas.{both_terms}
+use Rattle.step_parts.proofs.targets.still_disabled.Goals as goal
+
+pub returns-then-ends-clause-same : goal.returns-then-ends-clause-same
+returns-then-ends-clause-same c =
+    ap (λ (b : Bool). if b then stands_for c.args.target else disable (stands_for c.args.target) (stands_for c.args.right.value))
+    (sym (sym c.ends.ensures ∙ c.if-ends.true))
+
+pub returns-clause-same : goal.returns-clause-same
+returns-clause-same c =
+    ap (λ (n : Node). disable (stands_for n) (stands_for c.args.right.value)) c.in_ok-boxed.ensures
+    ∙ ap (λ (b : Bool). if b then stands_for c.args.target else disable (stands_for c.args.target) (stands_for c.args.right.value))
+    (sym (sym c.ends.ensures ∙ c.if-ends.false))
+
+pub returns-clause-terms : goal.returns-clause-terms
+returns-clause-terms c = λ signature h k.
+    both_terms signature _ _ (subst (λ (n : Node). AreTermsOf signature (node_profiles n)) (sym c.in_ok-boxed.ensures) h) k
+
+pub returns-clause-closed_parts : goal.returns-clause-closed_parts
+returns-clause-closed_parts c = λ h k. (subst (λ (n : Node). HasClosedParts n) (sym c.in_ok-boxed.ensures) h, k)

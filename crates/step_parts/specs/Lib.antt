@@ -1,0 +1,4 @@
+pub mod StepFaults
+pub mod TargetNodes
+pub mod Leaves
+pub mod Beside

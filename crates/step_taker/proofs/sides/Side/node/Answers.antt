@@ -1,0 +1,37 @@
+use Rattle.std.proofs.Common.{◌∙◌, ap, sym, subst}
+use Rattle.std.proofs.lemmas.Result.{IfOk-weaker}
+use Rattle.behaviour_semantics.specs.Behaviour.{Behaviour}
+use Rattle.behaviour_semantics.specs.WellFormed.{IsClosedBehaviour}
+use Rattle.behaviour_tree.specs.Over.{AreTermsOf}
+use Rattle.step_taker.specs.Sides.{IsSideState, side_of, side_profiles}
+use Rattle.step_taker.specs.declared.sides.Side.{Side}
+use Rattle.step_taker.proofs.sides.Side.node.Goals as goal
+
+pub returns-in-Closed-clause-same : goal.returns-in-Closed-clause-same
+returns-in-Closed-clause-same c =
+    IfOk-weaker c.own_part.result _ _ (λ made e. e ∙ sym (ap side_of c.in-Closed.is)) c.own_part.ensures.same
+
+pub returns-in-Closed-clause-terms : goal.returns-in-Closed-clause-terms
+returns-in-Closed-clause-terms c =
+    IfOk-weaker c.own_part.result _ _ (λ made e signature h. e signature (subst (AreTermsOf signature) (ap side_profiles c.in-Closed.is)
+    h)) c.own_part.ensures.terms
+
+pub returns-in-Closed-clause-closed_parts : goal.returns-in-Closed-clause-closed_parts
+returns-in-Closed-clause-closed_parts c =
+    IfOk-weaker c.own_part.result _ _ (λ made e signature specification h state. e signature specification
+    (subst (λ (b : Behaviour). IsClosedBehaviour signature specification b) (ap side_of c.in-Closed.is) h))
+    c.own_part.ensures.closed_parts
+
+pub returns-in-Standing-clause-same : goal.returns-in-Standing-clause-same
+returns-in-Standing-clause-same c =
+    IfOk-weaker c.own_node.result _ _ (λ made e. e ∙ sym (ap side_of c.in-Standing.is)) c.own_node.ensures.same
+
+pub returns-in-Standing-clause-terms : goal.returns-in-Standing-clause-terms
+returns-in-Standing-clause-terms c =
+    IfOk-weaker c.own_node.result _ _ (λ made e signature h. subst (AreTermsOf signature) (sym e) (subst (AreTermsOf signature) (ap
+    side_profiles c.in-Standing.is) h)) c.own_node.ensures.terms
+
+pub returns-in-Standing-clause-closed_parts : goal.returns-in-Standing-clause-closed_parts
+returns-in-Standing-clause-closed_parts c =
+    IfOk-weaker c.own_node.result _ _ (λ made e signature specification h state. e (subst (λ (side : Side). IsSideState side)
+    c.in-Standing.is state)) c.own_node.ensures.closed_parts

@@ -1,0 +1,5 @@
+pub mod Stands
+pub mod Rows
+pub mod Taken
+pub mod Sides
+pub mod Walked
