@@ -1,29 +1,8 @@
--- What a line asks for is no longer than the line.
-use Rattle.std.proofs.Common.{ℕ, ◌≤◌, nat_eq, Bool, true, false, if◌then◌else◌, List, [], ◌∷◌, drop, length, reverse, codes, arith, length-drop}
-use Rattle.std.specs.Str.{bytes_eq}
+-- The words of a line are no longer than the line.
+use Rattle.std.proofs.Common.{ℕ, ◌≤◌, nat_eq, Bool, true, false, if◌then◌else◌, List, [], ◌∷◌, drop, length, reverse, arith, length-drop}
 use Rattle.std.proofs.lemmas.List.{length-reverse}
 use Rattle.lotos_lexer.specs.Bytes.{is_blank}
-use Rattle.line_commands.specs.LineLaws.{IsWithin}
-use Rattle.line_commands.specs.Line.{Command, show_menu, leave, behind_blanks, before_blanks, behind_spaces, first_word, behind_word, word_length, alone, asked_by, asked_in, stripped, command_of}
-
-unit : Unit {0}
-unit = tt
-
-either_within : (n : ℕ) (test : Bool) (one other : Command) → IsWithin n one → IsWithin n other
-    → IsWithin n (if test then one else other)
-either_within n true one other first second = first
-either_within n false one other first second = second
-
-alone_within : (n : ℕ) (command : Command) (rest : List ℕ) → IsWithin n command → IsWithin n (alone command rest)
-alone_within n asked [] within = within
-alone_within n asked (byte ∷ bytes) within = unit
-
-asked_within : (n : ℕ) (word rest : List ℕ) → length rest ≤ n → IsWithin n (asked_by word rest)
-asked_within n word rest within =
-    either_within n (bytes_eq word (codes "menu")) _ _ (alone_within n show_menu rest unit)
-    (either_within n (bytes_eq word (codes "quit")) _ _ (alone_within n leave rest unit)
-    (either_within n (bytes_eq word (codes "normal")) _ _ within
-    (either_within n (bytes_eq word (codes "equal")) _ _ within unit)))
+use Rattle.line_commands.specs.Line.{behind_blanks, before_blanks, behind_spaces, behind_word, word_length}
 
 either_short : (n : ℕ) (test : Bool) (one other : List ℕ) → length one ≤ n → length other ≤ n
     → length (if test then one else other) ≤ n
@@ -49,12 +28,3 @@ end_short line =
 pub word_short : (line : List ℕ) → length (behind_word line) ≤ length line
 word_short line =
     omega (arith, spaces_short (drop (word_length line) line), length-drop (word_length line) line)
-
-asked_in_within : (n : ℕ) (line : List ℕ) → length line ≤ n → IsWithin n (asked_in line)
-asked_in_within n [] within = unit
-asked_in_within n (byte ∷ bytes) within =
-    asked_within n (first_word (byte ∷ bytes)) (behind_word (byte ∷ bytes)) (omega (arith, word_short (byte ∷ bytes), within))
-
-pub command_within : (line : List ℕ) → IsWithin (length line) (command_of line)
-command_within line =
-    asked_in_within (length line) (stripped line) (omega (arith, end_short (behind_blanks line), blanks_short line))

@@ -1,6 +1,4 @@
 pub mod Line
-pub mod CommandView
-pub mod LineLaws
 pub mod Request
 pub mod RequestView
 pub mod RequestLaws

@@ -1,13 +1,6 @@
--- What a line of a session asks for: a command word, and what stands behind it.
-use Rattle.std.specs.Prelude.{ℕ, ◌+◌, nat_eq, if◌then◌else◌, List, [], ◌∷◌, take, drop, reverse, codes}
-use Rattle.std.specs.Str.{bytes_eq}
+-- The words of a line of a session: the command word, and what stands behind it.
+use Rattle.std.specs.Prelude.{ℕ, ◌+◌, nat_eq, if◌then◌else◌, List, [], ◌∷◌, take, drop, reverse}
 use Rattle.lotos_lexer.specs.Bytes.{is_blank}
-
--- a line that asks for nothing, for the menu, for the normal form of a term, for whether two terms are equal, and for the end
--- of the session; and a line of no form. Terms are as they are written
-pub data Command : Type 0 where
-  skip show_menu leave no_command : Command
-  show_normal compare : (terms : List ℕ) → Command
 
 -- without the blanks before it
 abbrev pub behind_blanks : List ℕ → List ℕ
@@ -38,26 +31,3 @@ first_word line = take (word_length line) line
 
 abbrev pub behind_word : List ℕ → List ℕ
 behind_word line = behind_spaces (drop (word_length line) line)
-
--- a word behind which nothing may stand
-abbrev pub alone : Command → List ℕ → Command
-alone asked [] = asked
-alone asked (byte ∷ bytes) = no_command
-
--- what a word asks for with what stands behind it. Command words are in lower case
-abbrev pub asked_by : (word rest : List ℕ) → Command
-asked_by word rest =
-    if bytes_eq word (codes "menu") then alone show_menu rest
-    else if bytes_eq word (codes "quit") then alone leave rest
-    else if bytes_eq word (codes "normal") then show_normal rest
-    else if bytes_eq word (codes "equal") then compare rest
-    else no_command
-
--- what a line without blanks at its ends asks for
-abbrev pub asked_in : List ℕ → Command
-asked_in [] = skip
-asked_in (byte ∷ bytes) = asked_by (first_word (byte ∷ bytes)) (behind_word (byte ∷ bytes))
-
--- what a line asks for
-abbrev pub command_of : List ℕ → Command
-command_of line = asked_in (stripped line)

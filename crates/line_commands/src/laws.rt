@@ -1,12 +1,6 @@
 //! Laws of lines. Each function carries a law as its contract and does nothing.
 
-ghost use Rattle.line_commands.specs.LineLaws.{CommandsAreWithin};
 ghost use Rattle.line_commands.specs.RequestLaws.{RequestsAreWithin};
-
-/// The terms of a command are no longer than its line.
-pub fn commands_are_within()
-    ensures { CommandsAreWithin }
-{}
 
 /// The texts of a request are no longer than its line.
 pub fn requests_are_within()

@@ -2,12 +2,11 @@
 #![tactic(auto)]
 
 pub mod cases;
-pub mod commands;
 pub mod laws;
 pub mod numbers;
 pub mod requests;
+mod words;
 
-pub use commands::{Command, read_command};
 pub use requests::{Request, read_request};
 
 #[cfg(test)]

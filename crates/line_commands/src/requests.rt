@@ -14,8 +14,8 @@ ghost use Rattle.line_commands.specs.Request.{
 ghost use Rattle.line_commands.specs.RequestView.{wants};
 ghost use Rattle.std.specs.Prelude.{◌≡◌, option_map};
 
-use crate::commands::{first_word_length, without_blanks, without_spaces};
 use crate::numbers::number_in;
+use crate::words::{first_word_length, without_blanks, without_spaces};
 
 /// What a line asks for.
 #[derive(Clone, Copy, Debug)]

@@ -4,9 +4,10 @@ use Rattle.std.proofs.lemmas.List.{take_all}
 use Rattle.std.proofs.lemmas.Bool.{lt-ltb, le-ltb}
 use Rattle.lotos_base.specs.Counts.{Rises}
 use Rattle.line_server.specs.Limits.{input_limit}
-use Rattle.line_server.specs.Report.{Ending, ended, failed, too_long, report, status}
+use Rattle.line_server.specs.Report.{Ending, ended, failed, too_long, report, status, last_state}
 use Rattle.line_server.specs.Machine.{Machine, by_chances}
 use Rattle.line_server.specs.Fitting.{AllFit, is_whole}
+use Rattle.line_server.specs.Serving.{IsLeftIn}
 use Rattle.line_server.specs.Writing.{IsAnswer, IsWritten}
 use Rattle.line_server.specs.Session.{Surroundings, IsSeen, InputCounts, IsMet, Came, ending_of, EndsWith, Completes}
 use Rattle.line_server.specs.declared.ends.SessionEnd.{SessionEnd}
@@ -90,6 +91,10 @@ completes {State} {Chance} machine start after answer came = record {
             (report (by_chances machine) (start.state, came.chances) [] it came.ending) start.written after.written answer) same.0
             (determined end text start.output_faults after.output_faults start.written after.written answer came.answered came.written
             steady));
+        left = subst (λ (it : Ending). IsLeftIn answer
+            (last_state (by_chances machine) (start.state, came.chances) [] (take input_limit bytes) it).0 after.state) same.1
+            (subst (λ (it : List ℕ). IsLeftIn answer
+            (last_state (by_chances machine) (start.state, came.chances) [] it came.ending).0 after.state) same.0 came.left);
       };
 }
   where

@@ -3,11 +3,11 @@ use Rattle.std.proofs.Common.{◌≡◌, ◌≢◌, ℕ, ◌+◌, ◌<◌, ◌�
 use Rattle.std.proofs.lemmas.List.{append-nil}
 use Rattle.std.proofs.Math.Seq.{take-append_seam}
 use Rattle.line_server.specs.Limits.{input_limit}
-use Rattle.line_server.specs.Report.{Ending, ended, failed, too_long, end_by, closing, report, status}
+use Rattle.line_server.specs.Report.{Ending, ended, failed, too_long, end_by, closing, report, status, last_state, state_closed}
 use Rattle.line_server.specs.Machine.{Machine, by_chances, Counted}
 use Rattle.line_server.specs.Fitting.{AllFit, is_whole}
 use Rattle.line_server.specs.Writing.{WritesAll, IsAnswer, IsWritten}
-use Rattle.line_server.specs.Serving.{moment, IsLeft, HasQuit, Broke, Closes, StopCounts}
+use Rattle.line_server.specs.Serving.{moment, IsLeft, IsLeftIn, HasQuit, Broke, Closes, StopCounts}
 use Rattle.line_server.specs.Session.{Surroundings, IsSeen, InputCounts, IsMet, Came}
 use Rattle.line_server.specs.declared.ends.Stop.{Stop}
 use Rattle.line_server.specs.declared.ends.Stop.TheVariants as stop
@@ -45,6 +45,7 @@ came_closed {State} {Chance} machine start now after line line_after total endin
       counted = counted_then machine start.faults now.faults after.faults reached.passed.chances closes.chances reached.passed.counted
           closes.counted
           closes.rises;
+      left = subst (λ (it : State × List Chance). IsLeftIn answer it.0 after.state) (sym state_is) closes.left;
       at_limit = at_limit;
     }
   where
@@ -61,6 +62,12 @@ came_closed {State} {Chance} machine start now after line line_after total endin
     report_is =
         ap (λ (it : List ℕ). report (by_chances machine) (start.state, chances) [] it ending) (sym (append-nil reached.read))
         ∙ (reached.passed.passes closes.chances).printed [] ending
+
+    state_is : last_state (by_chances machine) (start.state, chances) [] reached.read ending
+        ≡ state_closed (by_chances machine) (now.state, closes.chances) line ending
+    state_is =
+        ap (λ (it : List ℕ). last_state (by_chances machine) (start.state, chances) [] it ending) (sym (append-nil reached.read))
+        ∙ (reached.passed.passes closes.chances).leads [] ending
 
     met : (it : Ending) → status (by_chances machine) (start.state, chances) [] reached.read ending ≡ end_by it
         → IsMet (status (by_chances machine) (start.state, chances) [] reached.read ending) it
@@ -88,6 +95,7 @@ came_quit {State} {Chance} machine start now after line line_after more total re
   written = subst (λ (it : List ℕ). WritesAll start.written after.written it) (sym ((whole.quits []).printed goes.more goes.ending))
       whole.wrote;
   counted = subst (λ (it : List Chance). Counted machine start.faults it after.faults) (sym (append-nil whole.chances)) whole.counted;
+  left = sym (ap (λ (it : State × List Chance). it.0) ((whole.quits []).leads goes.more goes.ending));
   at_limit = λ other. absurd (no_limit other);
 }
   where
@@ -134,6 +142,11 @@ no_limit_stopped : (why : Stop) → stopped why ≡ InputTooLong → ⊥
 no_limit_stopped stop.OutputFailed other = absurd (cc other)
 no_limit_stopped stop.NoMemory other = absurd (cc other)
 
+-- nothing is said of the state then
+nothing_left : {State : Type 0} (why : Stop) (expected state : State) → IsLeftIn (stopped why) expected state
+nothing_left stop.OutputFailed expected state = tt
+nothing_left stop.NoMemory expected state = tt
+
 -- the writing stopped in the bytes that were read
 pub came_broke : {State Chance : Type 0} (why : Stop) (machine : Machine State Chance) (start now after : Surroundings State)
     (line line_after more : List ℕ) (total : ℕ) (reached : Reached machine start now line total)
@@ -156,6 +169,7 @@ came_broke {State} {Chance} why machine start now after line line_after more tot
           (subst (λ (it : ℕ). StopCounts why it after.output_faults) reached.output output);
       written = written_part why start.written after.written whole.text left.0 _ left.1 left.2 whole.wrote;
       counted = subst (λ (it : List Chance). Counted machine start.faults it after.faults) (sym (append-nil whole.chances)) whole.counted;
+      left = nothing_left why _ after.state;
       at_limit = λ other. absurd (no_limit_stopped why other);
     }
   where

@@ -25,8 +25,11 @@ pub none_fit : {State Chance : Type 0} (machine : Machine State Chance) (state :
     (ending : Ending) → FitLines machine false (state, []) lines last ending
 none_fit machine state [] last ending = none_fits_last machine state last ending
 none_fit {State} {Chance} machine state (line ∷ lines) last ending =
-    let reply = machine.reply state machine.no_chance line in
-    (unit, unless_quits reply.quits (FitLines machine false (reply.next, []) lines last ending) (none_fit machine reply.next lines last ending))
+    let reply = machine.reply state machine.no_chance line in (
+      unit,
+      unless_quits reply.quits (FitLines machine false (reply.next, []) lines last ending)
+          (none_fit machine reply.next lines last ending),
+    )
 
 -- a byte that is no line feed joins the line
 pub joins_fit : {State Chance : Type 0} (machine : Machine State Chance) (whole : Bool) (stand : State × List Chance) (line more : List ℕ)

@@ -15,17 +15,22 @@ use Rattle.line_server.proofs.Counts.{counted_none, writes_none}
 pub passes_feed : {State : Type 0} (reply : State → List ℕ → Reply State) (state : State) (line : List ℕ) → (reply state line).quits ≡ false
     → Passes reply (record { state = state; line = line }) (10 ∷ []) (record { state = (reply state line).next; line = [] })
     (reply state line).text
-passes_feed reply state line goes_on = record { printed = λ more ending. rw goes_on refl; ends = λ more ending. rw goes_on refl }
+passes_feed reply state line goes_on = record {
+  printed = λ more ending. rw goes_on refl;
+  ends = λ more ending. rw goes_on refl;
+  leads = λ more ending. rw goes_on refl;
+}
 
 append_nothing : (l : List ℕ) → l ++ [] ≡ l
 append_nothing [] = refl
 append_nothing (x ∷ l) = ap (λ (it : List ℕ). x ∷ it) (append_nothing l)
 
 pub quits_feed : {State : Type 0} (reply : State → List ℕ → Reply State) (state : State) (line : List ℕ) → (reply state line).quits ≡ true
-    → Quits reply (record { state = state; line = line }) (10 ∷ []) (reply state line).text
+    → Quits reply (record { state = state; line = line }) (10 ∷ []) (reply state line).text (reply state line).next
 quits_feed reply state line ends_it = record {
   printed = λ more ending. rw ends_it (append_nothing (reply state line).text);
   ends = λ more ending. rw ends_it refl;
+  leads = λ more ending. rw ends_it refl;
 }
 
 -- what is left of a text is something
@@ -80,6 +85,12 @@ line_served {State} {Chance} machine state state_after faults faults_after line 
         reply.text)
         (sym cleared) (passes_feed (by_chances machine) (state, serves.chance ∷ later) line goes_on))
 
+    over : (later : List Chance) → reply.quits ≡ true
+        → Quits (by_chances machine) (stand later) (10 ∷ []) reply.text (state_after, later)
+    over later ends_it =
+        subst (λ (it : State). Quits (by_chances machine) (stand later) (10 ∷ []) reply.text (it, later)) (sym serves.reply.next)
+        (quits_feed (by_chances machine) (state, serves.chance ∷ later) line ends_it)
+
     fits_there : (whole_ : Bool) (later : List Chance) (more : List ℕ) (ending : Ending) → reply.quits ≡ false
         → AllFit machine whole_ (state_after, later) line_after more ending
         → AllFit machine whole_ (state, serves.chance ∷ later) line (10 ∷ more) ending
@@ -105,7 +116,7 @@ line_served {State} {Chance} machine state state_after faults faults_after line 
       wrote = whole;
       rises = serves.rises;
       counted = serves.counted;
-      quits = λ later. quits_feed (by_chances machine) (state, serves.chance ∷ later) line (sym serves.reply.quits ∙ here);
+      quits = λ later. over later (sym serves.reply.quits ∙ here);
       fits = λ whole_ later more ending. fits_end whole_ later more ending (sym serves.reply.quits ∙ here);
     }
     by false here = record {

@@ -16,7 +16,7 @@ nothing_passed machine before = record {
   wrote = writes_none before.written before.written refl;
   rises = omega arith;
   counted = counted_none machine before.faults before.faults (omega arith);
-  passes = λ later. record { printed = λ more ending. refl; ends = λ more ending. refl };
+  passes = λ later. record { printed = λ more ending. refl; ends = λ more ending. refl; leads = λ more ending. refl };
   fits = λ whole later more ending fit. fit;
 }
 
@@ -74,10 +74,11 @@ quit_then {State} {Chance} machine one two three bytes others first second = rec
   rises = omega (arith, first.rises, second.rises);
   counted = counted_then machine one.faults two.faults three.faults first.chances second.chances first.counted second.counted second.rises;
   quits = λ later.
-      subst (λ (it : Stand (State × List Chance)). Quits (by_chances machine) it (bytes ++ others) (first.text ++ second.text))
+      subst (λ (it : Stand (State × List Chance)). Quits (by_chances machine) it (bytes ++ others) (first.text ++ second.text)
+      (three.state, later))
       (in_order one first.chances second.chances later)
       (quits_then (by_chances machine) (stand_at one (first.chances ++ (second.chances ++ later))) (stand_at two (second.chances ++ later))
-      bytes others first.text second.text (first.passes (second.chances ++ later)) (second.quits later));
+      bytes others first.text second.text (three.state, later) (first.passes (second.chances ++ later)) (second.quits later));
   fits = λ whole later more ending.
       subst (λ (it : Stand (State × List Chance)). FitsAt machine whole it (bytes ++ others ++ more) ending)
       (in_order one first.chances second.chances later)
@@ -113,9 +114,11 @@ quit_still machine one two bytes others quit = record {
   wrote = quit.wrote;
   rises = quit.rises;
   counted = quit.counted;
-  quits = λ later. quits_still (by_chances machine) (stand_at one (quit.chances ++ later)) bytes others quit.text (quit.quits later);
+  quits = λ later. quits_still (by_chances machine) (stand_at one (quit.chances ++ later)) bytes others quit.text (two.state, later)
+      (quit.quits later);
   fits = λ whole later more ending.
-      in_parts machine whole (stand_at one (quit.chances ++ later)) bytes others more ending (quit.fits whole later (others ++ more) ending);
+      in_parts machine whole (stand_at one (quit.chances ++ later)) bytes others more ending (quit.fits whole later
+      (others ++ more) ending);
 }
 
 pub broke_still : {State Chance : Type 0} (stop : Stop) (machine : Machine State Chance) (one two : Moment State) (bytes others : List ℕ)

@@ -28,7 +28,8 @@ UnlessQuits true Rest = Unit {0}
 UnlessQuits false Rest = Rest
 
 -- the chances may befall these lines one after another; none is looked at behind a line that ends the session
-abbrev pub FitLines : {State Chance : Type 0} → Machine State Chance → (whole : Bool) → State × List Chance → List (List ℕ) → List ℕ → Ending
+abbrev pub FitLines : {State Chance : Type 0} → Machine State Chance → (whole : Bool) → State × List Chance → List (List ℕ) → List ℕ
+    → Ending
     → Type 0
 FitLines machine whole stand [] last ending = FitsLast machine whole stand last ending
 FitLines machine whole stand (line ∷ lines) last ending =

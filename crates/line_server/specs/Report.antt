@@ -72,6 +72,23 @@ end_of reply state (line ∷ lines) ending = elim (reply state line).quits [
   | false ↦ end_of reply (reply state line).next lines ending
 ]
 
+-- the state behind a last line, and behind these lines; a line that ends the session is the last one that is served
+abbrev pub state_behind_last : {State : Type 0} → (State → List ℕ → Reply State) → State → List ℕ → State
+state_behind_last reply state [] = state
+state_behind_last reply state (byte ∷ bytes) = (reply state (byte ∷ bytes)).next
+
+abbrev pub state_closed : {State : Type 0} → (State → List ℕ → Reply State) → State → List ℕ → Ending → State
+state_closed reply state line ended = state_behind_last reply state line
+state_closed reply state line failed = state
+state_closed reply state line too_long = state
+
+abbrev pub state_behind : {State : Type 0} → (State → List ℕ → Reply State) → State → List (List ℕ) → List ℕ → Ending → State
+state_behind reply state [] last ending = state_closed reply state last ending
+state_behind reply state (line ∷ lines) last ending = elim (reply state line).quits [
+  | true ↦ (reply state line).next
+  | false ↦ state_behind reply (reply state line).next lines last ending
+]
+
 -- the report of a session in which a line has begun and these bytes come
 abbrev pub report : {State : Type 0} → (State → List ℕ → Reply State) → State → List ℕ → List ℕ → Ending → List ℕ
 report reply state line bytes ending = answers reply state (complete line bytes) (unfinished line bytes) ending
@@ -79,3 +96,7 @@ report reply state line bytes ending = answers reply state (complete line bytes)
 -- and how it ends
 abbrev pub status : {State : Type 0} → (State → List ℕ → Reply State) → State → List ℕ → List ℕ → Ending → SessionEnd
 status reply state line bytes ending = end_of reply state (complete line bytes) ending
+
+-- and where it stands then
+abbrev pub last_state : {State : Type 0} → (State → List ℕ → Reply State) → State → List ℕ → List ℕ → Ending → State
+last_state reply state line bytes ending = state_behind reply state (complete line bytes) (unfinished line bytes) ending

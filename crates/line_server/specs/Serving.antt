@@ -4,13 +4,14 @@ use Rattle.std.specs.Prelude.{◌≡◌, ◌≢◌, ℕ, ◌≤◌, Bool, true, 
 use Rattle.std.specs.List.{All}
 use Rattle.lotos_base.specs.Counts.{Rises}
 use Rattle.line_server.specs.Limits.{input_limit}
-use Rattle.line_server.specs.Report.{Reply, Ending, closing, report, status}
+use Rattle.line_server.specs.Report.{Reply, Ending, closing, report, status, state_closed, last_state}
 use Rattle.line_server.specs.Machine.{Machine, by_chances, Counted}
 use Rattle.line_server.specs.Fitting.{AllFit, FitsLast, is_whole}
 use Rattle.line_server.specs.Writing.{WritesAll, IsWritten}
 use Rattle.line_server.specs.declared.lines.Answer.{Answer}
 use Rattle.line_server.specs.declared.ends.SessionEnd.{SessionEnd}
 use Rattle.line_server.specs.declared.ends.SessionEnd.TheVariants.{Finished}
+use Rattle.line_server.specs.declared.ends.SessionEnd.TheVariants as end
 use Rattle.line_server.specs.declared.ends.Stop.{Stop}
 use Rattle.line_server.specs.declared.ends.Stop.TheVariants.{OutputFailed, NoMemory}
 
@@ -46,11 +47,15 @@ pub record Passes {State : Type 0} (reply : State → List ℕ → Reply State) 
       → report reply before.state before.line (bytes ++ more) ending ≡ text ++ report reply after.state after.line more ending
   pub ends : (more : List ℕ) (ending : Ending)
       → status reply before.state before.line (bytes ++ more) ending ≡ status reply after.state after.line more ending
+  pub leads : (more : List ℕ) (ending : Ending)
+      → last_state reply before.state before.line (bytes ++ more) ending ≡ last_state reply after.state after.line more ending
 
--- a line in the bytes ends the session, and this text is written
-pub record Quits {State : Type 0} (reply : State → List ℕ → Reply State) (before : Stand State) (bytes text : List ℕ) : Type 0 where
+-- a line in the bytes ends the session in this state, and this text is written
+pub record Quits {State : Type 0} (reply : State → List ℕ → Reply State) (before : Stand State) (bytes text : List ℕ) (left : State)
+    : Type 0 where
   pub printed : (more : List ℕ) (ending : Ending) → report reply before.state before.line (bytes ++ more) ending ≡ text
   pub ends : (more : List ℕ) (ending : Ending) → status reply before.state before.line (bytes ++ more) ending ≡ Finished
+  pub leads : (more : List ℕ) (ending : Ending) → last_state reply before.state before.line (bytes ++ more) ending ≡ left
 
 -- what is not written where the writing stopped: something, where the output failed
 abbrev pub IsLeft : Stop → List ℕ → Type 0
@@ -91,7 +96,8 @@ pub record Passed {State Chance : Type 0} (machine : Machine State Chance) (befo
   pub counted : Counted machine before.faults chances after.faults
   pub passes : (later : List Chance)
       → Passes (by_chances machine) (stand_at before (chances ++ later)) bytes (stand_at after later) text
-  pub fits : (whole : Bool) (later : List Chance) (more : List ℕ) (ending : Ending) → FitsAt machine whole (stand_at after later) more ending
+  pub fits : (whole : Bool) (later : List Chance) (more : List ℕ) (ending : Ending) → FitsAt machine whole
+      (stand_at after later) more ending
       → FitsAt machine whole (stand_at before (chances ++ later)) (bytes ++ more) ending
 
 -- a line in these bytes ended the session
@@ -102,7 +108,8 @@ pub record HasQuit {State Chance : Type 0} (machine : Machine State Chance) (bef
   pub wrote : WritesAll before.written after.written text
   pub rises : before.faults ≤ after.faults
   pub counted : Counted machine before.faults chances after.faults
-  pub quits : (later : List Chance) → Quits (by_chances machine) (stand_at before (chances ++ later)) bytes text
+  pub quits : (later : List Chance)
+      → Quits (by_chances machine) (stand_at before (chances ++ later)) bytes text (after.state, later)
   pub fits : (whole : Bool) (later : List Chance) (more : List ℕ) (ending : Ending)
       → FitsAt machine whole (stand_at before (chances ++ later)) (bytes ++ more) ending
 
@@ -122,6 +129,12 @@ pub record Broke {State Chance : Type 0} (stop : Stop) (machine : Machine State 
   pub begins : (later : List Chance) → Begins stop (by_chances machine) (stand_at before (chances ++ later)) bytes text
   pub fits : (more : List ℕ) (ending : Ending) → FitsAt machine false (stand_at before chances) (bytes ++ more) ending
 
+-- a session that was answered whole stands in this state
+abbrev pub IsLeftIn : {State : Type 0} → SessionEnd → (expected state : State) → Type 0
+IsLeftIn end.OutputFailed expected state = Unit {0}
+IsLeftIn end.NoMemory expected state = Unit {0}
+IsLeftIn _ expected state = state ≡ expected
+
 -- the input has ended, failed or passed its limit at a moment, and the session was closed with this answer: the last line was
 -- served with some chance where the input has ended, and the closing line was written else
 pub record Closes {State Chance : Type 0} (machine : Machine State Chance) (before : Moment State) (ending : Ending) (after : Moment State)
@@ -131,6 +144,7 @@ pub record Closes {State Chance : Type 0} (machine : Machine State Chance) (befo
   pub counted : Counted machine before.faults chances after.faults
   pub fits : FitsLast machine (is_whole answer) (before.state, chances) before.line ending
   pub written : IsWritten before.written after.written (closing (by_chances machine) (before.state, chances) before.line ending) answer
+  pub left : IsLeftIn answer (state_closed (by_chances machine) (before.state, chances) before.line ending).0 after.state
 
 -- the output's count where the writing stopped
 abbrev pub StopCounts : Stop → (before after : ℕ) → Type 0

@@ -2,9 +2,10 @@
 use Rattle.std.specs.Prelude.{◌≡◌, ◌⊎◌, ℕ, ◌+◌, ◌<◌, ◌≤◌, nat_lt, if◌then◌else◌, List, [], ◌++◌, take, drop, length, Option, Some, IfSome}
 use Rattle.lotos_base.specs.Counts.{Rises}
 use Rattle.line_server.specs.Limits.{input_limit}
-use Rattle.line_server.specs.Report.{Ending, ended, failed, too_long, report, status}
+use Rattle.line_server.specs.Report.{Ending, ended, failed, too_long, report, status, last_state}
 use Rattle.line_server.specs.Machine.{Machine, by_chances, Counted}
 use Rattle.line_server.specs.Fitting.{AllFit, is_whole}
+use Rattle.line_server.specs.Serving.{IsLeftIn}
 use Rattle.line_server.specs.Writing.{WritesAll, IsAnswer, IsWritten}
 use Rattle.line_server.specs.declared.ends.SessionEnd.{SessionEnd}
 use Rattle.line_server.specs.declared.ends.SessionEnd.TheVariants.{InputFailed, InputTooLong, OutputFailed, NoMemory}
@@ -46,7 +47,8 @@ IsMet status failed = status ≡ InputFailed
 IsMet status _ = Unit {0}
 
 -- a session was served: there are bytes that it saw, what came behind them, and the chances that befell its lines, such that
--- answer and bytes written are those of the report. Each line that was answered has a chance that may befall it
+-- answer and bytes written are those of the report, and the state is the one behind the last line. Each line that was answered
+-- has a chance that may befall it
 pub record Came {State Chance : Type 0} (machine : Machine State Chance) (before after : Surroundings State) (answer : SessionEnd) : Type 0
   where
     pub chances : List Chance
@@ -61,6 +63,7 @@ pub record Came {State Chance : Type 0} (machine : Machine State Chance) (before
         answer
     pub written : IsWritten before.written after.written (report (by_chances machine) (before.state, chances) [] seen ending) answer
     pub counted : Counted machine before.faults chances after.faults
+    pub left : IsLeftIn answer (last_state (by_chances machine) (before.state, chances) [] seen ending).0 after.state
     pub at_limit : answer ≡ InputTooLong → IfSome before.left (λ bytes. after.left ≡ Some (drop (input_limit + 1) bytes))
 
 -- what comes behind the bytes that are within the limit
@@ -82,6 +85,8 @@ pub record EndsBy {State Chance : Type 0} (machine : Machine State Chance) (befo
       (status (by_chances machine) (before.state, chances) [] (take input_limit bytes) (ending_of bytes))
       (report (by_chances machine) (before.state, chances) [] (take input_limit bytes) (ending_of bytes))
       before.written after.written answer
+  pub left : IsLeftIn answer
+      (last_state (by_chances machine) (before.state, chances) [] (take input_limit bytes) (ending_of bytes)).0 after.state
 
 -- each answer comes where its cause stands: where the input's count rose and not the output's, the answer says so; where
 -- the output's rose, it says that; and where neither rose and the input tells its bytes, the session ends as the report of

@@ -6,14 +6,15 @@ ghost use Rattle.line_server.specs.Serving.{moment, IsLine, HasServed, Broke, St
 use crate::ends::Stop;
 use crate::lines::Lines;
 use crate::writing::write_whole;
-use lotos_base::{Failed, NoMemory, Sink};
+use lotos_base::{Failed, NoMemory, Shelf, Sink};
 use std::alloc::Global;
 
 /// Answers the line, of which the line feed was read, writes the answer and clears the line. It
 /// tells whether the line ends the session.
-pub fn serve_line<L: Lines, K: Sink>(
+pub fn serve_line<L: Lines, F: Shelf, K: Sink>(
     alloc: Global,
     lines: &mut L,
+    shelf: &mut F,
     line: &mut Vec<u8>,
     output: &mut K,
 ) -> Result<bool, Stop>
@@ -21,12 +22,16 @@ pub fn serve_line<L: Lines, K: Sink>(
     requires plain { IsLine line.old.items }
     ensures served { MatchResult result
         (λ quits. HasServed L.machine
-        (moment (L.state lines.old) line.old.items (L.faults lines.old) (K.written output.old))
-        (10 ∷ []) (moment (L.state lines.new) line.new.items (L.faults lines.new)
+        (moment (L.state lines.old (F.texts shelf.old)) line.old.items (F.faults shelf.old)
+        (K.written output.old))
+        (10 ∷ []) (moment (L.state lines.new (F.texts shelf.new)) line.new.items
+        (F.faults shelf.new)
         (K.written output.new)) quits)
         (λ stop. Broke stop L.machine
-        (moment (L.state lines.old) line.old.items (L.faults lines.old) (K.written output.old))
-        (10 ∷ []) (moment (L.state lines.new) line.new.items (L.faults lines.new)
+        (moment (L.state lines.old (F.texts shelf.old)) line.old.items (F.faults shelf.old)
+        (K.written output.old))
+        (10 ∷ []) (moment (L.state lines.new (F.texts shelf.new)) line.new.items
+        (F.faults shelf.new)
         (K.written output.new))) }
     ensures counts { MatchResult result
         (λ _. K.faults output.new ≡ K.faults output.old)
@@ -34,7 +39,7 @@ pub fn serve_line<L: Lines, K: Sink>(
     ensures cleared { OnOk result (line.new.items ≡ []) }
     ensures ready { L.is_ready lines.new }
 {
-    match lines.serve(alloc, line.as_slice()) {
+    match lines.serve(alloc, line.as_slice(), shelf) {
         Err(NoMemory) => Err(Stop::NoMemory),
         Ok(answer) => match write_whole(output, answer.text.as_slice()) {
             Err(Failed) => Err(Stop::OutputFailed),

@@ -8,15 +8,16 @@ ghost use Rattle.line_server.specs.Serving.{moment, IsLine, HasServed, Broke, St
 use crate::ends::Stop;
 use crate::line::serve_line;
 use crate::lines::Lines;
-use lotos_base::Sink;
+use lotos_base::{Shelf, Sink};
 use std::alloc::Global;
 
 /// Serves the lines that the piece completes, the first one with the line that has begun, and
 /// keeps in `line` what stands behind the last line feed. It tells whether a line ended the
 /// session; then the rest of the piece is not looked at.
-pub fn serve_piece<L: Lines, K: Sink>(
+pub fn serve_piece<L: Lines, F: Shelf, K: Sink>(
     alloc: Global,
     lines: &mut L,
+    shelf: &mut F,
     line: &mut Vec<u8>,
     piece: &[u8],
     output: &mut K,
@@ -26,12 +27,16 @@ pub fn serve_piece<L: Lines, K: Sink>(
     requires short { length line.old.items + length piece.now ≤ input_limit }
     ensures served { MatchResult result
         (λ quits. HasServed L.machine
-        (moment (L.state lines.old) line.old.items (L.faults lines.old) (K.written output.old))
-        piece.now (moment (L.state lines.new) line.new.items (L.faults lines.new)
+        (moment (L.state lines.old (F.texts shelf.old)) line.old.items (F.faults shelf.old)
+        (K.written output.old))
+        piece.now (moment (L.state lines.new (F.texts shelf.new)) line.new.items
+        (F.faults shelf.new)
         (K.written output.new)) quits)
         (λ stop. Broke stop L.machine
-        (moment (L.state lines.old) line.old.items (L.faults lines.old) (K.written output.old))
-        piece.now (moment (L.state lines.new) line.new.items (L.faults lines.new)
+        (moment (L.state lines.old (F.texts shelf.old)) line.old.items (F.faults shelf.old)
+        (K.written output.old))
+        piece.now (moment (L.state lines.new (F.texts shelf.new)) line.new.items
+        (F.faults shelf.new)
         (K.written output.new))) }
     ensures counts { MatchResult result
         (λ _. K.faults output.new ≡ K.faults output.old)
@@ -41,7 +46,7 @@ pub fn serve_piece<L: Lines, K: Sink>(
     ensures ready { L.is_ready lines.new }
 {
     for byte in piece {
-        match serve_byte(alloc, lines, line, *byte, output) {
+        match serve_byte(alloc, lines, shelf, line, *byte, output) {
             Ok(false) => {}
             Ok(true) => return Ok(true),
             Err(stop) => return Err(stop),
@@ -51,9 +56,10 @@ pub fn serve_piece<L: Lines, K: Sink>(
 }
 
 /// Serves the line that has begun where the byte is a line feed, and adds the byte to it else.
-fn serve_byte<L: Lines, K: Sink>(
+fn serve_byte<L: Lines, F: Shelf, K: Sink>(
     alloc: Global,
     lines: &mut L,
+    shelf: &mut F,
     line: &mut Vec<u8>,
     byte: u8,
     output: &mut K,
@@ -62,12 +68,16 @@ fn serve_byte<L: Lines, K: Sink>(
     requires line { IsLine line.old.items }
     ensures served { MatchResult result
         (λ quits. HasServed L.machine
-        (moment (L.state lines.old) line.old.items (L.faults lines.old) (K.written output.old))
-        (byte ∷ []) (moment (L.state lines.new) line.new.items (L.faults lines.new)
+        (moment (L.state lines.old (F.texts shelf.old)) line.old.items (F.faults shelf.old)
+        (K.written output.old))
+        (byte ∷ []) (moment (L.state lines.new (F.texts shelf.new)) line.new.items
+        (F.faults shelf.new)
         (K.written output.new)) quits)
         (λ stop. Broke stop L.machine
-        (moment (L.state lines.old) line.old.items (L.faults lines.old) (K.written output.old))
-        (byte ∷ []) (moment (L.state lines.new) line.new.items (L.faults lines.new)
+        (moment (L.state lines.old (F.texts shelf.old)) line.old.items (F.faults shelf.old)
+        (K.written output.old))
+        (byte ∷ []) (moment (L.state lines.new (F.texts shelf.new)) line.new.items
+        (F.faults shelf.new)
         (K.written output.new))) }
     ensures counts { MatchResult result
         (λ _. K.faults output.new ≡ K.faults output.old)
@@ -77,7 +87,7 @@ fn serve_byte<L: Lines, K: Sink>(
     ensures ready { L.is_ready lines.new }
 {
     if byte == b'\n' {
-        return serve_line(alloc, lines, line, output);
+        return serve_line(alloc, lines, shelf, line, output);
     }
     match line.push(byte) {
         Ok(()) => Ok(false),

@@ -9,7 +9,7 @@ use crate::ends::{SessionEnd, Stop};
 use crate::input::{INPUT_LIMIT, PIECE_LIMIT, read_piece, room_at};
 use crate::lines::Lines;
 use crate::piece::serve_piece;
-use lotos_base::{Failed, Sink, Source};
+use lotos_base::{Failed, Shelf, Sink, Source};
 use std::alloc::Global;
 
 /// Reads the input to its end in pieces, serves its lines in order, and writes each answer before
@@ -20,35 +20,41 @@ use std::alloc::Global;
 /// `InputFailed` exactly where the input's count of faults rose, `InputTooLong` exactly where
 /// byte 16,777,217 was read, `OutputFailed` exactly where the output's count of faults rose; the
 /// last three of these drop the unfinished line, and the first two of them write a closing line.
-pub fn serve_session<L: Lines, S: Source, K: Sink>(
+pub fn serve_session<L: Lines, F: Shelf, S: Source, K: Sink>(
     alloc: Global,
     lines: &mut L,
+    shelf: &mut F,
     input: &mut S,
     output: &mut K,
 ) -> SessionEnd
     requires ready { L.is_ready lines.old }
     ensures came { Came L.machine
-        (around (L.state lines.old, L.faults lines.old) (S.left input.old, S.faults input.old)
+        (around (L.state lines.old (F.texts shelf.old), F.faults shelf.old)
+        (S.left input.old, S.faults input.old)
         (K.written output.old, K.faults output.old))
-        (around (L.state lines.new, L.faults lines.new) (S.left input.new, S.faults input.new)
+        (around (L.state lines.new (F.texts shelf.new), F.faults shelf.new)
+        (S.left input.new, S.faults input.new)
         (K.written output.new, K.faults output.new))
         result }
     ensures complete { Completes L.machine
-        (around (L.state lines.old, L.faults lines.old) (S.left input.old, S.faults input.old)
+        (around (L.state lines.old (F.texts shelf.old), F.faults shelf.old)
+        (S.left input.old, S.faults input.old)
         (K.written output.old, K.faults output.old))
-        (around (L.state lines.new, L.faults lines.new) (S.left input.new, S.faults input.new)
+        (around (L.state lines.new (F.texts shelf.new), F.faults shelf.new)
+        (S.left input.new, S.faults input.new)
         (K.written output.new, K.faults output.new))
         result }
     ensures ready { L.is_ready lines.new }
 {
     let mut piece = [0u8; PIECE_LIMIT];
-    serve_pieces(alloc, lines, input, &mut piece, output)
+    serve_pieces(alloc, lines, shelf, input, &mut piece, output)
 }
 
 /// Serves the whole input, piece by piece.
-fn serve_pieces<L: Lines, S: Source, K: Sink>(
+fn serve_pieces<L: Lines, F: Shelf, S: Source, K: Sink>(
     alloc: Global,
     lines: &mut L,
+    shelf: &mut F,
     input: &mut S,
     piece: &mut [u8],
     output: &mut K,
@@ -56,9 +62,11 @@ fn serve_pieces<L: Lines, S: Source, K: Sink>(
     requires ready { L.is_ready lines.old }
     requires piece { length piece.old ≡ piece_limit }
     ensures { Came L.machine
-        (around (L.state lines.old, L.faults lines.old) (S.left input.old, S.faults input.old)
+        (around (L.state lines.old (F.texts shelf.old), F.faults shelf.old)
+        (S.left input.old, S.faults input.old)
         (K.written output.old, K.faults output.old))
-        (around (L.state lines.new, L.faults lines.new) (S.left input.new, S.faults input.new)
+        (around (L.state lines.new (F.texts shelf.new), F.faults shelf.new)
+        (S.left input.new, S.faults input.new)
         (K.written output.new, K.faults output.new))
         result
         × L.is_ready lines.new }
@@ -69,12 +77,12 @@ fn serve_pieces<L: Lines, S: Source, K: Sink>(
         let room = room_at(total);
         match read_piece(input, piece, room) {
             Err(Failed) => return close(output, b"input failed\n", SessionEnd::InputFailed),
-            Ok(0) => return finish(alloc, lines, line.as_slice(), output),
+            Ok(0) => return finish(alloc, lines, shelf, line.as_slice(), output),
             Ok(count) => {
                 if total == INPUT_LIMIT {
                     return close(output, b"input too long\n", SessionEnd::InputTooLong);
                 }
-                match serve_piece(alloc, lines, &mut line, &piece[..count], output) {
+                match serve_piece(alloc, lines, shelf, &mut line, &piece[..count], output) {
                     Ok(false) => total += count,
                     Ok(true) => return SessionEnd::Finished,
                     Err(Stop::OutputFailed) => return SessionEnd::OutputFailed,

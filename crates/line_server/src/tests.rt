@@ -2,7 +2,7 @@
 //! and how they end.
 
 use crate::{Answer, Lines, SessionEnd, serve_session};
-use lotos_base::{MemSink, MemSource, NoMemory};
+use lotos_base::{MemShelf, MemSink, MemSource, NoMemory, Shelf};
 use std::alloc::Global;
 use std::test::Fail;
 
@@ -15,17 +15,21 @@ impl Lines for Echo {
 
     ghost State = { Count };
 
-    ghost state = { λ _. 0 };
+    ghost state = { λ _ _. 0 };
 
     ghost Chance = { Nothing };
 
     ghost machine = { echo };
 
-    ghost faults = { λ _. 0 };
-
     ghost is_ready = { λ _. Nothing };
 
-    fn serve(&mut self, alloc: Global, line: &[u8]) -> Result<Answer, NoMemory> {
+    fn serve<F: Shelf>(
+        &mut self,
+        alloc: Global,
+        line: &[u8],
+        shelf: &mut F,
+    ) -> Result<Answer, NoMemory> {
+        let _ = shelf;
         let mut text = Vec::from_slice(alloc, line)?;
         text.push(b'\n')?;
         Ok(Answer {
@@ -45,7 +49,8 @@ fn session(
     let mut input = MemSource::new(Vec::from_slice(alloc, bytes)?, failing_reads);
     let mut output = MemSink::new(alloc, 4_096, failing_writes)?;
     let mut lines = Echo;
-    let end = serve_session(alloc, &mut lines, &mut input, &mut output);
+    let mut shelf = MemShelf::new(Vec::new(alloc), Vec::new(alloc));
+    let end = serve_session(alloc, &mut lines, &mut shelf, &mut input, &mut output);
     Ok((end, Vec::from_slice(alloc, output.written())?))
 }
 

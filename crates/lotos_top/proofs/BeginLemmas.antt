@@ -1,64 +1,113 @@
 -- Where the session of an accepted specification begins.
-use Rattle.std.proofs.Common.{◌≡◌, ℕ, List, map, refl, sym, subst, ◌∙◌}
+use Rattle.std.proofs.Common.{◌≡◌, List, [], map, sym, ap, subst, ◌∙◌}
 use Rattle.term_algebra.specs.Term.{Term}
 use Rattle.term_algebra.specs.Equation.{Data}
 use Rattle.termination_theory.specs.Orientation.{rules_of}
 use Rattle.rewriting_theory.specs.ChosenForm.{Chooses}
-use Rattle.behaviour_semantics.specs.Behaviour.{Behaviour, Process, Specification}
-use Rattle.behaviour_semantics.specs.Menu.{Exact}
+use Rattle.behaviour_semantics.specs.Behaviour.{Specification}
 use Rattle.behaviour_semantics.specs.Replacement.{with_values, binding_of}
-use Rattle.behaviour_semantics.specs.Solving as solving
 use Rattle.behaviour_tree.specs.DefinitionView.{specification_of}
 use Rattle.behaviour_tree.specs.StateView.{state_of}
+use Rattle.behaviour_tree.specs.declared.definitions.Spec.{Spec}
+use Rattle.behaviour_tree.specs.declared.states.State.{State}
 use Rattle.path_order.specs.RulesView.{rules_in, precedence_in}
 use Rattle.sort_terms.specs.EquationView.{data_of}
-use Rattle.equation_book.specs.BookCanon.{book_canon, book_chooses}
+use Rattle.equation_book.specs.BookCanon.{book_canon, book_chooses, book_is_canon}
 use Rattle.equation_book.specs.declared.book.Book.{Book}
-use Rattle.event_offers.specs.declared.menus.Menu.{Menu}
-use Rattle.menu_listing.specs.Menus.{entries_in}
+use Rattle.menu_listing.specs.declared.makers.FreshMenus.{FreshMenus}
 use Rattle.acceptance_order.specs.Acceptance.{Acceptance}
 use Rattle.library_reading.specs.ShelfUse.{ShelfState}
 use Rattle.acceptance_order.specs.Part.{goes_on, Part}
+use Rattle.session_histories.specs.Session.{Progress, Situation, first_situation}
+use Rattle.session_histories.specs.Lawful.{IsSituation}
+use Rattle.session_log.specs.CourseView.{basis_over, progress_of, pasts_of}
+use Rattle.session_log.specs.Kept.{AreSuited, IsKeptState, IsLawfulSession}
+use Rattle.session_log.specs.declared.courses.Past.{Past}
+use Rattle.session_log.specs.declared.sessions.Session.{Session}
+use Rattle.session_reports.specs.Beginning.{CanBegin}
 use Rattle.spec_acceptance.specs.AcceptedView.{Holds}
 use Rattle.spec_acceptance.specs.Doing.{Did, Failed}
 use Rattle.spec_acceptance.specs.declared.accepted.Accepted.{Accepted}
 use Rattle.spec_acceptance.specs.declared.not_accepted.NotAccepted.TheVariants.{NoMemory}
 use Rattle.lotos_top.specs.Outcome.{Begins}
-use Rattle.lotos_top.specs.Prepared.{begun}
+use Rattle.lotos_top.specs.Prepared.{begun, any_maker, IsLawfulAt}
 
--- the menu is exact over equal data
-exact_moved : (data_ other : Data) (canon chosen : Term → Term) (processes : List Process) (state : Behaviour)
-    (entries : List solving.Entry) → data_ ≡ other → canon ≡ chosen → Exact other chosen processes state entries
-    → Exact data_ canon processes state entries
-exact_moved data_ other canon chosen processes state entries same_data same_canon exact =
-    subst (λ (d : Data). Exact d canon processes state entries) (sym same_data)
-    (subst (λ (f : Term → Term). Exact other f processes state entries) (sym same_canon) exact)
+-- ---- What was accepted can be opened
 
-pub begins_so : (acceptance : Acceptance) (accepted : Accepted) (book : Book) (menu : Menu) → Holds acceptance accepted
-    → data_of book.flat ≡ data_of accepted.book.flat → book_canon book ≡ book_canon accepted.book
-    → Exact (data_of accepted.book.flat) (book_canon accepted.book) (specification_of accepted.spec).processes
-    (state_of accepted.start) (entries_in menu)
-    → Begins acceptance (begun (record { spec = accepted.spec; book = book; state = accepted.start; menu = menu }))
-begins_so acceptance accepted book menu holds same_data same_canon exact = record {
-  data_is = same_data ∙ holds.data_is;
-  canonical = (
-    precedence_in accepted.book.joined.rules,
-    rules_in accepted.book.joined.rules,
-    holds.opened,
-    subst (λ (f : Term → Term). Chooses (rules_of (rules_in accepted.book.joined.rules)) f) (sym same_canon)
-        (book_chooses accepted.book),
-  );
-  specification_is = holds.spec_is;
-  state_is =
-      subst (λ (f : Term → Term). state_of accepted.start
-      ≡ with_values (binding_of acceptance.spec.parameters (map f acceptance.values)) acceptance.spec.body) (sym same_canon)
-      (subst (λ (s : Specification). state_of accepted.start
-      ≡ with_values (binding_of s.parameters (map (book_canon accepted.book) acceptance.values)) s.body) holds.spec_is holds.begins);
-  menu_is =
-      exact_moved (data_of book.flat) (data_of accepted.book.flat) (book_canon book) (book_canon accepted.book)
-      (specification_of accepted.spec).processes (state_of accepted.start) (entries_in menu) same_data same_canon exact;
-  at_start = refl;
-}
+pub suited : (acceptance : Acceptance) (accepted : Accepted) (maker : FreshMenus) → Holds acceptance accepted
+    → AreSuited any_maker (data_of accepted.book.flat) (book_canon accepted.book) accepted.spec accepted.ranks maker
+suited acceptance accepted maker holds =
+    record { signature = holds.well_formed.signature; over = holds.over; ranked = holds.ranks_are; fitting = tt }
+
+pub kept : (acceptance : Acceptance) (accepted : Accepted) → Holds acceptance accepted
+    → IsKeptState (data_of accepted.book.flat).signature accepted.spec accepted.start
+kept acceptance accepted holds = record { over = holds.state; closed = holds.closed }
+
+-- ---- And begins so
+
+-- a session that has taken no step, which was opened over these
+pub record IsOpenedAt (accepted : Accepted) (book : Book) (session : Session FreshMenus) : Type 0 where
+  pub same_data : data_of book.flat ≡ data_of accepted.book.flat
+  pub same_canon : book_canon book ≡ book_canon accepted.book
+  pub lawful : IsLawfulSession any_maker (data_of accepted.book.flat) (book_canon accepted.book) session
+  pub spec : session.spec ≡ accepted.spec
+  pub state : session.course.state ≡ accepted.start
+  pub history : session.course.history.items ≡ []
+
+pub lawful_here : (accepted : Accepted) (book : Book) (session : Session FreshMenus) → IsOpenedAt accepted book session
+    → IsLawfulAt (record { session = session; book = book })
+lawful_here accepted book session is =
+    subst (λ (f : Term → Term). IsLawfulSession any_maker (data_of book.flat) f session) (sym is.same_canon)
+    (subst (λ (d : Data). IsLawfulSession any_maker d (book_canon accepted.book) session) (sym is.same_data) is.lawful)
+
+first_here : (progress : Progress) → progress.steps ≡ [] → first_situation progress ≡ progress.situation
+first_here progress none = first progress.situation progress.steps none
+  where
+    first : (situation : Situation) (steps : List _) → steps ≡ []
+        → first_situation (record { situation = situation; steps = steps }) ≡ situation
+    first situation steps nothing = ap (λ (it : List _). first_situation (record { situation = situation; steps = it })) nothing
+
+can_begin : (accepted : Accepted) (book : Book) (session : Session FreshMenus) → IsOpenedAt accepted book session
+    → CanBegin (begun (record { session = session; book = book }))
+can_begin accepted book session is =
+    let lawful : IsLawfulSession any_maker (data_of book.flat) (book_canon book) session = lawful_here accepted book session is in
+    let none : (progress_of session.course).steps ≡ [] = ap (λ (history : List Past). pasts_of history) is.history in
+    record {
+      over = record {
+        signature = lawful.suited.signature;
+        is_canon = book_is_canon book;
+        well_formed = lawful.suited.over.well_formed;
+        closed = lawful.course.state.over.closed;
+      };
+      menu_is = subst (IsSituation (basis_over (data_of book.flat) (book_canon book) session.spec))
+          (first_here (progress_of session.course) none) lawful.course.lawful.start;
+      at_start = none;
+    }
+
+pub begins_so : (acceptance : Acceptance) (accepted : Accepted) (book : Book) (session : Session FreshMenus) → Holds acceptance accepted
+    → IsOpenedAt accepted book session
+    → Begins acceptance (begun (record { session = session; book = book })) × IsLawfulAt (record { session = session; book = book })
+begins_so acceptance accepted book session holds is = (
+  record {
+    data_is = is.same_data ∙ holds.data_is;
+    canonical = (
+      precedence_in accepted.book.joined.rules,
+      rules_in accepted.book.joined.rules,
+      holds.opened,
+      subst (λ (f : Term → Term). Chooses (rules_of (rules_in accepted.book.joined.rules)) f) (sym is.same_canon)
+          (book_chooses accepted.book),
+    );
+    specification_is = ap (λ (spec : Spec). specification_of spec) is.spec ∙ holds.spec_is;
+    state_is =
+        ap (λ (state : State). state_of state) is.state
+        ∙ subst (λ (f : Term → Term). state_of accepted.start
+        ≡ with_values (binding_of acceptance.spec.parameters (map f acceptance.values)) acceptance.spec.body) (sym is.same_canon)
+        (subst (λ (s : Specification). state_of accepted.start
+        ≡ with_values (binding_of s.parameters (map (book_canon accepted.book) acceptance.values)) s.body) holds.spec_is holds.begins);
+    can_begin = can_begin accepted book session is;
+  },
+  lawful_here accepted book session is,
+)
 
 -- memory was wanted behind the acceptance
 pub failed_behind : {B : Type 0} (before after : ShelfState) (part : Part B) (b : B) → Did before after part (goes_on b)

@@ -1,5 +1,5 @@
 -- The texts of an opening, part by part.
-use Rattle.std.proofs.Common.{◌≡◌, ℕ, List, ◌++◌, length, codes, decimal, sym, ap, ◌∙◌, append_assoc}
+use Rattle.std.proofs.Common.{◌≡◌, ℕ, List, ◌++◌, length, codes, decimal, ap, ◌∙◌, append_assoc}
 use Rattle.term_algebra.specs.Equation.{Data}
 use Rattle.printed_texts.specs.ReportLines.{head_text}
 
@@ -29,3 +29,7 @@ head_written s0 s1 s2 s3 s4 s5 s6 s7 s8 s9 name data_ e1 e2 e3 e4 e5 e6 e7 e8 e9
 pub opening_joined : (s0 s1 s2 head shown menu : List ℕ) → s1 ≡ s0 ++ head → s2 ≡ s1 ++ shown → shown ≡ menu
     → s2 ≡ s0 ++ (head ++ menu)
 opening_joined s0 s1 s2 head shown menu e f same = joined s0 s1 s2 head menu e (named s1 s2 shown menu f same)
+
+pub shown_same : {F S M : Type 0} {f g : F} {s t : S} {m n : M} (shown : F → S → M → List ℕ) → f ≡ g → s ≡ t → m ≡ n
+    → shown f s m ≡ shown g t n
+shown_same shown same_f same_s same_m = λ i. shown (same_f i) (same_s i) (same_m i)

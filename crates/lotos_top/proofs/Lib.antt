@@ -1,7 +1,9 @@
 mod BeginLemmas
 mod HeadLemmas
+mod HeadlineLemmas
 mod OpeningLemmas
 mod ReadyLemmas
 mod RunLemmas
 mod ServingLemmas
 mod WordsLemmas
+mod ShelfLemmas

@@ -1,9 +1,15 @@
 -- What is ready by what came of the acceptance.
-use Rattle.std.proofs.Common.{◌≡◌, ℕ, List, [], ◌++◌, Option, None, Some, IfSome, refl, sym, ap, ◌∙◌}
+use Rattle.std.proofs.Common.{◌≡◌, inl, inr, ℕ, false, List, [], ◌∷◌, ◌++◌, map, Option, None, Some, IfSome, refl, sym, ap, ◌∙◌, subst, arith}
+use Rattle.std.proofs.lemmas.Option.{none-some}
+use Rattle.lotos_base.specs.Counts.{Rises}
+use Rattle.demo_walks.specs.DemoSummary.{IsSummary}
+use Rattle.session_log.specs.CourseView.{past_of, progress_of}
+use Rattle.session_log.specs.declared.courses.Course.{Course}
+use Rattle.session_log.specs.declared.courses.Past.{Past}
+use Rattle.acceptance_outcomes.specs.AcceptanceOutcomes.{ComesOver}
+use Rattle.acceptance_outcomes.proofs.OneAnswer.{comes_over}
 use Rattle.library_reading.specs.ShelfUse.{ShelfState}
-use Rattle.spec_faults.specs.RefusalView.{refused_of}
-use Rattle.spec_faults.specs.declared.refused.Refused.{Refused}
-use Rattle.acceptance_order.specs.Acceptance.{Asked, Acceptance, IsAccepted}
+use Rattle.acceptance_order.specs.Acceptance.{Acceptance, Asked, IsAccepted}
 use Rattle.acceptance_order.specs.Ending as ending
 use Rattle.acceptance_order.specs.Part.{Comes, goes_on, stops, Part}
 use Rattle.refusal_lines.specs.RefusalText.{refusal_text}
@@ -12,10 +18,10 @@ use Rattle.spec_acceptance.specs.AcceptedView.{asked_for}
 use Rattle.spec_acceptance.specs.Doing.{Did, Failed}
 use Rattle.spec_acceptance.specs.declared.not_accepted.NotAccepted.{NotAccepted}
 use Rattle.spec_acceptance.specs.declared.not_accepted.NotAccepted.TheVariants.{File, Spec, NoMemory}
-use Rattle.lotos_top.specs.Words.{CommandLine, check, session, demonstration}
+use Rattle.lotos_top.specs.Words.{CommandLine, check, session, demonstration, is_demonstration}
 use Rattle.lotos_top.specs.Outcome.{Outcome, no_line, unread, refused, accepted, files_of, IsOutcome, text_of, status_of, opening_text, word_or_none}
-use Rattle.lotos_top.specs.Run.{Streams, LeavesInput, Prints, Serves, Follows}
-use Rattle.lotos_top.specs.Prepared.{begun, IsAlone, IsLast, IsServed, IsOpened}
+use Rattle.lotos_top.specs.Run.{Streams, LeavesInput, Prints, Serves, Follows, demo_asked, demo_texts_of}
+use Rattle.lotos_top.specs.Prepared.{begun, IsAlone, IsLast, IsShown, IsServed, IsOpened, IsDemoShelf}
 use Rattle.lotos_top.specs.declared.opening.Opened.{Opened}
 use Rattle.lotos_top.specs.declared.opening.Alone.{Alone}
 use Rattle.lotos_top.specs.declared.ended.Ended.{Ended}
@@ -36,29 +42,36 @@ failed_texts before after part NoMemory failed = failed.texts
 
 pub opened_texts : (asked : Asked) (before after : ShelfState) (opened : Opened) → IsOpened asked before after opened
     → after.texts ≡ before.texts
-opened_texts asked before after opened is = did_texts before after (IsAccepted asked) (goes_on is.0) is.1
+opened_texts asked before after opened is = did_texts before after (IsAccepted asked) (goes_on is.possible.0) is.possible.1
 
 -- a line behind whose outcome nothing comes
-follows_unread : (line : CommandLine) (name : List ℕ) (first last : Streams) (answer : Ended) → LeavesInput first last
-    → Prints (text_of (files_of (Some line)) (unread name)) (status_of (unread name)) first last answer
-    → Follows (Some line) (unread name) first last answer
-follows_unread (check spec order values) name first last answer leaves prints = (leaves, prints)
-follows_unread (session spec order values) name first last answer leaves prints = (leaves, prints)
-follows_unread (demonstration cells) name first last answer leaves prints = (leaves, prints)
+follows_unread : (line : CommandLine) (name : List ℕ) (shelf : ShelfState) (first last : Streams) (answer : Ended)
+    → LeavesInput first last → Prints (text_of (files_of (Some line)) (unread name)) (status_of (unread name)) first last answer
+    → Follows (Some line) (unread name) shelf shelf first last answer
+follows_unread (check spec order values) name shelf first last answer leaves prints = (refl, leaves, prints)
+follows_unread (session spec order values) name shelf first last answer leaves prints = (refl, leaves, prints)
+follows_unread (demonstration cells) name shelf first last answer leaves prints = (refl, leaves, prints)
 
-follows_refused : (line : CommandLine) (r : _) (first last : Streams) (answer : Ended) → LeavesInput first last
-    → Prints (text_of (files_of (Some line)) (refused r)) (status_of (refused r)) first last answer
-    → Follows (Some line) (refused r) first last answer
-follows_refused (check spec order values) r first last answer leaves prints = (leaves, prints)
-follows_refused (session spec order values) r first last answer leaves prints = (leaves, prints)
-follows_refused (demonstration cells) r first last answer leaves prints = (leaves, prints)
+follows_refused : (line : CommandLine) (r : _) (shelf : ShelfState) (first last : Streams) (answer : Ended)
+    → LeavesInput first last → Prints (text_of (files_of (Some line)) (refused r)) (status_of (refused r)) first last answer
+    → Follows (Some line) (refused r) shelf shelf first last answer
+follows_refused (check spec order values) r shelf first last answer leaves prints = (refl, leaves, prints)
+follows_refused (session spec order values) r shelf first last answer leaves prints = (refl, leaves, prints)
+follows_refused (demonstration cells) r shelf first last answer leaves prints = (refl, leaves, prints)
+
+-- words that ask for files ask for no demonstration
+no_demo : (line : CommandLine) (asked : Asked) → files_of (Some line) ≡ Some asked → is_demonstration (Some line) ≡ false
+no_demo (check spec order values) asked asks = refl
+no_demo (session spec order values) asked asks = refl
+no_demo (demonstration cells) asked asks = absurd (none-some asked asks)
 
 pub last_unread : (line : CommandLine) (asked : Asked) (before after : ShelfState) (name : List ℕ) (alone : Alone)
     → files_of (Some line) ≡ Some asked → Did before after (IsAccepted asked) (stops (ending.unread name))
     → alone.text.items ≡ unread_text name → alone.ended ≡ FileFault → IsLast (Some line) before after alone
 last_unread line asked before after name alone asks did text ended = record {
+  no_demonstration = no_demo line asked asks;
   is = record { outcome = unread name; possible = rw asks did; text = text; ended = ended };
-  follows = follows_unread line name;
+  follows = follows_unread line name after;
 }
 
 pub last_refused : (line : CommandLine) (asked : Asked) (before after : ShelfState) (r : _) (alone : Alone)
@@ -66,8 +79,9 @@ pub last_refused : (line : CommandLine) (asked : Asked) (before after : ShelfSta
     → alone.text.items ≡ refusal_text asked.spec (word_or_none asked.order) r → alone.ended ≡ SpecRefused
     → IsLast (Some line) before after alone
 last_refused line asked before after r alone asks did text ended = record {
+  no_demonstration = no_demo line asked asks;
   is = record { outcome = refused r; possible = rw asks did; text = rw asks text; ended = ended };
-  follows = follows_refused line r;
+  follows = follows_refused line r after;
 }
 
 -- of a refusal whose line was made
@@ -80,25 +94,110 @@ pub last_opened : (spec : List ℕ) (order : Option (List ℕ)) (values : List (
     (alone : Alone) → IsOpened (asked_for spec order values) before after opened → alone.text.items ≡ opening_text (begun opened)
     → alone.ended ≡ Done → IsLast (Some (check spec order values)) before after alone
 last_opened spec order values before after opened alone is text ended = record {
-  is = record { outcome = accepted (begun opened); possible = is; text = text; ended = ended };
-  follows = λ first last answer leaves prints. (leaves, prints);
+  no_demonstration = refl;
+  is = record { outcome = accepted (begun opened); possible = is.possible; text = text; ended = ended };
+  follows = λ first last answer leaves prints. (refl, leaves, prints);
 }
 
 -- `run` of what is accepted
 pub served_opened : (spec : List ℕ) (order : Option (List ℕ)) (values : List (List ℕ)) (before after : ShelfState) (opened : Opened)
     → IsOpened (asked_for spec order values) before after opened → IsServed (Some (session spec order values)) before after opened
-served_opened spec order values before after opened is = record { follows = λ first last answer serves. serves; possible = is }
+served_opened spec order values before after opened is = record {
+  follows = λ shelf_after first last answer serves. serves;
+  no_demonstration = refl;
+  possible = is.possible;
+  lawful = is.lawful;
+}
 
--- words that ask for no file
-pub last_unasked : (line : Option CommandLine) (now : ShelfState) (alone : Alone) → files_of line ≡ None
+-- words that are no line
+pub last_unasked : (line : Option CommandLine) (now : ShelfState) (alone : Alone) → line ≡ None
     → alone.text.items ≡ text_of None no_line → alone.ended ≡ WordsRefused → IsLast line now now alone
 last_unasked None now alone none text ended = record {
+  no_demonstration = refl;
   is = record { outcome = no_line; possible = refl; text = text; ended = ended };
-  follows = λ first last answer leaves prints. (leaves, prints);
+  follows = λ first last answer leaves prints. (refl, leaves, prints);
 }
-last_unasked (Some (check spec order values)) now alone none text ended = absurd (cc none)
-last_unasked (Some (session spec order values)) now alone none text ended = absurd (cc none)
-last_unasked (Some (demonstration cells)) now alone none text ended = record {
-  is = record { outcome = no_line; possible = refl; text = text; ended = ended };
-  follows = λ first last answer leaves prints. (leaves, prints);
+last_unasked (Some line) now alone none text ended = absurd (none-some line (sym none))
+
+-- ---- A demonstration
+
+-- the shelf of a demonstration counts no fault
+steady : ¬ Rises 0 0
+steady = λ rises. by rises
+  where
+    by : Rises 0 0 → ⊥
+    by (inl rose) = absurd (omega (arith, rose))
+    by (inr stands) = absurd (omega (arith, stands.0))
+
+-- what came of the acceptance of its text
+came_of_demo : (cells : ℕ) (before after : ShelfState) (comes : Comes Acceptance) → IsDemoShelf cells before after
+    → Did before after (IsAccepted demo_asked) comes → ComesOver (demo_texts_of cells) demo_asked comes
+came_of_demo cells before after comes shelf did =
+    comes_over (demo_texts_of cells) demo_asked before after comes shelf.told
+    (λ rises. steady (subst (λ (n : ℕ). Rises n 0) shelf.none_before (subst (λ (n : ℕ). Rises before.faults n) shelf.none_after rises))) did
+
+-- the session that begins has taken no step
+no_history : (course : Course) → (progress_of course).steps ≡ [] → course.history.items ≡ []
+no_history course none = by course.history.items none
+  where
+    by : (pasts : List Past) → map past_of pasts ≡ [] → pasts ≡ []
+    by [] e = refl
+    by (past ∷ pasts) e = absurd (cc e)
+
+pub opened_at_start : (asked : Asked) (before after : ShelfState) (opened : Opened) → IsOpened asked before after opened
+    → opened.session.course.history.items ≡ []
+opened_at_start asked before after opened is = no_history opened.session.course is.possible.2.can_begin.at_start
+
+pub shown_accepted : (cells : ℕ) (before after now : ShelfState) (opened : Opened) (alone : Alone) → IsDemoShelf cells before after
+    → IsOpened demo_asked before after opened
+    → IsSummary (begun opened).basis (begun opened).progress.situation cells alone.text.items → alone.ended ≡ Done
+    → IsShown (Some (demonstration cells)) now now alone
+shown_accepted cells before after now opened alone shelf is summary ended = record {
+  cells = cells;
+  is = refl;
+  kept = refl;
+  comes = goes_on is.possible.0;
+  over = came_of_demo cells before after (goes_on is.possible.0) shelf is.possible.1;
+  outcome = accepted (begun opened);
+  is_outcome = is.possible.2;
+  prints = λ first last answer prints. (
+    alone.text.items,
+    summary,
+    subst (λ (e : Ended). Prints alone.text.items e first last answer) ended prints,
+  );
+}
+
+prints_so : (alone : Alone) (text : List ℕ) (status : Ended) (first last : Streams) (answer : Ended) → alone.text.items ≡ text
+    → alone.ended ≡ status → Prints alone.text.items alone.ended first last answer → Prints text status first last answer
+prints_so alone text status first last answer is ended prints =
+    subst (λ (t : List ℕ). Prints t status first last answer) is
+    (subst (λ (e : Ended). Prints alone.text.items e first last answer) ended prints)
+
+pub shown_unread : (cells : ℕ) (before after now : ShelfState) (name : List ℕ) (alone : Alone) → IsDemoShelf cells before after
+    → Did before after (IsAccepted demo_asked) (stops (ending.unread name)) → alone.text.items ≡ unread_text name
+    → alone.ended ≡ FileFault → IsShown (Some (demonstration cells)) now now alone
+shown_unread cells before after now name alone shelf did text ended = record {
+  cells = cells;
+  is = refl;
+  kept = refl;
+  comes = stops (ending.unread name);
+  over = came_of_demo cells before after (stops (ending.unread name)) shelf did;
+  outcome = unread name;
+  is_outcome = refl;
+  prints = λ first last answer prints. prints_so alone _ _ first last answer text ended prints;
+}
+
+pub shown_refused : (cells : ℕ) (before after now : ShelfState) (r : _) (alone : Alone) → IsDemoShelf cells before after
+    → Did before after (IsAccepted demo_asked) (stops (ending.refused r))
+    → alone.text.items ≡ refusal_text demo_asked.spec (word_or_none demo_asked.order) r → alone.ended ≡ SpecRefused
+    → IsShown (Some (demonstration cells)) now now alone
+shown_refused cells before after now r alone shelf did text ended = record {
+  cells = cells;
+  is = refl;
+  kept = refl;
+  comes = stops (ending.refused r);
+  over = came_of_demo cells before after (stops (ending.refused r)) shelf did;
+  outcome = refused r;
+  is_outcome = refl;
+  prints = λ first last answer prints. prints_so alone _ _ first last answer text ended prints;
 }

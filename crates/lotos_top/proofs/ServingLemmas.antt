@@ -1,39 +1,47 @@
 -- A session that is served behind a text.
 use Rattle.std.proofs.Common.{◌≡◌, ℕ, List, Option, Result, MatchResult, subst}
+use Rattle.library_reading.specs.ShelfUse.{ShelfState}
 use Rattle.line_server.specs.Session as served
 use Rattle.line_server.specs.Session.{around}
 use Rattle.line_server.specs.Writing.{WritesAll}
 use Rattle.line_server.specs.declared.ends.SessionEnd.{SessionEnd}
-use Rattle.session_lines.specs.Session.{Session}
-use Rattle.session_lines.specs.View.{session_machine}
-use Rattle.lotos_base.specs.declared.faults.NoMemory.{NoMemory}
-use Rattle.lotos_top.specs.Run.{Streams, whole, Serves, Untouched, ended_by}
+use Rattle.session_answers.specs.Standing.{Standing}
+use Rattle.session_answers.specs.SessionMachine.{history_machine}
+use Rattle.session_reports.specs.Beginning.{Beginning, standing_at}
+use Rattle.lotos_top.specs.Run.{Streams, whole, Serves, ended_by}
 use Rattle.lotos_top.specs.declared.ended.Ended.{Ended}
 
 -- the text was written whole, and the output's count kept
-pub serves_whole : (begun last : Session) (text : List ℕ) (before after : Streams) (between : Option (List ℕ)) (faults : ℕ)
-    (end_ : SessionEnd) (answer : Ended) → WritesAll before.written between text → faults ≡ before.output_faults
-    → served.Came session_machine (around (begun, 0) (before.left, before.input_faults) (between, faults))
-    (around (last, 0) (after.left, after.input_faults) (after.written, after.output_faults)) end_
-    → served.Completes session_machine (around (begun, 0) (before.left, before.input_faults) (between, faults))
-    (around (last, 0) (after.left, after.input_faults) (after.written, after.output_faults)) end_
-    → answer ≡ ended_by end_ → Serves begun text before after answer
-serves_whole begun last text before after between faults end_ answer wrote same came complete is =
-    whole between last end_ wrote
-    (subst (λ (n : ℕ). served.Came session_machine (around (begun, 0) (before.left, before.input_faults) (between, n))
-    (around (last, 0) (after.left, after.input_faults) (after.written, after.output_faults)) end_) same came)
-    (subst (λ (n : ℕ). served.Completes session_machine (around (begun, 0) (before.left, before.input_faults) (between, n))
-    (around (last, 0) (after.left, after.input_faults) (after.written, after.output_faults)) end_) same complete)
+pub serves_whole : (begun : Beginning) (last : Standing) (text : List ℕ) (shelf shelf_after : ShelfState) (before after : Streams)
+    (between : Option (List ℕ)) (faults : ℕ) (end_ : SessionEnd) (answer : Ended) → WritesAll before.written between text
+    → faults ≡ before.output_faults → last.texts ≡ shelf_after.texts
+    → served.Came history_machine
+    (around (standing_at begun shelf.texts, shelf.faults) (before.left, before.input_faults) (between, faults))
+    (around (last, shelf_after.faults) (after.left, after.input_faults) (after.written, after.output_faults)) end_
+    → served.Completes history_machine
+    (around (standing_at begun shelf.texts, shelf.faults) (before.left, before.input_faults) (between, faults))
+    (around (last, shelf_after.faults) (after.left, after.input_faults) (after.written, after.output_faults)) end_
+    → answer ≡ ended_by end_ → Serves begun text shelf shelf_after before after answer
+serves_whole begun last text shelf shelf_after before after between faults end_ answer wrote same texts came complete is =
+    whole between last end_ wrote texts
+    (subst (λ (n : ℕ). served.Came history_machine
+    (around (standing_at begun shelf.texts, shelf.faults) (before.left, before.input_faults) (between, n))
+    (around (last, shelf_after.faults) (after.left, after.input_faults) (after.written, after.output_faults)) end_) same came)
+    (subst (λ (n : ℕ). served.Completes history_machine
+    (around (standing_at begun shelf.texts, shelf.faults) (before.left, before.input_faults) (between, n))
+    (around (last, shelf_after.faults) (after.left, after.input_faults) (after.written, after.output_faults)) end_) same complete)
     is
 
 -- a session behind an equal text
-pub serves_text : (begun : Session) (text written : List ℕ) (before after : Streams) (answer : Ended) → written ≡ text
-    → Serves begun written before after answer → Serves begun text before after answer
-serves_text begun text written before after answer same serves =
-    subst (λ (t : List ℕ). Serves begun t before after answer) same serves
+pub serves_text : (begun : Beginning) (text written : List ℕ) (shelf shelf_after : ShelfState) (before after : Streams) (answer : Ended)
+    → written ≡ text → Serves begun written shelf shelf_after before after answer
+    → Serves begun text shelf shelf_after before after answer
+serves_text begun text written shelf shelf_after before after answer same serves =
+    subst (λ (t : List ℕ). Serves begun t shelf shelf_after before after answer) same serves
 
-pub serves_front : (begun : Session) (text written : List ℕ) (before after : Streams) (answer : Result Ended NoMemory)
-    → written ≡ text → MatchResult answer (Serves begun written before after) (λ _. Untouched before after)
-    → MatchResult answer (Serves begun text before after) (λ _. Untouched before after)
-serves_front begun text written before after answer same serves =
-    subst (λ (t : List ℕ). MatchResult answer (Serves begun t before after) (λ _. Untouched before after)) same serves
+pub serves_front : {E : Type 0} (Fails : E → Type 0) (begun : Beginning) (text written : List ℕ) (shelf shelf_after : ShelfState)
+    (before after : Streams) (answer : Result Ended E) → written ≡ text
+    → MatchResult answer (Serves begun written shelf shelf_after before after) Fails
+    → MatchResult answer (Serves begun text shelf shelf_after before after) Fails
+serves_front Fails begun text written shelf shelf_after before after answer same serves =
+    subst (λ (t : List ℕ). MatchResult answer (Serves begun t shelf shelf_after before after) Fails) same serves

@@ -4,7 +4,6 @@ use Rattle.term_algebra.specs.Term.{Term}
 use Rattle.termination_theory.specs.Precedence.{Precedence}
 use Rattle.termination_theory.specs.Orientation.{NumberedRule, rules_of}
 use Rattle.rewriting_theory.specs.ChosenForm.{Chooses}
-use Rattle.behaviour_semantics.specs.Menu.{Exact}
 use Rattle.behaviour_semantics.specs.Replacement.{with_values, binding_of}
 use Rattle.equation_book.specs.Refusal.{IsOpenedBy}
 use Rattle.library_reading.specs.ShelfUse.{ShelfState}
@@ -14,8 +13,8 @@ use Rattle.acceptance_order.specs.Ending as ending
 use Rattle.acceptance_order.specs.Part.{goes_on, stops}
 use Rattle.refusal_lines.specs.RefusalText.{refusal_text}
 use Rattle.printed_texts.specs.ReportLines.{head_text, unread_text, usage_text}
-use Rattle.session_lines.specs.Answer.{shown_menu}
-use Rattle.session_lines.specs.Session.{Session}
+use Rattle.session_answers.specs.Standing.{shown_menu}
+use Rattle.session_reports.specs.Beginning.{Beginning, CanBegin}
 use Rattle.spec_acceptance.specs.AcceptedView.{asked_for}
 use Rattle.spec_acceptance.specs.Doing.{Did}
 use Rattle.lotos_top.specs.Words.{CommandLine, check, session, demonstration}
@@ -28,7 +27,7 @@ pub data Outcome : Type 0 where
   no_line : Outcome
   unread : (name : List ℕ) → Outcome
   refused : Refused → Outcome
-  accepted : Session → Outcome
+  accepted : Beginning → Outcome
 
 -- the files that a line asks for, and its start values
 abbrev pub files_of : Option CommandLine → Option Asked
@@ -45,14 +44,14 @@ AreNormalForms acceptance canon =
 
 -- the session of what was accepted begins in the body of the specification, in which the normal forms of the start values stand
 -- for the parameters, with the exact menu of it, and without steps
-pub record Begins (acceptance : Acceptance) (begun : Session) : Type 0 where
-  pub data_is : begun.data_ ≡ acceptance.data_
-  pub canonical : AreNormalForms acceptance begun.canon
-  pub specification_is : begun.specification ≡ acceptance.spec
+pub record Begins (acceptance : Acceptance) (begun : Beginning) : Type 0 where
+  pub data_is : begun.basis.data_ ≡ acceptance.data_
+  pub canonical : AreNormalForms acceptance begun.basis.canon
+  pub specification_is : begun.basis.specification ≡ acceptance.spec
   pub state_is :
-      begun.state ≡ with_values (binding_of acceptance.spec.parameters (map begun.canon acceptance.values)) acceptance.spec.body
-  pub menu_is : Exact begun.data_ begun.canon begun.specification.processes begun.state begun.menu
-  pub at_start : begun.history ≡ []
+      begun.progress.situation.state
+      ≡ with_values (binding_of acceptance.spec.parameters (map begun.basis.canon acceptance.values)) acceptance.spec.body
+  pub can_begin : CanBegin begun
 
 -- what may come of the files that are asked for, by what the shelf gave: the order of faults says which it is
 abbrev pub IsOutcome : Option Asked → (before after : ShelfState) → Outcome → Type 0
@@ -80,8 +79,8 @@ order_word None = []
 order_word (Some asked) = word_or_none asked.order
 
 -- the head of a report, with the menu
-abbrev pub opening_text : Session → List ℕ
-opening_text begun = head_text begun.specification.name begun.data_ ++ shown_menu begun
+abbrev pub opening_text : Beginning → List ℕ
+opening_text begun = head_text begun.basis.specification.name begun.basis.data_ ++ shown_menu begun.basis begun.progress
 
 -- what is printed: all of it for `check`, and for `run` what comes before its session
 abbrev pub text_of : Option Asked → Outcome → List ℕ

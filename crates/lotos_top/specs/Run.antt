@@ -1,5 +1,5 @@
 -- A whole run: what came of it, and which answer has to come.
-use Rattle.std.specs.Prelude.{◌≡◌, ◌⊎◌, ℕ, ◌<◌, List, Option, Some, None}
+use Rattle.std.specs.Prelude.{◌≡◌, ◌⊎◌, ℕ, ◌<◌, Bool, true, false, IsTrue, List, [], codes, Option, Some, None}
 use Rattle.lotos_base.specs.Counts.{Rises}
 use Rattle.lotos_base.specs.Outside.{Texts}
 use Rattle.library_reading.specs.ShelfUse.{ShelfState}
@@ -12,13 +12,18 @@ use Rattle.line_server.specs.Session.{around}
 use Rattle.line_server.specs.Writing.{WritesAll, WritesBeginning}
 use Rattle.line_server.specs.declared.ends.SessionEnd.{SessionEnd}
 use Rattle.line_server.specs.declared.ends.SessionEnd.TheVariants as end
+use Rattle.demo_texts.specs.DemoText.{demo_text}
+use Rattle.demo_walks.specs.DemoSummary.{IsSummary}
 use Rattle.printed_texts.specs.ReportLines.{usage_text}
-use Rattle.session_lines.specs.Session.{Session}
-use Rattle.session_lines.specs.View.{session_machine}
-use Rattle.lotos_top.specs.Words.{CommandLine, check, session, demonstration}
+use Rattle.session_answers.specs.Standing.{Standing}
+use Rattle.session_answers.specs.SessionMachine.{history_machine}
+use Rattle.session_reports.specs.Beginning.{Beginning, standing_at}
+use Rattle.spec_acceptance.specs.AcceptedView.{asked_for}
+use Rattle.lotos_top.specs.Words.{CommandLine, check, session, demonstration, is_demonstration}
+use Rattle.lotos_top.specs.TextShelf.{one_text}
 use Rattle.lotos_top.specs.Outcome.{Outcome, no_line, unread, refused, accepted, files_of, Begins, IsOutcome, text_of, opening_text, status_of}
 use Rattle.lotos_top.specs.declared.ended.Ended.{Ended}
-use Rattle.lotos_top.specs.declared.ended.Ended.TheVariants.{Done, SpecRefused, WordsRefused, FileFault, InputFault, OutputFault, NoMemory, InputTooLong}
+use Rattle.lotos_top.specs.declared.ended.Ended.TheVariants.{Done, WordsRefused, FileFault, InputFault, OutputFault, NoMemory, InputTooLong}
 
 -- what the input has left and the output has written at one time, and their counts of faults
 pub record Streams : Type 0 where
@@ -53,36 +58,42 @@ pub data Prints (text : List ℕ) (status : Ended) (before after : Streams) (ans
       answer ≡ OutputFault → WritesBeginning before.written after.written text → Rises before.output_faults after.output_faults
       → Prints text status before after answer
 
--- A text is printed, and then a session is served, whose lines are answered by what they come to one after another, and whose
--- end comes where its cause stands; or the output failed at a byte of the text.
-pub data Serves (begun : Session) (text : List ℕ) (before after : Streams) (answer : Ended) : Type 0 where
+-- A text is printed, and then a session is served, whose lines are answered by what they come to one after another, beside the
+-- shelf, and whose end comes where its cause stands; or the output failed at a byte of the text.
+pub data Serves (begun : Beginning) (text : List ℕ) (shelf shelf_after : ShelfState) (before after : Streams)
+    (answer : Ended) : Type 0 where
   in_part :
-      LeavesInput before after → answer ≡ OutputFault → WritesBeginning before.written after.written text
+      shelf_after ≡ shelf → LeavesInput before after → answer ≡ OutputFault → WritesBeginning before.written after.written text
       → Rises before.output_faults after.output_faults
-      → Serves begun text before after answer
+      → Serves begun text shelf shelf_after before after answer
   whole :
-      (between : Option (List ℕ)) (last : Session) (end : SessionEnd)
-      → WritesAll before.written between text
-      → served.Came session_machine (around (begun, 0) (before.left, before.input_faults) (between, before.output_faults))
-      (around (last, 0) (after.left, after.input_faults) (after.written, after.output_faults)) end
-      → served.Completes session_machine
-      (around (begun, 0) (before.left, before.input_faults) (between, before.output_faults))
-      (around (last, 0) (after.left, after.input_faults) (after.written, after.output_faults)) end
+      (between : Option (List ℕ)) (last : Standing) (end : SessionEnd)
+      → WritesAll before.written between text → last.texts ≡ shelf_after.texts
+      → served.Came history_machine
+      (around (standing_at begun shelf.texts, shelf.faults) (before.left, before.input_faults) (between, before.output_faults))
+      (around (last, shelf_after.faults) (after.left, after.input_faults) (after.written, after.output_faults)) end
+      → served.Completes history_machine
+      (around (standing_at begun shelf.texts, shelf.faults) (before.left, before.input_faults) (between, before.output_faults))
+      (around (last, shelf_after.faults) (after.left, after.input_faults) (after.written, after.output_faults)) end
       → answer ≡ ended_by end
-      → Serves begun text before after answer
+      → Serves begun text shelf shelf_after before after answer
 
 -- what comes behind an outcome
-abbrev pub Follows : Option CommandLine → Outcome → Streams → Streams → Ended → Type 0
-Follows (Some (session spec order values)) (accepted begun) before after answer =
-    Serves begun (opening_text begun) before after answer
-Follows line outcome before after answer =
-    LeavesInput before after × Prints (text_of (files_of line) outcome) (status_of outcome) before after answer
+abbrev pub Follows : Option CommandLine → Outcome → (shelf shelf_after : ShelfState) → Streams → Streams → Ended → Type 0
+Follows (Some (session spec order values)) (accepted begun) shelf shelf_after before after answer =
+    Serves begun (opening_text begun) shelf shelf_after before after answer
+Follows line outcome shelf shelf_after before after answer =
+    (shelf_after ≡ shelf) × LeavesInput before after
+    × Prints (text_of (files_of line) outcome) (status_of outcome) before after answer
 
--- the run came to an outcome that the words and the shelf allow, and did what follows
+-- The run came to an outcome that the words and the shelf allow, and did what follows. The shelf stood so once the outcome was
+-- there.
 pub record Came (line : Option CommandLine) (shelf shelf_after : ShelfState) (before after : Streams) (answer : Ended) : Type 0 where
   pub outcome : Outcome
-  pub possible : IsOutcome (files_of line) shelf shelf_after outcome
-  pub follows : Follows line outcome before after answer
+  pub between : ShelfState
+  pub no_demonstration : is_demonstration line ≡ false
+  pub possible : IsOutcome (files_of line) shelf between outcome
+  pub follows : Follows line outcome between shelf_after before after answer
 
 -- nothing was read from the input or written to the output
 pub record Untouched (before after : Streams) : Type 0 where
@@ -95,10 +106,6 @@ pub record Stopped (shelf shelf_after : ShelfState) (before after : Streams) (an
   pub is : answer ≡ NoMemory
   pub texts : shelf_after.texts ≡ shelf.texts
   pub untouched : Untouched before after
-
-abbrev pub Ran : Option CommandLine → (shelf shelf_after : ShelfState) → (before after : Streams) → Ended → Type 0
-Ran line shelf shelf_after before after answer =
-    Stopped shelf shelf_after before after answer ⊎ Came line shelf shelf_after before after answer
 
 -- the outcome is what comes of the acceptance
 abbrev pub IsOutcomeOf : Comes Acceptance → Outcome → Type 0
@@ -115,26 +122,76 @@ IsOutcomeOf (stops (ending.refused found)) (unread name) = ⊥
 IsOutcomeOf (stops (ending.refused found)) (refused r) = r ≡ found
 IsOutcomeOf (stops (ending.refused found)) (accepted begun) = ⊥
 
+-- what is asked for a demonstration, and the texts that there are: that of its specification alone
+abbrev pub demo_asked : Asked
+demo_asked = asked_for (codes "demo") None []
+
+abbrev pub demo_texts_of : ℕ → Texts
+demo_texts_of cells = one_text (codes "demo") (demo_text cells)
+
+-- What a demonstration prints for what comes of its text: where it is accepted, the summary of the walk through the session that
+-- begins, and else the line of the refusal.
+abbrev pub PrintsFor : ℕ → Outcome → Streams → Streams → Ended → Type 0
+PrintsFor cells (accepted begun) before after answer =
+    (text : List ℕ) × IsSummary begun.basis begun.progress.situation cells text × Prints text Done before after answer
+PrintsFor cells outcome before after answer = Prints (text_of (Some demo_asked) outcome) (status_of outcome) before after answer
+
+-- A demonstration was printed. Nothing was asked of the shelf, and the input was not read.
+pub record Demonstrated (line : Option CommandLine) (shelf shelf_after : ShelfState) (before after : Streams) (answer : Ended) : Type 0
+  where
+    pub cells : ℕ
+    pub is : line ≡ Some (demonstration cells)
+    pub kept : shelf_after ≡ shelf
+    pub leaves : LeavesInput before after
+    pub comes : Comes Acceptance
+    pub over : ComesOver (demo_texts_of cells) demo_asked comes
+    pub outcome : Outcome
+    pub is_outcome : IsOutcomeOf comes outcome
+    pub prints : PrintsFor cells outcome before after answer
+
+abbrev pub Ran : Option CommandLine → (shelf shelf_after : ShelfState) → (before after : Streams) → Ended → Type 0
+Ran line shelf shelf_after before after answer =
+    Stopped shelf shelf_after before after answer ⊎ Came line shelf shelf_after before after answer
+    ⊎ Demonstrated line shelf shelf_after before after answer
+
 -- memory was wanted, or the run did what follows this outcome
-abbrev pub EndsBy : Option CommandLine → Comes Acceptance → Streams → Streams → Ended → Type 0
-EndsBy line comes before after answer =
-    (answer ≡ NoMemory) ⊎ ((outcome : Outcome) × IsOutcomeOf comes outcome × Follows line outcome before after answer)
+abbrev pub EndsBy : Option CommandLine → Comes Acceptance → (shelf_after : ShelfState) → Streams → Streams → Ended → Type 0
+EndsBy line comes shelf_after before after answer =
+    (answer ≡ NoMemory)
+    ⊎ ((outcome : Outcome) × (between : ShelfState) × IsOutcomeOf comes outcome
+    × Follows line outcome between shelf_after before after answer)
+
+-- whether the words are those of a session
+abbrev pub serves_session : Option CommandLine → Bool
+serves_session (Some (session spec order values)) = true
+serves_session _ = false
+
+-- A session was served, before which the shelf counted no fault: those that it counted befell lines of the session.
+abbrev pub MetByLines : Option CommandLine → ShelfState → Type 0
+MetByLines line shelf =
+    IsTrue (serves_session line) × (begun : Beginning) × (between : ShelfState)
+    × IsOutcome (files_of line) shelf between (accepted begun)
 
 -- Each answer comes where its cause stands. Where the output counted no fault, words that are no line are answered so, a fault
--- of the shelf, whose texts no run changes, by `FileFault`, and a fault of the input by `InputFault`, or memory was wanted.
--- Where the output's count rose, the answer says so. Where the shelf tells its texts and counted no fault, what comes of the
--- acceptance of these texts, which is one thing, is what the run came to: so a specification that they accept is answered by
--- its report and session, and one that has a first fault by the line of this fault.
+-- of the shelf by `FileFault` unless it befell a line of a session, and a fault of the input by `InputFault`, or memory was
+-- wanted. Where the output's count rose, the answer says so. No text of the shelf changes but by lines of a session. Where the
+-- shelf tells its texts and counted no fault, what comes of the acceptance of these texts, which is one thing, is what the run
+-- came to: so a specification that they accept is answered by its report and session, and one that has a first fault by the line
+-- of this fault. For a demonstration it is what comes of the acceptance of its text.
 pub record Completes (line : Option CommandLine) (shelf shelf_after : ShelfState) (before after : Streams) (answer : Ended) : Type 0
   where
     pub words : line ≡ None → ¬ Rises before.output_faults after.output_faults
         → (answer ≡ NoMemory) ⊎ ((answer ≡ WordsRefused) × WritesAll before.written after.written usage_text)
     pub files : shelf.faults < shelf_after.faults → ¬ Rises before.output_faults after.output_faults
-        → (answer ≡ NoMemory) ⊎ (answer ≡ FileFault)
+        → (answer ≡ NoMemory) ⊎ (answer ≡ FileFault) ⊎ MetByLines line shelf
     pub input : before.input_faults < after.input_faults → ¬ Rises before.output_faults after.output_faults
         → (answer ≡ NoMemory) ⊎ (answer ≡ InputFault)
     pub output : before.output_faults < after.output_faults → answer ≡ OutputFault
-    pub texts : shelf_after.texts ≡ shelf.texts
+    pub texts : serves_session line ≡ false → shelf_after.texts ≡ shelf.texts
     pub settled : (texts : Texts) (asked : Asked) (comes : Comes Acceptance) → files_of line ≡ Some asked
         → shelf.texts ≡ Some texts → ComesOver texts asked comes → ¬ Rises shelf.faults shelf_after.faults
-        → EndsBy line comes before after answer
+        → EndsBy line comes shelf_after before after answer
+    pub demonstrated : (cells : ℕ) (comes : Comes Acceptance) → line ≡ Some (demonstration cells)
+        → ComesOver (demo_texts_of cells) demo_asked comes
+        → (answer ≡ NoMemory)
+        ⊎ ((shelf_after ≡ shelf) × (outcome : Outcome) × IsOutcomeOf comes outcome × PrintsFor cells outcome before after answer)

@@ -1,5 +1,5 @@
 -- The lines of words that the program takes.
-use Rattle.std.specs.Prelude.{ℕ, Bool, List, [], ◌∷◌, codes, if◌then◌else◌, Option, Some, None, option_map}
+use Rattle.std.specs.Prelude.{ℕ, zero, suc, Bool, true, false, List, [], ◌∷◌, codes, decimal, if◌then◌else◌, Option, Some, None, option_map}
 use Rattle.std.specs.Str.{bytes_eq}
 use Rattle.start_values.specs.WordLimits.{words_of, are_within}
 use Rattle.acceptance_order.specs.Acceptance.{Asked}
@@ -53,10 +53,35 @@ abbrev pub verb_with : (verb : List ℕ) → Option Asked → Option CommandLine
 verb_with verb None = None
 verb_with verb (Some asked) = verb_line verb asked
 
+-- the number up to this one whose decimal form the word is, from 1
+abbrev pub or_this : Option ℕ → ℕ → List ℕ → Option ℕ
+or_this (Some found) number word = Some found
+or_this None number word = if bytes_eq word (decimal number) then Some number else None
+
+abbrev pub number_up_to : ℕ → List ℕ → Option ℕ
+number_up_to zero word = None
+number_up_to (suc most) word = or_this (number_up_to most word) (suc most) word
+
+-- the most cells of a demonstration, and how many a word says
+unfoldable pub most_cells : ℕ
+most_cells = 64
+
+abbrev pub cells_said : List ℕ → Option ℕ
+cells_said word = number_up_to most_cells word
+
+-- `demo` with a number of cells, behind which nothing stands
+abbrev pub cells_line : (number : List ℕ) → List (List ℕ) → Option CommandLine
+cells_line number [] = option_map demonstration (cells_said number)
+cells_line number (word ∷ words) = None
+
+abbrev pub demo_line : List (List ℕ) → Option CommandLine
+demo_line [] = None
+demo_line (number ∷ words) = cells_line number words
+
 -- the line that the words are, if they are one
 abbrev pub words_line : List (List ℕ) → Option CommandLine
 words_line [] = None
-words_line (verb ∷ words) = verb_with verb (files_in words)
+words_line (verb ∷ words) = if bytes_eq verb (codes "demo") then demo_line words else verb_with verb (files_in words)
 
 -- the line that the words of a command are, if they are one and within the limits
 abbrev pub command_line : List (List ℕ) → Option CommandLine
@@ -67,3 +92,8 @@ abbrev pub values_in : CommandLine → List (List ℕ)
 values_in (check spec order values) = values
 values_in (session spec order values) = values
 values_in (demonstration cells) = []
+
+-- whether a line is that of a demonstration
+abbrev pub is_demonstration : Option CommandLine → Bool
+is_demonstration (Some (demonstration cells)) = true
+is_demonstration _ = false

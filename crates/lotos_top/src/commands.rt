@@ -4,15 +4,21 @@ ghost use Rattle.lotos_top.specs.Words.{
   asked_by,
   behind_order,
   behind_spec,
+  cells_said,
   command_line,
+  demo_line,
+  demonstration,
   ends_names,
   files_in,
   line_of,
   verb_line,
+  verb_with,
 };
 ghost use Rattle.start_values.specs.WordLimits.{words_of};
-ghost use Rattle.std.specs.Prelude.{◌≡◌, None, Some, MatchOption};
+ghost use Rattle.std.specs.Prelude.{◌≡◌, None, Some, MatchOption, codes, decimal, option_map};
+ghost use Rattle.std.specs.Str.{bytes_eq};
 
+use itoa::Buffer;
 use start_values::limits::are_within_limits;
 
 /// What the words ask for.
@@ -39,15 +45,16 @@ pub enum Command<'a> {
     /// Make a specification of so many cells and walk it.
     Demo {
         /// How many cells, from 1 to 64.
-        cells: u32,
+        cells: u8,
     },
 }
 
 /// What the words ask for, and `None` exactly where they are no line that is built.
 ///
 /// Built are `check SPEC`, `check SPEC ORDER`, `run SPEC` and `run SPEC ORDER`, where neither SPEC
-/// nor ORDER is `with`, and each of these with `with` and any number of words behind it. The words
-/// are at most 65,536 and have at most 1,048,576 bytes together. Takes no memory.
+/// nor ORDER is `with`, each of these with `with` and any number of words behind it, and `demo N`
+/// with N from 1 to 64 in decimal without a leading zero. The words are at most 65,536 and have at
+/// most 1,048,576 bytes together. Takes no memory.
 pub fn parse_command(words: &[String]) -> Option<Command<'_>>
     ensures { MatchOption result (command_line (words_of words.now) ≡ None)
         (λ command. command_line (words_of words.now) ≡ Some (line_of command)) }
@@ -58,8 +65,72 @@ pub fn parse_command(words: &[String]) -> Option<Command<'_>>
     let [verb, rest @ ..] = words else {
         return None;
     };
-    match named_files(rest) {
-        Some(files) => by_verb(verb.as_str(), files),
+    if is_demo(verb.as_str()) {
+        return demonstration(rest);
+    }
+    with_files(verb.as_str(), rest)
+}
+
+// Whether the verb is `demo`.
+fn is_demo(verb: &str) -> bool
+    ensures { result ≡ bytes_eq verb.now (codes "demo") }
+{
+    verb == "demo"
+}
+
+// The demonstration that the words behind `demo` ask for.
+fn demonstration(words: &[String]) -> Option<Command<'_>>
+    ensures { MatchOption result (demo_line (words_of words.now) ≡ None)
+        (λ command. demo_line (words_of words.now) ≡ Some (line_of command)) }
+{
+    let [number, rest @ ..] = words else {
+        return None;
+    };
+    let [_, ..] = rest else {
+        return with_cells(number.as_str());
+    };
+    None
+}
+
+// The demonstration of as many cells as the word says.
+fn with_cells(word: &str) -> Option<Command<'_>>
+    ensures { MatchOption result (option_map demonstration (cells_said word.now) ≡ None)
+        (λ command. option_map demonstration (cells_said word.now) ≡ Some (line_of command)) }
+{
+    match cells_in(word) {
+        Some(cells) => Some(Command::Demo { cells }),
+        None => None,
+    }
+}
+
+// How many cells the word says: a number from 1 to 64 in decimal.
+fn cells_in(word: &str) -> Option<u8>
+    ensures { result ≡ cells_said word.now }
+{
+    for below in 0..64u8 {
+        if is_decimal_of(word, below + 1) {
+            return Some(below + 1);
+        }
+    }
+    None
+}
+
+// Whether the word is the number in decimal.
+fn is_decimal_of(word: &str, number: u8) -> bool
+    ensures { result ≡ bytes_eq word.now (decimal number) }
+{
+    let mut buffer = Buffer::new();
+    word == buffer.format(number as u128)
+}
+
+// What the verb asks for with the words behind it, where they name files.
+fn with_files<'a>(verb: &str, words: &'a [String]) -> Option<Command<'a>>
+    ensures { MatchOption result (verb_with verb.now (files_in (words_of words.now)) ≡ None)
+        (λ command. verb_with verb.now (files_in (words_of words.now))
+        ≡ Some (line_of command)) }
+{
+    match named_files(words) {
+        Some(files) => by_verb(verb, files),
         None => None,
     }
 }

@@ -5,11 +5,11 @@ pub mod commands;
 mod ended;
 mod opening;
 mod running;
+mod text_shelf;
 
 pub use commands::{Command, parse_command};
 pub use ended::Ended;
 pub use running::run;
-pub use session_lines::SessionLines;
 pub use spec_acceptance::{Accepted, NotAccepted};
 pub use spec_faults::{Refused, SpecFault};
 pub use start_values::limits::{WORD_BYTES_LIMIT, WORDS_LIMIT};

@@ -2,10 +2,20 @@
 //! that says why there is none.
 
 ghost use Rattle.acceptance_order.specs.Acceptance.{IsAccepted};
+ghost use Rattle.demo_walks.specs.DemoSummary.{IsSummary};
 ghost use Rattle.library_reading.specs.ShelfUse.{ShelfState, shelf_state};
 ghost use Rattle.lotos_top.specs.Outcome.{files_of, opening_text, word_or_none};
-ghost use Rattle.lotos_top.specs.Prepared.{IsLast, IsOpened, IsReady, begun};
-ghost use Rattle.lotos_top.specs.Words.{CommandLine, check, command_line, session};
+ghost use Rattle.lotos_top.specs.Prepared.{
+  IsDemoShelf,
+  IsLast,
+  IsLawfulAt,
+  IsOpened,
+  IsReady,
+  IsShown,
+  begun,
+};
+ghost use Rattle.lotos_top.specs.Run.{demo_asked};
+ghost use Rattle.lotos_top.specs.Words.{CommandLine, check, command_line, demonstration, session};
 ghost use Rattle.sort_terms.specs.EquationView.{data_of};
 ghost use Rattle.sort_terms.specs.SignatureView.{signature_of};
 ghost use Rattle.spec_acceptance.specs.AcceptedView.{Holds, asked_for};
@@ -26,6 +36,7 @@ ghost use Rattle.start_values.specs.WordLimits.{are_within, words_of};
 ghost use Rattle.std.specs.Prelude.{
   ◌≡◌,
   ◌++◌,
+  [],
   ℕ,
   List,
   None,
@@ -41,14 +52,17 @@ ghost use Rattle.std.specs.Prelude.{
 
 use crate::commands::{Command, parse_command};
 use crate::ended::Ended;
-use behaviour_tree::{Spec, State};
+use crate::text_shelf::TextShelf;
+use behaviour_tree::Spec;
+use demo_texts::demo_text;
+use demo_walks::write_summary;
 use equation_book::Book;
-use event_offers::Menu;
 use lotos_base::{NoMemory, Shelf};
-use menu_listing::menu;
+use menu_listing::FreshMenus;
 use printed_texts::brackets::{push_number, push_text};
 use printed_texts::menu_text;
 use refusal_lines::refusal_line;
+use session_log::Session;
 use sort_terms::Signature;
 use spec_acceptance::{Accepted, NotAccepted};
 use spec_faults::Refused;
@@ -57,14 +71,10 @@ use std::alloc::Global;
 /// A specification that is accepted, where its session begins.
 #[derive(Drop)]
 pub struct Opened {
-    /// The specification.
-    pub spec: Spec,
+    /// The session at its start.
+    pub session: Session<FreshMenus>,
     /// The data, whose equality is decided.
     pub book: Book,
-    /// The state in which it begins.
-    pub state: State,
-    /// The menu of this state.
-    pub menu: Menu,
 }
 
 /// What comes before a session: the text that is printed, and the signature by which the session
@@ -117,7 +127,7 @@ pub fn prepare<F: Shelf>(alloc: Global, words: &[String], shelf: &mut F) -> Resu
                 values,
             },
         ) => served(alloc, spec, order, values, shelf),
-        Some(Command::Demo { .. }) => usage_ready(alloc),
+        Some(Command::Demo { cells }) => demonstrated(alloc, cells),
         None => usage_ready(alloc),
     }
 }
@@ -193,7 +203,7 @@ pub fn open<F: Shelf>(
 fn begin(alloc: Global, accepted: Accepted) -> Result<Opened, NoMemory>
     requires known { (acceptance : Acceptance) × Holds acceptance accepted }
     ensures { (acceptance : Acceptance) → Holds acceptance accepted
-        → IfOk result (λ opened. Begins acceptance (begun opened)) }
+        → IfOk result (λ opened. Begins acceptance (begun opened) × IsLawfulAt opened) }
 {
     let Accepted {
         spec,
@@ -202,24 +212,19 @@ fn begin(alloc: Global, accepted: Accepted) -> Result<Opened, NoMemory>
         start,
     } = accepted;
     let mut book = book;
-    let menu = menu(alloc, &spec, &ranks, &start, &mut book)?;
-    Ok(Opened {
-        spec,
-        book,
-        state: start,
-        menu,
-    })
+    let session = Session::open(alloc, spec, ranks, start, FreshMenus, &mut book)?;
+    Ok(Opened { session, book })
 }
 
 /// Appends the head of a report and the menu.
 pub fn push_opening(opened: &Opened, into: &mut Vec<u8>) -> Result<(), NoMemory>
     ensures { OnOk result (into.new.items ≡ into.old.items ++ opening_text (begun opened.now)) }
 {
-    push_head(&opened.spec, &opened.book, into)?;
+    push_head(opened.session.spec(), &opened.book, into)?;
     menu_text(
         &opened.book.flat().signature,
-        &opened.spec,
-        &opened.menu,
+        opened.session.spec(),
+        opened.session.menu(),
         into,
     )?;
     Ok(())
@@ -334,10 +339,58 @@ fn refused_alone(
     })
 }
 
-// Makes ready the usage line, for words that ask for no file.
+// Makes ready what `demo` prints. Nothing is asked of the shelf: the text stands on one of its own.
+fn demonstrated(alloc: Global, cells: u8) -> Result<Ready, NoMemory>
+    ensures { IfOk result (λ ready. (now : ShelfState)
+        → IsReady (Some (demonstration cells)) now now ready) }
+{
+    let mut shelf = TextShelf::of(alloc, "demo", demo_text(alloc, cells)?)?;
+    match open(alloc, "demo", None, &[], &mut shelf) {
+        Ok(opened) => Ok(Ready::Alone(summary_alone(alloc, opened, cells)?)),
+        Err(fault) => Ok(Ready::Alone(unsummed_alone(alloc, &fault)?)),
+    }
+}
+
+// What is printed for a demonstration whose text is not accepted.
+fn unsummed_alone(alloc: Global, fault: &NotAccepted) -> Result<Alone, NoMemory>
+    ensures { IfOk result (λ alone. (cells : ℕ) (now before after : ShelfState)
+        → IsDemoShelf cells before after
+        → Failed before after (IsAccepted demo_asked) fault.now
+        → IsShown (Some (demonstration cells)) now now alone) }
+{
+    match fault {
+        NotAccepted::File { name } => unread_alone(alloc, name.as_slice()),
+        NotAccepted::Spec(refused) => refused_alone(alloc, "demo", "", refused),
+        NotAccepted::NoMemory => Err(NoMemory),
+    }
+}
+
+// What is printed for a demonstration whose text is accepted.
+fn summary_alone(alloc: Global, opened: Opened, cells: u8) -> Result<Alone, NoMemory>
+    requires lawful { IsLawfulAt opened }
+    requires at_start { opened.session.course.history.items ≡ [] }
+    ensures { IfOk result (λ alone. IsSummary (begun opened).basis
+        (begun opened).progress.situation cells alone.text.items × (alone.ended ≡ done)) }
+{
+    let mut opened = opened;
+    let mut text = Vec::new(alloc);
+    write_summary(
+        alloc,
+        &mut opened.session,
+        &mut opened.book,
+        cells,
+        &mut text,
+    )?;
+    Ok(Alone {
+        text,
+        ended: Ended::Done,
+    })
+}
+
+// Makes ready the usage line, for words that are no line.
 fn usage_ready(alloc: Global) -> Result<Ready, NoMemory>
     ensures { IfOk result (λ ready. (line : Option CommandLine) (now : ShelfState)
-        → files_of line ≡ None → IsReady line now now ready) }
+        → line ≡ None → IsReady line now now ready) }
 {
     Ok(Ready::Alone(usage_alone(alloc)?))
 }

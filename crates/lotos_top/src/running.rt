@@ -1,8 +1,10 @@
 //! The whole program over any outside.
 
+ghost use Rattle.history_lines.specs.LinesView.{IsServing};
 ghost use Rattle.library_reading.specs.ShelfUse.{shelf_state};
+ghost use Rattle.lotos_top.specs.Headline.{Headline};
 ghost use Rattle.lotos_top.specs.Outcome.{opening_text};
-ghost use Rattle.lotos_top.specs.Prepared.{begun};
+ghost use Rattle.lotos_top.specs.Prepared.{IsLawfulAt, any_maker, beginning_of, begun};
 ghost use Rattle.lotos_top.specs.Run.{
   Completes,
   Prints,
@@ -13,16 +15,17 @@ ghost use Rattle.lotos_top.specs.Run.{
   streams,
 };
 ghost use Rattle.lotos_top.specs.Words.{command_line};
-ghost use Rattle.session_lines.specs.View.{IsOverData, session_of};
 ghost use Rattle.sort_terms.specs.SignatureView.{signature_of};
 ghost use Rattle.start_values.specs.WordLimits.{words_of};
 ghost use Rattle.std.specs.Prelude.{◌≡◌, ℕ, List, MatchResult, Option};
 
 use crate::ended::Ended;
 use crate::opening::{Alone, Front, Opened, Ready, front_of, prepare};
+use history_lines::HistoryLines;
 use line_server::{SessionEnd, serve_session, write_whole};
 use lotos_base::{Failed, NoMemory, Shelf, Sink, Source};
-use session_lines::SessionLines;
+use menu_listing::FreshMenus;
+use session_reports::laws::{lines_lead_on, served_lines_are_answered};
 use sort_terms::Reader;
 use std::alloc::Global;
 
@@ -31,6 +34,8 @@ use std::alloc::Global;
 /// `check` gets the specification, its libraries and the order file from the shelf, and prints the
 /// head of the report and the exact menu of the state in which the specification begins. `run` goes
 /// on with the session of the input: it answers each line and prints the answer before it reads on.
+/// `demo` makes a specification of so many cells, walks through its session and prints the summary;
+/// it asks nothing of the shelf and reads no input.
 ///
 /// The answer is `WordsRefused` exactly where the words are no line of the usage, `FileFault` where
 /// a file could not be got, `SpecRefused` where the specification is refused, whose first fault is
@@ -57,10 +62,19 @@ pub fn run<F: Shelf, S: Source, K: Sink>(
         (streams (S.left input.old, S.faults input.old) (K.written output.old, K.faults output.old))
         (streams (S.left input.new, S.faults input.new) (K.written output.new, K.faults output.new))
         result }
+    ensures headline { Headline (command_line (words_of words.now))
+        (shelf_state (F.texts shelf.old) (F.faults shelf.old) (F.calls shelf.old))
+        (shelf_state (F.texts shelf.new) (F.faults shelf.new) (F.calls shelf.new))
+        (streams (S.left input.old, S.faults input.old) (K.written output.old, K.faults output.old))
+        (streams (S.left input.new, S.faults input.new) (K.written output.new, K.faults output.new))
+        result }
 {
+    // (These two do nothing. They carry the laws that the headline stands on.)
+    lines_lead_on();
+    served_lines_are_answered();
     match prepare(alloc, words, shelf) {
         Ok(Ready::Alone(alone)) => print(&alone, output),
-        Ok(Ready::Session(opened)) => match serve(alloc, opened, input, output) {
+        Ok(Ready::Session(opened)) => match serve(alloc, opened, shelf, input, output) {
             Ok(ended) => ended,
             Err(NoMemory) => Ended::NoMemory,
         },
@@ -82,75 +96,90 @@ fn print<K: Sink>(alone: &Alone, output: &mut K) -> Ended
 
 // Serves the session of an accepted specification. Where memory is wanted before its first line,
 // nothing is written.
-fn serve<S: Source, K: Sink>(
+fn serve<F: Shelf, S: Source, K: Sink>(
     alloc: Global,
     opened: Opened,
+    shelf: &mut F,
     input: &mut S,
     output: &mut K,
 ) -> Result<Ended, NoMemory>
+    requires lawful { IsLawfulAt opened }
     ensures { MatchResult result
         (Serves (begun opened) (opening_text (begun opened))
+        (shelf_state (F.texts shelf.old) (F.faults shelf.old) (F.calls shelf.old))
+        (shelf_state (F.texts shelf.new) (F.faults shelf.new) (F.calls shelf.new))
         (streams (S.left input.old, S.faults input.old) (K.written output.old, K.faults output.old))
-        (streams (S.left input.new, S.faults input.new) (K.written output.new, K.faults output.new)))
-        (λ _. Untouched
+        (streams (S.left input.new, S.faults input.new)
+        (K.written output.new, K.faults output.new)))
+        (λ _. (F.texts shelf.new ≡ F.texts shelf.old) × Untouched
         (streams (S.left input.old, S.faults input.old) (K.written output.old, K.faults output.old))
-        (streams (S.left input.new, S.faults input.new) (K.written output.new, K.faults output.new))) }
+        (streams (S.left input.new, S.faults input.new)
+        (K.written output.new, K.faults output.new))) }
 {
     let front = front_of(alloc, &opened)?;
-    serve_front(alloc, &front, opened, input, output)
+    serve_front(alloc, &front, opened, shelf, input, output)
 }
 
 // Serves the session behind its front.
-fn serve_front<S: Source, K: Sink>(
+fn serve_front<F: Shelf, S: Source, K: Sink>(
     alloc: Global,
     front: &Front,
     opened: Opened,
+    shelf: &mut F,
     input: &mut S,
     output: &mut K,
 ) -> Result<Ended, NoMemory>
     requires over { signature_of front.now.signature ≡ signature_of opened.book.flat.signature }
+    requires lawful { IsLawfulAt opened }
     ensures { MatchResult result
         (Serves (begun opened) front.now.text.items
+        (shelf_state (F.texts shelf.old) (F.faults shelf.old) (F.calls shelf.old))
+        (shelf_state (F.texts shelf.new) (F.faults shelf.new) (F.calls shelf.new))
         (streams (S.left input.old, S.faults input.old) (K.written output.old, K.faults output.old))
-        (streams (S.left input.new, S.faults input.new) (K.written output.new, K.faults output.new)))
-        (λ _. Untouched
+        (streams (S.left input.new, S.faults input.new)
+        (K.written output.new, K.faults output.new)))
+        (λ _. (F.texts shelf.new ≡ F.texts shelf.old) × Untouched
         (streams (S.left input.old, S.faults input.old) (K.written output.old, K.faults output.old))
-        (streams (S.left input.new, S.faults input.new) (K.written output.new, K.faults output.new))) }
+        (streams (S.left input.new, S.faults input.new)
+        (K.written output.new, K.faults output.new))) }
 {
     let reader = Reader::of(alloc, &front.signature)?;
-    let Opened {
-        spec,
-        book,
-        state,
-        menu,
-    } = opened;
-    let mut lines = SessionLines {
+    let Opened { session, book } = opened;
+    let mut lines = HistoryLines {
         signature: &front.signature,
         reader,
-        spec,
-        state,
-        menu,
+        session,
         book,
     };
-    Ok(serve_behind(alloc, front.text.as_slice(), &mut lines, input, output))
+    Ok(serve_behind(
+        alloc,
+        front.text.as_slice(),
+        &mut lines,
+        shelf,
+        input,
+        output,
+    ))
 }
 
 // Writes the text, and serves the session behind it.
-fn serve_behind<S: Source, K: Sink>(
+fn serve_behind<F: Shelf, S: Source, K: Sink>(
     alloc: Global,
     text: &[u8],
-    lines: &mut SessionLines<'_>,
+    lines: &mut HistoryLines<'_, FreshMenus>,
+    shelf: &mut F,
     input: &mut S,
     output: &mut K,
 ) -> Ended
-    requires over { IsOverData lines.old }
-    ensures { Serves (session_of lines.old) text.now
+    requires serving { IsServing any_maker lines.old }
+    ensures { Serves (beginning_of lines.old) text.now
+        (shelf_state (F.texts shelf.old) (F.faults shelf.old) (F.calls shelf.old))
+        (shelf_state (F.texts shelf.new) (F.faults shelf.new) (F.calls shelf.new))
         (streams (S.left input.old, S.faults input.old) (K.written output.old, K.faults output.old))
         (streams (S.left input.new, S.faults input.new) (K.written output.new, K.faults output.new))
         result }
 {
     match write_whole(output, text) {
-        Ok(()) => end_of(serve_session(alloc, lines, input, output)),
+        Ok(()) => end_of(serve_session(alloc, lines, shelf, input, output)),
         Err(Failed) => Ended::OutputFault,
     }
 }

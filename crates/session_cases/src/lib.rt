@@ -1,9 +1,6 @@
-//! Sessions over whole texts, driven by small scripts. Nothing stands on this crate.
+//! Sessions over whole texts, driven by small scripts: the calls with which the crates of tests
+//! work. It has no tests, so that it is not proved twice.
 #![tactic(auto)]
 
 pub mod opened;
-#[cfg(test)]
-mod rows;
 pub mod script;
-#[cfg(test)]
-mod tests;

@@ -1,9 +1,8 @@
--- A line comes to one answer at most.
+-- A question comes to one answer at most.
 use Rattle.std.proofs.Common.{◌≡◌, ◌≢◌, ◌⊎◌, ◌↔◌, inl, inr, ℕ, Bool, true, false, IsTrue, List, [], ◌∷◌, length, None, refl, sym, ap, subst, ◌∙◌}
 use Rattle.lotos_base.specs.WrittenTerm.{WrittenTerm}
 use Rattle.lotos_reading.specs.declared.fault.ReadFault.TheVariants.{NoMemory}
 use Rattle.lotos_reading.proofs.Outcomes.{all_have_one_outcome}
-use Rattle.line_server.specs.Report.{Reply}
 use Rattle.sort_terms.specs.ReadingOutcome as reading
 use Rattle.sort_terms.specs.ReadingOutcome.{SortedTerm, SortedPair, ReadingIs, PairReadingIs, answered}
 use Rattle.sort_terms.proofs.ReadsLemmas.{comes_once}
@@ -11,20 +10,18 @@ use Rattle.term_algebra.specs.Equality.{Equal}
 use Rattle.term_algebra.specs.Equation.{Data}
 use Rattle.term_algebra.specs.Signature.{Signature}
 use Rattle.term_algebra.specs.Term.{Term}
-use Rattle.line_commands.specs.Line.{Command, skip, show_menu, leave, no_command, show_normal, compare, command_of}
-use Rattle.session_lines.specs.Session.{Session}
 use Rattle.session_lines.specs.Refusal.{bad_command, bad_term, fault_number, term_number, AreTerms, AreUnread}
-use Rattle.session_lines.specs.Answer.{Outcome, refuses, gives, IsNormal, IsComparison, Comes, Answers, prints, normal_text, comparison_text}
+use Rattle.session_lines.specs.Answer.{Outcome, refuses, gives, IsNormal, IsComparison}
 
 -- ---- Texts
 
-same_terms : (text : List ℕ) (terms others : List WrittenTerm) → AreTerms text terms → AreTerms text others → terms ≡ others
+pub same_terms : (text : List ℕ) (terms others : List WrittenTerm) → AreTerms text terms → AreTerms text others → terms ≡ others
 same_terms text terms others = all_have_one_outcome.terms.one_tree 0 text terms others
 
-not_unread : (text : List ℕ) (terms : List WrittenTerm) (number : ℕ) → AreTerms text terms → AreUnread text number → ⊥
+pub not_unread : (text : List ℕ) (terms : List WrittenTerm) (number : ℕ) → AreTerms text terms → AreUnread text number → ⊥
 not_unread text terms number are unread = unread.2 (all_have_one_outcome.terms.not_both 0 text terms unread.0 are unread.1)
 
-same_number : (text : List ℕ) (number other : ℕ) → AreUnread text number → AreUnread text other → number ≡ other
+pub same_number : (text : List ℕ) (number other : ℕ) → AreUnread text number → AreUnread text other → number ≡ other
 same_number text number other one two = by (all_have_one_outcome.terms.one_fault 0 text one.0 two.0 one.1 two.1)
   where
     by : (one.0 ≡ NoMemory) ⊎ ((two.0 ≡ NoMemory) ⊎ (one.0 ≡ two.0)) → number ≡ other
@@ -81,7 +78,7 @@ not_both one other same = absurd (cc same)
 
 -- ---- Answers
 
-normal_once : (signature : Signature) (canon : Term → Term) (text : List ℕ) (one other : Outcome Term)
+pub normal_once : (signature : Signature) (canon : Term → Term) (text : List ℕ) (one other : Outcome Term)
     → IsNormal signature canon text one → IsNormal signature canon text other → one ≡ other
 normal_once signature canon text (gives form) (gives form') is is' =
     let same : is.1 ≡ is'.1 = answer_is is.1 is'.1 (term_reads_once signature text is.0 is'.0 _ _ is.2 is'.2 is.3 is'.3) in
@@ -123,7 +120,7 @@ one_truth true false first second there back = absurd (let no : false ≡ true =
 one_truth false true first second there back = absurd (let no : false ≡ true = first.1 (back (second.0 refl)) in cc)
 one_truth false false first second there back = refl
 
-comparison_once : (data_ : Data) (text : List ℕ) (one other : Outcome Bool) → IsComparison data_ text one
+pub comparison_once : (data_ : Data) (text : List ℕ) (one other : Outcome Bool) → IsComparison data_ text one
     → IsComparison data_ text other → one ≡ other
 comparison_once data_ text (gives equal) (gives equal') is is' =
     let same : is.2 ≡ is'.2 =
@@ -159,22 +156,3 @@ comparison_once data_ text (refuses (bad_term number)) (refuses (bad_term number
     let same : is.2 ≡ is'.2 =
     refusal_is SortedPair is.2 is'.2 (pair_reads_one data_.signature text is.0 is.1 is'.0 is'.1 _ _ is.3 is'.3 is.4 is'.4) in
     ap (λ it. refuses (bad_term it)) (is.5 ∙ (ap term_number same ∙ sym is'.5))
-
-comes_once_to : (session : Session) (command : Command) (one other : Reply Session) → Comes session command one → Comes session command other
-    → one ≡ other
-comes_once_to session skip one other is is' = is ∙ sym is'
-comes_once_to session show_menu one other is is' = is ∙ sym is'
-comes_once_to session leave one other is is' = is ∙ sym is'
-comes_once_to session no_command one other is is' = is ∙ sym is'
-comes_once_to session (show_normal text) one other is is' =
-    is.2
-    ∙ (ap (λ (it : Outcome Term). prints session (normal_text session.data_.signature it))
-    (normal_once session.data_.signature session.canon text is.0 is'.0 is.1 is'.1) ∙ sym is'.2)
-comes_once_to session (compare text) one other is is' =
-    is.2
-    ∙ (ap (λ (it : Outcome Bool). prints session (comparison_text it)) (comparison_once session.data_ text is.0 is'.0 is.1 is'.1)
-    ∙ sym is'.2)
-
-pub answers_once : (session : Session) (line : List ℕ) (one other : Reply Session) → Answers session line one → Answers session line other
-    → one ≡ other
-answers_once session line one other is is' = comes_once_to session (command_of line) one other is is'

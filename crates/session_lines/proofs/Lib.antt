@@ -1,3 +1,2 @@
-mod QuestionLemmas
-mod AnswerLemmas
-mod ServingLemmas
+pub mod QuestionLemmas
+pub mod AnswerLemmas

@@ -12,7 +12,7 @@ use Rattle.lotos_reading.specs.declared.fault.ReadFault.{ReadFault}
 use Rattle.lotos_reading.specs.declared.fault.ReadFault.TheVariants as fault
 use Rattle.sort_terms.specs.Reading.{Reads, AllRead}
 use Rattle.sort_terms.specs.ReadingOutcome as reading
-use Rattle.sort_terms.specs.ReadingOutcome.{SortedTerm, SortedPair, ReadingIs, PairReadingIs, answered, ComesTo, IsReading, IsPairReading}
+use Rattle.sort_terms.specs.ReadingOutcome.{SortedTerm, SortedPair, ReadingIs, PairReadingIs, answered, ComesTo, IsPairReading}
 use Rattle.sort_terms.specs.RefusalView.{UnlessNoMemory}
 use Rattle.sort_terms.specs.declared.sort_faults.SortFault.{SortFault}
 use Rattle.sort_terms.specs.declared.sort_faults.SortFault.TheVariants as sort_fault
@@ -96,7 +96,7 @@ comparison_read data_ read scope text left right pair equal over none there is d
 -- ---- Terms that are read without variables are ground
 
 mutual
-  read_ground : (signature : Signature) (w : WrittenTerm) (t : Term) (sort : ℕ) → Reads signature [] w t sort → IsGround t
+  pub read_ground : (signature : Signature) (w : WrittenTerm) (t : Term) (sort : ℕ) → Reads signature [] w t sort → IsGround t
   read_ground signature (written head arguments) (variable n s) sort reads = absurd (none-some _ reads.0.last.found)
   read_ground signature (written head arguments) (node f ts) sort reads = all_ground signature arguments ts _ reads.3
 
@@ -110,7 +110,7 @@ mutual
       (read_ground signature w t s reads.0, all_ground signature ws ts ss reads.1)
 
 -- the reading that a question comes to is a reading
-is_reading : {A : Type 0} (unknown : List reading.Refusal) (place : _) (Is : A → Type 0) (one : A)
+pub is_reading : {A : Type 0} (unknown : List reading.Refusal) (place : _) (Is : A → Type 0) (one : A)
     → ComesTo unknown place Is (answered one) → Is one
 is_reading (first ∷ rest) place Is one comes = absurd comes
 is_reading [] place Is one comes = comes.is_answer

@@ -1,4 +1,4 @@
--- What comes of each command in a session.
+-- What the questions of a session on its data come to.
 use Rattle.std.specs.Prelude.{◌≡◌, ◌≢◌, ◌⊎◌, ◌↔◌, ℕ, Bool, true, false, IsTrue, List, [], ◌∷◌, ◌++◌, length, None, codes}
 use Rattle.lotos_base.specs.WrittenTerm.{WrittenTerm}
 use Rattle.term_algebra.specs.Equality.{Equal}
@@ -8,10 +8,6 @@ use Rattle.term_algebra.specs.Term.{Term}
 use Rattle.sort_terms.specs.ReadingOutcome as reading
 use Rattle.sort_terms.specs.ReadingOutcome.{SortedTerm, SortedPair, ReadingIs, PairReadingIs, answered}
 use Rattle.printed_texts.specs.TermText.{term_text}
-use Rattle.printed_texts.specs.MenuText.{menu_text}
-use Rattle.line_server.specs.Report.{Reply}
-use Rattle.line_commands.specs.Line.{Command, skip, show_menu, leave, no_command, show_normal, compare, command_of}
-use Rattle.session_lines.specs.Session.{Session}
 use Rattle.session_lines.specs.Refusal.{Refusal, bad_command, bad_term, refusal_text, term_number, AreTerms, AreUnread}
 
 -- what a question of a line comes to: an answer, or a refusal
@@ -56,30 +52,3 @@ verdict_text false = codes "different\n"
 abbrev pub comparison_text : Outcome Bool → List ℕ
 comparison_text (gives equal) = verdict_text equal
 comparison_text (refuses refusal) = refusal_text refusal
-
-abbrev pub shown_menu : Session → List ℕ
-shown_menu session = menu_text session.data_.signature session.specification.gate_names session.menu
-
--- the text is printed, and the session goes on where it stands
-abbrev pub prints : Session → List ℕ → Reply Session
-prints session text = record { text = text; next = session; quits = false }
-
--- the session ends, and nothing is printed
-abbrev pub ends : Session → Reply Session
-ends session = record { text = []; next = session; quits = true }
-
--- what a command comes to
-abbrev pub Comes : Session → Command → Reply Session → Type 0
-Comes session skip reply = reply ≡ prints session []
-Comes session show_menu reply = reply ≡ prints session (shown_menu session)
-Comes session (show_normal text) reply =
-    (outcome : Outcome Term) × IsNormal session.data_.signature session.canon text outcome
-    × (reply ≡ prints session (normal_text session.data_.signature outcome))
-Comes session (compare text) reply =
-    (outcome : Outcome Bool) × IsComparison session.data_ text outcome × (reply ≡ prints session (comparison_text outcome))
-Comes session leave reply = reply ≡ ends session
-Comes session no_command reply = reply ≡ prints session (refusal_text bad_command)
-
--- what a line comes to
-abbrev pub Answers : Session → List ℕ → Reply Session → Type 0
-Answers session line reply = Comes session (command_of line) reply

@@ -1,4 +1,3 @@
-pub mod Session
 pub mod Refusal
 pub mod Answer
 pub mod AnswerLaws

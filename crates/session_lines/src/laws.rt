@@ -1,8 +1,8 @@
-//! Laws of the answers to lines. Each function carries a law as its contract and does nothing.
+//! Laws of questions. Each function carries a law as its contract and does nothing.
 
-ghost use Rattle.session_lines.specs.AnswerLaws.{LinesHaveOneAnswer};
+ghost use Rattle.session_lines.specs.AnswerLaws.{QuestionsHaveOneAnswer};
 
-/// A line comes to one answer at most.
-pub fn lines_have_one_answer()
-    ensures { LinesHaveOneAnswer }
+/// A question comes to one answer at most.
+pub fn questions_have_one_answer()
+    ensures { QuestionsHaveOneAnswer }
 {}

@@ -1,13 +1,11 @@
-//! The lines of a session and their answers.
+//! The questions of a session on its data, and their answers: normal forms and equality.
 #![tactic(auto)]
 
 pub mod laws;
 pub mod questions;
 pub mod refusals;
-pub mod serving;
 
 pub use refusals::Refusal;
-pub use serving::{Served, SessionLines};
 
 #[cfg(test)]
 mod tests;

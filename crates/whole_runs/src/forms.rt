@@ -59,7 +59,7 @@ menu
 data: 0 sorts, 0 operations, 0 equations
 events 0
 events 0
-refused 801 BadCommand
+refused 802 NoEntry 1 of 0
 ^0^s.lotos^specification S : noexit behaviour stop endspec~
 run s.lotos^equal x, y
 show
@@ -70,10 +70,11 @@ replay t
 data: 0 sorts, 0 operations, 0 equations
 events 0
 refused 804 BadTerm 211
-refused 801 BadCommand
-refused 801 BadCommand
-refused 801 BadCommand
-refused 801 BadCommand
+stop
+lotos-trace 1
+saved t
+replayed 0
+events 0
 ^0^s.lotos^specification S : noexit behaviour stop endspec~
 check s.lotos^^accepted S
 data: 2 sorts, 21 operations, 28 equations

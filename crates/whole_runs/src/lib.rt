@@ -18,6 +18,8 @@ mod given_values;
 #[cfg(test)]
 mod large;
 #[cfg(test)]
+mod odd_bytes;
+#[cfg(test)]
 mod outside;
 #[cfg(test)]
 mod parties;
@@ -35,6 +37,8 @@ mod refused_readings;
 mod refused_terms;
 #[cfg(test)]
 mod refused_types;
+#[cfg(test)]
+mod sessions;
 #[cfg(test)]
 mod small_texts;
 #[cfg(test)]

@@ -14,10 +14,10 @@ use Rattle.line_server.proofs.session.serve_pieces.Goals as goal
 pub loop-output-init : goal.loop-output-init
 loop-output-init g c = (
   subst (λ (it : List ℕ). Reached g.L.Lines.machine
-      (around (g.L.Lines.state c.args.lines.now, g.L.Lines.faults c.args.lines.now)
+      (around (g.L.Lines.state c.args.lines.now (g.F.Shelf.texts c.args.shelf.now), g.F.Shelf.faults c.args.shelf.now)
       (g.S.Source.left c.args.input.now, g.S.Source.faults c.args.input.now)
       (g.K.Sink.written c.args.output.now, g.K.Sink.faults c.args.output.now))
-      (around (g.L.Lines.state c.args.lines.now, g.L.Lines.faults c.args.lines.now)
+      (around (g.L.Lines.state c.args.lines.now (g.F.Shelf.texts c.args.shelf.now), g.F.Shelf.faults c.args.shelf.now)
       (g.S.Source.left c.args.input.now, g.S.Source.faults c.args.input.now)
       (g.K.Sink.written c.args.output.now, g.K.Sink.faults c.args.output.now))
       it 0)
@@ -33,7 +33,7 @@ returns-in-Err g c =
     let reached = c.loop-output.invariant.0 in (
       came_closed g.L.Lines.machine _ _ _ c.loop-output.line.items c.loop-output.line.items c.loop-output.total failed c.close.result
           reached
-          (closed_by_text g.L.Lines.machine _ _ c.loop-output.line.items _ _ failed _ c.close.result tt refl c.close.ensures.written)
+          (closed_by_text g.L.Lines.machine _ _ c.loop-output.line.items _ _ failed _ c.close.result tt refl refl c.close.ensures.written)
           c.close.ensures.answered
           (failed_seen _ _ _ reached.read reached.left c.in-Err.ensures.kept)
           (subst (λ (it : ℕ). Rises it (g.S.Source.faults c.read_piece.new.input)) reached.input c.in-Err.ensures.counts)
@@ -61,7 +61,8 @@ returns-then-total-eq-INPUT_LIMIT g c =
     let whole : length reached.read ≡ input_limit = reached.count ∙ c.if-total-eq-INPUT_LIMIT.true in (
       came_closed g.L.Lines.machine _ _ _ c.loop-output.line.items c.loop-output.line.items c.loop-output.total too_long
           c.close-then-total-eq-INPUT_LIMIT.result reached
-          (closed_by_text g.L.Lines.machine _ _ c.loop-output.line.items _ _ too_long _ c.close-then-total-eq-INPUT_LIMIT.result tt refl
+          (closed_by_text g.L.Lines.machine _ _ c.loop-output.line.items _ _ too_long _
+          c.close-then-total-eq-INPUT_LIMIT.result tt refl refl
           c.close-then-total-eq-INPUT_LIMIT.ensures.written)
           c.close-then-total-eq-INPUT_LIMIT.ensures.answered
           (too_long_seen _ _ _ reached.read _ c.in-Ok.count c.in-Ok.count-test.1 whole reached.left c.in-Ok.ensures.moved)

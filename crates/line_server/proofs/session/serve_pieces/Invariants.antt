@@ -9,10 +9,10 @@ use Rattle.line_server.proofs.session.serve_pieces.Given as goal
 abbrev pub invariant-loop-output : goal.invariant-loop-output
 invariant-loop-output g l =
     Reached g.L.Lines.machine
-    (around (g.L.Lines.state l.initial.lines, g.L.Lines.faults l.initial.lines)
+    (around (g.L.Lines.state l.initial.lines (g.F.Shelf.texts l.initial.shelf), g.F.Shelf.faults l.initial.shelf)
     (g.S.Source.left l.initial.input, g.S.Source.faults l.initial.input)
     (g.K.Sink.written l.initial.output, g.K.Sink.faults l.initial.output))
-    (around (g.L.Lines.state l.lines, g.L.Lines.faults l.lines)
+    (around (g.L.Lines.state l.lines (g.F.Shelf.texts l.shelf), g.F.Shelf.faults l.shelf)
     (g.S.Source.left l.input, g.S.Source.faults l.input) (g.K.Sink.written l.output, g.K.Sink.faults l.output))
     l.line.items l.total
     × All (λ byte. byte ≢ 10) l.line.items

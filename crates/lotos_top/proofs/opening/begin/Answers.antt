@@ -1,7 +1,19 @@
-use Rattle.lotos_top.proofs.BeginLemmas.{begins_so}
+use Rattle.lotos_top.proofs.BeginLemmas.{suited, kept, begins_so}
 use Rattle.lotos_top.proofs.opening.begin.Goals as goal
+
+pub open-requires : goal.open-requires
+open-requires c = record {
+  suited = suited c.requires.known.0 c.args.accepted _ c.requires.known.1;
+  kept = kept c.requires.known.0 c.args.accepted c.requires.known.1;
+}
 
 pub returns : goal.returns
 returns c = λ acceptance holds.
-    begins_so acceptance c.args.accepted c.menu.new.decider c.in_ok-menu.menu holds c.in_ok-menu.ensures.same_data
-    c.in_ok-menu.ensures.same_canon c.in_ok-menu.ensures.exact
+    begins_so acceptance c.args.accepted c.open.new.data c.in_ok-session.session holds (record {
+      same_data = c.in_ok-session.ensures.same_data;
+      same_canon = c.in_ok-session.ensures.same_canon;
+      lawful = c.in_ok-session.ensures.lawful;
+      spec = c.in_ok-session.ensures.begins.0;
+      state = c.in_ok-session.ensures.begins.2;
+      history = c.in_ok-session.ensures.begins.3;
+    })

@@ -1,7 +1,6 @@
-use Rattle.std.proofs.Common.{◌≡◌, Option, Some, IfOk, sym, ap, subst, ◌∙◌}
+use Rattle.std.proofs.Common.{Option, Some, IfOk, sym, ap, subst, ◌∙◌}
 use Rattle.std.proofs.lemmas.Result.{IfOk-weaker}
 use Rattle.library_reading.specs.ShelfUse.{shelf_state}
-use Rattle.lotos_top.specs.Outcome.{files_of}
 use Rattle.lotos_top.specs.Prepared.{IsReady}
 use Rattle.start_values.specs.WordLimits.{words_of}
 use Rattle.lotos_top.specs.Words.{CommandLine, command_line, line_of}
@@ -43,11 +42,13 @@ returns-in-Some-Run-clause-texts g c = c.served.ensures.texts
 
 pub returns-in-Some-Demo-clause-ready : goal.returns-in-Some-Demo-clause-ready
 returns-in-Some-Demo-clause-ready g c =
-    IfOk-weaker c.usage_ready.result _ _ (λ ready made. made (command_line (words_of c.args.words.now)) _
-    (ap files_of (c.in-Some-Demo.ensures ∙ ap (λ (command : Command). Some (line_of command)) c.in-Some-Demo.field-0-is)))
-    c.usage_ready.ensures
+    subst (λ (line : Option CommandLine). IfOk c.demonstrated.result (IsReady line
+    (shelf_state (g.F.Shelf.texts c.args.shelf.now) (g.F.Shelf.faults c.args.shelf.now) (g.F.Shelf.calls c.args.shelf.now))
+    (shelf_state (g.F.Shelf.texts c.args.shelf.now) (g.F.Shelf.faults c.args.shelf.now) (g.F.Shelf.calls c.args.shelf.now))))
+    (sym (c.in-Some-Demo.ensures ∙ ap (λ (command : Command). Some (line_of command)) c.in-Some-Demo.field-0-is))
+    (IfOk-weaker c.demonstrated.result _ _ (λ ready made. made _) c.demonstrated.ensures)
 
 pub returns-in-None-clause-ready : goal.returns-in-None-clause-ready
 returns-in-None-clause-ready g c =
-    IfOk-weaker c.usage_ready-in-None.result _ _
-    (λ ready made. made (command_line (words_of c.args.words.now)) _ (ap files_of c.in-None.ensures)) c.usage_ready-in-None.ensures
+    IfOk-weaker c.usage_ready.result _ _
+    (λ ready made. made (command_line (words_of c.args.words.now)) _ c.in-None.ensures) c.usage_ready.ensures

@@ -22,5 +22,6 @@ returns c = on_ok_weaker c.push_text-6.result (λ last.
     (ap length (c.ops.ensures ∙ ap (λ (f : Flat). f.signature.ops.items) c.flat-flat.ensures) ∙ sym (length-map _ _)))
     c.in_ok-push_text-5.ensures
     (counted _ _ _ _ c.in_ok-push_number-3.ensures
-    (c.len.ensures ∙ c.flat-flat.result.now.equations.ok.0 ∙ ap (λ (f : Flat). length f.equations.items) c.flat-flat.ensures ∙ sym (length-map _ _)))
+    (c.len.ensures ∙ c.flat-flat.result.now.equations.ok.0 ∙ ap (λ (f : Flat). length f.equations.items) c.flat-flat.ensures ∙ sym
+    (length-map _ _)))
     last) c.push_text-6.ensures

@@ -1,11 +1,19 @@
 use Rattle.std.proofs.Common.{ap}
+use Rattle.behaviour_tree.specs.declared.definitions.Spec.{Spec}
+use Rattle.event_offers.specs.declared.menus.Menu.{Menu}
+use Rattle.lotos_base.specs.Name.{spelling}
+use Rattle.printed_texts.specs.ReportLines.{head_text}
 use Rattle.printed_texts.specs.TextView.{written_menu}
+use Rattle.sort_terms.specs.EquationView.{data_of}
 use Rattle.sort_terms.specs.declared.equations.Flat.{Flat}
-use Rattle.lotos_top.proofs.HeadLemmas.{opening_joined}
+use Rattle.lotos_top.proofs.HeadLemmas.{named, opening_joined, shown_same}
 use Rattle.lotos_top.proofs.opening.push_opening.Goals as goal
 
 pub returns : goal.returns
 returns c =
-    opening_joined c.args.into.now.items c.push_head.new.into.items c.menu_text.new.into.items _ _ _ c.in_ok-push_head.ensures
+    opening_joined c.args.into.now.items c.push_head.new.into.items c.menu_text.new.into.items _ _ _
+    (named _ _ _ _ c.in_ok-push_head.ensures
+    (ap (λ (it : Spec). head_text (spelling it.name) (data_of c.args.opened.now.book.flat)) c.spec.ensures))
     c.in_ok-menu_text.ensures
-    (ap (λ (f : Flat). written_menu f.signature c.args.opened.now.spec.gate_names.items c.args.opened.now.menu) c.flat.ensures)
+    (shown_same (λ (f : Flat) (it : Spec) (menu : Menu). written_menu f.signature it.gate_names.items menu) c.flat.ensures
+    c.spec-2.ensures c.menu.ensures)

@@ -1,0 +1,4 @@
+pub mod DemoWalk
+pub mod DemoSummary
+pub mod WalkView
+pub mod WalkCases

@@ -1,0 +1,55 @@
+//! What is seen on a walk.
+
+ghost use Rattle.behaviour_tree.specs.MoveView.{label_of};
+ghost use Rattle.std.specs.Prelude.{◌≡◌, ◌+◌, ◌*◌, ◌≤◌, [], Some, length, option_map};
+ghost use Rattle.term_algebra.specs.Equation.{Data};
+ghost use Rattle.term_algebra.specs.Term.{Term};
+
+use behaviour_tree::Label;
+use menu_listing::MenuMaker;
+use session_log::Session;
+
+/// What is seen on a walk through a session.
+#[derive(Debug, Drop)]
+pub struct Tally {
+    /// How many steps were taken.
+    pub steps: usize,
+    /// How many entries the menus had: at the start, and behind each step.
+    pub entries: u128,
+    /// The label of the last step.
+    pub last: Option<Label>,
+}
+
+impl Tally {
+    ghost use Rattle.demo_walks.specs.WalkView.{IsOnWalk, most_entries, reached};
+    ghost use Rattle.session_log.specs.Kept.{IsLawfulSession};
+
+    /// What is seen of a session that has taken no step: its menu.
+    pub fn begin<M: MenuMaker>(session: &Session<M>) -> Tally
+        requires { session.now.course.history.items ≡ [] }
+        ensures { (data_ : Data) (canon : Term → Term)
+            → IsLawfulSession M.suits data_ canon session.now
+            → IsOnWalk M.suits data_ canon session.now result }
+    {
+        let entries = session.menu().len() as u128;
+        Tally {
+            steps: 0,
+            entries,
+            last: None,
+        }
+    }
+
+    /// Notes a step that the session has just taken, with its label.
+    pub fn note<M: MenuMaker>(&mut self, session: &Session<M>, label: Label)
+        requires { self.old.entries ≤ length (reached session.now).steps * most_entries }
+        ensures steps { self.new.steps ≡ length (reached session.now).steps }
+        ensures entries { self.new.entries
+            ≡ self.old.entries + length (reached session.now).situation.menu }
+        ensures few { length (reached session.now).situation.menu ≤ most_entries }
+        ensures last { option_map label_of self.new.last ≡ Some (label_of label) }
+    {
+        self.steps = session.length();
+        self.entries += session.menu().len() as u128;
+        self.last = Some(label);
+    }
+}

@@ -1,0 +1,176 @@
+//! The walk, step by step.
+
+ghost use Rattle.behaviour_tree.specs.BehaviourView.{terms_of};
+ghost use Rattle.demo_walks.specs.DemoWalk.{
+  Goes,
+  GoesThrough,
+  cell_step,
+  round_steps,
+  rounds_steps,
+  walk_steps,
+};
+ghost use Rattle.demo_walks.specs.WalkView.{AreGivenValues, IsOnWalk, reached, values_of};
+ghost use Rattle.session_histories.specs.Refusal.{StepRefusal as PlainRefusal};
+ghost use Rattle.session_log.specs.CourseView.{basis_over};
+ghost use Rattle.session_log.specs.Entries.{AreGiven};
+ghost use Rattle.session_log.specs.RefusalView.{TellsStep};
+ghost use Rattle.std.specs.Prelude.{◌≡◌, OnOk, Option, Some};
+
+use crate::tallies::Tally;
+use crate::values::CellValues;
+use lotos_base::NoMemory;
+use menu_listing::MenuMaker;
+use session_log::{Session, StepRefusal};
+use sort_terms::{Deciding, Sorted};
+use std::alloc::Global;
+
+/// Walks through the session: four rounds in which each cell puts its value, and then the store tells
+/// the length of its list. A step that the session refuses is left out.
+pub fn walk<M: MenuMaker, D: Deciding>(
+    alloc: Global,
+    values: &CellValues,
+    cells: u8,
+    session: &mut Session<M>,
+    tally: &mut Tally,
+    data: &mut D,
+) -> Result<(), NoMemory>
+    requires on_walk { IsOnWalk M.suits (D.known_data data.old) (D.canon data.old) session.old
+        tally.old }
+    requires given { AreGivenValues (D.known_data data.old).signature values.now }
+    ensures leads { OnOk result (GoesThrough
+        (basis_over (D.known_data data.old) (D.canon data.old) session.old.spec)
+        (walk_steps (values_of values.now) cells) (reached session.old) (reached session.new)) }
+    ensures on_walk_after { OnOk result (IsOnWalk M.suits (D.known_data data.old)
+        (D.canon data.old) session.new tally.new) }
+    ensures same_spec { session.new.spec ≡ session.old.spec }
+    ensures same_data { D.known_data data.new ≡ D.known_data data.old }
+    ensures same_canon { D.canon data.new ≡ D.canon data.old }
+{
+    rounds(alloc, values, cells, session, tally, data)?;
+    step(1, Vec::new(alloc), session, tally, data)
+}
+
+// Four rounds.
+fn rounds<M: MenuMaker, D: Deciding>(
+    alloc: Global,
+    values: &CellValues,
+    cells: u8,
+    session: &mut Session<M>,
+    tally: &mut Tally,
+    data: &mut D,
+) -> Result<(), NoMemory>
+    requires on_walk { IsOnWalk M.suits (D.known_data data.old) (D.canon data.old) session.old
+        tally.old }
+    requires given { AreGivenValues (D.known_data data.old).signature values.now }
+    ensures leads { OnOk result (GoesThrough
+        (basis_over (D.known_data data.old) (D.canon data.old) session.old.spec)
+        (rounds_steps (values_of values.now) cells 4) (reached session.old) (reached session.new)) }
+    ensures on_walk_after { OnOk result (IsOnWalk M.suits (D.known_data data.old)
+        (D.canon data.old) session.new tally.new) }
+    ensures same_spec { session.new.spec ≡ session.old.spec }
+    ensures same_data { D.known_data data.new ≡ D.known_data data.old }
+    ensures same_canon { D.canon data.new ≡ D.canon data.old }
+{
+    for turn in 0..4u8 {
+        let _ = turn;
+        round(alloc, values, cells, session, tally, data)?;
+    }
+    Ok(())
+}
+
+// A round: each cell puts its value.
+fn round<M: MenuMaker, D: Deciding>(
+    alloc: Global,
+    values: &CellValues,
+    cells: u8,
+    session: &mut Session<M>,
+    tally: &mut Tally,
+    data: &mut D,
+) -> Result<(), NoMemory>
+    requires on_walk { IsOnWalk M.suits (D.known_data data.old) (D.canon data.old) session.old
+        tally.old }
+    requires given { AreGivenValues (D.known_data data.old).signature values.now }
+    ensures leads { OnOk result (GoesThrough
+        (basis_over (D.known_data data.old) (D.canon data.old) session.old.spec)
+        (round_steps (values_of values.now) cells) (reached session.old) (reached session.new)) }
+    ensures on_walk_after { OnOk result (IsOnWalk M.suits (D.known_data data.old)
+        (D.canon data.old) session.new tally.new) }
+    ensures same_spec { session.new.spec ≡ session.old.spec }
+    ensures same_data { D.known_data data.new ≡ D.known_data data.old }
+    ensures same_canon { D.canon data.new ≡ D.canon data.old }
+{
+    for cell in 0..cells {
+        visit(alloc, values, cell, session, tally, data)?;
+    }
+    Ok(())
+}
+
+// The cell with this number puts its value.
+fn visit<M: MenuMaker, D: Deciding>(
+    alloc: Global,
+    values: &CellValues,
+    cell: u8,
+    session: &mut Session<M>,
+    tally: &mut Tally,
+    data: &mut D,
+) -> Result<(), NoMemory>
+    requires on_walk { IsOnWalk M.suits (D.known_data data.old) (D.canon data.old) session.old
+        tally.old }
+    requires given { AreGivenValues (D.known_data data.old).signature values.now }
+    ensures goes { OnOk result (Goes
+        (basis_over (D.known_data data.old) (D.canon data.old) session.old.spec)
+        (cell_step (values_of values.now) cell) (reached session.old) (reached session.new)) }
+    ensures on_walk_after { OnOk result (IsOnWalk M.suits (D.known_data data.old)
+        (D.canon data.old) session.new tally.new) }
+    ensures same_spec { session.new.spec ≡ session.old.spec }
+    ensures same_data { D.known_data data.new ≡ D.known_data data.old }
+    ensures same_canon { D.canon data.new ≡ D.canon data.old }
+{
+    match values.put_by(alloc, cell)? {
+        None => Ok(()),
+        Some(given) => step(cell as u64 + 2, given, session, tally, data),
+    }
+}
+
+// Takes the step by the entry with this number and these values, if it is not refused.
+fn step<M: MenuMaker, D: Deciding>(
+    number: u64,
+    values: Vec<Sorted>,
+    session: &mut Session<M>,
+    tally: &mut Tally,
+    data: &mut D,
+) -> Result<(), NoMemory>
+    requires on_walk { IsOnWalk M.suits (D.known_data data.old) (D.canon data.old) session.old
+        tally.old }
+    requires given { AreGiven (D.known_data data.old).signature values.items }
+    ensures goes { OnOk result (Goes
+        (basis_over (D.known_data data.old) (D.canon data.old) session.old.spec)
+        (record { number = number; values = Some (terms_of values.items) }) (reached session.old) (reached session.new)) }
+    ensures on_walk_after { OnOk result (IsOnWalk M.suits (D.known_data data.old)
+        (D.canon data.old) session.new tally.new) }
+    ensures same_spec { session.new.spec ≡ session.old.spec }
+    ensures same_data { D.known_data data.new ≡ D.known_data data.old }
+    ensures same_canon { D.canon data.new ≡ D.canon data.old }
+{
+    match session.step(number, values, data) {
+        Ok(label) => {
+            tally.note(session, label);
+            Ok(())
+        }
+        Err(refusal) => left_out(refusal),
+    }
+}
+
+// A step that is refused is left out, but for want of memory.
+fn left_out(refusal: StepRefusal) -> Result<(), NoMemory>
+    ensures { OnOk result ((expected : Option PlainRefusal) → TellsStep expected refusal
+        → (why : PlainRefusal) × (expected ≡ Some why)) }
+{
+    match refusal {
+        StepRefusal::NoEntry { .. } => Ok(()),
+        StepRefusal::ValueCount { .. } => Ok(()),
+        StepRefusal::ValueSort { .. } => Ok(()),
+        StepRefusal::Unmet { .. } => Ok(()),
+        StepRefusal::NoMemory => Err(NoMemory),
+    }
+}

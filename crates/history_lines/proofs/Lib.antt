@@ -1,0 +1,10 @@
+pub mod TextPieces
+pub mod RefusalLemmas
+pub mod ValueLemmas
+pub mod StepLemmas
+pub mod TextLemmas
+pub mod StateLemmas
+pub mod StayLemmas
+pub mod CallLemmas
+pub mod ServingLemmas
+pub mod ShelfLemmas

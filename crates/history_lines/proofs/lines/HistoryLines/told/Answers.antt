@@ -1,0 +1,15 @@
+use Rattle.std.proofs.lemmas.Result.{IfOk-weaker}
+use Rattle.sort_terms.specs.EquationView.{data_of}
+use Rattle.sort_terms.specs.SignatureView.{signature_of}
+use Rattle.history_lines.proofs.TextLemmas.{undone_here}
+use Rattle.history_lines.proofs.lines.HistoryLines.told.Goals as goal
+
+pub returns-then-undone : goal.returns-then-undone
+returns-then-undone g c =
+    rw c.if-undone.true
+    (IfOk-weaker c.undone_line.result _ _
+    (λ line is.
+    undone_here (signature_of c.args.self.now.signature.now) (data_of c.args.self.now.book.flat).signature c.spec.result.now
+    c.args.self.now.session.spec c.menu.result.now c.args.self.now.session.course.menu c.requires.serving.shown c.spec.ensures
+    c.menu.ensures line.items is)
+    c.undone_line.ensures)

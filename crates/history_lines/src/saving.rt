@@ -1,0 +1,89 @@
+//! The trace, and its texts on a shelf.
+
+ghost use Rattle.history_lines.specs.LinesView.{IsServing, basis_of, reached, standing_of};
+ghost use Rattle.history_lines.specs.Serving.{moment_of, Gives, IsBeforeOrBehind};
+ghost use Rattle.line_commands.specs.Request.{save as save_trace};
+ghost use Rattle.lotos_base.specs.Counts.{next_count};
+ghost use Rattle.session_answers.specs.ShelfAnswer.{trace_limit};
+ghost use Rattle.session_answers.specs.Standing.{shown_trace};
+ghost use Rattle.std.specs.Prelude.{◌≡◌, ◌⊎◌, ◌≤◌, IfOk, MatchResult, length};
+
+use crate::lines::HistoryLines;
+use crate::texts::name_line;
+use lotos_base::{NoMemory, PutFault, Shelf};
+use menu_listing::MenuMaker;
+use std::alloc::Global;
+
+/// A trace has so many bytes at most.
+pub const TRACE_LIMIT: usize = 268_435_456;
+
+impl<M: MenuMaker> HistoryLines<'_, M> {
+    /// The trace.
+    pub fn trace_lines(&self, alloc: Global) -> Result<Vec<u8>, NoMemory>
+        requires serving { IsServing M.suits self.now }
+        ensures { IfOk result (λ text. text.items ≡ shown_trace (basis_of self.now)
+            (reached self.now)) }
+    {
+        let mut text = Vec::new(alloc);
+        self.session.trace(self.signature, &mut text)?;
+        Ok(text)
+    }
+
+    /// Puts the trace on the shelf under the name.
+    ///
+    /// The line is refused as `TraceTooLong` where the trace has more than 268,435,456 bytes,
+    /// before the shelf is called, and as `Unwritten` exactly where the shelf counted a fault.
+    pub fn save_line<F: Shelf>(
+        &self,
+        alloc: Global,
+        name: &str,
+        shelf: &mut F,
+    ) -> Result<Vec<u8>, NoMemory>
+        requires serving { IsServing M.suits self.now }
+        ensures answered { MatchResult result
+            (λ line. Gives (moment_of (standing_of self.now (F.texts shelf.old))
+            (F.faults shelf.old))
+            (save_trace name.now) line.items
+            (moment_of (standing_of self.now (F.texts shelf.new)) (F.faults shelf.new)))
+            (λ _. IsBeforeOrBehind
+            (moment_of (standing_of self.now (F.texts shelf.old)) (F.faults shelf.old))
+            (save_trace name.now)
+            (moment_of (standing_of self.now (F.texts shelf.new)) (F.faults shelf.new))) }
+        ensures called { (F.calls shelf.new ≡ F.calls shelf.old)
+            ⊎ (F.calls shelf.new ≡ next_count (F.calls shelf.old)) }
+    {
+        let trace = self.trace_lines(alloc)?;
+        if trace.len() > TRACE_LIMIT {
+            return name_line(alloc, b"refused 809 TraceTooLong ", name);
+        }
+        self.put_trace(alloc, name, trace.as_slice(), shelf)
+    }
+
+    // Puts the trace, which is not too long, on the shelf.
+    fn put_trace<F: Shelf>(
+        &self,
+        alloc: Global,
+        name: &str,
+        trace: &[u8],
+        shelf: &mut F,
+    ) -> Result<Vec<u8>, NoMemory>
+        requires trace { trace.now ≡ shown_trace (basis_of self.now) (reached self.now) }
+        requires short { length trace.now ≤ trace_limit }
+        ensures answered { MatchResult result
+            (λ line. Gives (moment_of (standing_of self.now (F.texts shelf.old))
+            (F.faults shelf.old))
+            (save_trace name.now) line.items
+            (moment_of (standing_of self.now (F.texts shelf.new)) (F.faults shelf.new)))
+            (λ _. IsBeforeOrBehind
+            (moment_of (standing_of self.now (F.texts shelf.old)) (F.faults shelf.old))
+            (save_trace name.now)
+            (moment_of (standing_of self.now (F.texts shelf.new)) (F.faults shelf.new))) }
+        ensures called { F.calls shelf.new ≡ next_count (F.calls shelf.old) }
+    {
+        match shelf.put(name, trace) {
+            Ok(()) => name_line(alloc, b"saved ", name),
+            Err(PutFault::Failed) => name_line(alloc, b"refused 808 Unwritten ", name),
+            Err(PutFault::NoMemory) => Err(NoMemory),
+        }
+    }
+}

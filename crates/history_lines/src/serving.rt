@@ -1,0 +1,185 @@
+//! The answers to the lines of a session.
+
+ghost use Rattle.history_lines.specs.Calls.{CallsShelf};
+ghost use Rattle.history_lines.specs.LinesView.{IsServing, basis_of, reached, standing_of};
+ghost use Rattle.history_lines.specs.Serving.{moment_of, Gives, IsBeforeOrBehind, ends_session};
+ghost use Rattle.line_commands.specs.Request.{compare, show_normal};
+ghost use Rattle.line_commands.specs.RequestView.{wants};
+ghost use Rattle.line_commands.specs.RequestLaws.{Carries};
+ghost use Rattle.lotos_base.specs.Outside.{Texts};
+ghost use Rattle.session_answers.specs.Standing.{shown_menu, state_line};
+ghost use Rattle.std.specs.Prelude.{
+  ◌≡◌,
+  ◌+◌,
+  ◌<◌,
+  ◌^◌,
+  ℕ,
+  IfOk,
+  MatchResult,
+  Option,
+  length,
+};
+
+use crate::lines::HistoryLines;
+use crate::texts::{bare_line, menu_lines};
+use line_commands::{Request, read_request};
+use line_server::{Answer, Lines};
+use lotos_base::{NoMemory, Shelf};
+use menu_listing::MenuMaker;
+use printed_states::state_text;
+use printed_texts::brackets::push_text;
+use session_lines::questions::{push_comparison, push_normal};
+use std::alloc::Global;
+
+impl<M: MenuMaker> HistoryLines<'_, M> {
+    /// The answer to a request. A `step`, `undo` or `replay` that is not refused changes the
+    /// session, and no other request does. `replay` makes one call of the shelf, `save` one at
+    /// most, and no other request any. Where memory is wanted, session and shelf are those before
+    /// the line or those behind it.
+    pub fn answer<F: Shelf>(
+        &mut self,
+        alloc: Global,
+        request: Request<'_>,
+        shelf: &mut F,
+    ) -> Result<Vec<u8>, NoMemory>
+        requires serving { IsServing M.suits self.old }
+        requires short { (n : ℕ) × (n + 1 < 2 ^ 32) × Carries n (wants request) }
+        ensures answered { MatchResult result
+            (λ line. Gives (moment_of (standing_of self.old (F.texts shelf.old))
+            (F.faults shelf.old))
+            (wants request.entry) line.items
+            (moment_of (standing_of self.new (F.texts shelf.new)) (F.faults shelf.new)))
+            (λ _. IsBeforeOrBehind
+            (moment_of (standing_of self.old (F.texts shelf.old)) (F.faults shelf.old))
+            (wants request.entry)
+            (moment_of (standing_of self.new (F.texts shelf.new)) (F.faults shelf.new))) }
+        ensures called { CallsShelf (wants request.entry) (F.calls shelf.old)
+            (F.calls shelf.new) }
+        ensures serving_after { IsServing M.suits self.new }
+    {
+        match request {
+            Request::Step { number, terms } => self.step_line(alloc, number, terms),
+            Request::Undo => self.undo_line(alloc),
+            Request::Replay { name } => self.replay_line(alloc, name, shelf),
+            Request::Save { name } => self.save_line(alloc, name, shelf),
+            Request::Normal { terms } => self.normal_line(alloc, terms),
+            Request::Equal { terms } => self.equal_line(alloc, terms),
+            Request::Menu => self.menu_text(alloc),
+            Request::Behaviour => self.state_line(alloc),
+            Request::Trace => self.trace_lines(alloc),
+            Request::Unknown => bare_line(alloc, b"refused 801 BadCommand\n"),
+            Request::Skip => bare_line(alloc, b""),
+            Request::Quit => bare_line(alloc, b""),
+        }
+    }
+
+    // The normal form of the one term in the text.
+    fn normal_line(&mut self, alloc: Global, terms: &[u8]) -> Result<Vec<u8>, NoMemory>
+        requires serving { IsServing M.suits self.old }
+        requires short { length terms.now + 1 < 2 ^ 32 }
+        ensures answered { (texts : Option Texts) (faults : ℕ) → MatchResult result
+            (λ line. Gives (moment_of (standing_of self.old texts) faults) (show_normal terms.now)
+            line.items (moment_of (standing_of self.new texts) faults))
+            (λ _. IsBeforeOrBehind (moment_of (standing_of self.old texts) faults)
+            (show_normal terms.now) (moment_of (standing_of self.new texts) faults)) }
+        ensures serving_after { IsServing M.suits self.new }
+    {
+        let mut text = Vec::new(alloc);
+        push_normal(
+            alloc,
+            self.signature,
+            &self.reader,
+            &mut self.book,
+            terms,
+            &mut text,
+        )?;
+        Ok(text)
+    }
+
+    // Whether the two terms in the text are equal.
+    fn equal_line(&mut self, alloc: Global, terms: &[u8]) -> Result<Vec<u8>, NoMemory>
+        requires serving { IsServing M.suits self.old }
+        requires short { length terms.now + 1 < 2 ^ 32 }
+        ensures answered { (texts : Option Texts) (faults : ℕ) → MatchResult result
+            (λ line. Gives (moment_of (standing_of self.old texts) faults) (compare terms.now)
+            line.items (moment_of (standing_of self.new texts) faults))
+            (λ _. IsBeforeOrBehind (moment_of (standing_of self.old texts) faults)
+            (compare terms.now) (moment_of (standing_of self.new texts) faults)) }
+        ensures serving_after { IsServing M.suits self.new }
+    {
+        let mut text = Vec::new(alloc);
+        push_comparison(alloc, &self.reader, &mut self.book, terms, &mut text)?;
+        Ok(text)
+    }
+
+    // The menu of the state that was reached.
+    fn menu_text(&self, alloc: Global) -> Result<Vec<u8>, NoMemory>
+        requires serving { IsServing M.suits self.now }
+        ensures { IfOk result (λ text. text.items ≡ shown_menu (basis_of self.now)
+            (reached self.now)) }
+    {
+        menu_lines(
+            alloc,
+            self.signature,
+            self.session.spec(),
+            self.session.menu(),
+        )
+    }
+
+    // The state that was reached.
+    fn state_line(&self, alloc: Global) -> Result<Vec<u8>, NoMemory>
+        requires serving { IsServing M.suits self.now }
+        ensures { IfOk result (λ text. text.items ≡ state_line (basis_of self.now)
+            (reached self.now)) }
+    {
+        let mut text = Vec::new(alloc);
+        state_text(
+            self.signature,
+            self.session.spec(),
+            self.session.state(),
+            &mut text,
+        )?;
+        push_text(&mut text, b"\n")?;
+        Ok(text)
+    }
+}
+
+// Whether the request ends the session.
+fn ends(request: &Request<'_>) -> bool
+    ensures { result ≡ ends_session (wants request.now) }
+{
+    match request {
+        Request::Quit => true,
+        _ => false,
+    }
+}
+
+impl<M: MenuMaker> Lines for HistoryLines<'_, M> {
+    ghost use Rattle.history_lines.specs.LinesView.{IsServing, standing_of};
+    ghost use Rattle.session_answers.specs.Befallen.{Befallen};
+    ghost use Rattle.session_answers.specs.SessionMachine.{history_machine};
+    ghost use Rattle.session_answers.specs.Standing.{Standing};
+    ghost use Rattle.std.specs.Prelude.{Option};
+
+    ghost State = { Standing };
+
+    ghost state = { standing_of };
+
+    ghost Chance = { Option Befallen };
+
+    ghost machine = { history_machine };
+
+    ghost is_ready = { IsServing M.suits };
+
+    fn serve<F: Shelf>(
+        &mut self,
+        alloc: Global,
+        line: &[u8],
+        shelf: &mut F,
+    ) -> Result<Answer, NoMemory> {
+        let request = read_request(line);
+        let quits = ends(&request);
+        let text = self.answer(alloc, request, shelf)?;
+        Ok(Answer { text, quits })
+    }
+}

@@ -1,0 +1,3 @@
+pub mod StepOnceLemmas
+pub mod LineOnceLemmas
+pub mod ReportOnceLemmas

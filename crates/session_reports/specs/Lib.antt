@@ -1,0 +1,4 @@
+pub mod Beginning
+pub mod Reached
+pub mod Answered
+pub mod ReportLaws
