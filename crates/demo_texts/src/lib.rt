@@ -4,6 +4,3 @@
 pub mod texts;
 
 pub use texts::demo_text;
-
-#[cfg(test)]
-mod tests;

@@ -8,6 +8,3 @@ pub mod requests;
 mod words;
 
 pub use requests::{Request, read_request};
-
-#[cfg(test)]
-mod tests;

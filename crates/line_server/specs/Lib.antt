@@ -5,4 +5,3 @@ pub mod Fitting
 pub mod Writing
 pub mod Serving
 pub mod Session
-pub mod Echo

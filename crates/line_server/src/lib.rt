@@ -17,6 +17,3 @@ pub use input::{INPUT_LIMIT, PIECE_LIMIT};
 pub use lines::{Answer, Lines};
 pub use session::serve_session;
 pub use writing::write_whole;
-
-#[cfg(test)]
-mod tests;

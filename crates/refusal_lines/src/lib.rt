@@ -9,6 +9,3 @@ pub mod text_names;
 pub mod words;
 
 pub use lines::refusal_line;
-
-#[cfg(test)]
-mod tests;

@@ -6,6 +6,3 @@ pub mod questions;
 pub mod refusals;
 
 pub use refusals::Refusal;
-
-#[cfg(test)]
-mod tests;

@@ -1,6 +1,7 @@
 //! The texts of states with which specifications begin. Nothing stands on this crate.
 #![tactic(auto)]
 
-pub mod states;
+#[cfg(test)]
+mod states;
 #[cfg(test)]
 mod tests;

@@ -7,7 +7,6 @@ ghost use Rattle.behaviour_semantics.specs.Rule.{
   hidden_label,
   is_exit,
   move_together,
-  moves_alone,
 };
 ghost use Rattle.behaviour_tree.specs.BehaviourTerms.{profiles_of};
 ghost use Rattle.behaviour_tree.specs.BehaviourView.{meet_of, terms_of, variables_of};
@@ -23,17 +22,6 @@ use behaviour_tree::{Label, Meet};
 use event_offers::labels::alike;
 use menu_builder::rules::{gate_under, meet_at};
 use sort_terms::{Sorted, Variable};
-
-/// Whether a side of a parallel moves alone with the label.
-pub fn may_move_alone(meet: &Meet, label: &Label) -> bool
-    ensures { result ≡ moves_alone (meet_of meet.now) (label_of label.now) }
-{
-    match label {
-        Label::Inner => true,
-        Label::Gate(gate, _) => !meet_at(meet, *gate),
-        Label::Exit(_) => false,
-    }
-}
 
 /// Whether both sides of a parallel move together with these labels.
 pub fn may_move_together(meet: &Meet, left: &Label, right: &Label) -> bool

@@ -24,10 +24,11 @@ use behaviour_tree::boxes::boxed;
 use behaviour_tree::{Meet, Node};
 use event_offers::labels::values;
 use lotos_base::NoMemory;
+use menu_builder::rules::may_move_alone;
 use sort_terms::Deciding;
 use std::alloc::Global;
 use step_parts::faults::{At, StepFault, misfit};
-use step_parts::labels::{may_move_alone, may_move_together};
+use step_parts::labels::may_move_together;
 use step_parts::node_tests::checked_pairs;
 
 /// The move of a parallel whose left side moves alone.

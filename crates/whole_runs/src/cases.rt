@@ -31,11 +31,21 @@ struct Case<'a> {
 
 /// Runs each case and compares what it prints and how it ends.
 pub fn run_as_written(rt: &impl Abort, alloc: Global, cases: &str) -> Result<(), Fail> {
+    run_where_a_call_fails(rt, alloc, 0, cases)
+}
+
+/// The same over a shelf whose call with this number fails, counted from 1; with 0 none does.
+pub fn run_where_a_call_fails(
+    rt: &impl Abort,
+    alloc: Global,
+    call: u64,
+    cases: &str,
+) -> Result<(), Fail> {
     for text in cases.split(CASE) {
         let Some(case) = case_of(text.trim_start()) else {
             return Err(Fail::new("a case has four parts and files"));
         };
-        let (ended, written) = ran(alloc, case)?;
+        let (ended, written) = ran(alloc, call, case)?;
         assert_eq!(rt; written.as_slice(), case.printed.as_bytes());
         assert!(rt; case.status.as_bytes() == [b'0' + ended.status()].as_slice());
     }
@@ -60,9 +70,9 @@ fn case_of(text: &str) -> Option<Case<'_>> {
     })
 }
 
-/// How the run of the case ends, and what it writes.
-fn ran(alloc: Global, case: Case<'_>) -> Result<(Ended, Vec<u8>), Fail> {
-    let mut shelf = MemShelf::new(files_of(alloc, case.files)?, Vec::new(alloc));
+/// How the run of the case ends over a shelf whose call with this number fails, and what it writes.
+fn ran(alloc: Global, call: u64, case: Case<'_>) -> Result<(Ended, Vec<u8>), Fail> {
+    let mut shelf = MemShelf::new(files_of(alloc, case.files)?, vec![in alloc; call]?);
     let bytes = Vec::from_slice(alloc, case.input.as_bytes())?;
     let mut input = MemSource::new(bytes, Vec::new(alloc));
     let mut output = MemSink::new(alloc, ROOM, Vec::new(alloc))?;

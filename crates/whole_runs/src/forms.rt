@@ -108,6 +108,18 @@ events 2
 1: a !0
 2: b !0
 ^0^s.lotos^specification S [a, b, g, h] : noexit library NaturalNumber endlib behaviour choice z in [a, b] [] z !0; stop endspec~
+demo 1^^demo 1
+data: 3 sorts, 24 operations, 30 equations
+steps 5
+entries 12
+last out !Succ(Succ(Succ(Succ(0))))
+^0~
+demo 2^^demo 2
+data: 3 sorts, 24 operations, 30 equations
+steps 9
+entries 30
+last out !Succ(Succ(Succ(Succ(Succ(Succ(Succ(Succ(0))))))))
+^0~
 demo 65^^usage: lotos check SPEC [ORDER] [with TERM...] | run SPEC [ORDER] [with TERM...] | demo N
 ^2^s.lotos^specification S : noexit behaviour stop endspec~
 demo 01^^usage: lotos check SPEC [ORDER] [with TERM...] | run SPEC [ORDER] [with TERM...] | demo N

@@ -18,6 +18,8 @@ mod given_values;
 #[cfg(test)]
 mod large;
 #[cfg(test)]
+mod long_sessions;
+#[cfg(test)]
 mod odd_bytes;
 #[cfg(test)]
 mod outside;
@@ -39,6 +41,8 @@ mod refused_terms;
 mod refused_types;
 #[cfg(test)]
 mod sessions;
+#[cfg(test)]
+mod shelf_faults;
 #[cfg(test)]
 mod small_texts;
 #[cfg(test)]

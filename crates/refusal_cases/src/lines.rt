@@ -1,11 +1,11 @@
 //! Lines of refusals of each kind, with the texts that they name, written down by hand.
 
-use crate::refusal_line;
 use behaviour_tree::{Beh, Process, Spec};
 use equation_book::BookFault;
 use lotos_base::{Name, Place};
 use lotos_reading::ReadFault;
 use process_checks::{ExitFault, RankFault};
+use refusal_lines::refusal_line;
 use sort_terms::{Equation, Flat, Signature, Sort, SortFault, Sorted, Term, Variable};
 use spec_faults::{Refused, SpecFault};
 use static_scope::ScopeFault;

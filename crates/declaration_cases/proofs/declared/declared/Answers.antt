@@ -1,4 +1,4 @@
-use Rattle.type_cases.proofs.declared.declared.Goals as goal
+use Rattle.declaration_cases.proofs.declared.declared.Goals as goal
 
 pub returns-clause-sound : goal.returns-clause-sound
 returns-clause-sound c = c.in_ok-made.ensures.sound

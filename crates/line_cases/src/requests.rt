@@ -1,7 +1,7 @@
 //! What lines ask for.
 
-use crate::numbers::number_in;
-use crate::requests::{Request, read_request};
+use line_commands::numbers::number_in;
+use line_commands::{Request, read_request};
 use std::test::Fail;
 
 /// Whether the terms stand behind the word.

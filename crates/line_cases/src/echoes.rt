@@ -1,7 +1,7 @@
 //! Whole sessions with a machine that repeats each line: what is written, however the input is cut,
 //! and how they end.
 
-use crate::{Answer, Lines, SessionEnd, serve_session};
+use line_server::{Answer, Lines, SessionEnd, serve_session};
 use lotos_base::{MemShelf, MemSink, MemSource, NoMemory, Shelf};
 use std::alloc::Global;
 use std::test::Fail;
@@ -11,7 +11,7 @@ use std::test::Fail;
 struct Echo;
 
 impl Lines for Echo {
-    ghost use Rattle.line_server.specs.Echo.{Count, Nothing, echo};
+    ghost use Rattle.line_cases.specs.Echo.{Count, Nothing, echo};
 
     ghost State = { Count };
 

@@ -1,6 +1,6 @@
 //! The lines of refusals.
 
-use crate::refusals::{Refusal, push_refusal};
+use session_lines::refusals::{Refusal, push_refusal};
 use std::test::Fail;
 
 #[test]

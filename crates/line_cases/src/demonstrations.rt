@@ -1,6 +1,6 @@
 //! Texts of few cells.
 
-use crate::demo_text;
+use demo_texts::demo_text;
 use std::test::Fail;
 
 const ONE: &[u8] = b"specification Demo [put, out] : noexit
