@@ -1,4 +1,5 @@
-//! Tests of the lines of a session and of the text of a demonstration. Nothing stands on this crate.
+//! Tests of the lines of a session and of the text of a demonstration. Nothing stands on this
+//! crate.
 #![tactic(auto)]
 
 #[cfg(test)]
