@@ -4,12 +4,12 @@ use Rattle.std.specs.Option.{option_map}
 use Rattle.lotos_base.specs.Counts.{Rises}
 use Rattle.lotos_base.specs.Limits.{text_limit}
 use Rattle.lotos_base.specs.Outside.{Texts}
-use Rattle.library_reading.specs.Gathering.{GotFile}
-use Rattle.library_reading.specs.GatheringLaws.{AreGotFrom}
-use Rattle.library_reading.specs.ShelfUse.{ShelfState, IsFileOf}
-use Rattle.acceptance_order.specs.Acceptance.{Asked, Acceptance, IsAccepted}
-use Rattle.acceptance_order.specs.Ending.{unread, refused}
-use Rattle.acceptance_order.specs.Part.{Comes, goes_on, stops}
+use Rattle.lotos_grammar.specs.Gathering.{GotFile}
+use Rattle.lotos_grammar.specs.GatheringLaws.{AreGotFrom}
+use Rattle.lotos_grammar.specs.ShelfUse.{ShelfState, IsFileOf}
+use Rattle.spec_acceptance.specs.Acceptance.{Asked, Acceptance, IsAccepted}
+use Rattle.spec_acceptance.specs.Ending.{unread, refused}
+use Rattle.spec_acceptance.specs.Part.{Comes, goes_on, stops}
 use Rattle.spec_acceptance.specs.Doing.{Did}
 use Rattle.spec_acceptance.specs.declared.not_accepted.NotAccepted.TheVariants.{File, Spec, NoMemory}
 use Rattle.acceptance_outcomes.specs.AcceptanceOutcomes.{got_from, ComesOver, OutcomesOverTextsAreOne, RefusesOver, AnswersOver, ReadsAreOne}

@@ -7,16 +7,16 @@ use Rattle.type_mentions.specs.MentionFaults.{MentionFault, double_type, unknown
 use Rattle.type_mentions.specs.TypeGraph.{mentioned_by}
 use Rattle.type_mentions.proofs.MentionLemmas.{faults_unique}
 use Rattle.type_mentions.proofs.NumberLists.{among_at}
-use Rattle.type_flatten.specs.TypeFault.{TypeFault}
-use Rattle.type_flatten.specs.Flattened.{IsFlattening, IsFlatteningFault}
-use Rattle.flattening_outcomes.proofs.OneOutcome.{flattening_is_decided}
-use Rattle.flattened_data_laws.proofs.TypesFine.{flattened_data}
-use Rattle.spec_faults.specs.Refusal.{Refusal, too_long, bad_byte, open_comment, wrong_syntax, too_deep, too_many_libraries, wrong_names, wrong_types, wrong_scopes, mismatch, unguarded, unknown_operation, twice_listed, unorientable, unjoined, start_values, start_term}
-use Rattle.acceptance_order.specs.AcceptanceLaws.{TypesAreDecided, DataAreWellFormed}
-use Rattle.acceptance_order.specs.Types.{AreNamesFine, HaveFault}
-use Rattle.acceptance_order.proofs.WholeLemmas.{acceptance_is_determined}
-use Rattle.decided_checks.proofs.DecidedBooks.{books_are_decided}
-use Rattle.decided_checks.proofs.DecidedLemmas.{exits_are_decided, ranks_are_decided}
+use Rattle.type_definitions.specs.TypeFault.{TypeFault}
+use Rattle.type_definitions.specs.Flattened.{IsFlattening, IsFlatteningFault}
+use Rattle.type_laws.proofs.OneOutcome.{flattening_is_decided}
+use Rattle.type_laws.proofs.TypesFine.{flattened_data}
+use Rattle.start_values.specs.Refusal.{Refusal, too_long, bad_byte, open_comment, wrong_syntax, too_deep, too_many_libraries, wrong_names, wrong_types, wrong_scopes, mismatch, unguarded, unknown_operation, twice_listed, unorientable, unjoined, start_values, start_term}
+use Rattle.spec_acceptance.specs.AcceptanceLaws.{TypesAreDecided, DataAreWellFormed}
+use Rattle.spec_acceptance.specs.Types.{AreNamesFine, HaveFault}
+use Rattle.spec_acceptance.proofs.WholeLemmas.{acceptance_is_determined}
+use Rattle.acceptance_outcomes.proofs.DecidedBooks.{books_are_decided}
+use Rattle.acceptance_outcomes.proofs.DecidedLemmas.{exits_are_decided, ranks_are_decided}
 use Rattle.acceptance_outcomes.specs.AcceptanceOutcomes.{AcceptanceHasOneOutcome}
 
 none_and_some : {A : Type 0} (o : Option A) (x : A) → o ≡ None → o ≡ Some x → ⊥

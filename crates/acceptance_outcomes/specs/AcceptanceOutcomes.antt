@@ -4,14 +4,14 @@ use Rattle.std.specs.Option.{option_map}
 use Rattle.lotos_base.specs.Counts.{Rises}
 use Rattle.lotos_base.specs.Limits.{text_limit}
 use Rattle.lotos_base.specs.Outside.{Texts}
-use Rattle.library_reading.specs.Gathering.{GotFile}
-use Rattle.library_reading.specs.GatheringLaws.{Files, AreGotFrom}
-use Rattle.library_reading.specs.ShelfUse.{ShelfState}
-use Rattle.spec_faults.specs.RefusalView.{refused_of}
-use Rattle.acceptance_order.specs.Acceptance.{Asked, Acceptance, IsAccepted}
-use Rattle.acceptance_order.specs.Ending.{unread, refused}
-use Rattle.acceptance_order.specs.Part.{Comes, goes_on, stops}
-use Rattle.acceptance_order.specs.PartLaws.{Lacks, IsDetermined}
+use Rattle.lotos_grammar.specs.Gathering.{GotFile}
+use Rattle.lotos_grammar.specs.GatheringLaws.{Files, AreGotFrom}
+use Rattle.lotos_grammar.specs.ShelfUse.{ShelfState}
+use Rattle.start_values.specs.RefusalView.{refused_of}
+use Rattle.spec_acceptance.specs.Acceptance.{Asked, Acceptance, IsAccepted}
+use Rattle.spec_acceptance.specs.Ending.{unread, refused}
+use Rattle.spec_acceptance.specs.Part.{Comes, goes_on, stops}
+use Rattle.spec_acceptance.specs.PartLaws.{Lacks, IsDetermined}
 use Rattle.spec_acceptance.specs.AcceptedView.{Holds, AcceptsWith}
 use Rattle.spec_acceptance.specs.Doing.{Failed}
 use Rattle.spec_acceptance.specs.declared.accepted.Accepted.{Accepted}

@@ -1,6 +1,6 @@
 //! Laws of the outcome of acceptance. Each function carries one as its contract and does nothing.
 
-ghost use Rattle.acceptance_order.specs.AcceptanceLaws.{DataAreWellFormed, TypesAreDecided};
+ghost use Rattle.spec_acceptance.specs.AcceptanceLaws.{DataAreWellFormed, TypesAreDecided};
 ghost use Rattle.acceptance_outcomes.specs.AcceptanceOutcomes.{
   AcceptanceHasOneOutcome,
   OutcomesOverTextsAreOne,

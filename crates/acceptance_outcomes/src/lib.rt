@@ -2,4 +2,5 @@
 //! is one answer. Each function carries a law as its contract and does nothing.
 #![tactic(auto)]
 
+pub mod decided_laws;
 pub mod laws;

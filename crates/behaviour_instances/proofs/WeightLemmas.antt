@@ -29,8 +29,8 @@ pub form_lighter : (b form : Beh) (bound : ℕ) → b ≡ form → 4 * weight (b
 form_lighter b form bound e h =
     let w : weight (behaviour_of b) ≡ weight (behaviour_of form) = ap (λ (x : Beh). weight (behaviour_of x)) e in omega (arith, w, h)
 
-pub unboxed_lighter : (x y : Beh) (bound : ℕ) → x ≡ y → 4 * weight (behaviour_of y) + 2 ≡ bound → 4 * weight (behaviour_of x) + 1 < bound
-unboxed_lighter x y bound e h =
+pub held_lighter : (x y : Beh) (bound : ℕ) → x ≡ y → 4 * weight (behaviour_of y) + 2 ≡ bound → 4 * weight (behaviour_of x) + 1 < bound
+held_lighter x y bound e h =
     let w : weight (behaviour_of x) ≡ weight (behaviour_of y) = ap (λ (b : Beh). weight (behaviour_of b)) e in omega (arith, w, h)
 
 pub below_inside : (w bound : ℕ) → 4 * w + 3 ≡ bound → 4 * w + 2 < bound
@@ -42,8 +42,8 @@ left_below w v bound h = omega (arith, h)
 pub right_below : (w v bound : ℕ) → 4 * (w + v) + 3 ≡ bound → 4 * v + 2 < bound
 right_below w v bound h = omega (arith, h)
 
-pub boxed_part : (w bound : ℕ) → 4 * suc w ≡ bound → 4 * w + 2 < bound
-boxed_part w bound h = omega (arith, h)
+pub shared_part : (w bound : ℕ) → 4 * suc w ≡ bound → 4 * w + 2 < bound
+shared_part w bound h = omega (arith, h)
 
 pub inside_part : (w bound : ℕ) → 4 * suc w ≡ bound → 4 * w + 3 < bound
 inside_part w bound h = omega (arith, h)

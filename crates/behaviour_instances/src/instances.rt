@@ -40,11 +40,12 @@ use crate::environments::{below_accept, below_action, below_choice, below_let};
 use crate::terms::{
     placed_bindings, placed_offers, placed_option, placed_results, placed_terms, placed_test,
 };
-use behaviour_tree::boxes::boxed;
+use behaviour_tree::boxes::shared;
 use behaviour_tree::copies::variable_copies;
 use behaviour_tree::{Beh, Meet, Offer, Test};
 use lotos_base::{NoMemory, Place};
 use sort_terms::{Sorted, Variable};
+use std::rc::Rc;
 
 /// The behaviour with the values of the environment put for its free variables. A variable without
 /// a pair stays; the first pair with a number counts. No binder is renamed.
@@ -119,34 +120,34 @@ fn call_instance(
     })
 }
 
-// The same of a part, in a box.
+// The same of a part, shared.
 #[cycle(instance)]
-fn boxed_instance(environment: &Vec<(u64, Sorted)>, part: &Box<Beh>) -> Result<Box<Beh>, NoMemory>
+fn shared_instance(environment: &Vec<(u64, Sorted)>, part: &Rc<Beh>) -> Result<Rc<Beh>, NoMemory>
     requires { SuitsWhere (profiled_pairs environment.now.items)
         (λ n s. IsFree n s (behaviour_of part.now.value)) }
     ensures { IfOk result (λ b. IsInstance environment.now.items part.now.value b.value) }
 {
     let made = instance(environment, part)?;
-    boxed(*environment.allocator(), made)
+    shared(*environment.allocator(), made)
 }
 
 // The same by an environment of its own.
 #[cycle(instance)]
-fn inside_instance(inner: Vec<(u64, Sorted)>, part: &Box<Beh>) -> Result<Box<Beh>, NoMemory>
+fn inside_instance(inner: Vec<(u64, Sorted)>, part: &Rc<Beh>) -> Result<Rc<Beh>, NoMemory>
     requires { SuitsWhere (profiled_pairs inner.items)
         (λ n s. IsFree n s (behaviour_of part.now.value)) }
     ensures { IfOk result (λ b. IsInstance inner.items part.now.value b.value) }
 {
-    boxed_instance(&inner, part)
+    shared_instance(&inner, part)
 }
 
 // The same of both sides of a form.
 #[cycle(instance)]
 fn both_instances(
     environment: &Vec<(u64, Sorted)>,
-    left: &Box<Beh>,
-    right: &Box<Beh>,
-) -> Result<(Box<Beh>, Box<Beh>), NoMemory>
+    left: &Rc<Beh>,
+    right: &Rc<Beh>,
+) -> Result<(Rc<Beh>, Rc<Beh>), NoMemory>
     requires left { SuitsWhere (profiled_pairs environment.now.items)
         (λ n s. IsFree n s (behaviour_of left.now.value)) }
     requires right { SuitsWhere (profiled_pairs environment.now.items)
@@ -156,8 +157,8 @@ fn both_instances(
     ensures right { IfOk result
         (λ made. IsInstance environment.now.items right.now.value made.1.value) }
 {
-    let left = boxed_instance(environment, left)?;
-    let right = boxed_instance(environment, right)?;
+    let left = shared_instance(environment, left)?;
+    let right = shared_instance(environment, right)?;
     Ok((left, right))
 }
 
@@ -169,7 +170,7 @@ fn action_instance(
     gate: u32,
     offers: &Vec<Offer>,
     test: &Option<Test>,
-    next: &Box<Beh>,
+    next: &Rc<Beh>,
 ) -> Result<Beh, NoMemory>
     requires { SuitsWhere (profiled_pairs environment.now.items)
         (λ n s. IsFree n s (plain.action gate (map offer_of offers.now.items)
@@ -193,7 +194,7 @@ fn action_below(
     gate: u32,
     offers: &Vec<Offer>,
     test: &Option<Test>,
-    next: &Box<Beh>,
+    next: &Rc<Beh>,
 ) -> Result<Beh, NoMemory>
     requires suited { SuitsWhere (profiled_pairs environment.now.items)
         (λ n s. IsFree n s (plain.action gate (map offer_of offers.now.items)
@@ -211,7 +212,7 @@ fn action_below(
     ensures terms { IfOk result (λ b. profiles_in b ≡ action_profiles
         (profiled_binding (profiled_pairs environment.now.items)) offers.now.items test.now next.now.value) }
 {
-    let next = boxed_instance(inner, next)?;
+    let next = shared_instance(inner, next)?;
     let head = placed_head(environment, inner, offers, test)?;
     Ok(Beh::Action {
         gate,
@@ -224,7 +225,7 @@ fn action_below(
 // Of `i; B`.
 #[cycle(instance)]
 #[inline(never)]
-fn inner_instance(environment: &Vec<(u64, Sorted)>, next: &Box<Beh>) -> Result<Beh, NoMemory>
+fn inner_instance(environment: &Vec<(u64, Sorted)>, next: &Rc<Beh>) -> Result<Beh, NoMemory>
     requires { SuitsWhere (profiled_pairs environment.now.items)
         (λ n s. IsFree n s (plain.inner_action (behaviour_of next.now.value))) }
     ensures same { IfOk result (λ b. behaviour_of b
@@ -233,7 +234,7 @@ fn inner_instance(environment: &Vec<(u64, Sorted)>, next: &Box<Beh>) -> Result<B
     ensures terms { IfOk result (λ b. profiles_in b ≡ instance_profiles
         (profiled_binding (profiled_pairs environment.now.items)) next.now.value) }
 {
-    let next = boxed_instance(environment, next)?;
+    let next = shared_instance(environment, next)?;
     Ok(Beh::Inner(next))
 }
 
@@ -243,7 +244,7 @@ fn inner_instance(environment: &Vec<(u64, Sorted)>, next: &Box<Beh>) -> Result<B
 fn guard_instance(
     environment: &Vec<(u64, Sorted)>,
     test: &Test,
-    next: &Box<Beh>,
+    next: &Rc<Beh>,
 ) -> Result<Beh, NoMemory>
     requires { SuitsWhere (profiled_pairs environment.now.items)
         (λ n s. IsFree n s (plain.guard (test_of test.now) (behaviour_of next.now.value))) }
@@ -255,7 +256,7 @@ fn guard_instance(
         ++ instance_profiles
         (profiled_binding (profiled_pairs environment.now.items)) next.now.value) }
 {
-    let next = boxed_instance(environment, next)?;
+    let next = shared_instance(environment, next)?;
     let test = placed_test(environment, test)?;
     Ok(Beh::Guard(test, next))
 }
@@ -266,8 +267,8 @@ fn guard_instance(
 fn choice_instance(
     environment: &Vec<(u64, Sorted)>,
     place: Place,
-    left: &Box<Beh>,
-    right: &Box<Beh>,
+    left: &Rc<Beh>,
+    right: &Rc<Beh>,
 ) -> Result<Beh, NoMemory>
     requires { SuitsWhere (profiled_pairs environment.now.items)
         (λ n s. IsFree n s (plain.choice (behaviour_of left.now.value)
@@ -292,8 +293,8 @@ fn parallel_instance(
     environment: &Vec<(u64, Sorted)>,
     place: Place,
     meet: &Meet,
-    left: &Box<Beh>,
-    right: &Box<Beh>,
+    left: &Rc<Beh>,
+    right: &Rc<Beh>,
 ) -> Result<Beh, NoMemory>
     requires { SuitsWhere (profiled_pairs environment.now.items)
         (λ n s. IsFree n s (plain.parallel (meet_of meet.now) (behaviour_of left.now.value)
@@ -318,8 +319,8 @@ fn parallel_instance(
 fn disable_instance(
     environment: &Vec<(u64, Sorted)>,
     place: Place,
-    left: &Box<Beh>,
-    right: &Box<Beh>,
+    left: &Rc<Beh>,
+    right: &Rc<Beh>,
 ) -> Result<Beh, NoMemory>
     requires { SuitsWhere (profiled_pairs environment.now.items)
         (λ n s. IsFree n s (plain.disable (behaviour_of left.now.value)
@@ -343,7 +344,7 @@ fn disable_instance(
 fn hide_instance(
     environment: &Vec<(u64, Sorted)>,
     gates: &Vec<u32>,
-    next: &Box<Beh>,
+    next: &Rc<Beh>,
 ) -> Result<Beh, NoMemory>
     requires { SuitsWhere (profiled_pairs environment.now.items)
         (λ n s. IsFree n s (plain.hide gates.now.items (behaviour_of next.now.value))) }
@@ -354,7 +355,7 @@ fn hide_instance(
         (profiled_binding (profiled_pairs environment.now.items)) next.now.value) }
 {
     let gates = Vec::from_slice(*environment.allocator(), gates)?;
-    let next = boxed_instance(environment, next)?;
+    let next = shared_instance(environment, next)?;
     Ok(Beh::Hide(gates, next))
 }
 
@@ -364,9 +365,9 @@ fn hide_instance(
 fn enable_instance(
     environment: &Vec<(u64, Sorted)>,
     place: Place,
-    left: &Box<Beh>,
+    left: &Rc<Beh>,
     variables: &Vec<Variable>,
-    right: &Box<Beh>,
+    right: &Rc<Beh>,
 ) -> Result<Beh, NoMemory>
     requires { SuitsWhere (profiled_pairs environment.now.items)
         (λ n s. IsFree n s (plain.enable (behaviour_of left.now.value)
@@ -382,7 +383,7 @@ fn enable_instance(
 {
     let inner = below_accept(environment, variables)?;
     let right = inside_instance(inner, right)?;
-    let left = boxed_instance(environment, left)?;
+    let left = shared_instance(environment, left)?;
     let variables = variable_copies(*environment.allocator(), variables)?;
     Ok(Beh::Enable(place, left, variables, right))
 }
@@ -393,7 +394,7 @@ fn enable_instance(
 fn let_instance(
     environment: &Vec<(u64, Sorted)>,
     bindings: &Vec<(Variable, Sorted)>,
-    next: &Box<Beh>,
+    next: &Rc<Beh>,
 ) -> Result<Beh, NoMemory>
     requires { SuitsWhere (profiled_pairs environment.now.items)
         (λ n s. IsFree n s (plain.let_be (map let_of bindings.now.items) (behaviour_of next.now.value))) }
@@ -418,7 +419,7 @@ fn let_instance(
 fn value_instance(
     environment: &Vec<(u64, Sorted)>,
     variable: &Variable,
-    next: &Box<Beh>,
+    next: &Rc<Beh>,
 ) -> Result<Beh, NoMemory>
     requires { SuitsWhere (profiled_pairs environment.now.items)
         (λ n s. IsFree n s (plain.choose_value (variable_of variable.now) (behaviour_of next.now.value))) }
@@ -442,7 +443,7 @@ fn gate_instance(
     environment: &Vec<(u64, Sorted)>,
     gate: u32,
     gates: &Vec<u32>,
-    next: &Box<Beh>,
+    next: &Rc<Beh>,
 ) -> Result<Beh, NoMemory>
     requires { SuitsWhere (profiled_pairs environment.now.items)
         (λ n s. IsFree n s (plain.choose_gate gate gates.now.items (behaviour_of next.now.value))) }
@@ -453,7 +454,7 @@ fn gate_instance(
         (profiled_binding (profiled_pairs environment.now.items)) next.now.value) }
 {
     let gates = Vec::from_slice(*environment.allocator(), gates)?;
-    let next = boxed_instance(environment, next)?;
+    let next = shared_instance(environment, next)?;
     Ok(Beh::ChooseGate(gate, gates, next))
 }
 
@@ -465,7 +466,7 @@ fn par_instance(
     gate: u32,
     gates: &Vec<u32>,
     meet: &Meet,
-    next: &Box<Beh>,
+    next: &Rc<Beh>,
 ) -> Result<Beh, NoMemory>
     requires { SuitsWhere (profiled_pairs environment.now.items)
         (λ n s. IsFree n s (plain.par_gate gate gates.now.items (meet_of meet.now)
@@ -480,7 +481,7 @@ fn par_instance(
     let alloc = *environment.allocator();
     let gates = Vec::from_slice(alloc, gates)?;
     let meet = meet.copy(alloc)?;
-    let next = boxed_instance(environment, next)?;
+    let next = shared_instance(environment, next)?;
     Ok(Beh::ParGate(gate, gates, meet, next))
 }
 

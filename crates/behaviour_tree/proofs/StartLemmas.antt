@@ -124,19 +124,19 @@ given_once variables values n s distinct has = record {
 
 -- The start is closed.
 start_closed : (spec : Spec) (values : List Sorted) → IsStart spec values
-    → IsClosedBy (zip (map number_of spec.parameters.items) values) (behaviour_of spec.body)
+    → IsClosedBy (zip (map number_of spec.parameters.items) values) (behaviour_of spec.body.value)
 start_closed spec values start = record {
   given = λ n s free. given_once spec.parameters.items values n s start.over.well_formed.whole.binders.0
       (value_there start.signature spec.parameters.items values n s start.fitting start.profiles
       (free_in_scope start.signature n s (length (specification_of spec).gate_names) (specification_of spec).processes
       (variables_of spec.parameters.items)
-      (behaviour_of spec.body) start.over.well_formed.whole.behaviour free));
+      (behaviour_of spec.body.value) start.over.well_formed.whole.behaviour free));
   grounded = ground_values start.signature spec.parameters.items values start.fitting;
 }
 
 -- So are copies of its environment and its body.
 pub copies_closed : (spec : Spec) (values : List Sorted) (pairs : List (ℕ × Sorted)) (b : Behaviour)
-    → pairs ≡ zip (map number_of spec.parameters.items) values → b ≡ behaviour_of spec.body → IsStart spec values → IsClosedBy pairs b
+    → pairs ≡ zip (map number_of spec.parameters.items) values → b ≡ behaviour_of spec.body.value → IsStart spec values → IsClosedBy pairs b
 copies_closed spec values pairs b e f start =
     subst (λ (made : List (ℕ × Sorted)). IsClosedBy made b) (sym e)
     (subst (λ (copy : Behaviour). IsClosedBy (zip (map number_of spec.parameters.items) values) copy) (sym f)

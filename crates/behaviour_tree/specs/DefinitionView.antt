@@ -29,6 +29,6 @@ specification_of spec = record {
   gates = spec.gates.items;
   parameters = variables_of spec.parameters.items;
   exit = functionality_of spec.exit;
-  body = behaviour_of spec.body;
+  body = behaviour_of spec.body.value;
   processes = map process_of spec.processes.items;
 }

@@ -22,7 +22,7 @@ AreTermsOf signature terms = Every (IsOf signature) terms
 -- The specification is well formed over the signature.
 pub record IsSpecOver (signature : Signature) (spec : Spec) : Type 0 where
   pub well_formed : IsSpecification signature (specification_of spec)
-  pub body : AreTermsOf signature (profiles_in spec.body)
+  pub body : AreTermsOf signature (profiles_in spec.body.value)
   pub bodies : Every (λ (p : Process). AreTermsOf signature (profiles_in p.body)) spec.processes.items
 
 -- The state is of the specification: the closed behaviour that it stands for is well formed over it.

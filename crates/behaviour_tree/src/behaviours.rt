@@ -2,13 +2,13 @@
 //! in the order of their declarations in the text, sorts are positions in the signature, processes
 //! positions in the specification.
 
-ghost use Rattle.behaviour_tree.specs.BehaviourTerms.{exit_profiles, offer_profiles, test_profiles};
-ghost use Rattle.behaviour_tree.specs.BehaviourView.{exit_value_of, meet_of, offer_of, test_of};
+ghost use Rattle.behaviour_tree.specs.BehaviourView.{meet_of};
 ghost use Rattle.std.specs.Prelude.{◌≡◌, IfOk};
 
 use lotos_base::{NoMemory, Place};
 use sort_terms::{Sorted, Variable};
 use std::alloc::Global;
+use std::rc::Rc;
 
 /// The gates at which the two sides of a parallel synchronise.
 #[derive(Debug, Drop)]
@@ -48,7 +48,8 @@ pub enum ExitValue {
     Any(u32),
 }
 
-/// A behaviour. Where a form has a place, it is that of its sign, or of a call's name.
+/// A behaviour. Where a form has a place, it is that of its sign, or of a call's name. The parts of
+/// a behaviour are shared by all states in which they stand.
 #[derive(Debug, Drop)]
 pub enum Beh {
     /// `stop`.
@@ -64,30 +65,30 @@ pub enum Beh {
         /// The selection predicate.
         test: Option<Test>,
         /// The behaviour after the action.
-        next: Box<Beh>,
+        next: Rc<Beh>,
     },
     /// `i; B`.
-    Inner(Box<Beh>),
+    Inner(Rc<Beh>),
     /// `[test] -> B`.
-    Guard(Test, Box<Beh>),
+    Guard(Test, Rc<Beh>),
     /// `B [] C`.
-    Choice(Place, Box<Beh>, Box<Beh>),
+    Choice(Place, Rc<Beh>, Rc<Beh>),
     /// `B |[..]| C`.
-    Parallel(Place, Meet, Box<Beh>, Box<Beh>),
+    Parallel(Place, Meet, Rc<Beh>, Rc<Beh>),
     /// `hide .. in B`.
-    Hide(Vec<u32>, Box<Beh>),
+    Hide(Vec<u32>, Rc<Beh>),
     /// `B >> accept .. in C`.
-    Enable(Place, Box<Beh>, Vec<Variable>, Box<Beh>),
+    Enable(Place, Rc<Beh>, Vec<Variable>, Rc<Beh>),
     /// `B [> C`.
-    Disable(Place, Box<Beh>, Box<Beh>),
+    Disable(Place, Rc<Beh>, Rc<Beh>),
     /// `let x:S = e, .. in B`.
-    Let(Vec<(Variable, Sorted)>, Box<Beh>),
+    Let(Vec<(Variable, Sorted)>, Rc<Beh>),
     /// `choice x:S [] B`.
-    ChooseValue(Variable, Box<Beh>),
+    ChooseValue(Variable, Rc<Beh>),
     /// `choice g in [..] [] B`.
-    ChooseGate(u32, Vec<u32>, Box<Beh>),
+    ChooseGate(u32, Vec<u32>, Rc<Beh>),
     /// `par g in [..] op B`.
-    ParGate(u32, Vec<u32>, Meet, Box<Beh>),
+    ParGate(u32, Vec<u32>, Meet, Rc<Beh>),
     /// `P[..](..)`.
     Call {
         /// The place of the name.
@@ -110,45 +111,6 @@ impl Meet {
             Meet::Nothing => Ok(Meet::Nothing),
             Meet::Everything => Ok(Meet::Everything),
             Meet::Gates(gates) => Ok(Meet::Gates(Vec::from_slice(alloc, gates)?)),
-        }
-    }
-}
-
-impl Test {
-    /// The same test.
-    pub fn copy(&self) -> Result<Test, NoMemory>
-        ensures same { IfOk result (λ t. test_of t ≡ test_of self.now) }
-        ensures terms { IfOk result (λ t. test_profiles t ≡ test_profiles self.now) }
-    {
-        Ok(Test {
-            left: self.left.copy()?,
-            right: self.right.copy()?,
-        })
-    }
-}
-
-impl Offer {
-    /// The same offer.
-    pub fn copy(&self, alloc: Global) -> Result<Offer, NoMemory>
-        ensures same { IfOk result (λ o. offer_of o ≡ offer_of self.now) }
-        ensures terms { IfOk result (λ o. offer_profiles o ≡ offer_profiles self.now) }
-    {
-        match self {
-            Offer::Give(term) => Ok(Offer::Give(term.copy()?)),
-            Offer::Ask(variable) => Ok(Offer::Ask(variable.copy(alloc)?)),
-        }
-    }
-}
-
-impl ExitValue {
-    /// The same value.
-    pub fn copy(&self) -> Result<ExitValue, NoMemory>
-        ensures same { IfOk result (λ v. exit_value_of v ≡ exit_value_of self.now) }
-        ensures terms { IfOk result (λ v. exit_profiles v ≡ exit_profiles self.now) }
-    {
-        match self {
-            ExitValue::Give(term) => Ok(ExitValue::Give(term.copy()?)),
-            ExitValue::Any(sort) => Ok(ExitValue::Any(*sort)),
         }
     }
 }

@@ -3,6 +3,7 @@
 use crate::behaviours::Beh;
 use lotos_base::{Name, Place};
 use sort_terms::Variable;
+use std::rc::Rc;
 
 /// A process.
 #[derive(Debug, Drop)]
@@ -36,8 +37,8 @@ pub struct Spec {
     pub exit: Option<Vec<u32>>,
     /// The place of its name.
     pub place: Place,
-    /// Its body.
-    pub body: Beh,
+    /// Its body, which the state that the specification begins with shares.
+    pub body: Rc<Beh>,
     /// The processes, in the order of the text.
     pub processes: Vec<Process>,
 }

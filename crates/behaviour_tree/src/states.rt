@@ -7,10 +7,8 @@ ghost use Rattle.behaviour_tree.specs.BehaviourView.{behaviour_of, terms_of, var
 ghost use Rattle.behaviour_tree.specs.Closed.{IsClosedNode};
 ghost use Rattle.behaviour_tree.specs.Over.{IsStart};
 ghost use Rattle.behaviour_tree.specs.StateView.{
-  environment_of,
   node_profiles,
   number_of,
-  pair_profile,
   pairs_with,
   stands_for,
   state_of,
@@ -18,21 +16,23 @@ ghost use Rattle.behaviour_tree.specs.StateView.{
 ghost use Rattle.std.specs.Prelude.{◌≡◌, ◌++◌, IfOk, map, zip};
 
 use crate::behaviours::{Beh, Meet};
-use crate::boxes::boxed;
-use crate::copies::{term_copies, variable_copies};
+use crate::boxes::owner;
+use crate::copies::{environment_copy, term_copies, variable_copies};
 use crate::definitions::Spec;
 use lotos_base::NoMemory;
 use sort_terms::{Sorted, Variable};
 use std::alloc::Global;
+use std::rc::Rc;
 
 /// A closed behaviour, or a part of one. The pairs of an environment are variables by their numbers
-/// with ground values.
+/// with ground values. Behaviours and parts are shared: a step makes the nodes on its way anew, and
+/// the states before and after it share all others.
 #[derive(Debug, Drop)]
 pub enum Node {
     /// `stop`.
     Stop,
     /// A behaviour with values for its free variables.
-    Part(Box<Beh>, Vec<(u64, Sorted)>),
+    Part(Rc<Beh>, Vec<(u64, Sorted)>),
     /// A call of a process.
     Call {
         /// The process.
@@ -43,15 +43,15 @@ pub enum Node {
         values: Vec<Sorted>,
     },
     /// `B |[..]| C`.
-    Parallel(Meet, Box<Node>, Box<Node>),
+    Parallel(Meet, Rc<Node>, Rc<Node>),
     /// `hide .. in B`.
-    Hide(Vec<u32>, Box<Node>),
+    Hide(Vec<u32>, Rc<Node>),
     /// `B >> accept .. in C`, with values for the free variables of `C` other than the accepted.
-    Enable(Box<Node>, Vec<Variable>, Box<Beh>, Vec<(u64, Sorted)>),
+    Enable(Rc<Node>, Vec<Variable>, Rc<Beh>, Vec<(u64, Sorted)>),
     /// `B [> C`.
-    Disable(Box<Node>, Box<Node>),
+    Disable(Rc<Node>, Rc<Node>),
     /// `B` under a relabelling: pairs of a formal and an actual gate, with distinct formal gates.
-    Relabel(Vec<(u32, u32)>, Box<Node>),
+    Relabel(Vec<(u32, u32)>, Rc<Node>),
 }
 
 /// A state of a specification.
@@ -66,13 +66,13 @@ impl State {
         requires { IsStart spec.now values.items }
         ensures begins { IfOk result (λ s. state_of s
             ≡ with_values (binding_of (variables_of spec.now.parameters.items)
-            (terms_of values.items)) (behaviour_of spec.now.body)) }
+            (terms_of values.items)) (behaviour_of spec.now.body.value)) }
         ensures terms { IfOk result (λ s. node_profiles s.node
-            ≡ profiles_in spec.now.body ++ profiles_of values.items) }
+            ≡ profiles_in spec.now.body.value ++ profiles_of values.items) }
         ensures closed { IfOk result (λ s. IsClosedNode s.node) }
     {
         let environment = environment(alloc, &spec.parameters, values)?;
-        let body = boxed(alloc, spec.body.copy(alloc)?)?;
+        let body = owner(&spec.body)?;
         Ok(State::of(Node::Part(body, environment)))
     }
 
@@ -135,26 +135,8 @@ fn add_pair(
     }
 }
 
-// The same pairs.
-fn environment_copy(
-    alloc: Global,
-    environment: &Vec<(u64, Sorted)>,
-) -> Result<Vec<(u64, Sorted)>, NoMemory>
-    ensures same { IfOk result (λ made. environment_of made.items
-        ≡ environment_of environment.now.items) }
-    ensures terms { IfOk result (λ made. map pair_profile made.items
-        ≡ map pair_profile environment.now.items) }
-{
-    let mut made = Vec::with_capacity(alloc, environment.len())?;
-    for pair in environment {
-        let value = pair.1.copy()?;
-        made.push((pair.0, value))?;
-    }
-    Ok(made)
-}
-
 impl Node {
-    /// The same node.
+    /// The same node. Its parts are shared.
     pub fn copy(&self, alloc: Global) -> Result<Node, NoMemory>
         ensures same { IfOk result (λ n. stands_for n ≡ stands_for self.now) }
         ensures terms { IfOk result (λ n. node_profiles n ≡ node_profiles self.now) }
@@ -163,8 +145,8 @@ impl Node {
         match self {
             Node::Stop => Ok(Node::Stop),
             Node::Part(behaviour, environment) => {
-                let behaviour = boxed(alloc, behaviour.copy(alloc)?)?;
-                Ok(Node::Part(behaviour, environment_copy(alloc, environment)?))
+                let environment = environment_copy(alloc, environment)?;
+                Ok(Node::Part(owner(behaviour)?, environment))
             }
             Node::Call {
                 process,
@@ -181,17 +163,17 @@ impl Node {
             }
             Node::Parallel(meet, left, right) => {
                 let meet = meet.copy(alloc)?;
-                let left = boxed(alloc, left.copy(alloc)?)?;
-                Ok(Node::Parallel(meet, left, boxed(alloc, right.copy(alloc)?)?))
+                let left = owner(left)?;
+                Ok(Node::Parallel(meet, left, owner(right)?))
             }
             Node::Hide(gates, part) => {
                 let gates = Vec::from_slice(alloc, gates)?;
-                Ok(Node::Hide(gates, boxed(alloc, part.copy(alloc)?)?))
+                Ok(Node::Hide(gates, owner(part)?))
             }
             Node::Enable(left, variables, right, environment) => {
-                let left = boxed(alloc, left.copy(alloc)?)?;
+                let left = owner(left)?;
                 let variables = variable_copies(alloc, variables)?;
-                let right = boxed(alloc, right.copy(alloc)?)?;
+                let right = owner(right)?;
                 Ok(Node::Enable(
                     left,
                     variables,
@@ -200,12 +182,12 @@ impl Node {
                 ))
             }
             Node::Disable(left, right) => {
-                let left = boxed(alloc, left.copy(alloc)?)?;
-                Ok(Node::Disable(left, boxed(alloc, right.copy(alloc)?)?))
+                let left = owner(left)?;
+                Ok(Node::Disable(left, owner(right)?))
             }
             Node::Relabel(pairs, part) => {
                 let pairs = Vec::from_slice(alloc, pairs)?;
-                Ok(Node::Relabel(pairs, boxed(alloc, part.copy(alloc)?)?))
+                Ok(Node::Relabel(pairs, owner(part)?))
             }
         }
     }

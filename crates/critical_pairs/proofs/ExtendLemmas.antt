@@ -10,7 +10,7 @@ use Rattle.rewriting_theory.specs.PairList.{PairPlace}
 use Rattle.rewriting_theory.specs.Places.{places_at, places_with, places_from, places, node_paths, is_root, IsApartAt, IsPairOf, no_place, no_pair, one_pair}
 use Rattle.rewriting_theory.proofs.PlaceListLemmas.{pairs_append, pairs_are_all}
 use Rattle.termination_theory.specs.Orientation.{NumberedRule, rules_of}
-use Rattle.overlap_pairs.specs.OverlapPair.{ArePairTermsOf}
+use Rattle.critical_pairs.specs.OverlapPair.{ArePairTermsOf}
 use Rattle.path_order.specs.RulesView.{rules_in, plain_rules_in, signature_in}
 use Rattle.path_order.specs.declared.rules.Rules.{Rules}
 use Rattle.critical_pairs.specs.Listing.{named_by, ListsAll, AddsPairs, AreOver}

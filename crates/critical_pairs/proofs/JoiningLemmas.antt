@@ -16,7 +16,7 @@ use Rattle.termination_theory.specs.Orientation.{NumberedRule}
 use Rattle.sort_terms.specs.ProfiledTerm.{head_sort}
 use Rattle.sort_terms.specs.SortedView.{profiled_in, term_in}
 use Rattle.sort_terms.proofs.ProfiledTermLemmas.{fitting_has_sort}
-use Rattle.overlap_pairs.specs.OverlapPair.{ArePairTermsOf}
+use Rattle.critical_pairs.specs.OverlapPair.{ArePairTermsOf}
 use Rattle.path_order.specs.RulesView.{rules_in, plain_rules_in}
 use Rattle.path_order.specs.declared.rules.Rules.{Rules}
 use Rattle.path_order.proofs.RulesLemmas.{rules_well_formed, rules_end}

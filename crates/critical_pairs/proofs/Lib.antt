@@ -5,3 +5,5 @@ pub mod SkipLemmas
 pub mod RuleLemmas
 pub mod JoinedLemmas
 pub mod JoiningLemmas
+pub mod PlaceLemmas
+pub mod PairLemmas

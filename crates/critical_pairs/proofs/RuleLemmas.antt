@@ -9,8 +9,8 @@ use Rattle.rewriting_theory.specs.PairList.{PairPlace}
 use Rattle.rewriting_theory.specs.Places.{places_at, places_with, node_paths, is_root}
 use Rattle.rewriting_theory.proofs.PlaceListLemmas.{IsIn}
 use Rattle.term_algebra.specs.Term.{Term}
-use Rattle.overlap_pairs.specs.TwoSides.{pair_with, IsRuleOver}
-use Rattle.overlap_pairs.specs.OverlapPair.{HaveOneSignature, HaveNoOverlap}
+use Rattle.critical_pairs.specs.TwoSides.{pair_with, IsRuleOver}
+use Rattle.critical_pairs.specs.OverlapPair.{HaveOneSignature, HaveNoOverlap}
 use Rattle.path_order.specs.RuleView.{rule_of, numbered_rules, plain_rules}
 use Rattle.path_order.specs.RulesView.{rules_in, plain_rules_in, signature_in}
 use Rattle.path_order.specs.RuleSides.{all_sides, sides_of, AreSidesOver}

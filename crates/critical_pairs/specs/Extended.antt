@@ -3,7 +3,7 @@ use Rattle.std.specs.Prelude.{◌≡◌, ℕ, List, [], ◌∷◌, Option, None,
 use Rattle.term_algebra.specs.Signature.{Signature}
 use Rattle.rewriting_theory.specs.Rule.{Rule as PlainRule, IsRuleAt}
 use Rattle.rewriting_theory.specs.PairList.{PairPlace}
-use Rattle.overlap_pairs.specs.OverlapPair.{IsOverlapPair, IsOverOverlap}
+use Rattle.critical_pairs.specs.OverlapPair.{IsOverlapPair, IsOverOverlap}
 use Rattle.path_order.specs.RulesView.{rules_in, signature_in}
 use Rattle.path_order.specs.declared.rule.Rule.{Rule}
 use Rattle.path_order.specs.declared.rules.Rules.{Rules}

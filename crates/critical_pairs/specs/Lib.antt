@@ -4,3 +4,7 @@ pub mod Candidates
 pub mod Listing
 pub mod Extended
 pub mod Joining
+pub mod TwoSides
+pub mod SidesView
+pub mod OverlapPair
+pub mod Contracted

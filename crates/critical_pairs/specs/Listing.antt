@@ -5,7 +5,7 @@ use Rattle.rewriting_theory.specs.CriticalPair.{CriticalPair}
 use Rattle.rewriting_theory.specs.PairList.{PairPlace, AreCriticalPairs}
 use Rattle.rewriting_theory.specs.Places.{PairsOf}
 use Rattle.termination_theory.specs.Orientation.{NumberedRule, rules_of}
-use Rattle.overlap_pairs.specs.OverlapPair.{ArePairTermsOf}
+use Rattle.critical_pairs.specs.OverlapPair.{ArePairTermsOf}
 use Rattle.critical_pairs.specs.PairView.{terms_in}
 use Rattle.critical_pairs.specs.declared.pair.Pair.{Pair}
 

@@ -2,7 +2,7 @@
 use Rattle.std.specs.Prelude.{List, map}
 use Rattle.rewriting_theory.specs.CriticalPair.{CriticalPair}
 use Rattle.sort_terms.specs.SortedView.{profiled_in, term_in}
-use Rattle.overlap_pairs.specs.TwoSides.{RuleSides, PairTerms}
+use Rattle.critical_pairs.specs.TwoSides.{RuleSides, PairTerms}
 use Rattle.path_order.specs.declared.rule.Rule.{Rule}
 use Rattle.critical_pairs.specs.NodePlaces.{PlaceOfNode}
 use Rattle.critical_pairs.specs.declared.pair.Pair.{Pair}

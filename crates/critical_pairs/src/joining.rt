@@ -4,7 +4,7 @@ ghost use Rattle.critical_pairs.specs.Joining.{AnswersFirst, AnswersPair, HoldsO
 ghost use Rattle.critical_pairs.specs.Joining.{NoneUnjoinedAmong, StaysJoined};
 ghost use Rattle.critical_pairs.specs.Listing.{AreOver};
 ghost use Rattle.critical_pairs.specs.PairView.{pair_of, pairs_in, terms_in};
-ghost use Rattle.overlap_pairs.specs.OverlapPair.{ArePairTermsOf};
+ghost use Rattle.critical_pairs.specs.OverlapPair.{ArePairTermsOf};
 ghost use Rattle.path_order.specs.RulesView.{plain_rules_in, rules_in, signature_in};
 ghost use Rattle.std.specs.Prelude.{◌≡◌, ◌∷◌, [], IfErr, IfNone, IfOk, IfSome};
 

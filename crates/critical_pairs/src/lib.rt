@@ -2,15 +2,20 @@
 #![tactic(auto)]
 
 pub mod candidates;
+pub mod contracting;
 pub mod joined;
 pub mod joining;
 pub mod listing;
+pub mod overlapping;
 pub mod pair;
 pub mod pair_fault;
 pub mod places;
+pub mod sides;
 
 pub use joined::Joined;
 pub use joining::all_join;
 pub use listing::pairs;
+pub use overlapping::overlap;
 pub use pair::Pair;
 pub use pair_fault::PairFault;
+pub use sides::{BorrowedRule, Overlap};

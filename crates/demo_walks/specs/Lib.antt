@@ -2,3 +2,4 @@ pub mod DemoWalk
 pub mod DemoSummary
 pub mod WalkView
 pub mod WalkCases
+pub mod DemoText

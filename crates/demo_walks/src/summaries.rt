@@ -17,7 +17,7 @@ use crate::walking::walk;
 use behaviour_tree::{Label, Spec};
 use equation_book::Book;
 use lotos_base::NoMemory;
-use menu_listing::MenuMaker;
+use menu_builder::MenuMaker;
 use printed_texts::brackets::{push_number, push_text};
 use printed_texts::label_text;
 use session_log::Session;

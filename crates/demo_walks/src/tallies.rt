@@ -6,7 +6,7 @@ ghost use Rattle.term_algebra.specs.Equation.{Data};
 ghost use Rattle.term_algebra.specs.Term.{Term};
 
 use behaviour_tree::Label;
-use menu_listing::MenuMaker;
+use menu_builder::MenuMaker;
 use session_log::Session;
 
 /// What is seen on a walk through a session.

@@ -19,7 +19,7 @@ ghost use Rattle.std.specs.Prelude.{◌≡◌, OnOk, Option, Some};
 use crate::tallies::Tally;
 use crate::values::CellValues;
 use lotos_base::NoMemory;
-use menu_listing::MenuMaker;
+use menu_builder::MenuMaker;
 use session_log::{Session, StepRefusal};
 use sort_terms::{Deciding, Sorted};
 use std::alloc::Global;

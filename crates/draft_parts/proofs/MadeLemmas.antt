@@ -15,13 +15,13 @@ use Rattle.behaviour_semantics.specs.WellFormed.{Every}
 use Rattle.behaviour_semantics.proofs.ListLemmas.{Every-append}
 use Rattle.event_offers.specs.OfferView.{plain_draft}
 use Rattle.event_offers.specs.declared.drafts.Draft.{Draft}
-use Rattle.menu_builder.specs.DraftTerms.{HasTermsOf}
-use Rattle.menu_builder.specs.DraftRules.{alone_draft}
-use Rattle.draft_lists.specs.Lists.{both_lists, plain_drafts, AreMadeBy}
-use Rattle.draft_lists.specs.Parting.{alone_among, meeting_among}
-use Rattle.draft_lists.proofs.PartingLemmas.{alone_same, alone_over, both_same, meeting_over}
-use Rattle.form_drafts.specs.HasDrafts.{beside_drafts, gate_drafts, row_drafts}
-use Rattle.form_drafts.specs.Rows.{call_pairs}
+use Rattle.draft_parts.specs.DraftTerms.{HasTermsOf}
+use Rattle.draft_parts.specs.DraftRules.{alone_draft}
+use Rattle.draft_parts.specs.Lists.{both_lists, plain_drafts, AreMadeBy}
+use Rattle.draft_parts.specs.Parting.{alone_among, meeting_among}
+use Rattle.draft_parts.proofs.PartingLemmas.{alone_same, alone_over, both_same, meeting_over}
+use Rattle.draft_parts.specs.HasDrafts.{beside_drafts, gate_drafts, row_drafts}
+use Rattle.draft_parts.specs.Rows.{call_pairs}
 use Rattle.draft_parts.specs.Made.{AreThese}
 
 -- one list behind another

@@ -6,8 +6,8 @@ use Rattle.behaviour_semantics.specs.Label.{inner_event}
 use Rattle.behaviour_semantics.specs.Shape.{inner_step}
 use Rattle.behaviour_semantics.specs.WellFormed.{Every}
 use Rattle.event_offers.specs.declared.drafts.Draft.{Draft}
-use Rattle.menu_builder.specs.DraftTerms.{HasTermsOf}
-use Rattle.draft_lists.specs.Lists.{plain_drafts}
+use Rattle.draft_parts.specs.DraftTerms.{HasTermsOf}
+use Rattle.draft_parts.specs.Lists.{plain_drafts}
 
 -- The drafts stand for the expected ones, and their terms are of the signature.
 pub record AreThese (signature : Signature) (expected : List plain.Draft) (made : List Draft) : Type 0 where

@@ -2,22 +2,21 @@
 
 ghost use Rattle.behaviour_semantics.specs.WellFormed.{Every};
 ghost use Rattle.behaviour_tree.specs.BehaviourView.{meet_of};
-ghost use Rattle.draft_lists.specs.Lists.{plain_drafts};
-ghost use Rattle.form_drafts.specs.HasDrafts.{beside_drafts, gate_drafts, row_drafts};
-ghost use Rattle.menu_builder.specs.DraftTerms.{HasTermsOf};
+ghost use Rattle.draft_parts.specs.Lists.{plain_drafts};
+ghost use Rattle.draft_parts.specs.HasDrafts.{beside_drafts, gate_drafts, row_drafts};
+ghost use Rattle.draft_parts.specs.DraftTerms.{HasTermsOf};
 ghost use Rattle.draft_parts.specs.Made.{AreThese};
-ghost use Rattle.form_drafts.specs.Rows.{call_pairs, calls_copied, copied};
+ghost use Rattle.draft_parts.specs.Rows.{call_pairs, calls_copied, copied};
 ghost use Rattle.std.specs.Prelude.{◌≡◌, if◌then◌else◌, IfOk};
 ghost use Rattle.term_algebra.specs.Signature.{Signature};
 
 use crate::parts::{beside, draft_copies};
+use crate::rules::gate_under;
+use crate::{Rule, Variant};
 use behaviour_tree::Meet;
-use draft_lists::Rule;
 use event_offers::Draft;
 use event_offers::lists::appended;
 use lotos_base::NoMemory;
-use menu_builder::Variant;
-use menu_builder::rules::gate_under;
 use std::alloc::Global;
 
 /// The drafts of a gate choice: for each gate of the list those of the part, relabelled.

@@ -2,21 +2,20 @@
 
 ghost use Rattle.behaviour_semantics.specs.WellFormed.{Every};
 ghost use Rattle.behaviour_tree.specs.BehaviourView.{meet_of};
-ghost use Rattle.draft_lists.specs.Lists.{plain_drafts};
+ghost use Rattle.draft_parts.specs.Lists.{plain_drafts};
 ghost use Rattle.event_offers.specs.OfferView.{plain_draft};
-ghost use Rattle.form_drafts.specs.HasDrafts.{beside_drafts, either_drafts};
-ghost use Rattle.menu_builder.specs.DraftTerms.{HasTermsOf};
+ghost use Rattle.draft_parts.specs.HasDrafts.{beside_drafts, either_drafts};
+ghost use Rattle.draft_parts.specs.DraftTerms.{HasTermsOf};
 ghost use Rattle.draft_parts.specs.Made.{AreThese, inner_of};
 ghost use Rattle.std.specs.Prelude.{◌≡◌, ◌∷◌, [], IfOk};
 ghost use Rattle.term_algebra.specs.Signature.{Signature};
 
+use crate::copies::copied;
+use crate::{Rule, Variant, both_sides, parted};
 use behaviour_tree::{Label, Meet, Shape};
-use draft_lists::{Rule, both_sides, parted};
 use event_offers::Draft;
 use event_offers::lists::appended;
 use lotos_base::NoMemory;
-use menu_builder::Variant;
-use menu_builder::copies::copied;
 use std::alloc::Global;
 
 /// The list of one draft.

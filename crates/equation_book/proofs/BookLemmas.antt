@@ -32,9 +32,9 @@ use Rattle.critical_pairs.specs.declared.pair_fault.PairFault.TheVariants.{Unjoi
 use Rattle.termination_theory.specs.Precedence.{Precedence}
 use Rattle.termination_theory.specs.Orientation.{NumberedRule, IsOrientation}
 use Rattle.lotos_base.specs.WrittenTerm.{ListedOperation}
-use Rattle.operation_order.specs.OrderFaultView.{IsOrderFault}
-use Rattle.operation_order.specs.declared.order_fault.OrderFault.{OrderFault}
-use Rattle.operation_order.specs.declared.order_fault.OrderFault.TheVariants.{UnknownOperation as OrderUnknown, TwiceListed as OrderTwice, NoMemory as OrderNoMemory}
+use Rattle.path_order.specs.OrderFaultView.{IsOrderFault}
+use Rattle.path_order.specs.declared.order_fault.OrderFault.{OrderFault}
+use Rattle.path_order.specs.declared.order_fault.OrderFault.TheVariants.{UnknownOperation as OrderUnknown, TwiceListed as OrderTwice, NoMemory as OrderNoMemory}
 use Rattle.path_order.specs.OrderedBy.{IsPrecedenceBy}
 use Rattle.path_order.specs.PrecedenceView.{precedence_of}
 use Rattle.path_order.specs.declared.precedence.Precedence.{Precedence as CodePrecedence}

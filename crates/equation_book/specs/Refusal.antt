@@ -7,9 +7,9 @@ use Rattle.termination_theory.specs.Precedence.{Precedence, from_left}
 use Rattle.termination_theory.specs.Orientation.{NumberedRule, rules_of, IsOrientation, IsFirstUnorientable}
 use Rattle.sort_terms.specs.SortedView.{term_in}
 use Rattle.lotos_base.specs.WrittenTerm.{ListedOperation}
-use Rattle.operation_order.specs.OrderFaultView.{IsOrderFault}
-use Rattle.operation_order.specs.declared.order_fault.OrderFault.{OrderFault}
-use Rattle.operation_order.specs.declared.order_fault.OrderFault.TheVariants.{UnknownOperation as OrderUnknown, TwiceListed as OrderTwice, NoMemory as OrderNoMemory}
+use Rattle.path_order.specs.OrderFaultView.{IsOrderFault}
+use Rattle.path_order.specs.declared.order_fault.OrderFault.{OrderFault}
+use Rattle.path_order.specs.declared.order_fault.OrderFault.TheVariants.{UnknownOperation as OrderUnknown, TwiceListed as OrderTwice, NoMemory as OrderNoMemory}
 use Rattle.path_order.specs.OrderedBy.{IsPrecedenceBy}
 use Rattle.path_order.specs.declared.orient_fault.OrientFault.{OrientFault}
 use Rattle.path_order.specs.declared.orient_fault.OrientFault.TheVariants.{Unorientable as OrientUnorientable, NoMemory as OrientNoMemory}

@@ -4,8 +4,7 @@ ghost use Rattle.std.specs.Prelude.{◌≡◌};
 
 use critical_pairs::PairFault;
 use lotos_base::{Name, Place};
-use operation_order::OrderFault;
-use path_order::OrientFault;
+use path_order::{OrderFault, OrientFault};
 use sort_terms::{Flat, Sorted};
 
 /// The data as they were given, and why they make no book.

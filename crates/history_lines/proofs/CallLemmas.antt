@@ -1,6 +1,6 @@
 -- How often requests call the shelf.
 use Rattle.std.proofs.Common.{◌≡◌, ℕ, sym, subst}
-use Rattle.line_commands.specs.Request.{Request}
+use Rattle.line_server.specs.Request.{Request}
 use Rattle.history_lines.specs.Calls.{CallsShelf}
 
 -- a request of the code calls it as often as the plain one

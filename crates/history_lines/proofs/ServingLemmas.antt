@@ -4,22 +4,22 @@ use Rattle.lotos_base.specs.Counts.{Rises, last_count}
 use Rattle.lotos_base.specs.Outside.{Texts}
 use Rattle.term_algebra.specs.Signature.{Signature}
 use Rattle.behaviour_semantics.specs.Label.{Label}
-use Rattle.line_commands.specs.RequestLaws.{Carries}
-use Rattle.line_commands.specs.Request.{Request, take_step, undo, leave, show_normal, compare, request_of}
+use Rattle.line_server.specs.RequestLaws.{Carries}
+use Rattle.line_server.specs.Request.{Request, take_step, undo, leave, show_normal, compare, request_of}
 use Rattle.session_histories.specs.Session.{SessionBasis, HasUndone}
-use Rattle.session_answers.specs.Standing.{Standing}
-use Rattle.session_answers.specs.CommandRefusal.{CommandRefusal, command_refusal_text}
-use Rattle.session_answers.specs.Befallen.{Befallen, says, says_faulty, leaves, come_to}
-use Rattle.session_answers.specs.SessionMachine.{history_machine}
+use Rattle.session_reports.specs.Standing.{Standing}
+use Rattle.session_reports.specs.CommandRefusal.{CommandRefusal, command_refusal_text}
+use Rattle.session_reports.specs.Befallen.{Befallen, says, says_faulty, leaves, come_to}
+use Rattle.session_reports.specs.SessionMachine.{history_machine}
 use Rattle.session_lines.specs.Answer.{IsNormal, IsComparison, normal_text, comparison_text}
 use Rattle.session_lines.specs.View.{AddsOutcome}
 use Rattle.session_log.specs.Courses.{IsUndone}
 use Rattle.line_server.specs.Machine.{Counted}
 use Rattle.line_server.specs.Serving.{Serves}
 use Rattle.line_server.specs.declared.lines.Answer.{Answer}
-use Rattle.session_answers.specs.StepAnswer.{took, declined, StepComesTo}
-use Rattle.session_answers.specs.ShelfAnswer.{refusal_in}
-use Rattle.session_answers.specs.Answer.{Comes, did_text, undone_text, is_undone, is_at_start}
+use Rattle.session_reports.specs.StepAnswer.{took, declined, StepComesTo}
+use Rattle.session_reports.specs.ShelfAnswer.{refusal_in}
+use Rattle.session_reports.specs.Answer.{Comes, did_text, undone_text, is_undone, is_at_start}
 use Rattle.history_lines.specs.RefusalView.{decline_of, AddsLine, AddsDecline}
 use Rattle.history_lines.specs.Serving.{Moment, moment_of, ShelfCounts, ends_session, Gives, IsAsBefore, IsBeforeOrBehind, Declines, undo_text}
 use Rattle.history_lines.specs.declared.refusals.Decline.{Decline}

@@ -3,7 +3,7 @@ use Rattle.std.proofs.Common.{◌≡◌, ℕ, ◌<◌, ◌≤◌, ◌+◌, nat_l
 use Rattle.std.proofs.lemmas.List.{length-take-le}
 use Rattle.lotos_base.specs.Counts.{Rises}
 use Rattle.lotos_base.specs.Outside.{Texts, Gets}
-use Rattle.line_commands.specs.Request.{save, replay}
+use Rattle.line_server.specs.Request.{save, replay}
 use Rattle.session_histories.specs.Session.{SessionBasis, first_situation}
 use Rattle.session_histories.specs.Refusal as plain
 use Rattle.session_histories.specs.Replay.{ReplayRefusal, ReplayIs, goes_on, stops, bad_line, label_differs, step_refused}
@@ -11,10 +11,10 @@ use Rattle.session_log.specs.RefusalView.{step_refusal_of, TellsReplay, TellsSte
 use Rattle.session_log.specs.declared.refusals.StepRefusal.{StepRefusal}
 use Rattle.session_log.specs.declared.refusals.ReplayFault.{ReplayFault}
 use Rattle.session_log.specs.declared.refusals.ReplayFault.TheVariants as replay_fault
-use Rattle.session_answers.specs.Standing.{Standing, shown_menu, shown_trace}
-use Rattle.session_answers.specs.CommandRefusal.{unread, unwritten, trace_too_long, no_replay, replay_refusal_text}
-use Rattle.session_answers.specs.Befallen.{come_to, with_texts}
-use Rattle.session_answers.specs.ShelfAnswer.{trace_limit, refusal_in, HasPut, MayHavePut, saved_text, is_too_long, is_unwritten, is_saved, StandsUnder, IsMissing, replayed_text, is_failed, is_missing, is_long, is_refused, is_replayed}
+use Rattle.session_reports.specs.Standing.{Standing, shown_menu, shown_trace}
+use Rattle.session_reports.specs.CommandRefusal.{unread, unwritten, trace_too_long, no_replay, replay_refusal_text}
+use Rattle.session_reports.specs.Befallen.{come_to, with_texts}
+use Rattle.session_reports.specs.ShelfAnswer.{trace_limit, refusal_in, HasPut, MayHavePut, saved_text, is_too_long, is_unwritten, is_saved, StandsUnder, IsMissing, replayed_text, is_failed, is_missing, is_long, is_refused, is_replayed}
 use Rattle.history_lines.specs.RefusalView.{AddsFault, at_line}
 use Rattle.history_lines.specs.Serving.{moment_of, Gives, IsAsBefore}
 use Rattle.history_lines.proofs.ServingLemmas.{same_standing, gives_said, gives_faulty}

@@ -2,9 +2,9 @@
 use Rattle.std.proofs.Common.{◌≡◌, ℕ, List, [], ◌∷◌, length, Option, Some, option_map, refl, ap, sym, ◌∙◌, subst}
 use Rattle.std.proofs.lemmas.Option.{none-some, slice_get-map}
 use Rattle.lotos_base.specs.WrittenTerm.{WrittenTerm}
-use Rattle.lotos_reading.specs.Reading.{IsTermsFault}
-use Rattle.lotos_reading.specs.declared.fault.ReadFault.{ReadFault}
-use Rattle.lotos_reading.specs.declared.fault.ReadFault.TheVariants as fault
+use Rattle.sentence_trees.specs.Reading.{IsTermsFault}
+use Rattle.sentence_trees.specs.declared.fault.ReadFault.{ReadFault}
+use Rattle.sentence_trees.specs.declared.fault.ReadFault.TheVariants as fault
 use Rattle.term_algebra.specs.Signature.{Signature}
 use Rattle.term_algebra.specs.Term.{Term}
 use Rattle.sort_terms.specs.Reading.{IsScopeOver}
@@ -17,7 +17,7 @@ use Rattle.behaviour_semantics.specs.Solving.{Entry as PlainEntry}
 use Rattle.event_offers.specs.OfferView.{plain_entry}
 use Rattle.event_offers.specs.declared.drafts.Entry.{Entry}
 use Rattle.event_offers.specs.declared.menus.Menu.{Menu}
-use Rattle.menu_listing.specs.Menus.{entries_in}
+use Rattle.menu_builder.specs.Menus.{entries_in}
 use Rattle.session_histories.specs.Session.{SessionBasis, Progress}
 use Rattle.session_histories.specs.Refusal as plain
 use Rattle.session_histories.specs.Refusal.{StepRefusal, entry_numbered, count_refusal, number_refusal, condition_refusal, value_refusal, step_refusal}
@@ -31,8 +31,8 @@ use Rattle.session_log.specs.Entries.{IsEntryAt}
 use Rattle.session_log.specs.RefusalView.{TellsStep}
 use Rattle.session_log.specs.declared.refusals.StepRefusal.{StepRefusal as CodeRefusal}
 use Rattle.session_log.specs.declared.refusals.StepRefusal.TheVariants as step
-use Rattle.session_answers.specs.CommandRefusal.{ill_formed, no_step}
-use Rattle.session_answers.specs.StepAnswer.{StepAnswer, declined, IsFirstMisread, IsCounted, IsValued, StepComesTo, is_unread, is_miscounted, is_misread, is_unmet}
+use Rattle.session_reports.specs.CommandRefusal.{ill_formed, no_step}
+use Rattle.session_reports.specs.StepAnswer.{StepAnswer, declined, IsFirstMisread, IsCounted, IsValued, StepComesTo, is_unread, is_miscounted, is_misread, is_unmet}
 use Rattle.history_lines.specs.RefusalView.{declined_for_text}
 use Rattle.history_lines.specs.Serving.{Declines}
 use Rattle.history_lines.specs.Values.{TellsMisread}

@@ -5,7 +5,7 @@ use Rattle.term_algebra.specs.Signature.{Signature}
 use Rattle.behaviour_semantics.specs.Label.{Label}
 use Rattle.behaviour_tree.specs.declared.definitions.Spec.{Spec}
 use Rattle.event_offers.specs.declared.menus.Menu.{Menu}
-use Rattle.menu_listing.specs.Menus.{entries_in}
+use Rattle.menu_builder.specs.Menus.{entries_in}
 use Rattle.printed_texts.specs.MenuText.{label_text, menu_text}
 
 abbrev pub label_of_spec : Signature → Spec → Label → List ℕ

@@ -24,7 +24,7 @@ use Rattle.session_histories.specs.Replay.{AreRead}
 use Rattle.session_lines.specs.View.{refused_for_term}
 use Rattle.session_lines.proofs.QuestionLemmas.{read_ground, is_reading}
 use Rattle.session_log.specs.Entries.{AreGiven}
-use Rattle.session_answers.specs.StepAnswer.{IsFirstMisread}
+use Rattle.session_reports.specs.StepAnswer.{IsFirstMisread}
 use Rattle.history_lines.specs.Values.{IsReadAt, IsMisread, TellsMisread}
 use Rattle.session_lines.specs.declared.refusals.Refusal.{Refusal}
 use Rattle.session_lines.specs.declared.refusals.Refusal.TheVariants.{BadCommand, BadTerm, NoMemory}

@@ -11,7 +11,7 @@ use Rattle.equation_book.specs.BookCanon.{book_canon}
 use Rattle.session_histories.specs.Session.{SessionBasis, Progress}
 use Rattle.session_log.specs.CourseView.{basis_over, progress_of}
 use Rattle.session_log.specs.Kept.{IsLawfulSession}
-use Rattle.session_answers.specs.Standing.{Standing}
+use Rattle.session_reports.specs.Standing.{Standing}
 use Rattle.history_lines.specs.declared.lines.HistoryLines.{HistoryLines}
 
 -- what the session goes over, and how far it has come

@@ -1,7 +1,7 @@
 -- The refusals that those of the code stand for, and the lines that are added for them.
 use Rattle.std.specs.Prelude.{◌≡◌, ℕ, List, ◌++◌, Option, None, Some, IsSomeAnd}
 use Rattle.term_algebra.specs.Signature.{Signature}
-use Rattle.lotos_reading.specs.declared.fault.ReadFault.{ReadFault}
+use Rattle.sentence_trees.specs.declared.fault.ReadFault.{ReadFault}
 use Rattle.session_histories.specs.Refusal as plain
 use Rattle.session_histories.specs.Replay.{ReplayRefusal, bad_line, step_refused, label_differs}
 use Rattle.session_lines.specs.Refusal as questions
@@ -10,7 +10,7 @@ use Rattle.session_log.specs.RefusalView.{step_refusal_of}
 use Rattle.session_log.specs.declared.refusals.StepRefusal.{StepRefusal}
 use Rattle.session_log.specs.declared.refusals.ReplayFault.{ReplayFault}
 use Rattle.session_log.specs.declared.refusals.ReplayFault.TheVariants as replay
-use Rattle.session_answers.specs.CommandRefusal.{CommandRefusal, ill_formed, no_step, command_refusal_text, step_refusal_text, replay_refusal_text, step_code}
+use Rattle.session_reports.specs.CommandRefusal.{CommandRefusal, ill_formed, no_step, command_refusal_text, step_refusal_text, replay_refusal_text, step_code}
 use Rattle.history_lines.specs.declared.refusals.Decline.{Decline}
 use Rattle.history_lines.specs.declared.refusals.Decline.TheVariants.{Terms, Step}
 

@@ -2,12 +2,12 @@
 -- before the line or behind it.
 use Rattle.std.specs.Prelude.{◌≡◌, ◌⊎◌, ℕ, Bool, true, false, List, IfSome, codes}
 use Rattle.lotos_base.specs.Counts.{Rises}
-use Rattle.line_commands.specs.Request.{Request, undo, leave}
-use Rattle.session_answers.specs.Standing.{Standing}
-use Rattle.session_answers.specs.Befallen.{Befallen}
-use Rattle.session_answers.specs.StepAnswer.{StepAnswer, declined}
+use Rattle.line_server.specs.Request.{Request, undo, leave}
+use Rattle.session_reports.specs.Standing.{Standing}
+use Rattle.session_reports.specs.Befallen.{Befallen}
+use Rattle.session_reports.specs.StepAnswer.{StepAnswer, declined}
 use Rattle.session_histories.specs.Session.{SessionBasis, Progress}
-use Rattle.session_answers.specs.Answer.{Comes, undone_text}
+use Rattle.session_reports.specs.Answer.{Comes, undone_text}
 use Rattle.history_lines.specs.RefusalView.{decline_of}
 use Rattle.history_lines.specs.declared.refusals.Decline.{Decline}
 

@@ -11,7 +11,7 @@ use Rattle.behaviour_semantics.specs.Solving.{Entry}
 use Rattle.behaviour_tree.specs.BehaviourView.{terms_of}
 use Rattle.session_histories.specs.Session.{SessionBasis, Progress}
 use Rattle.session_log.specs.Entries.{AreGiven}
-use Rattle.session_answers.specs.StepAnswer.{IsValued}
+use Rattle.session_reports.specs.StepAnswer.{IsValued}
 use Rattle.session_lines.specs.Refusal.{term_number}
 use Rattle.session_lines.specs.declared.refusals.Refusal.{Refusal}
 use Rattle.session_lines.specs.declared.refusals.Refusal.TheVariants.{BadCommand, BadTerm, NoMemory}

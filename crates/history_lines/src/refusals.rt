@@ -6,13 +6,13 @@ ghost use Rattle.sort_terms.specs.SignatureView.{signature_of};
 ghost use Rattle.std.specs.Prelude.{◌≡◌, ◌++◌, OnOk, codes, decimal, option_map};
 
 use lotos_base::NoMemory;
+use lotos_grammar::ReadFault;
 use printed_texts::brackets::{push_number, push_text};
 use printed_texts::labels::push_value;
 use session_lines::Refusal;
 use session_lines::refusals::push_refusal;
 use session_log::{ReplayFault, StepRefusal};
 use sort_terms::{Signature, Sorted};
-use text_reading::ReadFault;
 
 /// Why the line of a step is refused.
 #[derive(Debug, Drop)]

@@ -8,11 +8,11 @@ ghost use Rattle.history_lines.specs.LinesView.{
   standing_of,
 };
 ghost use Rattle.history_lines.specs.Serving.{moment_of, Gives, IsBeforeOrBehind};
-ghost use Rattle.line_commands.specs.Request.{replay as replay_text};
+ghost use Rattle.line_server.specs.Request.{replay as replay_text};
 ghost use Rattle.lotos_base.specs.Counts.{next_count};
 ghost use Rattle.lotos_base.specs.Outside.{Gets, Texts};
-ghost use Rattle.session_answers.specs.ShelfAnswer.{StandsUnder, trace_limit};
-ghost use Rattle.session_answers.specs.Standing.{shown_menu};
+ghost use Rattle.session_reports.specs.ShelfAnswer.{StandsUnder, trace_limit};
+ghost use Rattle.session_reports.specs.Standing.{shown_menu};
 ghost use Rattle.session_histories.specs.Replay.{ReplayIs, goes_on, stops};
 ghost use Rattle.session_histories.specs.Session.{first_situation};
 ghost use Rattle.session_log.specs.RefusalView.{TellsReplay};
@@ -35,7 +35,7 @@ use crate::lines::HistoryLines;
 use crate::saving::TRACE_LIMIT;
 use crate::texts::{fault_line, name_line, replayed_line};
 use lotos_base::{GetFault, NoMemory, Shelf};
-use menu_listing::MenuMaker;
+use menu_builder::MenuMaker;
 use session_log::ReplayFault;
 use std::alloc::Global;
 

@@ -2,16 +2,16 @@
 
 ghost use Rattle.history_lines.specs.LinesView.{IsServing, basis_of, reached, standing_of};
 ghost use Rattle.history_lines.specs.Serving.{moment_of, Gives, IsBeforeOrBehind};
-ghost use Rattle.line_commands.specs.Request.{save as save_trace};
+ghost use Rattle.line_server.specs.Request.{save as save_trace};
 ghost use Rattle.lotos_base.specs.Counts.{next_count};
-ghost use Rattle.session_answers.specs.ShelfAnswer.{trace_limit};
-ghost use Rattle.session_answers.specs.Standing.{shown_trace};
+ghost use Rattle.session_reports.specs.ShelfAnswer.{trace_limit};
+ghost use Rattle.session_reports.specs.Standing.{shown_trace};
 ghost use Rattle.std.specs.Prelude.{◌≡◌, ◌⊎◌, ◌≤◌, IfOk, MatchResult, length};
 
 use crate::lines::HistoryLines;
 use crate::texts::name_line;
 use lotos_base::{NoMemory, PutFault, Shelf};
-use menu_listing::MenuMaker;
+use menu_builder::MenuMaker;
 use std::alloc::Global;
 
 /// A trace has so many bytes at most.

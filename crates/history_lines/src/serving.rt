@@ -3,11 +3,11 @@
 ghost use Rattle.history_lines.specs.Calls.{CallsShelf};
 ghost use Rattle.history_lines.specs.LinesView.{IsServing, basis_of, reached, standing_of};
 ghost use Rattle.history_lines.specs.Serving.{moment_of, Gives, IsBeforeOrBehind, ends_session};
-ghost use Rattle.line_commands.specs.Request.{compare, show_normal};
-ghost use Rattle.line_commands.specs.RequestView.{wants};
-ghost use Rattle.line_commands.specs.RequestLaws.{Carries};
+ghost use Rattle.line_server.specs.Request.{compare, show_normal};
+ghost use Rattle.line_server.specs.RequestView.{wants};
+ghost use Rattle.line_server.specs.RequestLaws.{Carries};
 ghost use Rattle.lotos_base.specs.Outside.{Texts};
-ghost use Rattle.session_answers.specs.Standing.{shown_menu, state_line};
+ghost use Rattle.session_reports.specs.Standing.{shown_menu, state_line};
 ghost use Rattle.std.specs.Prelude.{
   ◌≡◌,
   ◌+◌,
@@ -22,12 +22,11 @@ ghost use Rattle.std.specs.Prelude.{
 
 use crate::lines::HistoryLines;
 use crate::texts::{bare_line, menu_lines};
-use line_commands::{Request, read_request};
-use line_server::{Answer, Lines};
+use line_server::{Answer, Lines, Request, read_request};
 use lotos_base::{NoMemory, Shelf};
-use menu_listing::MenuMaker;
-use printed_states::state_text;
+use menu_builder::MenuMaker;
 use printed_texts::brackets::push_text;
+use report_text::state_text;
 use session_lines::questions::{push_comparison, push_normal};
 use std::alloc::Global;
 
@@ -156,9 +155,9 @@ fn ends(request: &Request<'_>) -> bool
 
 impl<M: MenuMaker> Lines for HistoryLines<'_, M> {
     ghost use Rattle.history_lines.specs.LinesView.{IsServing, standing_of};
-    ghost use Rattle.session_answers.specs.Befallen.{Befallen};
-    ghost use Rattle.session_answers.specs.SessionMachine.{history_machine};
-    ghost use Rattle.session_answers.specs.Standing.{Standing};
+    ghost use Rattle.session_reports.specs.Befallen.{Befallen};
+    ghost use Rattle.session_reports.specs.SessionMachine.{history_machine};
+    ghost use Rattle.session_reports.specs.Standing.{Standing};
     ghost use Rattle.std.specs.Prelude.{Option};
 
     ghost State = { Standing };

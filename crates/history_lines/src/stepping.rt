@@ -11,11 +11,11 @@ ghost use Rattle.history_lines.specs.LinesView.{
 ghost use Rattle.history_lines.specs.Serving.{moment_of, Declines, Gives, IsBeforeOrBehind};
 ghost use Rattle.history_lines.specs.Serving.{undo_text};
 ghost use Rattle.history_lines.specs.Values.{Chooses};
-ghost use Rattle.line_commands.specs.Request.{take_step, undo as undo_step};
+ghost use Rattle.line_server.specs.Request.{take_step, undo as undo_step};
 ghost use Rattle.lotos_base.specs.Outside.{Texts};
 ghost use Rattle.lotos_base.specs.WrittenView.{written_term_of};
-ghost use Rattle.session_answers.specs.Answer.{did_text};
-ghost use Rattle.session_answers.specs.StepAnswer.{StepComesTo, took};
+ghost use Rattle.session_reports.specs.Answer.{did_text};
+ghost use Rattle.session_reports.specs.StepAnswer.{StepComesTo, took};
 ghost use Rattle.session_lines.specs.Refusal.{AreTerms};
 ghost use Rattle.std.specs.Prelude.{
   ◌≡◌,
@@ -36,11 +36,11 @@ use crate::texts::{bare_line, decline_line, did_line, undone_line};
 use crate::values::values_at;
 use behaviour_tree::Label;
 use lotos_base::{NoMemory, Written};
-use menu_listing::MenuMaker;
+use lotos_grammar::read_terms;
+use menu_builder::MenuMaker;
 use session_log::entries::counted_entry;
 use sort_terms::Sorted;
 use std::alloc::Global;
-use text_reading::read_terms;
 
 impl<M: MenuMaker> HistoryLines<'_, M> {
     /// Takes the step by the entry with this number and the values in the text, and answers its

@@ -3,7 +3,7 @@
 ghost use Rattle.behaviour_tree.specs.BehaviourView.{terms_of};
 ghost use Rattle.history_lines.specs.Values.{IsMisread, IsReadAt, TellsMisread};
 ghost use Rattle.lotos_base.specs.WrittenView.{written_term_of};
-ghost use Rattle.session_answers.specs.StepAnswer.{IsFirstMisread};
+ghost use Rattle.session_reports.specs.StepAnswer.{IsFirstMisread};
 ghost use Rattle.session_histories.specs.Replay.{AreRead};
 ghost use Rattle.session_log.specs.Entries.{AreGiven};
 ghost use Rattle.sort_terms.specs.ReaderView.{signature_read};

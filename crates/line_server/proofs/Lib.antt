@@ -9,3 +9,6 @@ mod Reached
 mod Ended
 mod Completeness
 mod Seen
+pub mod LineLemmas
+pub mod NumberLemmas
+pub mod RequestLemmas

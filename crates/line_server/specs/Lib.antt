@@ -5,3 +5,8 @@ pub mod Fitting
 pub mod Writing
 pub mod Serving
 pub mod Session
+pub mod Line
+pub mod Request
+pub mod RequestView
+pub mod RequestLaws
+pub mod RequestCases

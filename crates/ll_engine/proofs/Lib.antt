@@ -18,3 +18,8 @@ pub mod Uniqueness
 pub mod KeptSets
 pub mod WrittenTables
 pub mod OnlyRows
+pub mod Folding
+pub mod Running
+pub mod Values
+pub mod Stacks
+pub mod Steps

@@ -12,3 +12,6 @@ pub mod WrittenTable
 pub mod Grammar
 pub mod Walk
 pub mod Laws
+pub mod Fold
+pub mod Values
+pub mod Run

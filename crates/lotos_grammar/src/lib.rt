@@ -1,13 +1,22 @@
-//! The reading of texts of LOTOS (ISO 8807:1989, syntax; ACT ONE's types with it): the syntax
-//! trees, the calls that read them and group their behaviours, and the drop of a tree. All of it is
-//! written and proved in the crates below; here it stands together, for the crates that read texts.
+//! The reading of texts of LOTOS (ISO 8807:1989, syntax; ACT ONE's types with it): specifications,
+//! the items of libraries, order files and lists of terms; the types of a text with those of the
+//! libraries that it mentions.
 #![tactic(auto)]
 
-pub use lotos_reading::ReadFault;
+mod faults;
+mod gathered;
+mod gathering;
+pub mod laws;
+mod reading;
+mod texts;
+
+pub use faults::LibraryFault;
+pub use gathered::Gathered;
+pub use gathering::gather_types;
+pub use reading::{read_order, read_spec, read_terms, read_types};
+pub use sentence_trees::ReadFault;
 pub use syntax_trees::{
     BehForm, BehText, EqText, EqnsText, ExitText, GateText, GroupText, InnerText, ItemBody,
     ItemText, Named, OfferText, OpText, PairText, ProcessText, Sign, SpecText, TestText, VarText,
-    group,
+    discard, group,
 };
-pub use text_reading::{read_order, read_spec, read_terms, read_types};
-pub use tree_discard::discard;

@@ -2,7 +2,7 @@
 use Rattle.std.specs.Prelude.{◌≡◌, ℕ, Bool, true, ◌&&◌, ◌==◌, nat_lt}
 use Rattle.std.specs.Int.{bit_at}
 use Rattle.std.specs.List.{list_all}
-use Rattle.derivation_fold.specs.Fold.{kept_in_front}
+use Rattle.ll_engine.specs.Fold.{kept_in_front}
 use Rattle.lotos_lexer.specs.declared.kinds.TheConstants as kind
 use Rattle.lotos_rows.specs.declared.kept.TheConstants.{KEPT}
 use Rattle.lotos_rows.specs.Rows.{rows}

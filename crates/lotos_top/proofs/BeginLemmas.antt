@@ -14,10 +14,10 @@ use Rattle.path_order.specs.RulesView.{rules_in, precedence_in}
 use Rattle.sort_terms.specs.EquationView.{data_of}
 use Rattle.equation_book.specs.BookCanon.{book_canon, book_chooses, book_is_canon}
 use Rattle.equation_book.specs.declared.book.Book.{Book}
-use Rattle.menu_listing.specs.declared.makers.FreshMenus.{FreshMenus}
-use Rattle.acceptance_order.specs.Acceptance.{Acceptance}
-use Rattle.library_reading.specs.ShelfUse.{ShelfState}
-use Rattle.acceptance_order.specs.Part.{goes_on, Part}
+use Rattle.menu_builder.specs.declared.makers.FreshMenus.{FreshMenus}
+use Rattle.spec_acceptance.specs.Acceptance.{Acceptance}
+use Rattle.lotos_grammar.specs.ShelfUse.{ShelfState}
+use Rattle.spec_acceptance.specs.Part.{goes_on, Part}
 use Rattle.session_histories.specs.Session.{Progress, Situation, first_situation}
 use Rattle.session_histories.specs.Lawful.{IsSituation}
 use Rattle.session_log.specs.CourseView.{basis_over, progress_of, pasts_of}

@@ -4,9 +4,9 @@ use Rattle.std.proofs.lemmas.List.{take_all}
 use Rattle.std.proofs.lemmas.Bool.{le-ltb}
 use Rattle.lotos_base.specs.Counts.{Rises}
 use Rattle.lotos_base.specs.Outside.{Texts}
-use Rattle.library_reading.specs.ShelfUse.{ShelfState}
-use Rattle.acceptance_order.specs.Acceptance.{Asked, Acceptance}
-use Rattle.acceptance_order.specs.Part.{goes_on}
+use Rattle.lotos_grammar.specs.ShelfUse.{ShelfState}
+use Rattle.spec_acceptance.specs.Acceptance.{Asked, Acceptance}
+use Rattle.spec_acceptance.specs.Part.{goes_on}
 use Rattle.line_server.specs.Limits.{input_limit}
 use Rattle.line_server.specs.Machine.{by_chances, fault_count, Counted}
 use Rattle.line_server.specs.Fitting.{AllFit, is_whole}
@@ -16,9 +16,9 @@ use Rattle.line_server.specs.Session.{ending_of, EndsWith}
 use Rattle.line_server.specs.Writing.{WritesAll}
 use Rattle.line_server.specs.declared.ends.SessionEnd.{SessionEnd}
 use Rattle.line_server.specs.declared.ends.SessionEnd.TheVariants as end
-use Rattle.session_answers.specs.Standing.{Standing}
-use Rattle.session_answers.specs.Befallen.{Befallen}
-use Rattle.session_answers.specs.SessionMachine.{history_machine}
+use Rattle.session_reports.specs.Standing.{Standing}
+use Rattle.session_reports.specs.Befallen.{Befallen}
+use Rattle.session_reports.specs.SessionMachine.{history_machine}
 use Rattle.session_reports.specs.Beginning.{Beginning, standing_at}
 use Rattle.session_reports.specs.Reached.{IsReached}
 use Rattle.session_reports.specs.ReportLaws.{LinesLeadOn, ServedLinesAreAnswered}

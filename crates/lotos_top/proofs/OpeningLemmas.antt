@@ -8,10 +8,10 @@ use Rattle.session_log.specs.declared.courses.Course.{Course}
 use Rattle.session_log.specs.declared.courses.Past.{Past}
 use Rattle.acceptance_outcomes.specs.AcceptanceOutcomes.{ComesOver}
 use Rattle.acceptance_outcomes.proofs.OneAnswer.{comes_over}
-use Rattle.library_reading.specs.ShelfUse.{ShelfState}
-use Rattle.acceptance_order.specs.Acceptance.{Acceptance, Asked, IsAccepted}
-use Rattle.acceptance_order.specs.Ending as ending
-use Rattle.acceptance_order.specs.Part.{Comes, goes_on, stops, Part}
+use Rattle.lotos_grammar.specs.ShelfUse.{ShelfState}
+use Rattle.spec_acceptance.specs.Acceptance.{Acceptance, Asked, IsAccepted}
+use Rattle.spec_acceptance.specs.Ending as ending
+use Rattle.spec_acceptance.specs.Part.{Comes, goes_on, stops, Part}
 use Rattle.refusal_lines.specs.RefusalText.{refusal_text}
 use Rattle.printed_texts.specs.ReportLines.{unread_text}
 use Rattle.spec_acceptance.specs.AcceptedView.{asked_for}

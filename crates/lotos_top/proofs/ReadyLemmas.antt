@@ -1,6 +1,6 @@
 -- What came of a run by what was ready.
 use Rattle.std.proofs.Common.{◌≡◌, ◌⊎◌, inl, inr, ℕ, List, Option, refl, subst}
-use Rattle.library_reading.specs.ShelfUse.{ShelfState}
+use Rattle.lotos_grammar.specs.ShelfUse.{ShelfState}
 use Rattle.lotos_top.specs.Words.{CommandLine}
 use Rattle.lotos_top.specs.Outcome.{accepted, files_of, text_of, opening_text, status_of}
 use Rattle.lotos_top.specs.Run.{Streams, streams, LeavesInput, Prints, Serves, Came, Untouched, Stopped, Ran, Completes}

@@ -4,16 +4,16 @@ use Rattle.std.proofs.lemmas.Bool.{cases_lt}
 use Rattle.std.proofs.lemmas.Option.{none-some}
 use Rattle.lotos_base.specs.Counts.{Rises, last_count}
 use Rattle.lotos_base.specs.Outside.{Texts}
-use Rattle.library_reading.specs.ShelfUse.{ShelfState}
+use Rattle.lotos_grammar.specs.ShelfUse.{ShelfState}
 use Rattle.line_server.specs.Machine.{Counted}
 use Rattle.line_server.specs.Writing.{WritesAll}
 use Rattle.line_server.specs.declared.ends.SessionEnd.TheVariants as end
-use Rattle.acceptance_order.specs.Acceptance.{Asked, Acceptance, IsAccepted}
-use Rattle.acceptance_order.specs.Part.{Comes, goes_on, stops}
-use Rattle.acceptance_order.specs.Ending as ending
+use Rattle.spec_acceptance.specs.Acceptance.{Asked, Acceptance, IsAccepted}
+use Rattle.spec_acceptance.specs.Part.{Comes, goes_on, stops}
+use Rattle.spec_acceptance.specs.Ending as ending
 use Rattle.acceptance_outcomes.specs.AcceptanceOutcomes.{ComesOver}
 use Rattle.acceptance_outcomes.proofs.OneAnswer.{comes_over, outcomes_over_texts_are_one}
-use Rattle.session_answers.specs.SessionMachine.{history_machine}
+use Rattle.session_reports.specs.SessionMachine.{history_machine}
 use Rattle.session_reports.specs.Beginning.{Beginning}
 use Rattle.lotos_top.specs.Words.{CommandLine, check, session, demonstration, is_demonstration}
 use Rattle.lotos_top.specs.Outcome.{Outcome, no_line, unread, refused, accepted, files_of, IsOutcome, text_of, status_of, opening_text}

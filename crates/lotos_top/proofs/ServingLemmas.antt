@@ -1,12 +1,12 @@
 -- A session that is served behind a text.
 use Rattle.std.proofs.Common.{◌≡◌, ℕ, List, Option, Result, MatchResult, subst}
-use Rattle.library_reading.specs.ShelfUse.{ShelfState}
+use Rattle.lotos_grammar.specs.ShelfUse.{ShelfState}
 use Rattle.line_server.specs.Session as served
 use Rattle.line_server.specs.Session.{around}
 use Rattle.line_server.specs.Writing.{WritesAll}
 use Rattle.line_server.specs.declared.ends.SessionEnd.{SessionEnd}
-use Rattle.session_answers.specs.Standing.{Standing}
-use Rattle.session_answers.specs.SessionMachine.{history_machine}
+use Rattle.session_reports.specs.Standing.{Standing}
+use Rattle.session_reports.specs.SessionMachine.{history_machine}
 use Rattle.session_reports.specs.Beginning.{Beginning, standing_at}
 use Rattle.lotos_top.specs.Run.{Streams, whole, Serves, ended_by}
 use Rattle.lotos_top.specs.declared.ended.Ended.{Ended}

@@ -2,13 +2,13 @@
 use Rattle.std.specs.Prelude.{◌≡◌, ◌⊎◌, ℕ, ◌<◌, ◌≤◌, List, ◌++◌, length, Option, Some}
 use Rattle.lotos_base.specs.Counts.{last_count}
 use Rattle.lotos_base.specs.Outside.{Texts}
-use Rattle.library_reading.specs.ShelfUse.{ShelfState}
-use Rattle.acceptance_order.specs.Acceptance.{Acceptance}
-use Rattle.acceptance_order.specs.Part.{goes_on}
+use Rattle.lotos_grammar.specs.ShelfUse.{ShelfState}
+use Rattle.spec_acceptance.specs.Acceptance.{Acceptance}
+use Rattle.spec_acceptance.specs.Part.{goes_on}
 use Rattle.acceptance_outcomes.specs.AcceptanceOutcomes.{ComesOver}
 use Rattle.line_server.specs.Limits.{input_limit}
 use Rattle.session_reports.specs.Beginning.{Beginning, standing_at}
-use Rattle.session_answers.specs.Standing.{Standing}
+use Rattle.session_reports.specs.Standing.{Standing}
 use Rattle.session_reports.specs.Answered.{lines_in, AreAnswered}
 use Rattle.spec_acceptance.specs.AcceptedView.{asked_for}
 use Rattle.lotos_top.specs.Outcome.{Begins, opening_text}

@@ -6,14 +6,14 @@ use Rattle.termination_theory.specs.Orientation.{NumberedRule, rules_of}
 use Rattle.rewriting_theory.specs.ChosenForm.{Chooses}
 use Rattle.behaviour_semantics.specs.Replacement.{with_values, binding_of}
 use Rattle.equation_book.specs.Refusal.{IsOpenedBy}
-use Rattle.library_reading.specs.ShelfUse.{ShelfState}
-use Rattle.spec_faults.specs.Refusal.{Refused}
-use Rattle.acceptance_order.specs.Acceptance.{Asked, Acceptance, IsAccepted}
-use Rattle.acceptance_order.specs.Ending as ending
-use Rattle.acceptance_order.specs.Part.{goes_on, stops}
+use Rattle.lotos_grammar.specs.ShelfUse.{ShelfState}
+use Rattle.start_values.specs.Refusal.{Refused}
+use Rattle.spec_acceptance.specs.Acceptance.{Asked, Acceptance, IsAccepted}
+use Rattle.spec_acceptance.specs.Ending as ending
+use Rattle.spec_acceptance.specs.Part.{goes_on, stops}
 use Rattle.refusal_lines.specs.RefusalText.{refusal_text}
 use Rattle.printed_texts.specs.ReportLines.{head_text, unread_text, usage_text}
-use Rattle.session_answers.specs.Standing.{shown_menu}
+use Rattle.session_reports.specs.Standing.{shown_menu}
 use Rattle.session_reports.specs.Beginning.{Beginning, CanBegin}
 use Rattle.spec_acceptance.specs.AcceptedView.{asked_for}
 use Rattle.spec_acceptance.specs.Doing.{Did}

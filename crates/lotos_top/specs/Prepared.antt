@@ -6,14 +6,14 @@ use Rattle.behaviour_tree.specs.declared.definitions.Spec.{Spec}
 use Rattle.equation_book.specs.BookCanon.{book_canon}
 use Rattle.history_lines.specs.LinesView.{basis_of, reached}
 use Rattle.history_lines.specs.declared.lines.HistoryLines.{HistoryLines}
-use Rattle.library_reading.specs.ShelfUse.{ShelfState}
-use Rattle.menu_listing.specs.declared.makers.FreshMenus.{FreshMenus}
+use Rattle.lotos_grammar.specs.ShelfUse.{ShelfState}
+use Rattle.menu_builder.specs.declared.makers.FreshMenus.{FreshMenus}
 use Rattle.session_log.specs.CourseView.{basis_over, progress_of}
 use Rattle.session_log.specs.Kept.{IsLawfulSession}
 use Rattle.session_reports.specs.Beginning.{Beginning}
 use Rattle.sort_terms.specs.EquationView.{data_of}
-use Rattle.acceptance_order.specs.Acceptance.{Asked, Acceptance}
-use Rattle.acceptance_order.specs.Part.{Comes}
+use Rattle.spec_acceptance.specs.Acceptance.{Asked, Acceptance}
+use Rattle.spec_acceptance.specs.Part.{Comes}
 use Rattle.acceptance_outcomes.specs.AcceptanceOutcomes.{ComesOver}
 use Rattle.lotos_top.specs.Outcome.{Outcome, accepted, files_of, IsOutcome, text_of, opening_text, status_of}
 use Rattle.lotos_top.specs.Run.{Streams, LeavesInput, Prints, Serves, Follows, IsOutcomeOf, PrintsFor, demo_asked, demo_texts_of}

@@ -2,21 +2,21 @@
 use Rattle.std.specs.Prelude.{◌≡◌, ◌⊎◌, ℕ, ◌<◌, Bool, true, false, IsTrue, List, [], codes, Option, Some, None}
 use Rattle.lotos_base.specs.Counts.{Rises}
 use Rattle.lotos_base.specs.Outside.{Texts}
-use Rattle.library_reading.specs.ShelfUse.{ShelfState}
-use Rattle.acceptance_order.specs.Acceptance.{Asked, Acceptance}
-use Rattle.acceptance_order.specs.Ending as ending
-use Rattle.acceptance_order.specs.Part.{Comes, goes_on, stops}
+use Rattle.lotos_grammar.specs.ShelfUse.{ShelfState}
+use Rattle.spec_acceptance.specs.Acceptance.{Asked, Acceptance}
+use Rattle.spec_acceptance.specs.Ending as ending
+use Rattle.spec_acceptance.specs.Part.{Comes, goes_on, stops}
 use Rattle.acceptance_outcomes.specs.AcceptanceOutcomes.{ComesOver}
 use Rattle.line_server.specs.Session as served
 use Rattle.line_server.specs.Session.{around}
 use Rattle.line_server.specs.Writing.{WritesAll, WritesBeginning}
 use Rattle.line_server.specs.declared.ends.SessionEnd.{SessionEnd}
 use Rattle.line_server.specs.declared.ends.SessionEnd.TheVariants as end
-use Rattle.demo_texts.specs.DemoText.{demo_text}
+use Rattle.demo_walks.specs.DemoText.{demo_text}
 use Rattle.demo_walks.specs.DemoSummary.{IsSummary}
 use Rattle.printed_texts.specs.ReportLines.{usage_text}
-use Rattle.session_answers.specs.Standing.{Standing}
-use Rattle.session_answers.specs.SessionMachine.{history_machine}
+use Rattle.session_reports.specs.Standing.{Standing}
+use Rattle.session_reports.specs.SessionMachine.{history_machine}
 use Rattle.session_reports.specs.Beginning.{Beginning, standing_at}
 use Rattle.spec_acceptance.specs.AcceptedView.{asked_for}
 use Rattle.lotos_top.specs.Words.{CommandLine, check, session, demonstration, is_demonstration}

@@ -11,5 +11,5 @@ pub use commands::{Command, parse_command};
 pub use ended::Ended;
 pub use running::run;
 pub use spec_acceptance::{Accepted, NotAccepted};
-pub use spec_faults::{Refused, SpecFault};
 pub use start_values::limits::{WORD_BYTES_LIMIT, WORDS_LIMIT};
+pub use start_values::{Refused, SpecFault};

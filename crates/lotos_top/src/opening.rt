@@ -1,9 +1,9 @@
 //! What is made ready before anything is written: the specification with its first menu, or the line
 //! that says why there is none.
 
-ghost use Rattle.acceptance_order.specs.Acceptance.{IsAccepted};
+ghost use Rattle.spec_acceptance.specs.Acceptance.{IsAccepted};
 ghost use Rattle.demo_walks.specs.DemoSummary.{IsSummary};
-ghost use Rattle.library_reading.specs.ShelfUse.{ShelfState, shelf_state};
+ghost use Rattle.lotos_grammar.specs.ShelfUse.{ShelfState, shelf_state};
 ghost use Rattle.lotos_top.specs.Outcome.{files_of, opening_text, word_or_none};
 ghost use Rattle.lotos_top.specs.Prepared.{
   IsDemoShelf,
@@ -20,7 +20,7 @@ ghost use Rattle.sort_terms.specs.EquationView.{data_of};
 ghost use Rattle.sort_terms.specs.SignatureView.{signature_of};
 ghost use Rattle.spec_acceptance.specs.AcceptedView.{Holds, asked_for};
 ghost use Rattle.spec_acceptance.specs.Doing.{Failed};
-ghost use Rattle.acceptance_order.specs.Acceptance.{Acceptance};
+ghost use Rattle.spec_acceptance.specs.Acceptance.{Acceptance};
 ghost use Rattle.lotos_base.specs.Name.{spelling};
 ghost use Rattle.lotos_top.specs.Outcome.{Begins};
 ghost use Rattle.lotos_top.specs.declared.ended.Ended.TheVariants.{
@@ -31,7 +31,7 @@ ghost use Rattle.lotos_top.specs.declared.ended.Ended.TheVariants.{
 };
 ghost use Rattle.printed_texts.specs.ReportLines.{head_text, unread_text, usage_text};
 ghost use Rattle.refusal_lines.specs.RefusalText.{refusal_text};
-ghost use Rattle.spec_faults.specs.RefusalView.{refused_of};
+ghost use Rattle.start_values.specs.RefusalView.{refused_of};
 ghost use Rattle.start_values.specs.WordLimits.{are_within, words_of};
 ghost use Rattle.std.specs.Prelude.{
   ◌≡◌,
@@ -54,18 +54,17 @@ use crate::commands::{Command, parse_command};
 use crate::ended::Ended;
 use crate::text_shelf::TextShelf;
 use behaviour_tree::Spec;
-use demo_texts::demo_text;
-use demo_walks::write_summary;
+use demo_walks::{demo_text, write_summary};
 use equation_book::Book;
 use lotos_base::{NoMemory, Shelf};
-use menu_listing::FreshMenus;
+use menu_builder::FreshMenus;
 use printed_texts::brackets::{push_number, push_text};
 use printed_texts::menu_text;
 use refusal_lines::refusal_line;
 use session_log::Session;
 use sort_terms::Signature;
 use spec_acceptance::{Accepted, NotAccepted};
-use spec_faults::Refused;
+use start_values::Refused;
 use std::alloc::Global;
 
 /// A specification that is accepted, where its session begins.

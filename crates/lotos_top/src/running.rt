@@ -1,7 +1,7 @@
 //! The whole program over any outside.
 
 ghost use Rattle.history_lines.specs.LinesView.{IsServing};
-ghost use Rattle.library_reading.specs.ShelfUse.{shelf_state};
+ghost use Rattle.lotos_grammar.specs.ShelfUse.{shelf_state};
 ghost use Rattle.lotos_top.specs.Headline.{Headline};
 ghost use Rattle.lotos_top.specs.Outcome.{opening_text};
 ghost use Rattle.lotos_top.specs.Prepared.{IsLawfulAt, any_maker, beginning_of, begun};
@@ -24,7 +24,7 @@ use crate::opening::{Alone, Front, Opened, Ready, front_of, prepare};
 use history_lines::HistoryLines;
 use line_server::{SessionEnd, serve_session, write_whole};
 use lotos_base::{Failed, NoMemory, Shelf, Sink, Source};
-use menu_listing::FreshMenus;
+use menu_builder::FreshMenus;
 use session_reports::laws::{lines_lead_on, served_lines_are_answered};
 use sort_terms::Reader;
 use std::alloc::Global;

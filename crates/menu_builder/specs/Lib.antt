@@ -1,5 +1,7 @@
-pub mod DraftRules
-pub mod DraftTerms
-pub mod DraftRuleLaws
-pub mod VariantView
-pub mod Meeting
+pub mod Nodes
+pub mod Menus
+pub mod Placed
+pub mod Bound
+pub mod OpenMenus
+pub mod ClosedParts
+pub mod NodeNumbers

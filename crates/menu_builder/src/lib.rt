@@ -1,11 +1,17 @@
-//! Menus of states: what each rule of the dynamic semantics makes of the drafts of the parts of a
-//! behaviour (ISO 8807:1989, behaviour expressions). The call that lists them is not there yet.
+//! The menu of a state: the drafts of its moves, listed part by part under environments, and each
+//! solved (ISO 8807:1989, dynamic semantics of behaviour expressions).
 #![tactic(auto)]
 
-pub mod copies;
+pub mod behaviours;
+pub mod binders;
+pub mod events;
+pub mod guards;
 pub mod laws;
-pub mod meeting;
-pub mod rules;
-pub mod variants;
+pub mod makers;
+pub mod menus;
+pub mod nodes;
+pub mod numbers;
 
-pub use variants::Variant;
+pub use behaviours::{behaviour_moves, call_moves};
+pub use makers::{FreshMenus, MenuMaker};
+pub use menus::menu;

@@ -4,3 +4,9 @@ pub mod RuleLemmas
 pub mod RulesLemmas
 pub mod OrientLemmas
 pub mod RuleTestLemmas
+pub mod SuitLemmas
+pub mod Numbers
+pub mod Places
+pub mod ItemLemmas
+pub mod ListingLemmas
+pub mod RankLemmas

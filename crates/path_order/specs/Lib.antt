@@ -14,3 +14,9 @@ pub mod Extension
 pub mod RewritingEnd
 pub mod RuleTest
 pub mod OrderedBy
+pub mod Listed
+pub mod Listing
+pub mod Contains
+pub mod OrderFaultView
+pub mod Steps
+pub mod Added

@@ -3,7 +3,7 @@ use Rattle.std.specs.Prelude.{◌↔◌, ◌<◌, ℕ, List, length}
 use Rattle.lotos_base.specs.WrittenTerm.{ListedOperation}
 use Rattle.term_algebra.specs.Signature.{Signature}
 use Rattle.termination_theory.specs.Precedence.{Precedence, IsOver}
-use Rattle.operation_order.specs.Listing.{AreListed, IsAbove, IsFine}
+use Rattle.path_order.specs.Listing.{AreListed, IsAbove, IsFine}
 
 -- Nothing is wrong with an item, and an operation of the signature is over another one exactly where it is above it in
 -- the order that the items list.

@@ -2,8 +2,8 @@
 
 ghost use Rattle.std.specs.Prelude.{◌≡◌, IfOk, MatchResult, map};
 
+use crate::{OrderFault, ranks};
 use lotos_base::{NoMemory, OrderItem};
-use operation_order::{OrderFault, ranks};
 use sort_terms::Flat;
 
 /// A rank for each operation, by its number; an operation past the list has the rank 0. An
@@ -15,7 +15,7 @@ pub struct Precedence {
 
 impl Precedence {
     ghost use Rattle.lotos_base.specs.WrittenView.{listed_operation_of};
-    ghost use Rattle.operation_order.specs.OrderFaultView.{IsOrderFault};
+    ghost use Rattle.path_order.specs.OrderFaultView.{IsOrderFault};
     ghost use Rattle.path_order.specs.OrderedBy.{IsPrecedenceBy};
     ghost use Rattle.path_order.specs.PrecedenceView.{precedence_of};
     ghost use Rattle.sort_terms.specs.SignatureView.{signature_of};

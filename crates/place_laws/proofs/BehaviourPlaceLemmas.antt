@@ -11,7 +11,7 @@ use Rattle.lotos_sentences.specs.Words.{Optional, left_out, there}
 use Rattle.lotos_sentences.specs.Names.{place_of, spelled}
 use Rattle.lotos_sentences.specs.Behaviours.{IsSelection, selection, AreOperands, hiding, letting, choosing_values, choosing_gates, parallel_over_gates, inner_prefix, guarding, acting, offering, last_operand, before_sign, before_first, IsAtom, stopping, exiting, calling, in_brackets, IsBehaviour, grouped_operands}
 use Rattle.behaviour_semantics.specs.WellFormed.{Every}
-use Rattle.static_scope.specs.ScopeFault.{stands_before}
+use Rattle.scope_parts.specs.ScopeFault.{stands_before}
 use Rattle.scope_faults.specs.Order.{IsOneOf, Before, InTurn, joined}
 use Rattle.scope_faults.specs.TermPlaces.{name_places, premiss_places}
 use Rattle.scope_faults.specs.PartPlaces.{exit_places, value_places, let_places, variable_places, choice_places, sign_places, SignFollows, offers_places, OffersFollowOn}

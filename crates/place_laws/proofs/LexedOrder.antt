@@ -13,7 +13,7 @@ use Rattle.lotos_lexer.specs.Pieces.{piece_at}
 use Rattle.lotos_lexer.specs.Tokens as lexed
 use Rattle.lotos_lexer.specs.Tokens.{Lexed, behind, at_next_line, at_next_column, token_at, with_token, list_open_behind, cut, start, tokens_of}
 use Rattle.lotos_sentences.specs.Names.{place_of}
-use Rattle.static_scope.specs.ScopeFault.{stands_before}
+use Rattle.scope_parts.specs.ScopeFault.{stands_before}
 use Rattle.place_laws.proofs.TokenOrder.{At, Rises}
 
 -- The place is in the text, at the position or behind it.

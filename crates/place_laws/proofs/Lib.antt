@@ -5,3 +5,4 @@ pub mod PartPlaceLemmas
 pub mod BehaviourPlaceLemmas
 pub mod TextPlaceLemmas
 pub mod ReadLemmas
+pub mod GateListLemmas

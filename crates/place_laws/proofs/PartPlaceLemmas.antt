@@ -12,10 +12,10 @@ use Rattle.lotos_sentences.specs.Words.{Separated, last, before_more, Many, no_m
 use Rattle.lotos_sentences.specs.Names.{place_of, named, variables_of_sort, AreVariablesOfSort, of_sort, AreVariables, variables, AreParameters}
 use Rattle.lotos_sentences.specs.Behaviours.{IsLetDeclaration, let_declaration, gate_choices_among, AreGateChoicesAmong, among, AreGateChoices, gate_choices, IsOffer, giving, asking, IsExitValue, any_value, value_given, IsParallelSign, sign_interleaving, sign_full, sign_gates, IsSign, sign_choice, sign_parallel, sign_disabling, sign_enabling}
 use Rattle.behaviour_semantics.specs.WellFormed.{Every}
-use Rattle.static_scope.specs.Numbering.{asked_for}
-use Rattle.static_scope.specs.Sorts.{placed_variables}
-use Rattle.static_scope.specs.Terms.{let_names}
-use Rattle.static_scope.specs.Choices.{placed_choices}
+use Rattle.scope_parts.specs.Numbering.{asked_for}
+use Rattle.scope_parts.specs.Sorts.{placed_variables}
+use Rattle.scope_parts.specs.Terms.{let_names}
+use Rattle.scope_parts.specs.Choices.{placed_choices}
 use Rattle.scope_faults.specs.Order.{IsOneOf, Before, Rising, InTurn, joined}
 use Rattle.scope_faults.specs.TermPlaces.{name_places, term_places}
 use Rattle.scope_faults.specs.PartPlaces.{sort_places, variable_places, SortsFollow, VariablesFollow, exit_value_places, exit_places, binding_places, bindings_places, let_places, LetFollows, offer_places, offered_places, offers_places, OfferFollows, OffersInTurn, OffersFollowOn, choice_places, AmongFollow, ChoicesFollow, sign_places, SignFollows}

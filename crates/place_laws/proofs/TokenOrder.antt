@@ -4,7 +4,7 @@ use Rattle.std.specs.Prelude.{◌⊎◌}
 use Rattle.term_algebra.specs.Equation.{Place}
 use Rattle.lotos_lexer.specs.declared.tokens.Token.{Token}
 use Rattle.lotos_sentences.specs.Names.{place_of}
-use Rattle.static_scope.specs.ScopeFault.{stands_before}
+use Rattle.scope_parts.specs.ScopeFault.{stands_before}
 use Rattle.behaviour_semantics.specs.WellFormed.{Every}
 use Rattle.scope_faults.specs.Order.{IsOneOf, Before, Rising, InTurn, joined}
 

@@ -1,1 +1,2 @@
 pub mod ReadPlaces
+pub mod ReadGateLists

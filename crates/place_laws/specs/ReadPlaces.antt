@@ -3,7 +3,7 @@
 use Rattle.std.specs.Prelude.{ℕ, List}
 use Rattle.syntax_trees.specs.WrittenDefinition.{WrittenSpecification}
 use Rattle.syntax_trees.specs.TakenItems.{without_items}
-use Rattle.lotos_reading.specs.Reading.{IsSpecificationReading}
+use Rattle.sentence_trees.specs.Reading.{IsSpecificationReading}
 use Rattle.scope_faults.specs.TextOrder.{PlacesRise}
 
 abbrev pub ReadTextsRise : Type 0

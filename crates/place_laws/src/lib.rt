@@ -1,4 +1,6 @@
-//! Texts that were read: their places rise along them.
+//! Nothing executable: in texts that were read the places rise along them, and each list of gates has
+//! a gate.
 #![tactic(auto)]
 
+pub mod gate_laws;
 pub mod laws;

@@ -73,13 +73,13 @@ parallel_listed processes depth meet b c used_left used_right lefts rights moves
 
 pub call_listed : (processes : List Process) (depth number : ℕ) (gates : List ℕ) (process : PlainProcess) (used : Relabelling) (parts moves : Option (List ShapedMove)) →
     slice_get processes number ≡ Some (process_of process) → used ≡ zip process.gates.items gates
-    → IsListed processes depth (without_values process.body) parts →
+    → IsListed processes depth (without_values process.body.value) parts →
     moves ≡ option_map (filter_map (below called (λ m. Some (relabelling used m)))) parts →
     IsListedByForm processes depth (plain.call number gates []) moves
 call_listed processes depth number gates process used parts moves found same part listed = λ signature represent leaves n.
     let setting : Setting = record { signature = signature; represent = represent; processes = processes } in
     ap (λ (o : Option Process). called_below setting n (listed_moves setting leaves depth) gates [] o) found
-    ∙ ap (λ (b : Behaviour). each_below called (λ m. Some (relabelling (zip process.gates.items gates) m)) (listed_moves setting leaves depth n b)) (same_with_values (binding_of [] []) process.body)
+    ∙ ap (λ (b : Behaviour). each_below called (λ m. Some (relabelling (zip process.gates.items gates) m)) (listed_moves setting leaves depth n b)) (same_with_values (binding_of [] []) process.body.value)
     ∙ ap (each_below called (λ m. Some (relabelling (zip process.gates.items gates) m))) (part signature represent leaves n)
     ∙ ap (λ (ps : Relabelling). option_map (filter_map (below called (λ m. Some (relabelling ps m)))) parts) (sym same)
     ∙ sym listed

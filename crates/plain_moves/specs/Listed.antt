@@ -11,7 +11,7 @@ use Rattle.plain_moves.specs.declared.listing.PlainProcess.{PlainProcess}
 
 -- a process without values
 abbrev pub process_of : PlainProcess → Process
-process_of p = record { name = []; gates = p.gates.items; parameters = []; exit = None; body = without_values p.body }
+process_of p = record { name = []; gates = p.gates.items; parameters = []; exit = None; body = without_values p.body.value }
 
 -- whatever signature, form of values and leaves: no value occurs
 abbrev pub IsListed : List Process → ℕ → Behaviour → Option (List ShapedMove) → Type 0

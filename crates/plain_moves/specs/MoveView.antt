@@ -8,8 +8,8 @@ use Rattle.plain_moves.specs.declared.rule.PlainMove.{PlainMove}
 -- a move, which asks nothing and has no leaves
 abbrev pub shaped_of : PlainMove → ShapedMove
 shaped_of m = record {
-  shape = shape_of m.shape;
-  move = record { label = label_of m.label; target = without_values m.target; asked = []; sorts = [] };
+  shape = shape_of m.shape.value;
+  move = record { label = label_of m.label; target = without_values m.target.value; asked = []; sorts = [] };
 }
 
 -- a list, where there is one

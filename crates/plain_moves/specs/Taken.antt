@@ -14,14 +14,14 @@ abbrev pub taken_of : Signature → Rule → ShapedMove → Option ShapedMove
 taken_of signature rule.LeftSide = below left_side (λ m. Some m)
 taken_of signature rule.RightSide = below right_side (λ m. Some m)
 taken_of signature (rule.LeftAlone meet right) =
-    below left_side (alone (meet_of meet.now) (λ target. parallel (meet_of meet.now) target (without_values right.now)))
+    below left_side (alone (meet_of meet.now) (λ target. parallel (meet_of meet.now) target (without_values right.now.value)))
 taken_of signature (rule.RightAlone meet left) =
-    below right_side (alone (meet_of meet.now) (λ target. parallel (meet_of meet.now) (without_values left.now) target))
+    below right_side (alone (meet_of meet.now) (λ target. parallel (meet_of meet.now) (without_values left.now.value) target))
 taken_of signature (rule.BothWith meet left) =
     below (both_sides (shaped_of left.now).shape) (together signature (meet_of meet.now) (shaped_of left.now).move)
 taken_of signature (rule.Hiding gates) = below hidden (λ m. Some (hiding gates.now m))
-taken_of signature (rule.Enabling right) = below_enable signature [] (without_values right.now)
-taken_of signature (rule.Disabling right) = below left_side (λ m. Some (disabling (without_values right.now) m))
+taken_of signature (rule.Enabling right) = below_enable signature [] (without_values right.now.value)
+taken_of signature (rule.Disabling right) = below left_side (λ m. Some (disabling (without_values right.now.value) m))
 taken_of signature (rule.AtGate position formal actual) =
     below (at_gate position) (λ m. Some (relabelling ((formal, actual) ∷ []) m))
 taken_of signature (rule.Called pairs) = below called (λ m. Some (relabelling pairs.now m))

@@ -1,10 +1,11 @@
 //! Behaviours without values: basic LOTOS (ISO 8807:1989, behaviour expressions).
 
-ghost use Rattle.std.specs.Prelude.{◌≡◌, [], IfOk, None};
+ghost use Rattle.std.specs.Prelude.{◌≡◌, IfOk};
 ghost use Rattle.behaviour_semantics.specs.Behaviour as plain;
-ghost use Rattle.plain_moves.specs.View.{without_values, meet_of};
+ghost use Rattle.plain_moves.specs.View.{meet_of, without_values};
 
 use std::alloc::{AllocError, Global};
+use std::rc::Rc;
 
 /// The gates at which the two sides of a parallel meet.
 #[derive(Debug, Drop)]
@@ -30,7 +31,7 @@ impl PlainMeet {
     }
 }
 
-/// A behaviour without values. Gates and processes are numbers.
+/// A behaviour without values, whose parts are shared. Gates and processes are numbers.
 #[derive(Debug, Drop)]
 pub enum PlainBehaviour {
     /// `stop`.
@@ -38,184 +39,48 @@ pub enum PlainBehaviour {
     /// `exit`.
     Exit,
     /// `g; B`.
-    Action(u32, Box<PlainBehaviour>),
+    Action(u32, Rc<PlainBehaviour>),
     /// `i; B`.
-    Inner(Box<PlainBehaviour>),
+    Inner(Rc<PlainBehaviour>),
     /// `B [] C`.
-    Choice(Box<PlainBehaviour>, Box<PlainBehaviour>),
+    Choice(Rc<PlainBehaviour>, Rc<PlainBehaviour>),
     /// `B |[..]| C`.
-    Parallel(PlainMeet, Box<PlainBehaviour>, Box<PlainBehaviour>),
+    Parallel(PlainMeet, Rc<PlainBehaviour>, Rc<PlainBehaviour>),
     /// `hide .. in B`.
-    Hide(Vec<u32>, Box<PlainBehaviour>),
+    Hide(Vec<u32>, Rc<PlainBehaviour>),
     /// `B >> C`.
-    Enable(Box<PlainBehaviour>, Box<PlainBehaviour>),
+    Enable(Rc<PlainBehaviour>, Rc<PlainBehaviour>),
     /// `B [> C`.
-    Disable(Box<PlainBehaviour>, Box<PlainBehaviour>),
+    Disable(Rc<PlainBehaviour>, Rc<PlainBehaviour>),
     /// `choice g in [..] [] B`.
-    ChooseGate(u32, Vec<u32>, Box<PlainBehaviour>),
+    ChooseGate(u32, Vec<u32>, Rc<PlainBehaviour>),
     /// `par g in [..] op B`.
-    ParGate(u32, Vec<u32>, PlainMeet, Box<PlainBehaviour>),
+    ParGate(u32, Vec<u32>, PlainMeet, Rc<PlainBehaviour>),
     /// A call of a process with its gates.
     Call(u32, Vec<u32>),
     /// `B` under a relabelling: pairs of a formal and an actual gate.
-    Relabel(Vec<(u32, u32)>, Box<PlainBehaviour>),
+    Relabel(Vec<(u32, u32)>, Rc<PlainBehaviour>),
 }
 
-/// The behaviour in a box.
-pub fn boxed(alloc: Global, behaviour: PlainBehaviour) -> Result<Box<PlainBehaviour>, AllocError>
+/// The behaviour with an owner that can be copied.
+pub fn shared(alloc: Global, behaviour: PlainBehaviour) -> Result<Rc<PlainBehaviour>, AllocError>
     ensures { IfOk result (λ it. it.value ≡ behaviour) }
 {
-    Ok(Box::new(alloc, behaviour)?)
-}
-
-// `g; B`
-fn action(alloc: Global, gate: u32, next: PlainBehaviour) -> Result<PlainBehaviour, AllocError>
-    ensures { IfOk result (λ made. without_values made
-        ≡ plain.action gate [] None (without_values next)) }
-{
-    Ok(PlainBehaviour::Action(gate, boxed(alloc, next)?))
-}
-
-// `i; B`
-fn inner(alloc: Global, next: PlainBehaviour) -> Result<PlainBehaviour, AllocError>
-    ensures { IfOk result (λ made. without_values made ≡ plain.inner_action (without_values next)) }
-{
-    Ok(PlainBehaviour::Inner(boxed(alloc, next)?))
-}
-
-// `B [] C`
-fn choice(
-    alloc: Global,
-    left: PlainBehaviour,
-    right: PlainBehaviour,
-) -> Result<PlainBehaviour, AllocError>
-    ensures { IfOk result (λ made. without_values made
-        ≡ plain.choice (without_values left) (without_values right)) }
-{
-    Ok(PlainBehaviour::Choice(boxed(alloc, left)?, boxed(alloc, right)?))
+    Ok(Rc::new(alloc, behaviour)?)
 }
 
 /// The two sides in parallel.
 pub fn parallel(
     alloc: Global,
     meet: &PlainMeet,
-    left: PlainBehaviour,
-    right: PlainBehaviour,
-) -> Result<PlainBehaviour, AllocError>
-    ensures { IfOk result (λ made. without_values made
-        ≡ plain.parallel (meet_of meet.now) (without_values left) (without_values right)) }
+    left: Rc<PlainBehaviour>,
+    right: Rc<PlainBehaviour>,
+) -> Result<Rc<PlainBehaviour>, AllocError>
+    ensures { IfOk result (λ made. without_values made.value
+        ≡ plain.parallel (meet_of meet.now) (without_values left.value) (without_values right.value)) }
 {
-    let meet = meet.copy(alloc)?;
-    Ok(PlainBehaviour::Parallel(meet, boxed(alloc, left)?, boxed(alloc, right)?))
-}
-
-// `hide .. in B`
-fn hide(alloc: Global, gates: &[u32], body: PlainBehaviour) -> Result<PlainBehaviour, AllocError>
-    ensures { IfOk result (λ made. without_values made ≡ plain.hide gates.now (without_values body)) }
-{
-    let gates = Vec::from_slice(alloc, gates)?;
-    Ok(PlainBehaviour::Hide(gates, boxed(alloc, body)?))
-}
-
-// `B >> C`
-fn enable(
-    alloc: Global,
-    left: PlainBehaviour,
-    right: PlainBehaviour,
-) -> Result<PlainBehaviour, AllocError>
-    ensures { IfOk result (λ made. without_values made
-        ≡ plain.enable (without_values left) [] (without_values right)) }
-{
-    Ok(PlainBehaviour::Enable(boxed(alloc, left)?, boxed(alloc, right)?))
-}
-
-// `B [> C`
-fn disable(
-    alloc: Global,
-    left: PlainBehaviour,
-    right: PlainBehaviour,
-) -> Result<PlainBehaviour, AllocError>
-    ensures { IfOk result (λ made. without_values made
-        ≡ plain.disable (without_values left) (without_values right)) }
-{
-    Ok(PlainBehaviour::Disable(boxed(alloc, left)?, boxed(alloc, right)?))
-}
-
-// `choice g in [..] [] B`
-fn choose_gate(
-    alloc: Global,
-    gate: u32,
-    gates: &[u32],
-    body: PlainBehaviour,
-) -> Result<PlainBehaviour, AllocError>
-    ensures { IfOk result (λ made. without_values made
-        ≡ plain.choose_gate gate gates.now (without_values body)) }
-{
-    let gates = Vec::from_slice(alloc, gates)?;
-    Ok(PlainBehaviour::ChooseGate(gate, gates, boxed(alloc, body)?))
-}
-
-// `par g in [..] op B`
-fn par_gate(
-    alloc: Global,
-    gate: u32,
-    gates: &[u32],
-    meet: &PlainMeet,
-    body: PlainBehaviour,
-) -> Result<PlainBehaviour, AllocError>
-    ensures { IfOk result (λ made. without_values made
-        ≡ plain.par_gate gate gates.now (meet_of meet.now) (without_values body)) }
-{
-    let gates = Vec::from_slice(alloc, gates)?;
-    let meet = meet.copy(alloc)?;
-    Ok(PlainBehaviour::ParGate(gate, gates, meet, boxed(alloc, body)?))
-}
-
-// `B` under a relabelling
-fn relabel(
-    alloc: Global,
-    pairs: &[(u32, u32)],
-    body: PlainBehaviour,
-) -> Result<PlainBehaviour, AllocError>
-    ensures { IfOk result (λ made. without_values made ≡ plain.relabel pairs.now (without_values body)) }
-{
-    let pairs = Vec::from_slice(alloc, pairs)?;
-    Ok(PlainBehaviour::Relabel(pairs, boxed(alloc, body)?))
-}
-
-impl PlainBehaviour {
-    /// The same behaviour.
-    pub fn copy(&self, alloc: Global) -> Result<PlainBehaviour, AllocError>
-        ensures { IfOk result (λ copy. without_values copy ≡ without_values self.now) }
-    {
-        match self {
-            PlainBehaviour::Stop => Ok(PlainBehaviour::Stop),
-            PlainBehaviour::Exit => Ok(PlainBehaviour::Exit),
-            PlainBehaviour::Action(gate, next) => action(alloc, *gate, next.copy(alloc)?),
-            PlainBehaviour::Inner(next) => inner(alloc, next.copy(alloc)?),
-            PlainBehaviour::Choice(left, right) => {
-                choice(alloc, left.copy(alloc)?, right.copy(alloc)?)
-            }
-            PlainBehaviour::Parallel(meet, left, right) => {
-                parallel(alloc, meet, left.copy(alloc)?, right.copy(alloc)?)
-            }
-            PlainBehaviour::Hide(gates, body) => hide(alloc, gates, body.copy(alloc)?),
-            PlainBehaviour::Enable(left, right) => {
-                enable(alloc, left.copy(alloc)?, right.copy(alloc)?)
-            }
-            PlainBehaviour::Disable(left, right) => {
-                disable(alloc, left.copy(alloc)?, right.copy(alloc)?)
-            }
-            PlainBehaviour::ChooseGate(gate, gates, body) => {
-                choose_gate(alloc, *gate, gates, body.copy(alloc)?)
-            }
-            PlainBehaviour::ParGate(gate, gates, meet, body) => {
-                par_gate(alloc, *gate, gates, meet, body.copy(alloc)?)
-            }
-            PlainBehaviour::Call(process, gates) => {
-                Ok(PlainBehaviour::Call(*process, Vec::from_slice(alloc, gates)?))
-            }
-            PlainBehaviour::Relabel(pairs, body) => relabel(alloc, pairs, body.copy(alloc)?),
-        }
-    }
+    shared(
+        alloc,
+        PlainBehaviour::Parallel(meet.copy(alloc)?, left, right),
+    )
 }

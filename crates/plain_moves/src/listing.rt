@@ -7,19 +7,20 @@ ghost use Rattle.plain_moves.specs.Listed.{IsListed, IsListedByForm, process_of}
 ghost use Rattle.plain_moves.specs.MoveView.{list_of};
 ghost use Rattle.plain_moves.specs.View.{without_values};
 
-use crate::behaviour::PlainBehaviour;
+use crate::behaviour::{PlainBehaviour, shared};
 use crate::label::PlainLabel;
 use crate::lists::{at_gates, each_of, in_choice, in_disable, in_parallel, single};
 use crate::relabelling::{copies, zipped};
 use crate::rule::{PlainMove, Rule};
 use crate::shape::PlainShape;
 use std::alloc::{AllocError, Global};
+use std::rc::Rc;
 
 /// A process: its formal gates and its body.
 #[derive(Debug, Drop)]
 pub struct PlainProcess {
     pub gates: Vec<u32>,
-    pub body: PlainBehaviour,
+    pub body: Rc<PlainBehaviour>,
 }
 
 /// The moves of the behaviour, in their order. There is no list where its parts and the bodies of called processes
@@ -29,10 +30,10 @@ pub fn moves(
     alloc: Global,
     processes: &[PlainProcess],
     depth: u32,
-    body: &PlainBehaviour,
+    body: &Rc<PlainBehaviour>,
 ) -> Result<Option<Vec<PlainMove>>, AllocError>
     ensures { IfOk result
-        (λ o. IsListed (map process_of processes.now) depth (without_values body.now) (list_of o)) }
+        (λ o. IsListed (map process_of processes.now) depth (without_values body.now.value) (list_of o)) }
 {
     if depth == 0 {
         return Ok(None);
@@ -42,12 +43,12 @@ pub fn moves(
 }
 
 /// The behaviour, where a gate `par` is opened into its copies.
-pub fn opened(alloc: Global, body: &PlainBehaviour) -> Result<PlainBehaviour, AllocError>
-    ensures { IfOk result (λ made. without_values made ≡ table.opened (without_values body.now)) }
+pub fn opened(alloc: Global, body: &Rc<PlainBehaviour>) -> Result<Rc<PlainBehaviour>, AllocError>
+    ensures { IfOk result (λ made. without_values made.value ≡ table.opened (without_values body.now.value)) }
 {
-    match body {
+    match &**body {
         PlainBehaviour::ParGate(gate, gates, meet, part) => copies(alloc, *gate, gates, meet, part),
-        _ => body.copy(alloc),
+        _ => Ok(body.clone()?),
     }
 }
 
@@ -68,14 +69,14 @@ fn by_form(
             alloc,
             PlainShape::Quit,
             PlainLabel::Exit,
-            PlainBehaviour::Stop,
+            shared(alloc, PlainBehaviour::Stop)?,
         ),
         PlainBehaviour::Action(gate, next) => {
             single(
                 alloc,
                 PlainShape::Act,
                 PlainLabel::Gate(*gate),
-                next.copy(alloc)?,
+                next.clone()?,
             )
         }
         PlainBehaviour::Inner(next) => {
@@ -83,7 +84,7 @@ fn by_form(
                 alloc,
                 PlainShape::InnerStep,
                 PlainLabel::Inner,
-                next.copy(alloc)?,
+                next.clone()?,
             )
         }
         PlainBehaviour::Choice(left, right) => {

@@ -15,24 +15,26 @@ use crate::label::PlainLabel;
 use crate::rule::{PlainMove, Rule, each};
 use crate::shape::PlainShape;
 use std::alloc::{AllocError, Global};
+use std::rc::Rc;
 
 /// The list of one move.
 pub fn single(
     alloc: Global,
     shape: PlainShape,
     label: PlainLabel,
-    target: PlainBehaviour,
+    target: Rc<PlainBehaviour>,
 ) -> Result<Option<Vec<PlainMove>>, AllocError>
     ensures { IfOk result (λ o. list_of o ≡ Some (record {
       shape = shape_of shape;
       move = record {
         label = label_of label;
-        target = without_values target;
+        target = without_values target.value;
         asked = [];
         sorts = [];
       };
     } ∷ [])) }
 {
+    let shape = Rc::new(alloc, shape)?;
     let mut made = Vec::new(alloc);
     made.push(PlainMove {
         shape,
@@ -91,12 +93,12 @@ pub fn in_choice(
 /// The moves of a left side with the disabling on its right.
 pub fn in_disable(
     alloc: Global,
-    right: &PlainBehaviour,
+    right: &Rc<PlainBehaviour>,
     lefts: &Option<Vec<PlainMove>>,
     rights: &Option<Vec<PlainMove>>,
 ) -> Result<Option<Vec<PlainMove>>, AllocError>
     ensures { IfOk result (λ o. list_of o ≡ listing.one_behind
-        (listing.each_below shapes.left_side (λ m. Some (table.disabling (without_values right.now) m)) (list_of lefts.now))
+        (listing.each_below shapes.left_side (λ m. Some (table.disabling (without_values right.now.value) m)) (list_of lefts.now))
         (listing.each_below shapes.right_side (λ m. Some m) (list_of rights.now))) }
 {
     let first = each_of(alloc, &Rule::Disabling(right), lefts)?;
@@ -108,17 +110,17 @@ pub fn in_disable(
 pub fn in_parallel(
     alloc: Global,
     meet: &PlainMeet,
-    left: &PlainBehaviour,
-    right: &PlainBehaviour,
+    left: &Rc<PlainBehaviour>,
+    right: &Rc<PlainBehaviour>,
     lefts: &Option<Vec<PlainMove>>,
     rights: &Option<Vec<PlainMove>>,
 ) -> Result<Option<Vec<PlainMove>>, AllocError>
     ensures { IfOk result (λ o. (signature : Signature) (next : ℕ) → list_of o ≡ listing.one_behind
         (listing.each_below shapes.left_side (table.alone (meet_of meet.now)
-        (λ target. plain.parallel (meet_of meet.now) target (without_values right.now))) (list_of lefts.now))
+        (λ target. plain.parallel (meet_of meet.now) target (without_values right.now.value))) (list_of lefts.now))
         (listing.one_behind
         (listing.each_below shapes.right_side (table.alone (meet_of meet.now)
-        (λ target. plain.parallel (meet_of meet.now) (without_values left.now) target)) (list_of rights.now))
+        (λ target. plain.parallel (meet_of meet.now) (without_values left.now.value) target)) (list_of rights.now))
         (option_and_then (listing.both_below signature (meet_of meet.now) next (λ k. list_of rights.now))
         (list_of lefts.now)))) }
 {

@@ -6,9 +6,10 @@ ghost use Rattle.behaviour_semantics.specs.Rule as rules_of;
 ghost use Rattle.term_algebra.specs.Substitution.{is_listed};
 ghost use Rattle.plain_moves.specs.View.{without_values, label_of, meet_of};
 
-use crate::behaviour::{PlainBehaviour, PlainMeet, boxed};
+use crate::behaviour::{PlainBehaviour, PlainMeet, parallel, shared};
 use crate::label::PlainLabel;
 use std::alloc::{AllocError, Global};
+use std::rc::Rc;
 
 /// The gate that the relabelling gives for a gate: the actual gate of the first pair with this formal gate, or the
 /// gate itself where there is none.
@@ -116,22 +117,25 @@ pub fn zipped(
 /// The behaviour under the relabelling, as the target of a move is written.
 pub fn under(
     alloc: Global,
-    body: PlainBehaviour,
+    body: Rc<PlainBehaviour>,
     pairs: &[(u32, u32)],
-) -> Result<PlainBehaviour, AllocError>
-    ensures { IfOk result (λ made. without_values made ≡ labels.under (without_values body) pairs.now) }
+) -> Result<Rc<PlainBehaviour>, AllocError>
+    ensures { IfOk result (λ made. without_values made.value
+        ≡ labels.under (without_values body.value) pairs.now) }
 {
-    match body {
-        PlainBehaviour::Stop => Ok(PlainBehaviour::Stop),
+    match &*body {
+        PlainBehaviour::Stop => Ok(body.clone()?),
         PlainBehaviour::Call(process, gates) => {
-            Ok(PlainBehaviour::Call(process, gates_under(alloc, pairs, &gates)?))
+            let gates = gates_under(alloc, pairs, gates)?;
+            shared(alloc, PlainBehaviour::Call(*process, gates))
         }
         PlainBehaviour::Relabel(inner, part) => {
-            Ok(PlainBehaviour::Relabel(composed(alloc, &inner, pairs)?, part))
+            let pairs = composed(alloc, inner, pairs)?;
+            shared(alloc, PlainBehaviour::Relabel(pairs, part.clone()?))
         }
-        other => {
+        _ => {
             let pairs = Vec::from_slice(alloc, pairs)?;
-            Ok(PlainBehaviour::Relabel(pairs, boxed(alloc, other)?))
+            shared(alloc, PlainBehaviour::Relabel(pairs, body.clone()?))
         }
     }
 }
@@ -142,19 +146,18 @@ pub fn copies(
     gate: u32,
     gates: &[u32],
     meet: &PlainMeet,
-    body: &PlainBehaviour,
-) -> Result<PlainBehaviour, AllocError>
-    ensures { IfOk result (λ made. without_values made
-        ≡ rules_of.copies gate gates.now (meet_of meet.now) (without_values body.now)) }
+    body: &Rc<PlainBehaviour>,
+) -> Result<Rc<PlainBehaviour>, AllocError>
+    ensures { IfOk result (λ made. without_values made.value
+        ≡ rules_of.copies gate gates.now (meet_of meet.now) (without_values body.now.value)) }
 {
     let [first, rest @ ..] = gates else {
-        return Ok(PlainBehaviour::Stop);
+        return shared(alloc, PlainBehaviour::Stop);
     };
-    let copy = under(alloc, body.copy(alloc)?, &[(gate, *first)])?;
+    let copy = under(alloc, body.clone()?, &[(gate, *first)])?;
     if rest.is_empty() {
         return Ok(copy);
     }
     let others = copies(alloc, gate, rest, meet, body)?;
-    let meet = meet.copy(alloc)?;
-    Ok(PlainBehaviour::Parallel(meet, boxed(alloc, copy)?, boxed(alloc, others)?))
+    parallel(alloc, meet, copy, others)
 }

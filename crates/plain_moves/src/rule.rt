@@ -9,19 +9,20 @@ ghost use Rattle.plain_moves.specs.MoveView.{shaped_of};
 ghost use Rattle.plain_moves.specs.View.{without_values, label_of, shape_of};
 ghost use Rattle.behaviour_semantics.specs.Behaviour as plain;
 
-use crate::behaviour::{PlainBehaviour, PlainMeet, boxed, parallel};
+use crate::behaviour::{PlainBehaviour, PlainMeet, parallel, shared};
 use crate::label::PlainLabel;
 use crate::meeting::{hidden_label, is_exit, move_together, moves_alone};
 use crate::relabelling::{label_under, under};
-use crate::shape::{PlainShape, boxed_shape};
+use crate::shape::PlainShape;
 use std::alloc::{AllocError, Global};
+use std::rc::Rc;
 
 /// A move of a behaviour: the shape of its derivation, its label and its target.
 #[derive(Debug, Drop)]
 pub struct PlainMove {
-    pub shape: PlainShape,
+    pub shape: Rc<PlainShape>,
     pub label: PlainLabel,
-    pub target: PlainBehaviour,
+    pub target: Rc<PlainBehaviour>,
 }
 
 /// The rule that is applied to a move of a part.
@@ -32,17 +33,17 @@ pub enum Rule<'a> {
     /// The right side of a choice or of `[>`.
     RightSide,
     /// The left side of a parallel alone, with the gates and the right side.
-    LeftAlone(&'a PlainMeet, &'a PlainBehaviour),
+    LeftAlone(&'a PlainMeet, &'a Rc<PlainBehaviour>),
     /// Its right side alone, with the gates and the left side.
-    RightAlone(&'a PlainMeet, &'a PlainBehaviour),
+    RightAlone(&'a PlainMeet, &'a Rc<PlainBehaviour>),
     /// Both sides, with the gates and the move of the left one.
     BothWith(&'a PlainMeet, &'a PlainMove),
     /// Under `hide` with its gates.
     Hiding(&'a [u32]),
     /// The left side of `>>`, with the right one.
-    Enabling(&'a PlainBehaviour),
+    Enabling(&'a Rc<PlainBehaviour>),
     /// The left side of `[>`, with the right one.
-    Disabling(&'a PlainBehaviour),
+    Disabling(&'a Rc<PlainBehaviour>),
     /// A gate choice, by the position, the formal and the actual gate.
     AtGate(usize, u32, u32),
     /// A called process, with its formal and actual gates.
@@ -103,40 +104,41 @@ impl<'a> Rule<'a> {
     }
 
     /// The shape of that move.
-    pub fn shape(&self, alloc: Global, part: &PlainMove) -> Result<PlainShape, AllocError>
+    pub fn shape(&self, alloc: Global, part: &PlainMove) -> Result<Rc<PlainShape>, AllocError>
         ensures { IfOk result (λ s. (signature : Signature)
-            → IfSome (taken_of signature self.now (shaped_of part.now)) (λ x. x.shape ≡ shape_of s)) }
+            → IfSome (taken_of signature self.now (shaped_of part.now)) (λ x. x.shape ≡ shape_of s.value)) }
     {
-        let shape = boxed_shape(alloc, part.shape.copy(alloc)?)?;
-        Ok(match self {
+        let shape = part.shape.clone()?;
+        let made = match self {
             Rule::LeftSide | Rule::LeftAlone(..) | Rule::Disabling(_) => PlainShape::Left(shape),
             Rule::RightSide | Rule::RightAlone(..) => PlainShape::Right(shape),
-            Rule::BothWith(_, left) => {
-                PlainShape::Both(boxed_shape(alloc, left.shape.copy(alloc)?)?, shape)
-            }
+            Rule::BothWith(_, left) => PlainShape::Both(left.shape.clone()?, shape),
             Rule::Hiding(_) => PlainShape::Hidden(shape),
             Rule::Enabling(_) if is_exit(part.label) => PlainShape::Enabled(shape),
             Rule::Enabling(_) => PlainShape::Passed(shape),
             Rule::AtGate(position, _, _) => PlainShape::AtGate(*position, shape),
             Rule::Called(_) => PlainShape::Called(shape),
             Rule::Relabelled(_) => PlainShape::Relabelled(shape),
-        })
+        };
+        Ok(Rc::new(alloc, made)?)
     }
 
     /// The target of that move.
-    pub fn target(&self, alloc: Global, part: &PlainMove) -> Result<PlainBehaviour, AllocError>
+    pub fn target(&self, alloc: Global, part: &PlainMove) -> Result<Rc<PlainBehaviour>, AllocError>
         ensures { IfOk result (λ b. (signature : Signature)
-            → IfSome (taken_of signature self.now (shaped_of part.now)) (λ x. x.move.target ≡ without_values b)) }
+            → IfSome (taken_of signature self.now (shaped_of part.now)) (λ x. x.move.target ≡ without_values b.value)) }
     {
-        let target = part.target.copy(alloc)?;
+        let target = part.target.clone()?;
         match self {
             Rule::LeftSide | Rule::RightSide => Ok(target),
-            Rule::LeftAlone(meet, right) => parallel(alloc, meet, target, right.copy(alloc)?),
-            Rule::RightAlone(meet, left) => parallel(alloc, meet, left.copy(alloc)?, target),
-            Rule::BothWith(meet, left) => parallel(alloc, meet, left.target.copy(alloc)?, target),
+            Rule::LeftAlone(meet, right) => parallel(alloc, meet, target, (*right).clone()?),
+            Rule::RightAlone(meet, left) => parallel(alloc, meet, (*left).clone()?, target),
+            Rule::BothWith(meet, left) => parallel(alloc, meet, left.target.clone()?, target),
             Rule::Hiding(gates) => {
-                let gates = Vec::from_slice(alloc, gates)?;
-                Ok(PlainBehaviour::Hide(gates, boxed(alloc, target)?))
+                shared(
+                    alloc,
+                    PlainBehaviour::Hide(Vec::from_slice(alloc, gates)?, target),
+                )
             }
             Rule::Enabling(right) => after_enable(alloc, part.label, target, right),
             Rule::Disabling(right) => after_disable(alloc, part.label, target, right),
@@ -150,34 +152,34 @@ impl<'a> Rule<'a> {
 fn after_enable(
     alloc: Global,
     label: PlainLabel,
-    target: PlainBehaviour,
-    right: &PlainBehaviour,
-) -> Result<PlainBehaviour, AllocError>
-    ensures { IfOk result (λ b. without_values b ≡ (if rules_of.is_exit (label_of label)
-        then without_values right.now else plain.enable (without_values target) [] (without_values right.now))) }
+    target: Rc<PlainBehaviour>,
+    right: &Rc<PlainBehaviour>,
+) -> Result<Rc<PlainBehaviour>, AllocError>
+    ensures { IfOk result (λ b. without_values b.value ≡ (if rules_of.is_exit (label_of label)
+        then without_values right.now.value
+        else plain.enable (without_values target.value) [] (without_values right.now.value))) }
 {
-    let right = right.copy(alloc)?;
+    let right = right.clone()?;
     if is_exit(label) {
         return Ok(right);
     }
-    Ok(PlainBehaviour::Enable(boxed(alloc, target)?, boxed(alloc, right)?))
+    shared(alloc, PlainBehaviour::Enable(target, right))
 }
 
 // The target of a left side of `[>` that moves with the label.
 fn after_disable(
     alloc: Global,
     label: PlainLabel,
-    target: PlainBehaviour,
-    right: &PlainBehaviour,
-) -> Result<PlainBehaviour, AllocError>
-    ensures { IfOk result (λ b. without_values b
-        ≡ rules_of.still_disabled (label_of label) (without_values target) (without_values right.now)) }
+    target: Rc<PlainBehaviour>,
+    right: &Rc<PlainBehaviour>,
+) -> Result<Rc<PlainBehaviour>, AllocError>
+    ensures { IfOk result (λ b. without_values b.value ≡ rules_of.still_disabled (label_of label)
+        (without_values target.value) (without_values right.now.value)) }
 {
     if is_exit(label) {
         return Ok(target);
     }
-    let right = right.copy(alloc)?;
-    Ok(PlainBehaviour::Disable(boxed(alloc, target)?, boxed(alloc, right)?))
+    shared(alloc, PlainBehaviour::Disable(target, right.clone()?))
 }
 
 /// The moves that the rule makes of the moves of a part, in their order.

@@ -122,5 +122,5 @@ of_processes processes (p ∷ rest) =
 -- order of the text.
 abbrev pub all_disagreements : Spec → List Disagreement
 all_disagreements spec =
-    of_definition spec.processes.items spec.place spec.body (functionality_of spec.exit)
+    of_definition spec.processes.items spec.place spec.body.value (functionality_of spec.exit)
     ++ of_processes spec.processes.items spec.processes.items

@@ -6,12 +6,12 @@ use Rattle.term_algebra.specs.Signature.{Signature}
 use Rattle.behaviour_semantics.specs.Behaviour.{Specification}
 use Rattle.printed_texts.specs.Brackets.{bracketed, commas}
 use Rattle.printed_texts.specs.TermText.{sort_text}
-use Rattle.lotos_reading.specs.declared.fault.ReadFault.{ReadFault}
-use Rattle.lotos_reading.specs.declared.fault.ReadFault.TheVariants as read
+use Rattle.sentence_trees.specs.declared.fault.ReadFault.{ReadFault}
+use Rattle.sentence_trees.specs.declared.fault.ReadFault.TheVariants as read
 use Rattle.sort_terms.specs.declared.sort_faults.SortFault.{SortFault}
 use Rattle.sort_terms.specs.declared.sort_faults.SortFault.TheVariants as sort
-use Rattle.static_scope.specs.FaultView.{term_told}
-use Rattle.spec_faults.specs.RefusalView.{told_of_text, told_of_type_term, told_of_scopes, told_of_start}
+use Rattle.scope_parts.specs.FaultView.{term_told}
+use Rattle.start_values.specs.RefusalView.{told_of_text, told_of_type_term, told_of_scopes, told_of_start}
 use Rattle.refusal_lines.specs.TextNames.{TextNames}
 use Rattle.refusal_lines.specs.RefusalDetail.{sorts_text}
 use Rattle.refusal_lines.specs.LineView.{detail_told}

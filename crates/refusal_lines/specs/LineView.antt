@@ -7,9 +7,9 @@ use Rattle.behaviour_tree.specs.DefinitionView.{specification_of}
 use Rattle.behaviour_tree.specs.declared.definitions.Spec.{Spec}
 use Rattle.sort_terms.specs.EquationView.{data_of}
 use Rattle.sort_terms.specs.declared.equations.Flat.{Flat}
-use Rattle.spec_faults.specs.Refusal.{Refusal}
-use Rattle.spec_faults.specs.RefusalView.{refusal_of}
-use Rattle.spec_faults.specs.declared.refused.Refused.{Refused}
+use Rattle.start_values.specs.Refusal.{Refusal}
+use Rattle.start_values.specs.RefusalView.{refusal_of}
+use Rattle.start_values.specs.declared.refused.Refused.{Refused}
 use Rattle.refusal_lines.specs.RefusalWords.{words_of}
 use Rattle.refusal_lines.specs.RefusalPlace.{place_of}
 use Rattle.refusal_lines.specs.RefusalDetail.{detail_of}

@@ -5,11 +5,11 @@ use Rattle.term_algebra.specs.Signature.{Signature}
 use Rattle.term_algebra.specs.Term.{Term}
 use Rattle.behaviour_semantics.specs.Behaviour.{Process, Specification}
 use Rattle.type_mentions.specs.MentionFaults.{MentionFault, double_type, unknown_type, type_cycle}
-use Rattle.type_flatten.specs.TypeFault.{TypeFault, double_sort, unknown_sort, double_operation, unknown_operation as no_operation, not_formal, missing_actual, premised, unknown_name, no_reading, two_readings, too_large}
-use Rattle.static_scope.specs.ScopeFault as scope
+use Rattle.type_definitions.specs.TypeFault.{TypeFault, double_sort, unknown_sort, double_operation, unknown_operation as no_operation, not_formal, missing_actual, premised, unknown_name, no_reading, two_readings, too_large}
+use Rattle.scope_parts.specs.ScopeFault as scope
 use Rattle.printed_texts.specs.Brackets.{round, commas}
 use Rattle.printed_texts.specs.TermText.{sort_text, term_text}
-use Rattle.spec_faults.specs.Refusal.{Refusal, too_long, bad_byte, open_comment, wrong_syntax, too_deep, too_many_libraries, wrong_names, wrong_types, wrong_scopes, mismatch, unguarded, unknown_operation, twice_listed, unorientable, unjoined, start_values, start_term}
+use Rattle.start_values.specs.Refusal.{Refusal, too_long, bad_byte, open_comment, wrong_syntax, too_deep, too_many_libraries, wrong_names, wrong_types, wrong_scopes, mismatch, unguarded, unknown_operation, twice_listed, unorientable, unjoined, start_values, start_term}
 use Rattle.refusal_lines.specs.TextNames.{TextNames, place_text}
 use Rattle.refusal_lines.specs.RefusalPlace.{place_of_equation}
 

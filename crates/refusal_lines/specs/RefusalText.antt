@@ -1,6 +1,6 @@
 -- The line that is printed for a refusal.
 use Rattle.std.specs.Prelude.{ℕ, List, ◌++◌, codes}
-use Rattle.spec_faults.specs.Refusal.{Refused}
+use Rattle.start_values.specs.Refusal.{Refused}
 use Rattle.refusal_lines.specs.TextNames.{TextNames, at_text}
 use Rattle.refusal_lines.specs.RefusalWords.{words_of}
 use Rattle.refusal_lines.specs.RefusalPlace.{place_of}

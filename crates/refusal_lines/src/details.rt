@@ -4,7 +4,7 @@ ghost use Rattle.lotos_base.specs.Name.{spelling};
 ghost use Rattle.refusal_lines.specs.LineView.{data_in, detail_told, names_of, spec_in};
 ghost use Rattle.refusal_lines.specs.RefusalDetail.{behind_blank, counts_text};
 ghost use Rattle.refusal_lines.specs.TextNames as plain;
-ghost use Rattle.spec_faults.specs.RefusalView.{
+ghost use Rattle.start_values.specs.RefusalView.{
   refusal_of,
   told_of_book,
   told_of_exits,
@@ -12,7 +12,7 @@ ghost use Rattle.spec_faults.specs.RefusalView.{
   told_of_scopes,
   told_of_types,
 };
-ghost use Rattle.static_scope.specs.FaultView.{told_by};
+ghost use Rattle.scope_parts.specs.FaultView.{told_by};
 ghost use Rattle.std.specs.Prelude.{◌≡◌, ◌++◌, OnOk, Option};
 ghost use Rattle.behaviour_semantics.specs.Behaviour.{Specification};
 ghost use Rattle.term_algebra.specs.Equation.{Data};
@@ -24,10 +24,10 @@ use equation_book::BookFault;
 use lotos_base::{Name, NoMemory};
 use printed_texts::brackets::{push_number, push_text};
 use process_checks::{ExitFault, RankFault};
+use scope_parts::ScopeFault;
 use sort_terms::Flat;
-use spec_faults::{Refused, SpecFault};
-use static_scope::ScopeFault;
-use type_faults::TypeFault;
+use start_values::{Refused, SpecFault};
+use type_definitions::TypeFault;
 
 /// Appends the detail of a refusal, behind a blank, if it has one.
 #[tactic(auto, using(crate::proofs::DetailLemmas::no_text_detail, crate::proofs::DetailLemmas::no_start_detail))]

@@ -2,7 +2,7 @@
 
 ghost use Rattle.refusal_lines.specs.LineView.{line_told, names_of};
 ghost use Rattle.refusal_lines.specs.RefusalText.{refusal_text};
-ghost use Rattle.spec_faults.specs.RefusalView.{refused_of};
+ghost use Rattle.start_values.specs.RefusalView.{refused_of};
 ghost use Rattle.std.specs.Prelude.{◌≡◌, ◌++◌, IfSome, MatchResult, OnOk};
 
 use crate::details::push_detail;
@@ -11,7 +11,7 @@ use crate::text_names::{TextNames, push_at};
 use crate::words::words;
 use lotos_base::NoMemory;
 use printed_texts::brackets::push_text;
-use spec_faults::Refused;
+use start_values::Refused;
 
 /// Appends the line of a refusal: `refused`, its number and name, where it stands, and its detail.
 /// `spec` and `order` are the words for the specification and the order file; `order` is empty where

@@ -3,7 +3,7 @@
 ghost use Rattle.lotos_base.specs.WrittenView.{text_place_of};
 ghost use Rattle.refusal_lines.specs.LineView.{data_in, place_told};
 ghost use Rattle.refusal_lines.specs.RefusalPlace.{place_of_equation};
-ghost use Rattle.spec_faults.specs.RefusalView.{
+ghost use Rattle.start_values.specs.RefusalView.{
   refusal_of,
   told_of_book,
   told_of_exits,
@@ -14,7 +14,7 @@ ghost use Rattle.spec_faults.specs.RefusalView.{
   told_of_type_term,
   told_of_types,
 };
-ghost use Rattle.static_scope.specs.FaultView.{term_told, told_by};
+ghost use Rattle.scope_parts.specs.FaultView.{term_told, told_by};
 ghost use Rattle.std.specs.Option.{option_map};
 ghost use Rattle.sort_terms.specs.EquationView.{data_of};
 ghost use Rattle.std.specs.Prelude.{◌≡◌, Option, Some};
@@ -22,12 +22,12 @@ ghost use Rattle.term_algebra.specs.Equation.{Data};
 
 use equation_book::BookFault;
 use lotos_base::Place;
-use lotos_reading::ReadFault;
 use process_checks::{ExitFault, RankFault};
+use scope_parts::ScopeFault;
+use sentence_trees::ReadFault;
 use sort_terms::{Flat, SortFault};
-use spec_faults::SpecFault;
-use static_scope::ScopeFault;
-use type_faults::TypeFault;
+use start_values::SpecFault;
+use type_definitions::TypeFault;
 
 /// Where a refusal stands, if it stands anywhere.
 pub fn place(fault: &SpecFault, flat: &Option<Flat>) -> Option<Place>

@@ -1,7 +1,7 @@
 //! The number and the name of each refusal.
 
 ghost use Rattle.refusal_lines.specs.LineView.{words_told};
-ghost use Rattle.spec_faults.specs.RefusalView.{
+ghost use Rattle.start_values.specs.RefusalView.{
   refusal_of,
   told_of_book,
   told_of_exits,
@@ -12,16 +12,16 @@ ghost use Rattle.spec_faults.specs.RefusalView.{
   told_of_type_term,
   told_of_types,
 };
-ghost use Rattle.static_scope.specs.FaultView.{term_told, told_by};
+ghost use Rattle.scope_parts.specs.FaultView.{term_told, told_by};
 ghost use Rattle.std.specs.Prelude.{◌≡◌, ℕ};
 
 use equation_book::BookFault;
-use lotos_reading::ReadFault;
 use process_checks::{ExitFault, RankFault};
+use scope_parts::ScopeFault;
+use sentence_trees::ReadFault;
 use sort_terms::SortFault;
-use spec_faults::SpecFault;
-use static_scope::ScopeFault;
-use type_faults::TypeFault;
+use start_values::SpecFault;
+use type_definitions::TypeFault;
 
 /// The number and the name of a refusal.
 pub fn words(fault: &SpecFault) -> &'static [u8]

@@ -9,15 +9,15 @@ use Rattle.lotos_base.specs.WrittenTerm.{PlacedName, WrittenTerm}
 use Rattle.syntax_trees.specs.WrittenBehaviour as written
 use Rattle.syntax_trees.specs.WrittenBehaviour.{WrittenBehaviour, WrittenSign, choice_sign, interleaving, full_synchronisation, synchronising, disabling, enabling}
 use Rattle.behaviour_semantics.specs.Behaviour.{Behaviour, Offer, Test, asked_variables, let_variables, stop, call, action, guard, let_be, parallel, at_gates, enable}
-use Rattle.static_scope.specs.ScopeFault.{ScopeFault, unknown_process, gate_count, value_count}
-use Rattle.static_scope.specs.Resolution.{Resolution, resolved, faulty, and_then, Is, Then, Made}
-use Rattle.static_scope.specs.Scope.{Scope, Callable, callable_named, found_process, gate_at, gates_at}
-use Rattle.static_scope.specs.Numbering.{Numbers, spelled, each_once, asked_for, choice_names, past_gates, past_variables, past}
-use Rattle.static_scope.specs.Sorts.{variables_at}
-use Rattle.static_scope.specs.Terms.{ValuesAre, LetIs, OffersAre}
-use Rattle.static_scope.specs.Choices.{GateChoice, ParChoice, under_gates, under_par, under_values}
-use Rattle.static_scope.specs.Behaviours.{with_gates, with_variables, counted_call, SignIs, BehaviourIs}
-use Rattle.static_scope.proofs.OnceLemmas.{is_once}
+use Rattle.scope_parts.specs.ScopeFault.{ScopeFault, unknown_process, gate_count, value_count}
+use Rattle.scope_parts.specs.Resolution.{Resolution, resolved, faulty, and_then, Is, Then, Made}
+use Rattle.scope_parts.specs.Scope.{Scope, Callable, callable_named, found_process, gate_at, gates_at}
+use Rattle.scope_parts.specs.Numbering.{Numbers, spelled, each_once, asked_for, choice_names, past_gates, past_variables, past}
+use Rattle.scope_parts.specs.Sorts.{variables_at}
+use Rattle.scope_parts.specs.Terms.{ValuesAre, LetIs, OffersAre}
+use Rattle.scope_parts.specs.Choices.{GateChoice, ParChoice, under_gates, under_par, under_values}
+use Rattle.scope_parts.specs.Behaviours.{with_gates, with_variables, counted_call, SignIs, BehaviourIs}
+use Rattle.scope_parts.proofs.OnceLemmas.{is_once}
 use Rattle.scope_faults.specs.Order.{Before, InTurn, Rising, joined, NotAfter}
 use Rattle.scope_faults.specs.TermPlaces.{name_places, premiss_places}
 use Rattle.scope_faults.specs.PartFaults.{GatesHave}

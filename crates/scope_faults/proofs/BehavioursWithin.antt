@@ -10,14 +10,14 @@ use Rattle.syntax_trees.specs.WrittenBehaviour as written
 use Rattle.syntax_trees.specs.WrittenBehaviour.{WrittenBehaviour, WrittenOffer, WrittenSign, choice_sign, interleaving, full_synchronisation, synchronising, disabling, enabling}
 use Rattle.syntax_trees.specs.WrittenDefinition.{WrittenHeading, WrittenInner, WrittenInners, inner_item, process, no_inner, inner_then}
 use Rattle.behaviour_semantics.specs.Behaviour.{Offer, asked_variables, let_variables}
-use Rattle.static_scope.specs.ScopeFault.{ScopeFault, fault_place}
-use Rattle.static_scope.specs.Resolution.{Resolution, faulty}
-use Rattle.static_scope.specs.Terms.{TestOptionIs}
+use Rattle.scope_parts.specs.ScopeFault.{ScopeFault, fault_place}
+use Rattle.scope_parts.specs.Resolution.{Resolution, faulty}
+use Rattle.scope_parts.specs.Terms.{TestOptionIs}
 use Rattle.term_algebra.specs.Term.{Term}
-use Rattle.static_scope.specs.Scope.{Scope, Callable, Binding, callable_named}
-use Rattle.static_scope.specs.Numbering.{Numbers, spelled, each_once, asked_for, choice_names, past_gates, past_variables, past, past_heading, past_own, past_inner}
-use Rattle.static_scope.specs.Behaviours.{with_gates, with_variables}
-use Rattle.static_scope.specs.Definitions.{callables, with_name, past_name}
+use Rattle.scope_parts.specs.Scope.{Scope, Callable, Binding, callable_named}
+use Rattle.scope_parts.specs.Numbering.{Numbers, spelled, each_once, asked_for, choice_names, past_gates, past_variables, past, past_heading, past_own, past_inner}
+use Rattle.scope_parts.specs.Behaviours.{with_gates, with_variables}
+use Rattle.scope_parts.specs.Definitions.{callables, with_name, past_name}
 use Rattle.scope_faults.specs.Order.{joined}
 use Rattle.scope_faults.specs.TermPlaces.{name_places, premiss_places}
 use Rattle.scope_faults.specs.PartPlaces.{variable_places, value_places, let_places, offers_places, choice_places, sign_places}

@@ -2,9 +2,9 @@
 use Rattle.std.proofs.Common.{◌≡◌, List, [], ◌∷◌, Bool, true, false, inl, inr, refl, ap, sym, ◌∙◌, subst}
 use Rattle.std.specs.Prelude.{◌⊎◌, Option, None, Some, if◌then◌else◌}
 use Rattle.lotos_base.specs.WrittenTerm.{PlacedName}
-use Rattle.static_scope.specs.ScopeFault.{ScopeFault, fault_place, double_name, first_of_two}
-use Rattle.static_scope.specs.Resolution.{Resolution, resolved, faulty, beside, Is, Beside}
-use Rattle.static_scope.specs.Scope.{Binding, bind, is_bound, double_from, first_double}
+use Rattle.scope_parts.specs.ScopeFault.{ScopeFault, fault_place, double_name, first_of_two}
+use Rattle.scope_parts.specs.Resolution.{Resolution, resolved, faulty, beside, Is, Beside}
+use Rattle.scope_parts.specs.Scope.{Binding, bind, is_bound, double_from, first_double}
 use Rattle.scope_faults.specs.Order.{Rising, NotAfter}
 use Rattle.scope_faults.specs.TermPlaces.{name_places}
 use Rattle.scope_faults.specs.PartFaults.{DoubledAfter, Doubled}

@@ -5,7 +5,7 @@ use Rattle.std.proofs.lemmas.Bool.{ltb-true, ltb-false, lt-ltb, eqb-true, eq-eqb
 use Rattle.std.proofs.lemmas.Bool.Decides.{eqb_tells}
 use Rattle.std.specs.Cmp.{first_so, second_so}
 use Rattle.term_algebra.specs.Equation.{Place}
-use Rattle.static_scope.specs.ScopeFault.{ScopeFault, fault_place, stands_before, first_of_two}
+use Rattle.scope_parts.specs.ScopeFault.{ScopeFault, fault_place, stands_before, first_of_two}
 use Rattle.scope_faults.specs.Order.{IsOneOf, Before, rank, NotAfter}
 
 -- ---- Lists of places

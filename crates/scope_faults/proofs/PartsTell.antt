@@ -11,15 +11,15 @@ use Rattle.syntax_trees.specs.WrittenEquation.{WrittenPremiss}
 use Rattle.syntax_trees.specs.WrittenBehaviour.{WrittenSign, choice_sign, interleaving, full_synchronisation, synchronising, disabling, enabling, WrittenGateChoice, WrittenExitValue, exit_term, exit_any, WrittenOffer, offer_value, offer_variable}
 use Rattle.behaviour_semantics.specs.WellFormed.{Every}
 use Rattle.sort_terms.proofs.ReadsLemmas.{comes_once}
-use Rattle.static_scope.specs.ScopeFault.{ScopeFault, fault_place, stands_before, unknown_sort}
-use Rattle.static_scope.specs.Resolution.{resolved, faulty, and_then, put_in_front, Is}
-use Rattle.static_scope.specs.Scope.{Binding, bind, bound_to, found_gate, gate_at, gates_at}
-use Rattle.static_scope.specs.Numbering.{asked_for}
-use Rattle.static_scope.specs.Sorts.{Truth, truth_in, sort_at, sorts_at, variable_at, sorted_variables, placed_variables, variables_at}
-use Rattle.static_scope.specs.Terms.{TermIs, TrueTermIs, PremissIs, TestIs, TestOptionIs, ExitValueIs, ExitValuesAre, ValuesAre, BindingIs, BindingsAre, LetIs, let_names, OfferIs, OffersFollow, OffersAre, past_offer}
-use Rattle.static_scope.specs.Choices.{sign_at, choices_follow, signs_follow, placed_choices, choices_at, par_choices_at, with_signs}
+use Rattle.scope_parts.specs.ScopeFault.{ScopeFault, fault_place, stands_before, unknown_sort}
+use Rattle.scope_parts.specs.Resolution.{resolved, faulty, and_then, put_in_front, Is}
+use Rattle.scope_parts.specs.Scope.{Binding, bind, bound_to, found_gate, gate_at, gates_at}
+use Rattle.scope_parts.specs.Numbering.{asked_for}
+use Rattle.scope_parts.specs.Sorts.{Truth, truth_in, sort_at, sorts_at, variable_at, sorted_variables, placed_variables, variables_at}
+use Rattle.scope_parts.specs.Terms.{TermIs, TrueTermIs, PremissIs, TestIs, TestOptionIs, ExitValueIs, ExitValuesAre, ValuesAre, BindingIs, BindingsAre, LetIs, let_names, OfferIs, OffersFollow, OffersAre, past_offer}
+use Rattle.scope_parts.specs.Choices.{sign_at, choices_follow, signs_follow, placed_choices, choices_at, par_choices_at, with_signs}
 use Rattle.behaviour_semantics.specs.Behaviour.{at_gates}
-use Rattle.static_scope.proofs.OnceLemmas.{Once, is_once, then_once, made_once, in_front_once, beside_once, outcome_once}
+use Rattle.scope_parts.proofs.OnceLemmas.{Once, is_once, then_once, made_once, in_front_once, beside_once, outcome_once}
 use Rattle.scope_faults.specs.Order.{IsOneOf, Before, InTurn, Rising, joined, NotAfter}
 use Rattle.scope_faults.specs.TermPlaces.{name_places, term_places}
 use Rattle.scope_faults.specs.PartFaults.{GatesHave, SortsHave, VariableSortsHave, VariablesHave, ExitValuesHave, ValuesHave, BindingsHave, LetHas, OffersFollowing, OffersHave, AmongHave, ChoicesHave, SignHas, SignsHave}

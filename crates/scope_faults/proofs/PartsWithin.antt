@@ -6,14 +6,14 @@ use Rattle.term_algebra.specs.Signature.{Signature}
 use Rattle.lotos_base.specs.WrittenTerm.{PlacedName, WrittenTerm}
 use Rattle.syntax_trees.specs.WrittenVariable.{WrittenVariable}
 use Rattle.syntax_trees.specs.WrittenBehaviour.{WrittenSign, choice_sign, interleaving, full_synchronisation, synchronising, disabling, enabling, WrittenGateChoice, WrittenExitValue, exit_term, exit_any, WrittenOffer, offer_value, offer_variable}
-use Rattle.static_scope.specs.ScopeFault.{ScopeFault, fault_place, unknown_gate, unknown_sort}
-use Rattle.static_scope.specs.Resolution.{resolved, faulty, and_then}
-use Rattle.static_scope.specs.Scope.{Binding, bind, bound_to, found_gate, gate_at}
+use Rattle.scope_parts.specs.ScopeFault.{ScopeFault, fault_place, unknown_gate, unknown_sort}
+use Rattle.scope_parts.specs.Resolution.{resolved, faulty, and_then}
+use Rattle.scope_parts.specs.Scope.{Binding, bind, bound_to, found_gate, gate_at}
 use Rattle.term_algebra.specs.Names.{folded}
-use Rattle.static_scope.specs.Numbering.{asked_for}
-use Rattle.static_scope.specs.Sorts.{found_sort, sort_named, sort_at, variable_at, placed_variables}
-use Rattle.static_scope.specs.Terms.{ExitValueIs, BindingIs, OfferIs, past_offer, let_names}
-use Rattle.static_scope.specs.Choices.{placed_choices}
+use Rattle.scope_parts.specs.Numbering.{asked_for}
+use Rattle.scope_parts.specs.Sorts.{found_sort, sort_named, sort_at, variable_at, placed_variables}
+use Rattle.scope_parts.specs.Terms.{ExitValueIs, BindingIs, OfferIs, past_offer, let_names}
+use Rattle.scope_parts.specs.Choices.{placed_choices}
 use Rattle.scope_faults.specs.Order.{joined}
 use Rattle.scope_faults.specs.TermPlaces.{name_places, term_places}
 use Rattle.scope_faults.specs.PartFaults.{GatesHave, SortsHave, VariableSortsHave, VariablesHave, ExitValuesHave, ValuesHave, BindingsHave, LetHas, OffersFollowing, OffersHave, AmongHave, ChoicesHave, SignHas, SignsHave}

@@ -3,7 +3,7 @@ use Rattle.std.proofs.Common.{◌≡◌, List, [], ◌∷◌, Bool, true, ◌&&�
 use Rattle.std.specs.Cmp.{first_so, second_so}
 use Rattle.term_algebra.specs.Equation.{Place}
 use Rattle.behaviour_semantics.specs.WellFormed.{Every}
-use Rattle.static_scope.specs.ScopeFault.{stands_before}
+use Rattle.scope_parts.specs.ScopeFault.{stands_before}
 use Rattle.scope_faults.specs.Order.{IsOneOf, Before, InTurn, Rising}
 use Rattle.scope_faults.specs.Sample.{column, sample_heading, sample_offer, sample_end, sample_body, SampleRises}
 use Rattle.scope_faults.specs.PartPlaces.{OffersFollowOn}

@@ -3,9 +3,9 @@ use Rattle.std.proofs.Common.{◌≡◌, List, [], ◌∷◌, inl, inr, refl, ap
 use Rattle.std.specs.Prelude.{◌⊎◌, Option}
 use Rattle.term_algebra.specs.Equation.{Place}
 use Rattle.lotos_base.specs.WrittenTerm.{PlacedName}
-use Rattle.static_scope.specs.ScopeFault.{ScopeFault, fault_place}
-use Rattle.static_scope.specs.Resolution.{Resolution, resolved, faulty, and_then, put_in_front, beside, Is, Then, Made, InFront, Beside}
-use Rattle.static_scope.proofs.OnceLemmas.{Once}
+use Rattle.scope_parts.specs.ScopeFault.{ScopeFault, fault_place}
+use Rattle.scope_parts.specs.Resolution.{Resolution, resolved, faulty, and_then, put_in_front, beside, Is, Then, Made, InFront, Beside}
+use Rattle.scope_parts.proofs.OnceLemmas.{Once}
 use Rattle.scope_faults.specs.Order.{IsOneOf, Before, NotAfter}
 use Rattle.scope_faults.specs.PartFaults.{Seeing}
 use Rattle.scope_faults.specs.FirstFault.{Tells}

@@ -7,10 +7,10 @@ use Rattle.lotos_base.specs.WrittenTerm.{PlacedName, WrittenHead, WrittenTerm, W
 use Rattle.syntax_trees.specs.WrittenEquation.{WrittenPremiss}
 use Rattle.behaviour_semantics.specs.WellFormed.{Every}
 use Rattle.sort_terms.specs.ReadingOutcome.{Refusal, unknown_name, unknown_sort as unknown_of, is_sort_name, is_known, unknown_at, unknown_sorts, together, in_text_order, unknown_in, unknown_in_each, Outcome, refused, ComesTo, ReadingIs, PairReadingIs}
-use Rattle.static_scope.specs.ScopeFault.{unknown_gate, unknown_process, unknown_sort, double_name, gate_count, value_count, no_bool, refused_term, fault_place, refusal_place}
-use Rattle.static_scope.specs.Resolution.{faulty}
-use Rattle.static_scope.specs.Sorts.{Truth, truth_in}
-use Rattle.static_scope.specs.Terms.{AsResolution, TermIs, TrueTermIs, PremissIs, TestIs, TestOptionIs}
+use Rattle.scope_parts.specs.ScopeFault.{unknown_gate, unknown_process, unknown_sort, double_name, gate_count, value_count, no_bool, refused_term, fault_place, refusal_place}
+use Rattle.scope_parts.specs.Resolution.{faulty}
+use Rattle.scope_parts.specs.Sorts.{Truth, truth_in}
+use Rattle.scope_parts.specs.Terms.{AsResolution, TermIs, TrueTermIs, PremissIs, TestIs, TestOptionIs}
 use Rattle.scope_faults.specs.Order.{IsOneOf}
 use Rattle.scope_faults.specs.TermPlaces.{name_places, term_places, terms_places, right_places, premiss_places}
 use Rattle.scope_faults.specs.BehaviourPlaces.{test_places}

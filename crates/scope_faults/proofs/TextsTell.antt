@@ -7,14 +7,14 @@ use Rattle.lotos_base.specs.WrittenTerm.{PlacedName}
 use Rattle.syntax_trees.specs.WrittenBehaviour.{WrittenBehaviour}
 use Rattle.syntax_trees.specs.WrittenDefinition.{WrittenHeading, WrittenInner, WrittenInners, inner_item, process, no_inner, inner_then, inners_of, WrittenSpecification}
 use Rattle.behaviour_semantics.specs.Behaviour.{Behaviour, Process}
-use Rattle.static_scope.specs.ScopeFault.{ScopeFault, fault_place, double_name}
-use Rattle.static_scope.specs.Resolution.{Resolution, resolved, faulty, and_then, Is}
-use Rattle.static_scope.specs.Scope.{Callable, Binding, is_bound}
-use Rattle.static_scope.specs.Numbering.{Numbers, past_heading, past_own, past_inner}
-use Rattle.static_scope.specs.Sorts.{sorts_at, variables_at, functionality_at}
-use Rattle.static_scope.specs.Behaviours.{numbers_from}
-use Rattle.static_scope.specs.Definitions.{Heading, process_with, specification_with, formal_gates, heading_at, DefinitionIs, callables, new_process, with_name, past_name, InnerIs, InnersAre, first_numbers, SpecificationIs}
-use Rattle.static_scope.proofs.OnceLemmas.{is_once}
+use Rattle.scope_parts.specs.ScopeFault.{ScopeFault, fault_place, double_name}
+use Rattle.scope_parts.specs.Resolution.{Resolution, resolved, faulty, and_then, Is}
+use Rattle.scope_parts.specs.Scope.{Callable, Binding, is_bound}
+use Rattle.scope_parts.specs.Numbering.{Numbers, past_heading, past_own, past_inner}
+use Rattle.scope_parts.specs.Sorts.{sorts_at, variables_at, functionality_at}
+use Rattle.scope_parts.specs.Behaviours.{numbers_from}
+use Rattle.scope_parts.specs.Definitions.{Heading, process_with, specification_with, formal_gates, heading_at, DefinitionIs, callables, new_process, with_name, past_name, InnerIs, InnersAre, first_numbers, SpecificationIs}
+use Rattle.scope_parts.proofs.OnceLemmas.{is_once}
 use Rattle.scope_faults.specs.Order.{Rising}
 use Rattle.scope_faults.specs.TermPlaces.{name_places}
 use Rattle.scope_faults.specs.PartFaults.{Doubled}

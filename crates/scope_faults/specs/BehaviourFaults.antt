@@ -8,13 +8,13 @@ use Rattle.syntax_trees.specs.WrittenBehaviour as written
 use Rattle.syntax_trees.specs.WrittenBehaviour.{WrittenBehaviour, WrittenSign, choice_sign, interleaving, full_synchronisation, synchronising, disabling, enabling}
 use Rattle.behaviour_semantics.specs.Behaviour.{Offer, asked_variables, let_variables}
 use Rattle.term_algebra.specs.Term.{Term}
-use Rattle.static_scope.specs.ScopeFault.{ScopeFault, unknown_process, gate_count, value_count}
-use Rattle.static_scope.specs.Resolution.{faulty, Is}
-use Rattle.static_scope.specs.Scope.{Scope, Callable, callable_named, gate_at}
-use Rattle.static_scope.specs.Numbering.{Numbers, spelled, each_once, asked_for, choice_names, past_gates, past_variables, past}
-use Rattle.static_scope.specs.Sorts.{variables_at}
-use Rattle.static_scope.specs.Terms.{TestIs, TestOptionIs, LetIs, OffersAre}
-use Rattle.static_scope.specs.Behaviours.{with_gates, with_variables}
+use Rattle.scope_parts.specs.ScopeFault.{ScopeFault, unknown_process, gate_count, value_count}
+use Rattle.scope_parts.specs.Resolution.{faulty, Is}
+use Rattle.scope_parts.specs.Scope.{Scope, Callable, callable_named, gate_at}
+use Rattle.scope_parts.specs.Numbering.{Numbers, spelled, each_once, asked_for, choice_names, past_gates, past_variables, past}
+use Rattle.scope_parts.specs.Sorts.{variables_at}
+use Rattle.scope_parts.specs.Terms.{TestIs, TestOptionIs, LetIs, OffersAre}
+use Rattle.scope_parts.specs.Behaviours.{with_gates, with_variables}
 use Rattle.scope_faults.specs.PartFaults.{Seeing, GatesHave, VariablesHave, ExitValuesHave, ValuesHave, LetHas, OffersHave, ChoicesHave, SignsHave}
 
 -- the process of a call, given its numbers of gates and values

@@ -2,12 +2,12 @@
 use Rattle.term_algebra.specs.Signature.{Signature}
 use Rattle.syntax_trees.specs.WrittenBehaviour.{WrittenBehaviour}
 use Rattle.syntax_trees.specs.WrittenDefinition.{WrittenSpecification}
-use Rattle.static_scope.specs.ScopeFault.{ScopeFault}
-use Rattle.static_scope.specs.Resolution.{Resolution, resolved, faulty}
-use Rattle.static_scope.specs.Scope.{Scope}
-use Rattle.static_scope.specs.Numbering.{Numbers}
-use Rattle.static_scope.specs.Behaviours.{BehaviourIs}
-use Rattle.static_scope.specs.Definitions.{SpecificationIs}
+use Rattle.scope_parts.specs.ScopeFault.{ScopeFault}
+use Rattle.scope_parts.specs.Resolution.{Resolution, resolved, faulty}
+use Rattle.scope_parts.specs.Scope.{Scope}
+use Rattle.scope_parts.specs.Numbering.{Numbers}
+use Rattle.scope_parts.specs.Behaviours.{BehaviourIs}
+use Rattle.scope_parts.specs.Definitions.{SpecificationIs}
 use Rattle.scope_faults.specs.Order.{NotAfter}
 use Rattle.scope_faults.specs.BehaviourFaults.{HasFault}
 use Rattle.scope_faults.specs.BehaviourPlaces.{Follows}

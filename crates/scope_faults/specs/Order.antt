@@ -2,7 +2,7 @@
 use Rattle.std.specs.Prelude.{◌≡◌, ◌⊎◌, ◌≤◌, ℕ, true, List, [], ◌∷◌, ◌++◌}
 use Rattle.term_algebra.specs.Equation.{Place}
 use Rattle.behaviour_semantics.specs.WellFormed.{Every}
-use Rattle.static_scope.specs.ScopeFault.{ScopeFault, unknown_gate, unknown_process, unknown_sort, double_name, gate_count, value_count, no_bool, refused_term, fault_place, stands_before}
+use Rattle.scope_parts.specs.ScopeFault.{ScopeFault, unknown_gate, unknown_process, unknown_sort, double_name, gate_count, value_count, no_bool, refused_term, fault_place, stands_before}
 
 -- the place is one of the list
 abbrev pub IsOneOf : Place → List Place → Type 0

@@ -6,13 +6,13 @@ use Rattle.term_algebra.specs.Equation.{Variable}
 use Rattle.lotos_base.specs.WrittenTerm.{PlacedName, WrittenTerm}
 use Rattle.syntax_trees.specs.WrittenVariable.{WrittenVariable}
 use Rattle.syntax_trees.specs.WrittenBehaviour.{WrittenSign, choice_sign, interleaving, full_synchronisation, synchronising, disabling, enabling, WrittenGateChoice, WrittenExitValue, WrittenOffer}
-use Rattle.static_scope.specs.ScopeFault.{ScopeFault, double_name}
-use Rattle.static_scope.specs.Resolution.{Resolution, resolved, faulty}
-use Rattle.static_scope.specs.Scope.{Binding, bind, is_bound, gate_at}
-use Rattle.static_scope.specs.Numbering.{asked_for}
-use Rattle.static_scope.specs.Sorts.{sort_at, variable_at, placed_variables}
-use Rattle.static_scope.specs.Terms.{TermIs, ExitValueIs, BindingIs, OfferIs, past_offer, let_names}
-use Rattle.static_scope.specs.Choices.{placed_choices}
+use Rattle.scope_parts.specs.ScopeFault.{ScopeFault, double_name}
+use Rattle.scope_parts.specs.Resolution.{Resolution, resolved, faulty}
+use Rattle.scope_parts.specs.Scope.{Binding, bind, is_bound, gate_at}
+use Rattle.scope_parts.specs.Numbering.{asked_for}
+use Rattle.scope_parts.specs.Sorts.{sort_at, variable_at, placed_variables}
+use Rattle.scope_parts.specs.Terms.{TermIs, ExitValueIs, BindingIs, OfferIs, past_offer, let_names}
+use Rattle.scope_parts.specs.Choices.{placed_choices}
 
 -- a fault of one member of the list
 abbrev pub OfOne : {A : Type 0} → (A → ScopeFault → Type 0) → List A → ScopeFault → Type 0

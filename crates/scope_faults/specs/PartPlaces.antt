@@ -6,10 +6,10 @@ use Rattle.lotos_base.specs.WrittenTerm.{WrittenTerm}
 use Rattle.syntax_trees.specs.WrittenVariable.{WrittenVariable}
 use Rattle.syntax_trees.specs.WrittenBehaviour.{WrittenSign, choice_sign, interleaving, full_synchronisation, synchronising, disabling, enabling, WrittenGateChoice, WrittenExitValue, exit_term, exit_any, WrittenOffer, offer_value, offer_variable}
 use Rattle.behaviour_semantics.specs.WellFormed.{Every}
-use Rattle.static_scope.specs.Numbering.{asked_for}
-use Rattle.static_scope.specs.Sorts.{placed_variables}
-use Rattle.static_scope.specs.Terms.{let_names}
-use Rattle.static_scope.specs.Choices.{placed_choices}
+use Rattle.scope_parts.specs.Numbering.{asked_for}
+use Rattle.scope_parts.specs.Sorts.{placed_variables}
+use Rattle.scope_parts.specs.Terms.{let_names}
+use Rattle.scope_parts.specs.Choices.{placed_choices}
 use Rattle.scope_faults.specs.Order.{Before, InTurn, Rising, joined}
 use Rattle.scope_faults.specs.TermPlaces.{name_places, term_places}
 

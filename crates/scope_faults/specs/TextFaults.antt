@@ -5,12 +5,12 @@ use Rattle.term_algebra.specs.Equation.{Variable}
 use Rattle.lotos_base.specs.WrittenTerm.{PlacedName}
 use Rattle.syntax_trees.specs.WrittenBehaviour.{WrittenBehaviour}
 use Rattle.syntax_trees.specs.WrittenDefinition.{WrittenHeading, WrittenInner, WrittenInners, inner_item, process, no_inner, inner_then, inners_of, WrittenSpecification}
-use Rattle.static_scope.specs.ScopeFault.{ScopeFault, double_name}
-use Rattle.static_scope.specs.Resolution.{Is}
-use Rattle.static_scope.specs.Scope.{Scope, Callable, Binding, bind_all, is_bound}
-use Rattle.static_scope.specs.Numbering.{Numbers, spelled, past_heading, past_own, past_inner}
-use Rattle.static_scope.specs.Sorts.{variables_at}
-use Rattle.static_scope.specs.Definitions.{callables, with_name, past_name, first_numbers}
+use Rattle.scope_parts.specs.ScopeFault.{ScopeFault, double_name}
+use Rattle.scope_parts.specs.Resolution.{Is}
+use Rattle.scope_parts.specs.Scope.{Scope, Callable, Binding, bind_all, is_bound}
+use Rattle.scope_parts.specs.Numbering.{Numbers, spelled, past_heading, past_own, past_inner}
+use Rattle.scope_parts.specs.Sorts.{variables_at}
+use Rattle.scope_parts.specs.Definitions.{callables, with_name, past_name, first_numbers}
 use Rattle.scope_faults.specs.PartFaults.{Seeing, Doubled, VariablesHave, SortsHave}
 use Rattle.scope_faults.specs.BehaviourFaults.{HasFault}
 

@@ -1,4 +1,5 @@
 pub mod MadeProcesses
-pub mod NoTree
 pub mod SortNames
 pub mod WithoutToken
+pub mod Grammars
+pub mod Meanings

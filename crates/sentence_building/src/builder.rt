@@ -1,19 +1,21 @@
 //! What each row of the grammar builds, as the actions of a fold over a derivation.
 
 ghost use Rattle.std.specs.Prelude.{◌≡◌, IfOk, option_map};
-ghost use Rattle.derivation_fold.specs.Run.{from_last};
+ghost use Rattle.ll_engine.specs.Run.{from_last};
 ghost use Rattle.lotos_rows.specs.Kept.{is_kept_kind};
 ghost use Rattle.tree_building.specs.Meaning as plain;
 ghost use Rattle.tree_building.specs.MeaningView.{meaning};
 ghost use Rattle.tree_building.specs.RowMeaning.{numbered_row_means, row_means};
 
-use crate::{behaviours, definitions, starts};
-use derivation_fold::Actions;
+use crate::{definitions, starts};
+use behaviour_building::behaviours;
+use ll_engine::Actions;
 use lotos_lexer::Token;
 use lotos_rows::{RowName, is_kept_kind, row_name};
 use std::alloc::{AllocError, Global};
 use tree_building::names::Built;
-use tree_building::{Value, equations, names, renamings, terms, types};
+use tree_building::{Value, names, terms};
+use type_building::{equations, renamings, types};
 
 /// Builds the trees of a text.
 #[derive(Clone, Copy, Debug)]
@@ -29,9 +31,9 @@ fn build_row(
     text: &[u8],
     row: RowName,
     token: Option<Token>,
-    parts: Vec<Value>,
+    parts: &mut Vec<Value>,
 ) -> Built
-    ensures { IfOk result (λ built. option_map meaning built ≡ row_means text.now row token (from_last meaning parts.items)) }
+    ensures { IfOk result (λ built. option_map meaning built ≡ row_means text.now row token (from_last meaning parts.old.items)) }
 {
     match row {
         RowName::Names(row) => names::build(alloc, text, row, token, parts),
@@ -78,12 +80,12 @@ impl<'a> Actions for Builder<'a> {
         alloc: Global,
         row: u32,
         token: Option<Token>,
-        parts: Vec<Value>,
+        mut parts: Vec<Value>,
     ) -> Result<Option<Value>, AllocError>
         ensures { IfOk result (λ built. option_map meaning built ≡ numbered_row_means self.now.text.now row token (from_last meaning parts.items)) }
     {
         match row_name(row) {
-            Some(name) => build_row(alloc, self.text, name, token, parts),
+            Some(name) => build_row(alloc, self.text, name, token, &mut parts),
             None => Ok(None),
         }
     }

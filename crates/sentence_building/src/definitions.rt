@@ -3,31 +3,31 @@
 ghost use Rattle.std.specs.Prelude.{◌≡◌, IfOk, None, Some, map, option_map, reverse};
 ghost use Rattle.syntax_trees.specs.TreeViews.{behaviour_of, inner_of, item_of, process_of};
 ghost use Rattle.syntax_trees.specs.WrittenDefinition as plain;
-ghost use Rattle.derivation_fold.specs.Run.{from_last};
-ghost use Rattle.tree_building.specs.DefinitionsMeaning.{exit_of_sorts, heading_of_parts, item_before_inner, no_exit, nothing_inner, process_before_inner, process_of_parts, same_inner};
+ghost use Rattle.ll_engine.specs.Run.{from_last};
+ghost use Rattle.tree_building.specs.DefinitionsMeaning.{exit_of_sorts, heading_of_parts, item_before_inner, process_before_inner, process_of_parts};
 ghost use Rattle.tree_building.specs.DefinitionsViews.{plain_heading_of};
 ghost use Rattle.tree_building.specs.MeaningView.{meaning};
 ghost use Rattle.tree_building.specs.RowMeaning.{definitions_row_means};
 
-use crate::flat_lists::grouped;
+use behaviour_building::grouped;
 use lotos_rows::definitions::DefinitionsRow;
 use std::alloc::Global;
 use syntax_trees::{BehText, InnerText, ItemText, Named, ProcessText, VarText};
 use tree_building::Value;
 use tree_building::behaviours_values::Flat;
 use tree_building::definitions_values::Heading;
-use tree_building::names::{Built, empty_names, empty_variables, the_names, the_variables, turned};
+use tree_building::names::{Built, turned};
 use tree_building::value::{held, take};
 
 /// A name, gates, parameters and a functionality.
 #[tactic(auto, using(tree_building::proofs::FromLast::map_reverse))]
-fn heading(mut parts: Vec<Value>) -> Option<Value>
-    ensures { option_map meaning result ≡ heading_of_parts (from_last meaning parts.items) }
+fn heading(parts: &mut Vec<Value>) -> Option<Value>
+    ensures { option_map meaning result ≡ heading_of_parts (from_last meaning parts.old.items) }
 {
-    let name = take::<Named>(&mut parts)?;
-    let gates = take::<Vec<Named>>(&mut parts)?;
-    let params = take::<Vec<VarText>>(&mut parts)?;
-    let func = take::<Option<Vec<Named>>>(&mut parts)?;
+    let name = take::<Named>(parts)?;
+    let gates = take::<Vec<Named>>(parts)?;
+    let params = take::<Vec<VarText>>(parts)?;
+    let func = take::<Option<Vec<Named>>>(parts)?;
     Some(Value::Heading(Heading {
         place: name.0,
         name: name.1,
@@ -37,36 +37,13 @@ fn heading(mut parts: Vec<Value>) -> Option<Value>
     }))
 }
 
-/// `noexit`.
-fn without_exit() -> Value
-    ensures { Some (meaning result) ≡ no_exit }
-{
-    Value::Functionality(None)
-}
-
 /// `exit` with its sorts.
 #[tactic(auto, using(tree_building::proofs::FromLast::map_reverse))]
-fn with_exit(mut parts: Vec<Value>) -> Option<Value>
-    ensures { option_map meaning result ≡ exit_of_sorts (from_last meaning parts.items) }
+fn with_exit(parts: &mut Vec<Value>) -> Option<Value>
+    ensures { option_map meaning result ≡ exit_of_sorts (from_last meaning parts.old.items) }
 {
-    let sorts = take::<Vec<Named>>(&mut parts)?;
+    let sorts = take::<Vec<Named>>(parts)?;
     Some(Value::Functionality(Some(turned(sorts))))
-}
-
-/// No items and no processes.
-#[tactic(auto, using(tree_building::proofs::FromLast::from_last_none))]
-fn empty_inner(alloc: Global) -> Value
-    ensures { Some (meaning result) ≡ nothing_inner }
-{
-    Value::Inner(Vec::new(alloc))
-}
-
-/// The items and processes that the part has.
-fn the_inner(mut parts: Vec<Value>) -> Option<Value>
-    ensures { option_map meaning result ≡ same_inner (from_last meaning parts.items) }
-{
-    let inner = take::<Vec<InnerText>>(&mut parts)?;
-    Some(Value::Inner(inner))
 }
 
 /// An item as what a `where` declares.
@@ -85,13 +62,13 @@ fn declared_process(process: ProcessText) -> InnerText
 
 /// An item before others and processes.
 #[tactic(auto, using(tree_building::proofs::FromLast::from_last_more))]
-fn joined_item(mut parts: Vec<Value>) -> Built
-    ensures { IfOk result (λ built. option_map meaning built ≡ item_before_inner (from_last meaning parts.items)) }
+fn joined_item(parts: &mut Vec<Value>) -> Built
+    ensures { IfOk result (λ built. option_map meaning built ≡ item_before_inner (from_last meaning parts.old.items)) }
 {
-    let Some(item) = take::<ItemText>(&mut parts) else {
+    let Some(item) = take::<ItemText>(parts) else {
         return Ok(None);
     };
-    let Some(mut inner) = take::<Vec<InnerText>>(&mut parts) else {
+    let Some(mut inner) = take::<Vec<InnerText>>(parts) else {
         return Ok(None);
     };
     inner.push(declared_item(item))?;
@@ -100,13 +77,13 @@ fn joined_item(mut parts: Vec<Value>) -> Built
 
 /// A process before items and other processes.
 #[tactic(auto, using(tree_building::proofs::FromLast::from_last_more))]
-fn joined_process(mut parts: Vec<Value>) -> Built
-    ensures { IfOk result (λ built. option_map meaning built ≡ process_before_inner (from_last meaning parts.items)) }
+fn joined_process(parts: &mut Vec<Value>) -> Built
+    ensures { IfOk result (λ built. option_map meaning built ≡ process_before_inner (from_last meaning parts.old.items)) }
 {
-    let Some(process) = take::<ProcessText>(&mut parts) else {
+    let Some(process) = take::<ProcessText>(parts) else {
         return Ok(None);
     };
-    let Some(mut inner) = take::<Vec<InnerText>>(&mut parts) else {
+    let Some(mut inner) = take::<Vec<InnerText>>(parts) else {
         return Ok(None);
     };
     inner.push(declared_process(process))?;
@@ -131,16 +108,16 @@ fn process_of_heading(heading: Heading, body: BehText, inner: Vec<InnerText>) ->
 }
 
 /// A whole process.
-fn process(alloc: Global, mut parts: Vec<Value>) -> Built
-    ensures { IfOk result (λ built. option_map meaning built ≡ process_of_parts (from_last meaning parts.items)) }
+fn process(alloc: Global, parts: &mut Vec<Value>) -> Built
+    ensures { IfOk result (λ built. option_map meaning built ≡ process_of_parts (from_last meaning parts.old.items)) }
 {
-    let Some(heading) = take::<Heading>(&mut parts) else {
+    let Some(heading) = take::<Heading>(parts) else {
         return Ok(None);
     };
-    let Some(flat) = take::<Flat>(&mut parts) else {
+    let Some(flat) = take::<Flat>(parts) else {
         return Ok(None);
     };
-    let Some(inner) = take::<Vec<InnerText>>(&mut parts) else {
+    let Some(inner) = take::<Vec<InnerText>>(parts) else {
         return Ok(None);
     };
     let Some(body) = grouped(alloc, flat)? else {
@@ -151,19 +128,22 @@ fn process(alloc: Global, mut parts: Vec<Value>) -> Built
 }
 
 /// What a row of processes and headings builds from its parts.
-pub fn build(alloc: Global, row: DefinitionsRow, parts: Vec<Value>) -> Built
-    ensures { IfOk result (λ built. option_map meaning built ≡ definitions_row_means row None (from_last meaning parts.items)) }
+#[tactic(auto, using(tree_building::proofs::FromLast::from_last_none))]
+pub fn build(alloc: Global, row: DefinitionsRow, parts: &mut Vec<Value>) -> Built
+    ensures { IfOk result (λ built. option_map meaning built ≡ definitions_row_means row None (from_last meaning parts.old.items)) }
 {
     match row {
         DefinitionsRow::Heading => Ok(heading(parts)),
-        DefinitionsRow::NoParameters => Ok(Some(empty_variables(alloc))),
-        DefinitionsRow::Parameters => Ok(the_variables(parts)),
-        DefinitionsRow::NoExit => Ok(Some(without_exit())),
+        DefinitionsRow::NoParameters => Ok(Some(Value::Variables(Vec::new(alloc)))),
+        DefinitionsRow::Parameters => Ok(take::<Vec<VarText>>(parts).map(Value::Variables)),
+        DefinitionsRow::NoExit => Ok(Some(Value::Functionality(None))),
         DefinitionsRow::ExitFunctionality => Ok(with_exit(parts)),
-        DefinitionsRow::NoExitSorts => Ok(Some(empty_names(alloc))),
-        DefinitionsRow::ExitSorts => Ok(the_names(parts)),
-        DefinitionsRow::NoWhere | DefinitionsRow::NothingInner => Ok(Some(empty_inner(alloc))),
-        DefinitionsRow::Where => Ok(the_inner(parts)),
+        DefinitionsRow::NoExitSorts => Ok(Some(Value::Names(Vec::new(alloc)))),
+        DefinitionsRow::ExitSorts => Ok(take::<Vec<Named>>(parts).map(Value::Names)),
+        DefinitionsRow::NoWhere | DefinitionsRow::NothingInner => Ok(Some(Value::Inner(Vec::new(
+            alloc,
+        )))),
+        DefinitionsRow::Where => Ok(take::<Vec<InnerText>>(parts).map(Value::Inner)),
         DefinitionsRow::InnerItem => joined_item(parts),
         DefinitionsRow::InnerProcess => joined_process(parts),
         DefinitionsRow::Process => process(alloc, parts),

@@ -6,16 +6,16 @@ ghost use Rattle.lotos_base.specs.WrittenView.{written_profile_of};
 ghost use Rattle.lotos_sentences.specs.Starts.{profile_by_name};
 ghost use Rattle.syntax_trees.specs.TreeViews.{behaviour_of, inner_of, item_of, specification_of};
 ghost use Rattle.syntax_trees.specs.WrittenDefinition.{WrittenSpecification};
-ghost use Rattle.derivation_fold.specs.Run.{from_last};
+ghost use Rattle.ll_engine.specs.Run.{from_last};
 ghost use Rattle.tree_building.specs.DefinitionsViews.{plain_heading_of};
 ghost use Rattle.tree_building.specs.MeaningView.{meaning};
 ghost use Rattle.tree_building.specs.NamesViews.{profile_of};
 ghost use Rattle.tree_building.specs.RowMeaning.{specification_row_means, starts_row_means};
-ghost use Rattle.tree_building.specs.StartsMeaning.{a_behaviour_word, item_before_order, no_order_items, no_profile, some_profile, specification_of_parts};
+ghost use Rattle.tree_building.specs.StartsMeaning.{item_before_order, some_profile, specification_of_parts};
 ghost use Rattle.sentence_building.specs.Whole.{whole_specification};
 
-use crate::flat_lists::grouped;
-use lotos_base::{Name, OrderItem, Profile};
+use behaviour_building::grouped;
+use lotos_base::{Name, OrderItem, Profile, Written};
 use lotos_rows::specification::SpecificationRow;
 use lotos_rows::starts::StartsRow;
 use std::alloc::{AllocError, Global};
@@ -25,16 +25,8 @@ use tree_building::behaviours_values::Flat;
 use tree_building::definitions_values::Heading;
 use tree_building::names::{Built, turned};
 use tree_building::names_values::{NamedOp, OpProfile};
-use tree_building::terms::{empty_terms, the_terms};
-use tree_building::types::{empty_items, joined_items, the_items};
 use tree_building::value::{held, take};
-
-/// `behaviour` or `behavior`.
-fn behaviour_word() -> Value
-    ensures { Some (meaning result) ≡ a_behaviour_word }
-{
-    Value::Word(())
-}
+use type_building::types::joined_items;
 
 /// The specification of a heading, items, a behaviour and what its `where` declares. Items and
 /// declarations are held from the last to the first.
@@ -56,22 +48,22 @@ fn whole(heading: Heading, items: Vec<ItemText>, body: BehText, inner: Vec<Inner
 }
 
 /// A whole specification.
-fn specification(alloc: Global, mut parts: Vec<Value>) -> Built
-    ensures { IfOk result (λ built. option_map meaning built ≡ specification_of_parts (from_last meaning parts.items)) }
+fn specification(alloc: Global, parts: &mut Vec<Value>) -> Built
+    ensures { IfOk result (λ built. option_map meaning built ≡ specification_of_parts (from_last meaning parts.old.items)) }
 {
-    let Some(heading) = take::<Heading>(&mut parts) else {
+    let Some(heading) = take::<Heading>(parts) else {
         return Ok(None);
     };
-    let Some(items) = take::<Vec<ItemText>>(&mut parts) else {
+    let Some(items) = take::<Vec<ItemText>>(parts) else {
         return Ok(None);
     };
-    let Some(_word) = take::<()>(&mut parts) else {
+    let Some(_word) = take::<()>(parts) else {
         return Ok(None);
     };
-    let Some(flat) = take::<Flat>(&mut parts) else {
+    let Some(flat) = take::<Flat>(parts) else {
         return Ok(None);
     };
-    let Some(inner) = take::<Vec<InnerText>>(&mut parts) else {
+    let Some(inner) = take::<Vec<InnerText>>(parts) else {
         return Ok(None);
     };
     let Some(body) = grouped(alloc, flat)? else {
@@ -79,14 +71,6 @@ fn specification(alloc: Global, mut parts: Vec<Value>) -> Built
     };
     let whole = whole(heading, items, body, inner);
     Ok(Some(Value::Specification(held(alloc, whole)?)))
-}
-
-/// No items of an order file.
-#[tactic(auto, using(tree_building::proofs::FromLast::from_last_none))]
-fn empty_order(alloc: Global) -> Value
-    ensures { Some (meaning result) ≡ no_order_items }
-{
-    Value::OrderItems(Vec::new(alloc))
 }
 
 /// The names of sorts without their places.
@@ -122,16 +106,16 @@ fn maybe_by_name(alloc: Global, profile: Option<OpProfile>) -> Result<Option<Pro
 
 /// An item of an order file before others.
 #[tactic(auto, using(tree_building::proofs::FromLast::from_last_more))]
-fn joined_order(alloc: Global, mut parts: Vec<Value>) -> Built
-    ensures { IfOk result (λ built. option_map meaning built ≡ item_before_order (from_last meaning parts.items)) }
+fn joined_order(alloc: Global, parts: &mut Vec<Value>) -> Built
+    ensures { IfOk result (λ built. option_map meaning built ≡ item_before_order (from_last meaning parts.old.items)) }
 {
-    let Some(operation) = take::<NamedOp>(&mut parts) else {
+    let Some(operation) = take::<NamedOp>(parts) else {
         return Ok(None);
     };
-    let Some(profile) = take::<Option<OpProfile>>(&mut parts) else {
+    let Some(profile) = take::<Option<OpProfile>>(parts) else {
         return Ok(None);
     };
-    let Some(mut items) = take::<Vec<OrderItem>>(&mut parts) else {
+    let Some(mut items) = take::<Vec<OrderItem>>(parts) else {
         return Ok(None);
     };
     let profile = maybe_by_name(alloc, profile)?;
@@ -144,46 +128,41 @@ fn joined_order(alloc: Global, mut parts: Vec<Value>) -> Built
     Ok(Some(Value::OrderItems(items)))
 }
 
-/// No profile.
-fn without_profile() -> Value
-    ensures { Some (meaning result) ≡ no_profile }
-{
-    Value::MaybeProfile(None)
-}
-
 /// The profile that the part is.
-fn with_profile(mut parts: Vec<Value>) -> Option<Value>
-    ensures { option_map meaning result ≡ some_profile (from_last meaning parts.items) }
+fn with_profile(parts: &mut Vec<Value>) -> Option<Value>
+    ensures { option_map meaning result ≡ some_profile (from_last meaning parts.old.items) }
 {
-    let profile = take::<OpProfile>(&mut parts)?;
+    let profile = take::<OpProfile>(parts)?;
     Some(Value::MaybeProfile(Some(profile)))
 }
 
 /// What a row of a specification's items or of its word builds from its parts.
-pub fn build_of_specification(alloc: Global, row: SpecificationRow, parts: Vec<Value>) -> Built
-    ensures { IfOk result (λ built. option_map meaning built ≡ specification_row_means row None (from_last meaning parts.items)) }
+#[tactic(auto, using(tree_building::proofs::FromLast::from_last_none))]
+pub fn build_of_specification(alloc: Global, row: SpecificationRow, parts: &mut Vec<Value>) -> Built
+    ensures { IfOk result (λ built. option_map meaning built ≡ specification_row_means row None (from_last meaning parts.old.items)) }
 {
     match row {
-        SpecificationRow::NoItems => Ok(Some(empty_items(alloc))),
+        SpecificationRow::NoItems => Ok(Some(Value::Items(Vec::new(alloc)))),
         SpecificationRow::Items => joined_items(parts),
         SpecificationRow::BehaviourWord | SpecificationRow::BehaviorWord => {
-            Ok(Some(behaviour_word()))
+            Ok(Some(Value::Word(())))
         }
     }
 }
 
 /// What a row of the four texts builds from its parts.
-pub fn build(alloc: Global, row: StartsRow, parts: Vec<Value>) -> Built
-    ensures { IfOk result (λ built. option_map meaning built ≡ starts_row_means row None (from_last meaning parts.items)) }
+#[tactic(auto, using(tree_building::proofs::FromLast::from_last_none))]
+pub fn build(alloc: Global, row: StartsRow, parts: &mut Vec<Value>) -> Built
+    ensures { IfOk result (λ built. option_map meaning built ≡ starts_row_means row None (from_last meaning parts.old.items)) }
 {
     match row {
         StartsRow::Spec => specification(alloc, parts),
-        StartsRow::Typetext => Ok(the_items(parts)),
-        StartsRow::NoOrder => Ok(Some(empty_order(alloc))),
+        StartsRow::Typetext => Ok(take::<Vec<ItemText>>(parts).map(Value::Items)),
+        StartsRow::NoOrder => Ok(Some(Value::OrderItems(Vec::new(alloc)))),
         StartsRow::Order => joined_order(alloc, parts),
-        StartsRow::NoOptionalProfile => Ok(Some(without_profile())),
+        StartsRow::NoOptionalProfile => Ok(Some(Value::MaybeProfile(None))),
         StartsRow::OptionalProfile => Ok(with_profile(parts)),
-        StartsRow::NoTerms => Ok(Some(empty_terms(alloc))),
-        StartsRow::Terms => Ok(the_terms(parts)),
+        StartsRow::NoTerms => Ok(Some(Value::Terms(Vec::new(alloc)))),
+        StartsRow::Terms => Ok(take::<Vec<Written>>(parts).map(Value::Terms)),
     }
 }

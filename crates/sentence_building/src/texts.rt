@@ -3,7 +3,7 @@
 ghost use Rattle.std.specs.Prelude.{◌≡◌, map, option_map, reverse};
 ghost use Rattle.lotos_base.specs.WrittenView.{listed_operation_of, written_term_of};
 ghost use Rattle.syntax_trees.specs.TreeViews.{item_of, specification_of};
-ghost use Rattle.derivation_fold.specs.Run.{from_last};
+ghost use Rattle.ll_engine.specs.Run.{from_last};
 ghost use Rattle.tree_building.specs.MeaningView.{meaning};
 ghost use Rattle.tree_building.specs.Parts.{items_in, order_items_in, specification_in, terms_in};
 

@@ -5,8 +5,8 @@ use Rattle.std.specs.Prelude.{Some, option_and_then, slice_get}
 use Rattle.std.specs.List.{list_all}
 use Rattle.ll_engine.specs.declared.symbol.Symbol.TheVariants.{Part}
 use Rattle.ll_engine.specs.Derivation.{Production, Forest, Derives, leaves}
-use Rattle.derivation_fold.specs.Fold.{front_token}
-use Rattle.derivation_fold.specs.Values.{Stand}
+use Rattle.ll_engine.specs.Fold.{front_token}
+use Rattle.ll_engine.specs.Values.{Stand}
 use Rattle.lotos_lexer.specs.declared.tokens.Token.{Token}
 use Rattle.lotos_rows.specs.Kept.{is_kept_kind}
 use Rattle.lotos_rows.specs.declared.row_names.RowName.{RowName}

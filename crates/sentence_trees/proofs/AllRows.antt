@@ -3,9 +3,9 @@ use Rattle.std.proofs.Common.{◌≡◌, ◌∙◌, ℕ, List, ◌++◌, refl, a
 use Rattle.std.specs.Prelude.{Some, option_and_then, slice_get}
 use Rattle.ll_engine.specs.Derivation.{Production}
 use Rattle.ll_engine.proofs.Lists.{slice_get-from_map, slice_get-to_map}
-use Rattle.derivation_fold.specs.Fold.{front_token}
-use Rattle.derivation_fold.specs.Values.{Stand, IsKept}
-use Rattle.derivation_fold.proofs.Values.{least}
+use Rattle.ll_engine.specs.Fold.{front_token}
+use Rattle.ll_engine.specs.Values.{Stand, IsKept}
+use Rattle.ll_engine.proofs.Values.{least}
 use Rattle.lotos_lexer.specs.declared.tokens.Token.{Token}
 use Rattle.lotos_rows.specs.Kept.{is_kept_kind}
 use Rattle.lotos_rows.specs.Row.{GrammarRow}

@@ -1,7 +1,7 @@
 -- The rows of headings, processes and what a `where` declares keep what their parts are.
 use Rattle.std.proofs.Common.{ℕ, List, [], ◌∷◌, refl}
 use Rattle.std.proofs.lemmas.List.{append-nil}
-use Rattle.derivation_fold.specs.Values.{nothing, token, part}
+use Rattle.ll_engine.specs.Values.{nothing, token, part}
 use Rattle.lotos_lexer.specs.declared.kinds.TheConstants as kind
 use Rattle.lotos_rows.specs.Row.{row_of}
 use Rattle.lotos_rows.specs.declared.definitions.TheConstants as definitions

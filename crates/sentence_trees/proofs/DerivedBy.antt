@@ -2,9 +2,9 @@
 use Rattle.std.proofs.Common.{◌≡◌, ◌∙◌, ℕ, List, ap}
 use Rattle.std.specs.Prelude.{Some, option_and_then, slice_get}
 use Rattle.ll_engine.proofs.Lists.{slice_get-to_map}
-use Rattle.derivation_fold.specs.Fold.{front_token}
-use Rattle.derivation_fold.specs.Values.{Stand}
-use Rattle.derivation_fold.proofs.Values.{closed}
+use Rattle.ll_engine.specs.Fold.{front_token}
+use Rattle.ll_engine.specs.Values.{Stand}
+use Rattle.ll_engine.proofs.Values.{closed}
 use Rattle.lotos_lexer.specs.declared.tokens.Token.{Token}
 use Rattle.lotos_rows.specs.Kept.{is_kept_kind}
 use Rattle.lotos_rows.specs.Row.{GrammarRow}

@@ -1,6 +1,6 @@
 -- Each row of this subject gives a meaning, where its parts have theirs: equations.
 use Rattle.std.proofs.Common.{ℕ, List, [], ◌∷◌, refl}
-use Rattle.derivation_fold.specs.Values.{nothing, token, part}
+use Rattle.ll_engine.specs.Values.{nothing, token, part}
 use Rattle.lotos_lexer.specs.declared.kinds.TheConstants as kind
 use Rattle.lotos_rows.specs.Row.{row_of}
 use Rattle.lotos_rows.specs.EquationsRows.{equations_rows}

@@ -43,3 +43,6 @@ pub mod SpecificationGiven
 pub mod StartsGiven
 pub mod AllGiven
 pub mod Viable
+pub mod Blamed
+pub mod Outcomes
+pub mod Underived

@@ -8,9 +8,9 @@ use Rattle.ll_engine.specs.declared.symbol.Symbol.{Symbol}
 use Rattle.ll_engine.specs.declared.symbol.Symbol.TheVariants.{Token as Tok, Part}
 use Rattle.ll_engine.specs.Derivation.{Production, Forest, empty, leaf, node, Derives, leaves}
 use Rattle.ll_engine.proofs.KeptSets.{list_all-at}
-use Rattle.derivation_fold.specs.Fold.{begins_kept, first_if, front_token, tree_begins_kept, in_front, folded}
-use Rattle.derivation_fold.specs.Values.{Stand, nothing, token, part, IsKept}
-use Rattle.derivation_fold.proofs.Folding.{append_parts, halves, no_tokens}
+use Rattle.ll_engine.specs.Fold.{begins_kept, first_if, front_token, tree_begins_kept, in_front, folded}
+use Rattle.ll_engine.specs.Values.{Stand, nothing, token, part, IsKept}
+use Rattle.ll_engine.proofs.Folding.{append_parts, halves, no_tokens}
 
 abbrev pub is_said_symbol : (ℕ → Bool) → Symbol → Bool
 is_said_symbol said (Tok t) = true

@@ -6,7 +6,7 @@ use Rattle.ll_engine.specs.Prediction.{IsPredictive}
 use Rattle.ll_engine.specs.View.{is_well_formed}
 use Rattle.ll_engine.proofs.KeptSets.{predictive_after}
 use Rattle.ll_engine.proofs.Uniqueness.{one_tree}
-use Rattle.derivation_fold.specs.Fold.{folded}
+use Rattle.ll_engine.specs.Fold.{folded}
 use Rattle.lotos_lexer.specs.declared.tokens.Token.{Token}
 use Rattle.lotos_rows.specs.declared.starts.TheConstants as starts
 use Rattle.lotos_rows.specs.Kept.{is_kept_kind}

@@ -9,3 +9,8 @@ pub mod DefinitionsSentences
 pub mod StartsSentences
 pub mod Sentences
 pub mod Laws
+pub mod LexedFault
+pub mod Blame
+pub mod Derived
+pub mod Reading
+pub mod ReadingLaws

@@ -1,7 +1,7 @@
 -- What each part of the rows is, and what a row has to keep for the rows to have the sentences of the definition by subject.
 use Rattle.std.specs.Prelude.{◌≡◌, ℕ, nat_lt, List, Some}
-use Rattle.derivation_fold.specs.Fold.{front_token}
-use Rattle.derivation_fold.specs.Values.{Stand, HasValue}
+use Rattle.ll_engine.specs.Fold.{front_token}
+use Rattle.ll_engine.specs.Values.{Stand, HasValue}
 use Rattle.lotos_lexer.specs.declared.tokens.Token.{Token}
 use Rattle.lotos_rows.specs.declared.terms.TheConstants as terms
 use Rattle.lotos_rows.specs.declared.types.TheConstants as types

@@ -3,10 +3,10 @@ use Rattle.std.proofs.Common.{◌≡◌, ◌≢◌, ◌⊎◌, inl, inr, ◌+◌
 use Rattle.term_algebra.specs.Signature.{Signature}
 use Rattle.term_algebra.specs.Term.{Term}
 use Rattle.lotos_base.specs.WrittenTerm.{WrittenTerm}
-use Rattle.lotos_reading.specs.Reading.{IsTermsReading, IsTermsFault}
-use Rattle.lotos_reading.specs.ReadingLaws.{TextsHaveOneOutcome}
-use Rattle.lotos_reading.specs.declared.fault.ReadFault.{ReadFault}
-use Rattle.lotos_reading.specs.declared.fault.ReadFault.TheVariants.{NoMemory}
+use Rattle.sentence_trees.specs.Reading.{IsTermsReading, IsTermsFault}
+use Rattle.sentence_trees.specs.ReadingLaws.{TextsHaveOneOutcome}
+use Rattle.sentence_trees.specs.declared.fault.ReadFault.{ReadFault}
+use Rattle.sentence_trees.specs.declared.fault.ReadFault.TheVariants.{NoMemory}
 use Rattle.sort_terms.specs.ReadingLaws.{ReadingComesToOneThing}
 use Rattle.sort_terms.specs.ReadingOutcome as reading
 use Rattle.sort_terms.specs.ReadingOutcome.{ReadingIs, SortedTerm, answered}

@@ -3,7 +3,7 @@ use Rattle.std.specs.Prelude.{◌≡◌, ◌≢◌, ◌<◌, ℕ, List, false, c
 use Rattle.std.specs.List.{list_any}
 use Rattle.lotos_base.specs.WrittenTerm.{WrittenTerm}
 use Rattle.lotos_lexer.specs.Bytes.{is_blank}
-use Rattle.lotos_reading.specs.Reading.{IsTermsReading}
+use Rattle.sentence_trees.specs.Reading.{IsTermsReading}
 use Rattle.term_algebra.specs.Signature.{Signature, Sort, Operation}
 use Rattle.term_algebra.specs.Term.{Term}
 use Rattle.behaviour_semantics.specs.Rule.{AreValues}

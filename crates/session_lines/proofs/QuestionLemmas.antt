@@ -7,9 +7,9 @@ use Rattle.term_algebra.specs.Equation.{Data, Variable}
 use Rattle.term_algebra.specs.Signature.{Signature}
 use Rattle.term_algebra.specs.Sorting.{IsGround, AreGround}
 use Rattle.term_algebra.specs.Term.{Term, Terms, variable, node, no_terms, term_then}
-use Rattle.lotos_reading.specs.Reading.{IsTermsFault}
-use Rattle.lotos_reading.specs.declared.fault.ReadFault.{ReadFault}
-use Rattle.lotos_reading.specs.declared.fault.ReadFault.TheVariants as fault
+use Rattle.sentence_trees.specs.Reading.{IsTermsFault}
+use Rattle.sentence_trees.specs.declared.fault.ReadFault.{ReadFault}
+use Rattle.sentence_trees.specs.declared.fault.ReadFault.TheVariants as fault
 use Rattle.sort_terms.specs.Reading.{Reads, AllRead}
 use Rattle.sort_terms.specs.ReadingOutcome as reading
 use Rattle.sort_terms.specs.ReadingOutcome.{SortedTerm, SortedPair, ReadingIs, PairReadingIs, answered, ComesTo, IsPairReading}

@@ -21,11 +21,11 @@ ghost use Rattle.std.specs.Prelude.{◌≡◌, ◌+◌, ◌<◌, ◌^◌, ◌++�
 use crate::refusals::{Refusal, push_refusal};
 use equation_book::Book;
 use lotos_base::{NoMemory, Written};
+use lotos_grammar::read_terms;
 use printed_texts::brackets::push_text;
 use printed_texts::term_text;
 use sort_terms::{Deciding, Reader, Scope, Signature, Sorted};
 use std::alloc::Global;
-use text_reading::read_terms;
 
 /// Appends the normal form of the one term in the text, or the line of its refusal.
 pub fn push_normal(

@@ -5,9 +5,9 @@ ghost use Rattle.session_lines.specs.View.{AddsRefusal};
 ghost use Rattle.std.specs.Prelude.{◌≡◌, ◌++◌, OnOk};
 
 use lotos_base::NoMemory;
+use lotos_grammar::ReadFault;
 use printed_texts::brackets::{push_number, push_text};
 use sort_terms::SortFault;
-use text_reading::ReadFault;
 
 /// Why a line is refused.
 #[derive(Clone, Copy, Debug, PartialEq, Eq)]

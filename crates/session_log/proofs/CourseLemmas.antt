@@ -29,7 +29,7 @@ use Rattle.behaviour_tree.specs.declared.states.State.{State}
 use Rattle.event_offers.specs.Instances.{canonical_derivation}
 use Rattle.event_offers.specs.OfferView.{label_profiles, plain_entry}
 use Rattle.event_offers.specs.declared.menus.Menu.{Menu}
-use Rattle.menu_listing.specs.Menus.{entries_in}
+use Rattle.menu_builder.specs.Menus.{entries_in}
 use Rattle.process_checks.specs.declared.rank_table.Ranks.{Ranks}
 use Rattle.sort_terms.specs.declared.sorted.Sorted.{Sorted}
 use Rattle.session_histories.specs.Session.{SessionBasis, Situation, PastStep, Progress, first_of, first_situation, stepped, HasUndone}

@@ -21,7 +21,7 @@ use Rattle.event_offers.specs.OfferView.{plain_entry}
 use Rattle.event_offers.specs.Offers.{IsEntryOver}
 use Rattle.event_offers.specs.declared.drafts.Entry.{Entry}
 use Rattle.event_offers.specs.declared.menus.Menu.{Menu}
-use Rattle.menu_listing.specs.Menus.{entries_in}
+use Rattle.menu_builder.specs.Menus.{entries_in}
 use Rattle.sort_terms.specs.ProfiledTerm.{head_sort, IsOf}
 use Rattle.sort_terms.specs.SortedView.{profiled_in, term_in}
 use Rattle.sort_terms.specs.declared.sorted.Sorted.{Sorted}

@@ -10,10 +10,10 @@ use Rattle.lotos_base.specs.WrittenTerm.{WrittenTerm, WrittenTerms, written, no_
 use Rattle.lotos_base.specs.WrittenView.{text_place_of, written_term_of}
 use Rattle.lotos_base.specs.Name.{spelling}
 use Rattle.lotos_base.specs.declared.written_terms.Written.{Written}
-use Rattle.lotos_reading.specs.Reading.{IsTermsReading, IsTermsFault}
-use Rattle.lotos_reading.specs.declared.fault.ReadFault.{ReadFault}
-use Rattle.lotos_reading.specs.declared.fault.ReadFault.TheVariants.{NoMemory}
-use Rattle.lotos_reading.specs.declared.fault.ReadFault.TheVariants as text_fault
+use Rattle.sentence_trees.specs.Reading.{IsTermsReading, IsTermsFault}
+use Rattle.sentence_trees.specs.declared.fault.ReadFault.{ReadFault}
+use Rattle.sentence_trees.specs.declared.fault.ReadFault.TheVariants.{NoMemory}
+use Rattle.sentence_trees.specs.declared.fault.ReadFault.TheVariants as text_fault
 use Rattle.sort_terms.specs.Reading.{Reads, AllRead, IsScopeOver}
 use Rattle.sort_terms.proofs.ReadsLemmas.{reads_sorted}
 use Rattle.sort_terms.specs.RefusalView.{UnlessNoMemory}
@@ -46,7 +46,7 @@ use Rattle.printed_texts.specs.MenuText.{label_text}
 use Rattle.printed_texts.specs.TextView.{written_label}
 use Rattle.std.specs.Prelude.{Result, MatchResult}
 use Rattle.std.proofs.lemmas.Result.{MatchResult-weaker}
-use Rattle.menu_listing.specs.Menus.{entries_in}
+use Rattle.menu_builder.specs.Menus.{entries_in}
 use Rattle.session_histories.specs.Refusal as plain
 use Rattle.session_histories.specs.Refusal.{StepRefusal, entry_numbered, count_refusal, number_refusal, condition_refusal, value_refusal, step_refusal}
 use Rattle.session_histories.specs.Replay.{has_no_form, LineRefusal, bad_line, step_refused, label_differs, Outcome, goes_on, stops, ReplayRefusal, AreRead, IsOneMisread, IsReadStep, shown_label, LineComesTo, is_not_read, is_miscounted, is_misread, is_unmet, is_mislabelled, is_replayed, LinesComeTo, all_done, one_stops, one_goes_on, no_heading, ComeBehind, TraceComesTo, ReplayIs}

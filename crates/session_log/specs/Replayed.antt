@@ -13,7 +13,7 @@ use Rattle.behaviour_tree.specs.BehaviourView.{terms_of}
 use Rattle.behaviour_semantics.specs.Solving.{Entry as PlainEntry}
 use Rattle.event_offers.specs.declared.drafts.Entry.{Entry}
 use Rattle.event_offers.specs.declared.menus.Menu.{Menu}
-use Rattle.menu_listing.specs.Menus.{entries_in}
+use Rattle.menu_builder.specs.Menus.{entries_in}
 use Rattle.session_histories.specs.Refusal.{StepRefusal, entry_numbered, number_refusal}
 use Rattle.session_histories.specs.Replay.{LineRefusal, bad_line, step_refused, AreRead, IsOneMisread}
 use Rattle.session_log.specs.Entries.{AreGiven, IsEntryAt}

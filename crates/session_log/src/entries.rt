@@ -6,7 +6,7 @@ ghost use Rattle.behaviour_tree.specs.BehaviourView.{terms_of};
 ghost use Rattle.behaviour_tree.specs.Over.{AreTermsOf};
 ghost use Rattle.event_offers.specs.OfferView.{plain_entry};
 ghost use Rattle.event_offers.specs.Offers.{IsEntryOver};
-ghost use Rattle.menu_listing.specs.Menus.{entries_in};
+ghost use Rattle.menu_builder.specs.Menus.{entries_in};
 ghost use Rattle.session_histories.specs.Refusal.{
   number_refusal,
   sort_refusal,

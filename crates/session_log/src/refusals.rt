@@ -4,8 +4,8 @@ ghost use Rattle.session_log.specs.RefusalView.{fault_at};
 ghost use Rattle.std.specs.Prelude.{◌≡◌};
 
 use lotos_base::NoMemory;
+use lotos_grammar::ReadFault;
 use sort_terms::{SortFault, Sorted};
-use text_reading::ReadFault;
 
 /// Why a step is refused.
 #[derive(Debug, Drop)]

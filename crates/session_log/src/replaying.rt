@@ -2,9 +2,9 @@
 
 ghost use Rattle.behaviour_tree.specs.BehaviourView.{terms_of};
 ghost use Rattle.lotos_base.specs.WrittenView.{written_term_of};
-ghost use Rattle.lotos_reading.specs.Reading.{IsTermsFault, IsTermsReading};
-ghost use Rattle.lotos_reading.specs.declared.fault.ReadFault as read_fault;
-ghost use Rattle.lotos_reading.specs.declared.fault.ReadFault.TheVariants as read_cause;
+ghost use Rattle.sentence_trees.specs.Reading.{IsTermsFault, IsTermsReading};
+ghost use Rattle.sentence_trees.specs.declared.fault.ReadFault as read_fault;
+ghost use Rattle.sentence_trees.specs.declared.fault.ReadFault.TheVariants as read_cause;
 ghost use Rattle.printed_texts.specs.TextView.{written_label};
 ghost use Rattle.session_histories.specs.Replay.{
   bad_line,
@@ -61,12 +61,12 @@ use crate::refusals::{LineFault, ReplayFault};
 use behaviour_tree::{Label, Spec};
 use event_offers::Menu;
 use lotos_base::{NoMemory, Written};
-use menu_listing::MenuMaker;
+use lotos_grammar::read_terms;
+use menu_builder::MenuMaker;
 use printed_texts::label_text;
 use process_checks::Ranks;
 use sort_terms::{Deciding, Reader, Scope, Signature, Sorted};
 use std::alloc::Global;
-use text_reading::read_terms;
 
 /// What a trace is replayed over.
 #[derive(Drop)]

@@ -3,7 +3,7 @@
 ghost use Rattle.behaviour_tree.specs.BehaviourView.{terms_of};
 ghost use Rattle.behaviour_tree.specs.MoveView.{label_of};
 ghost use Rattle.lotos_base.specs.Name.{spelling};
-ghost use Rattle.menu_listing.specs.Menus.{entries_in};
+ghost use Rattle.menu_builder.specs.Menus.{entries_in};
 ghost use Rattle.session_histories.specs.Lawful.{HasStepped};
 ghost use Rattle.session_histories.specs.Refusal.{step_refusal};
 ghost use Rattle.session_histories.specs.Replay.{goes_on, ReplayIs, stops};
@@ -36,7 +36,7 @@ use crate::traces::push_trace;
 use behaviour_tree::{Label, Spec, State};
 use event_offers::Menu;
 use lotos_base::NoMemory;
-use menu_listing::MenuMaker;
+use menu_builder::MenuMaker;
 use process_checks::Ranks;
 use sort_terms::{Deciding, Reader, Signature, Sorted};
 use std::alloc::Global;

@@ -5,10 +5,10 @@ use Rattle.line_server.specs.Report.{ended, answers, last_text, end_of, state_be
 use Rattle.line_server.specs.Machine.{by_chances, fault_count}
 use Rattle.line_server.specs.Fitting.{FitsSome, FitLines, UnlessQuits}
 use Rattle.line_server.specs.declared.ends.SessionEnd.TheVariants.{Finished}
-use Rattle.session_answers.specs.Standing.{Standing}
-use Rattle.session_answers.specs.Befallen.{Befallen}
-use Rattle.session_answers.specs.Answer.{Answers}
-use Rattle.session_answers.specs.SessionMachine.{history_machine, met_fault}
+use Rattle.session_reports.specs.Standing.{Standing}
+use Rattle.session_reports.specs.Befallen.{Befallen}
+use Rattle.session_reports.specs.Answer.{Answers}
+use Rattle.session_reports.specs.SessionMachine.{history_machine, met_fault}
 use Rattle.session_reports.specs.Beginning.{Beginning, CanBegin}
 use Rattle.session_reports.specs.Reached.{IsReached}
 use Rattle.session_reports.specs.Answered.{last_line, IsAnswered, AreAnswered, all_answered, last_answered, one_answered}

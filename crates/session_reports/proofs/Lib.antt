@@ -1,2 +1,6 @@
 pub mod ReachedLemmas
 pub mod AnsweredLemmas
+mod CaseLemmas
+pub mod StepOnceLemmas
+pub mod LineOnceLemmas
+pub mod ReportOnceLemmas

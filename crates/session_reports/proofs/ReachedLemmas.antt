@@ -4,18 +4,18 @@ use Rattle.lotos_base.specs.Outside.{Texts}
 use Rattle.behaviour_semantics.specs.Alike.{Alike}
 use Rattle.behaviour_semantics.specs.Behaviour.{Behaviour}
 use Rattle.behaviour_semantics.specs.Rule.{as_given}
-use Rattle.line_commands.specs.Request.{Request, skip, show_menu, show_behaviour, show_trace, undo, leave, no_request, take_step, save, replay, show_normal, compare, request_of}
+use Rattle.line_server.specs.Request.{Request, skip, show_menu, show_behaviour, show_trace, undo, leave, no_request, take_step, save, replay, show_normal, compare, request_of}
 use Rattle.session_histories.specs.Session.{SessionBasis, Situation, PastStep, first_of, first_situation}
 use Rattle.session_histories.specs.Lawful.{IsSituation, LeadTo, IsLawful, IsLawfulFrom, HasStepped}
 use Rattle.session_histories.specs.Replay.{ReplayIs, goes_on}
 use Rattle.session_histories.specs.SessionLaws.{LeadsBy, HaveOneStart, SessionsFollowDerivations, SessionsStayLawful}
 use Rattle.session_histories.proofs.StepLemmas.{one_menu}
 use Rattle.session_histories.proofs.ReplayLemmas.{replay_lawful}
-use Rattle.session_answers.specs.Standing.{Standing}
-use Rattle.session_answers.specs.Befallen.{Befallen}
-use Rattle.session_answers.specs.StepAnswer.{StepAnswer, StepComesTo, is_unread, is_miscounted, is_misread, is_unmet, is_taken}
-use Rattle.session_answers.specs.ShelfAnswer.{SaveComesTo, is_too_long, is_unwritten, is_saved, ReplayComesTo, is_failed, is_missing, is_long, is_refused, is_replayed}
-use Rattle.session_answers.specs.Answer.{Comes, Answers, after_step, UndoComesTo, is_undone, is_at_start}
+use Rattle.session_reports.specs.Standing.{Standing}
+use Rattle.session_reports.specs.Befallen.{Befallen}
+use Rattle.session_reports.specs.StepAnswer.{StepAnswer, StepComesTo, is_unread, is_miscounted, is_misread, is_unmet, is_taken}
+use Rattle.session_reports.specs.ShelfAnswer.{SaveComesTo, is_too_long, is_unwritten, is_saved, ReplayComesTo, is_failed, is_missing, is_long, is_refused, is_replayed}
+use Rattle.session_reports.specs.Answer.{Comes, Answers, after_step, UndoComesTo, is_undone, is_at_start}
 use Rattle.session_reports.specs.Beginning.{Beginning, CanBegin, standing_at}
 use Rattle.session_reports.specs.Reached.{IsDerived, IsReached}
 

@@ -1,9 +1,9 @@
 -- The answers to the lines of a session, one after another.
 use Rattle.std.specs.Prelude.{◌≡◌, ℕ, true, false, List, [], ◌∷◌, ◌++◌}
 use Rattle.line_server.specs.Report.{complete, unfinished}
-use Rattle.session_answers.specs.Standing.{Standing}
-use Rattle.session_answers.specs.Befallen.{Befallen}
-use Rattle.session_answers.specs.Answer.{Answers}
+use Rattle.session_reports.specs.Standing.{Standing}
+use Rattle.session_reports.specs.Befallen.{Befallen}
+use Rattle.session_reports.specs.Answer.{Answers}
 use Rattle.session_reports.specs.Beginning.{Beginning}
 use Rattle.session_reports.specs.Reached.{IsReached}
 

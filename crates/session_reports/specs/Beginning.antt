@@ -4,7 +4,7 @@ use Rattle.lotos_base.specs.Outside.{Texts}
 use Rattle.session_histories.specs.Session.{SessionBasis, Progress}
 use Rattle.session_histories.specs.Lawful.{IsSituation}
 use Rattle.session_histories.specs.SessionLaws.{IsStateOver}
-use Rattle.session_answers.specs.Standing.{Standing}
+use Rattle.session_reports.specs.Standing.{Standing}
 
 pub record Beginning : Type 0 where
   pub basis : SessionBasis

@@ -8,7 +8,7 @@ use Rattle.behaviour_semantics.specs.Solving.{Entry}
 use Rattle.session_histories.specs.Session.{SessionBasis, Situation, first_situation}
 use Rattle.session_histories.specs.Lawful.{IsLawful, IsSituation}
 use Rattle.session_histories.specs.SessionLaws.{LeadsBy}
-use Rattle.session_answers.specs.Standing.{Standing}
+use Rattle.session_reports.specs.Standing.{Standing}
 use Rattle.session_reports.specs.Beginning.{Beginning}
 
 -- The menu is the one list that is exact for the state.

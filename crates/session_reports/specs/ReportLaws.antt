@@ -5,10 +5,10 @@ use Rattle.line_server.specs.Report.{ended, report, status, last_state}
 use Rattle.line_server.specs.Machine.{by_chances, fault_count}
 use Rattle.line_server.specs.Fitting.{AllFit}
 use Rattle.line_server.specs.declared.ends.SessionEnd.TheVariants.{Finished}
-use Rattle.session_answers.specs.Standing.{Standing}
-use Rattle.session_answers.specs.Befallen.{Befallen}
-use Rattle.session_answers.specs.Answer.{Answers}
-use Rattle.session_answers.specs.SessionMachine.{history_machine}
+use Rattle.session_reports.specs.Standing.{Standing}
+use Rattle.session_reports.specs.Befallen.{Befallen}
+use Rattle.session_reports.specs.Answer.{Answers}
+use Rattle.session_reports.specs.SessionMachine.{history_machine}
 use Rattle.session_reports.specs.Beginning.{Beginning, CanBegin, standing_at}
 use Rattle.session_reports.specs.Reached.{IsReached}
 use Rattle.session_reports.specs.Answered.{lines_in, AreAnswered}

@@ -19,18 +19,18 @@ use Rattle.equation_book.specs.BookCanon.{book_canon}
 use Rattle.equation_book.specs.Refusal.{IsOpenedBy}
 use Rattle.equation_book.specs.declared.book.Book.{Book}
 use Rattle.path_order.specs.RulesView.{precedence_in, rules_in}
-use Rattle.library_reading.specs.Gathering.{Gathered}
-use Rattle.library_reading.specs.ShelfUse.{ShelfState}
+use Rattle.lotos_grammar.specs.Gathering.{Gathered}
+use Rattle.lotos_grammar.specs.ShelfUse.{ShelfState}
 use Rattle.type_mentions.specs.DeclaredTypes.{types_of}
-use Rattle.acceptance_order.specs.Ending.{with_libraries, with_data, with_spec}
-use Rattle.acceptance_order.specs.Part.{Comes, goes_on, Part, Then, Has}
-use Rattle.acceptance_order.specs.Texts.{Gathers, Orders}
-use Rattle.acceptance_order.specs.Types.{HaveData, HaveFault, Flattens}
-use Rattle.acceptance_order.specs.Scopes.{StandsFor, Breaks, Resolves}
-use Rattle.acceptance_order.specs.Checks.{Agree, Disagree, Agrees, Guarded, Cyclic, IsGuardedIn}
-use Rattle.acceptance_order.specs.Book.{Opens, DoesNotOpen, OpensBook}
+use Rattle.spec_acceptance.specs.Ending.{with_libraries, with_data, with_spec}
+use Rattle.spec_acceptance.specs.Part.{Comes, goes_on, Part, Then, Has}
+use Rattle.spec_acceptance.specs.Texts.{Gathers, Orders}
+use Rattle.spec_acceptance.specs.Types.{HaveData, HaveFault, Flattens}
+use Rattle.spec_acceptance.specs.Scopes.{StandsFor, Breaks, Resolves}
+use Rattle.spec_acceptance.specs.Checks.{Agree, Disagree, Agrees, Guarded, Cyclic, IsGuardedIn}
+use Rattle.spec_acceptance.specs.Book.{Opens, DoesNotOpen, OpensBook}
 use Rattle.start_values.specs.StartValues.{AreStartValues, IsStartFault}
-use Rattle.acceptance_order.specs.Acceptance.{Acceptance, AfterText, start_of, Starts as StartsPart, accepted_with}
+use Rattle.spec_acceptance.specs.Acceptance.{Acceptance, AfterText, start_of, Starts as StartsPart, accepted_with}
 use Rattle.spec_acceptance.specs.AcceptedView.{AcceptsWith, Holds}
 use Rattle.spec_acceptance.specs.Doing.{Did, Failed, Faulty}
 use Rattle.spec_acceptance.specs.Known.{Resolved, KnowsValues, Starts, StartsWith}
@@ -229,10 +229,10 @@ holds whole items words known accepted knows starts = record {
   begins =
       subst (λ (spec : CodeSpec). state_of accepted.start
       ≡ with_values (binding_of (variables_of spec.parameters.items) (map (book_canon accepted.book) (terms_of known.values.items)))
-      (behaviour_of spec.body)) (sym starts.same_spec)
+      (behaviour_of spec.body.value)) (sym starts.same_spec)
       (subst (λ (b : Book). state_of accepted.start
       ≡ with_values (binding_of (variables_of known.known.spec.parameters.items) (map (book_canon b) (terms_of known.values.items)))
-      (behaviour_of known.known.spec.body)) (sym starts.same_book) starts.begins);
+      (behaviour_of known.known.spec.body.value)) (sym starts.same_book) starts.begins);
   state =
       subst (λ (spec : CodeSpec). IsStateOf (data_of accepted.book.flat).signature spec accepted.start) (sym starts.same_spec)
       (subst (λ (b : Book). IsStateOf (data_of b.flat).signature known.known.spec accepted.start) (sym starts.same_book) starts.state);

@@ -1,13 +1,13 @@
 -- How parts follow on one another over a shelf.
 use Rattle.std.proofs.Common.{◌≡◌, refl, sym, inl, inr, subst, ℕ, List, [], ◌∷◌, ◌++◌}
 use Rattle.std.specs.Prelude.{Result, Ok, Err, MatchResult, IsErrAnd}
-use Rattle.library_reading.specs.ShelfUse.{ShelfState, GivesFile}
-use Rattle.library_reading.proofs.ShelfLemmas.{gives_nothing, gives_then, gives_then_lacks, gives_then_keeps}
-use Rattle.spec_faults.specs.Refusal as plain
-use Rattle.spec_faults.specs.Refusal.{Refusal}
-use Rattle.acceptance_order.specs.Ending.{unread, refused}
-use Rattle.acceptance_order.specs.Texts.{Gets, is_got, is_lacking}
-use Rattle.acceptance_order.specs.Part.{Comes, goes_on, stops, Part, Then, Has, Looks}
+use Rattle.lotos_grammar.specs.ShelfUse.{ShelfState, GivesFile}
+use Rattle.lotos_grammar.proofs.ShelfLemmas.{gives_nothing, gives_then, gives_then_lacks, gives_then_keeps}
+use Rattle.start_values.specs.Refusal as plain
+use Rattle.start_values.specs.Refusal.{Refusal}
+use Rattle.spec_acceptance.specs.Ending.{unread, refused}
+use Rattle.spec_acceptance.specs.Texts.{Gets, is_got, is_lacking}
+use Rattle.spec_acceptance.specs.Part.{Comes, goes_on, stops, Part, Then, Has, Looks}
 use Rattle.spec_acceptance.specs.Doing.{Did, Failed, FileFails, Faulty}
 use Rattle.spec_acceptance.specs.declared.not_accepted.NotAccepted.{NotAccepted}
 use Rattle.spec_acceptance.specs.declared.not_accepted.NotAccepted.TheVariants.{File, Spec, NoMemory}

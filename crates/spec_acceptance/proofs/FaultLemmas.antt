@@ -13,20 +13,20 @@ use Rattle.sort_terms.specs.SortedView.{term_in}
 use Rattle.sort_terms.specs.declared.sort_faults.SortFault.TheVariants as sort
 use Rattle.syntax_trees.specs.WrittenDefinition.{WrittenSpecification}
 use Rattle.syntax_trees.specs.TakenItems.{without_items}
-use Rattle.lotos_reading.specs.declared.fault.ReadFault.{ReadFault}
-use Rattle.lotos_reading.specs.declared.fault.ReadFault.TheVariants as read
+use Rattle.sentence_trees.specs.declared.fault.ReadFault.{ReadFault}
+use Rattle.sentence_trees.specs.declared.fault.ReadFault.TheVariants as read
 use Rattle.type_mentions.specs.DeclaredTypes.{DeclaredType}
 use Rattle.type_mentions.specs.MentionFaults.{double_type, unknown_type, type_cycle}
-use Rattle.type_flatten.specs.TypeFault as plain_type
-use Rattle.type_faults.specs.declared.type_faults.TypeFault.{TypeFault}
-use Rattle.type_faults.specs.declared.type_faults.TypeFault.TheVariants as type
-use Rattle.flatten_types.specs.FlatView.{IsRefused}
-use Rattle.static_scope.specs.Definitions.{SpecificationIs}
-use Rattle.static_scope.specs.FaultView.{Told, nothing_told, never_told, told, told_by, OfTold}
-use Rattle.static_scope.specs.Resolution.{faulty}
-use Rattle.static_scope.specs.ScopeFault as scope
-use Rattle.static_scope.specs.declared.scope_faults.ScopeFault.{ScopeFault}
-use Rattle.static_scope.specs.declared.scope_faults.ScopeFault.TheVariants as scoped
+use Rattle.type_definitions.specs.TypeFault as plain_type
+use Rattle.type_definitions.specs.declared.type_faults.TypeFault.{TypeFault}
+use Rattle.type_definitions.specs.declared.type_faults.TypeFault.TheVariants as type
+use Rattle.type_flatten.specs.FlatView.{IsRefused}
+use Rattle.scope_parts.specs.Definitions.{SpecificationIs}
+use Rattle.scope_parts.specs.FaultView.{Told, nothing_told, never_told, told, told_by, OfTold}
+use Rattle.scope_parts.specs.Resolution.{faulty}
+use Rattle.scope_parts.specs.ScopeFault as scope
+use Rattle.scope_parts.specs.declared.scope_faults.ScopeFault.{ScopeFault}
+use Rattle.scope_parts.specs.declared.scope_faults.ScopeFault.TheVariants as scoped
 use Rattle.behaviour_semantics.specs.Behaviour.{Specification}
 use Rattle.behaviour_tree.specs.DefinitionView.{functionality_of}
 use Rattle.process_checks.specs.Exits.{Blames}
@@ -39,16 +39,16 @@ use Rattle.process_checks.specs.declared.rank_table.RankFault.TheVariants as ran
 use Rattle.equation_book.specs.Refusal.{IsBookFault}
 use Rattle.equation_book.specs.declared.book_fault.BookFault.{BookFault}
 use Rattle.equation_book.specs.declared.book_fault.BookFault.TheVariants as book
-use Rattle.spec_faults.specs.Refusal as plain
-use Rattle.spec_faults.specs.Refusal.{Refusal, too_long, bad_byte, open_comment, wrong_syntax, too_deep, wrong_names, wrong_types, wrong_scopes, mismatch, unguarded, unknown_operation, twice_listed, unorientable, unjoined}
-use Rattle.spec_faults.specs.RefusalView.{told_of_scopes}
-use Rattle.spec_faults.specs.declared.spec_fault.SpecFault.TheVariants as fault
-use Rattle.acceptance_order.specs.Ending.{with_libraries}
-use Rattle.acceptance_order.specs.Texts.{IsMisread}
-use Rattle.acceptance_order.specs.Types.{HaveFault}
-use Rattle.acceptance_order.specs.Scopes.{Breaks}
-use Rattle.acceptance_order.specs.Checks.{Keeps, IsFirst, Disagree, Cyclic}
-use Rattle.acceptance_order.specs.Book.{DoesNotOpen}
+use Rattle.start_values.specs.Refusal as plain
+use Rattle.start_values.specs.Refusal.{Refusal, too_long, bad_byte, open_comment, wrong_syntax, too_deep, wrong_names, wrong_types, wrong_scopes, mismatch, unguarded, unknown_operation, twice_listed, unorientable, unjoined}
+use Rattle.start_values.specs.RefusalView.{told_of_scopes}
+use Rattle.start_values.specs.declared.spec_fault.SpecFault.TheVariants as fault
+use Rattle.spec_acceptance.specs.Ending.{with_libraries}
+use Rattle.spec_acceptance.specs.Texts.{IsMisread}
+use Rattle.spec_acceptance.specs.Types.{HaveFault}
+use Rattle.spec_acceptance.specs.Scopes.{Breaks}
+use Rattle.spec_acceptance.specs.Checks.{Keeps, IsFirst, Disagree, Cyclic}
+use Rattle.spec_acceptance.specs.Book.{DoesNotOpen}
 use Rattle.spec_acceptance.specs.Doing.{Faulty, with_libraries_refused, with_data_refused, with_spec_refused, known_with_data, known_with_spec}
 use Rattle.spec_acceptance.specs.declared.not_accepted.NotAccepted.TheVariants.{Spec}
 use Rattle.spec_acceptance.specs.declared.stages.WithData.{WithData}

@@ -3,29 +3,29 @@ use Rattle.std.proofs.Common.{refl, sym, ◌≡◌, subst, ℕ, List, [], map, O
 use Rattle.std.specs.Prelude.{Result, MatchResult}
 use Rattle.lotos_base.specs.WrittenTerm.{ListedOperation}
 use Rattle.lotos_base.specs.WrittenView.{listed_operation_of}
-use Rattle.lotos_reading.specs.Reading.{IsSpecificationReading}
+use Rattle.sentence_trees.specs.Reading.{IsSpecificationReading}
 use Rattle.term_algebra.specs.Equation.{Data}
 use Rattle.sort_terms.specs.EquationView.{IsSortedFlat, data_of}
 use Rattle.syntax_trees.specs.WrittenDefinition.{WrittenSpecification}
 use Rattle.syntax_trees.specs.WrittenItem.{WrittenItem}
 use Rattle.syntax_trees.specs.TakenItems.{items_of_specification, without_items}
-use Rattle.static_scope.specs.GateLists.{TextHasGateLists}
-use Rattle.gate_lists.proofs.GateListLemmas.{read_texts_have_gate_lists, gate_lists_stay}
+use Rattle.scope_parts.specs.GateLists.{TextHasGateLists}
+use Rattle.place_laws.proofs.GateListLemmas.{read_texts_have_gate_lists, gate_lists_stay}
 use Rattle.behaviour_semantics.specs.Behaviour.{Specification}
 use Rattle.behaviour_tree.specs.BehaviourView.{terms_of}
 use Rattle.behaviour_tree.specs.DefinitionView.{specification_of}
-use Rattle.library_reading.specs.Gathering.{Gathered}
-use Rattle.library_reading.specs.ShelfUse.{ShelfState}
+use Rattle.lotos_grammar.specs.Gathering.{Gathered}
+use Rattle.lotos_grammar.specs.ShelfUse.{ShelfState}
 use Rattle.type_mentions.specs.DeclaredTypes.{types_of}
-use Rattle.acceptance_order.specs.Ending.{with_libraries, with_data, with_spec}
-use Rattle.acceptance_order.specs.Part.{goes_on}
-use Rattle.acceptance_order.specs.Texts.{GathersTypes, Gathers, Orders}
-use Rattle.acceptance_order.specs.Types.{HaveData, HaveFault}
-use Rattle.acceptance_order.specs.Scopes.{StandsFor, Breaks}
-use Rattle.acceptance_order.specs.Checks.{Agree, Disagree, Guarded, Cyclic}
-use Rattle.acceptance_order.specs.Book.{Opens, DoesNotOpen}
+use Rattle.spec_acceptance.specs.Ending.{with_libraries, with_data, with_spec}
+use Rattle.spec_acceptance.specs.Part.{goes_on}
+use Rattle.spec_acceptance.specs.Texts.{GathersTypes, Gathers, Orders}
+use Rattle.spec_acceptance.specs.Types.{HaveData, HaveFault}
+use Rattle.spec_acceptance.specs.Scopes.{StandsFor, Breaks}
+use Rattle.spec_acceptance.specs.Checks.{Agree, Disagree, Guarded, Cyclic}
+use Rattle.spec_acceptance.specs.Book.{Opens, DoesNotOpen}
 use Rattle.start_values.specs.StartValues.{IsStartFault}
-use Rattle.acceptance_order.specs.Acceptance.{Acceptance, AfterText, start_of}
+use Rattle.spec_acceptance.specs.Acceptance.{Acceptance, AfterText, start_of}
 use Rattle.spec_acceptance.specs.AcceptedView.{AcceptsWith}
 use Rattle.spec_acceptance.specs.Doing.{Did, Failed, Faulty}
 use Rattle.spec_acceptance.specs.Known.{KnowsData, Resolved, KnowsSpec, KnowsRanks, KnowsOrder, OrdersWith, KnowsBook, KnowsValues, MayStart, StartsWith}

@@ -14,11 +14,11 @@ use Rattle.syntax_trees.specs.TakenItems.{without_items}
 use Rattle.syntax_trees.specs.TreeViews.{item_of}
 use Rattle.syntax_trees.specs.declared.items.ItemText.{ItemText}
 use Rattle.type_mentions.specs.DeclaredTypes.{types_of}
-use Rattle.type_faults.specs.declared.type_faults.TypeFault.{TypeFault}
-use Rattle.type_faults.specs.declared.type_faults.TypeFault.TheVariants as type
-use Rattle.flatten_types.specs.FlatView.{IsFlat, IsRefused}
-use Rattle.library_reading.specs.declared.faults.LibraryFault.{LibraryFault}
-use Rattle.library_reading.specs.declared.gathered.Gathered.{Gathered}
+use Rattle.type_definitions.specs.declared.type_faults.TypeFault.{TypeFault}
+use Rattle.type_definitions.specs.declared.type_faults.TypeFault.TheVariants as type
+use Rattle.type_flatten.specs.FlatView.{IsFlat, IsRefused}
+use Rattle.lotos_grammar.specs.declared.faults.LibraryFault.{LibraryFault}
+use Rattle.lotos_grammar.specs.declared.gathered.Gathered.{Gathered}
 use Rattle.behaviour_semantics.specs.Behaviour.{Specification}
 use Rattle.behaviour_semantics.specs.Guardedness.{IsGuarded}
 use Rattle.behaviour_tree.specs.DefinitionView.{specification_of}
@@ -26,9 +26,9 @@ use Rattle.behaviour_tree.specs.Over.{IsSpecOver}
 use Rattle.behaviour_tree.specs.declared.definitions.Spec.{Spec as CodeSpec}
 use Rattle.lotos_base.specs.declared.names.Name.{Name}
 use Rattle.lotos_base.specs.declared.written_terms.OrderItem.{OrderItem}
-use Rattle.lotos_reading.specs.Reading.{IsOrderFault, IsOrderReading, IsSpecificationFault}
-use Rattle.lotos_reading.specs.declared.fault.ReadFault.{ReadFault}
-use Rattle.lotos_reading.specs.declared.fault.ReadFault.TheVariants as read
+use Rattle.sentence_trees.specs.Reading.{IsOrderFault, IsOrderReading, IsSpecificationFault}
+use Rattle.sentence_trees.specs.declared.fault.ReadFault.{ReadFault}
+use Rattle.sentence_trees.specs.declared.fault.ReadFault.TheVariants as read
 use Rattle.process_checks.specs.Exits.{Blames}
 use Rattle.process_checks.specs.Functionality.{all_disagreements}
 use Rattle.process_checks.specs.Ranks.{AreRanksOf, Refuses}
@@ -37,29 +37,29 @@ use Rattle.process_checks.specs.declared.mismatches.ExitFault.TheVariants as exi
 use Rattle.process_checks.specs.declared.rank_table.RankFault.{RankFault}
 use Rattle.process_checks.specs.declared.rank_table.RankFault.TheVariants as rank
 use Rattle.process_checks.specs.declared.rank_table.Ranks.{Ranks}
-use Rattle.static_scope.specs.Definitions.{SpecificationIs}
-use Rattle.static_scope.specs.FaultView.{FaultIs}
-use Rattle.static_scope.specs.Resolution.{resolved, faulty}
-use Rattle.static_scope.specs.ScopeFault as scope
-use Rattle.static_scope.specs.declared.scope_faults.ScopeFault.{ScopeFault}
-use Rattle.static_scope.specs.declared.scope_faults.ScopeFault.TheVariants as scoped
+use Rattle.scope_parts.specs.Definitions.{SpecificationIs}
+use Rattle.scope_parts.specs.FaultView.{FaultIs}
+use Rattle.scope_parts.specs.Resolution.{resolved, faulty}
+use Rattle.scope_parts.specs.ScopeFault as scope
+use Rattle.scope_parts.specs.declared.scope_faults.ScopeFault.{ScopeFault}
+use Rattle.scope_parts.specs.declared.scope_faults.ScopeFault.TheVariants as scoped
 use Rattle.path_order.specs.RulesView.{precedence_in, rules_in}
 use Rattle.equation_book.specs.Refusal.{IsBookFault, IsOpenedBy}
 use Rattle.equation_book.specs.declared.book.Book.{Book}
 use Rattle.equation_book.specs.declared.book_fault.BookFault.{BookFault}
 use Rattle.equation_book.specs.declared.book_fault.BookFault.TheVariants as book
-use Rattle.definition_scopes.specs.KeptPlaces.{places_of}
-use Rattle.definition_scopes.specs.TextPlaces.{text_places}
-use Rattle.spec_faults.specs.Refusal as plain
-use Rattle.spec_faults.specs.Refusal.{Refusal}
-use Rattle.spec_faults.specs.declared.refused.Refused.{Refused}
-use Rattle.spec_faults.specs.declared.spec_fault.SpecFault.TheVariants as fault
-use Rattle.acceptance_order.specs.Ending.{at_first, with_libraries, with_data, with_spec}
-use Rattle.acceptance_order.specs.Texts.{IsMisread}
-use Rattle.acceptance_order.specs.Types.{HaveData, HaveFault}
-use Rattle.acceptance_order.specs.Scopes.{Breaks, StandsFor}
-use Rattle.acceptance_order.specs.Checks.{Agree, Disagree, Guarded, Cyclic}
-use Rattle.acceptance_order.specs.Book.{DoesNotOpen, Opens}
+use Rattle.static_scope.specs.KeptPlaces.{places_of}
+use Rattle.static_scope.specs.TextPlaces.{text_places}
+use Rattle.start_values.specs.Refusal as plain
+use Rattle.start_values.specs.Refusal.{Refusal}
+use Rattle.start_values.specs.declared.refused.Refused.{Refused}
+use Rattle.start_values.specs.declared.spec_fault.SpecFault.TheVariants as fault
+use Rattle.spec_acceptance.specs.Ending.{at_first, with_libraries, with_data, with_spec}
+use Rattle.spec_acceptance.specs.Texts.{IsMisread}
+use Rattle.spec_acceptance.specs.Types.{HaveData, HaveFault}
+use Rattle.spec_acceptance.specs.Scopes.{Breaks, StandsFor}
+use Rattle.spec_acceptance.specs.Checks.{Agree, Disagree, Guarded, Cyclic}
+use Rattle.spec_acceptance.specs.Book.{DoesNotOpen, Opens}
 use Rattle.spec_acceptance.specs.Doing.{Faulty, IsLibraryRefusal, RefusesAs, with_libraries_refused, with_data_refused, with_spec_refused, known_with_data, known_with_spec}
 use Rattle.spec_acceptance.specs.Known.{KnowsData, Resolved, KnowsSpec, KnowsRanks, KnowsOrder, ReadsItems, KnowsBook}
 use Rattle.spec_acceptance.specs.declared.not_accepted.NotAccepted.{NotAccepted}

@@ -7,3 +7,6 @@ pub mod StartLemmas
 pub mod AcceptLemmas
 pub mod FlowLemmas
 pub mod ReadLemmas
+pub mod PartLemmas
+pub mod TextLemmas
+pub mod WholeLemmas

@@ -5,21 +5,21 @@ use Rattle.lotos_base.specs.Name.{spelling}
 use Rattle.lotos_base.specs.WrittenTerm.{PlacedName}
 use Rattle.lotos_base.specs.WrittenView.{text_place_of}
 use Rattle.syntax_trees.specs.WrittenItem.{WrittenItem}
-use Rattle.lotos_reading.specs.declared.fault.ReadFault.{ReadFault}
-use Rattle.lotos_reading.specs.declared.fault.ReadFault.TheVariants as read
-use Rattle.library_reading.specs.Gathering.{GotFile, Gathered, nothing_yet, Waiting, item, too_many, misread, Outcome, all_gathered, faulty, without_file, one_too_many, not_read, no_file, Mentioned, Becomes, nothing_waits, a_type, mentions, then, ends}
-use Rattle.library_reading.specs.Gathering as step
-use Rattle.library_reading.specs.GatheredView.{gathered_of}
-use Rattle.library_reading.specs.Progress.{IsGathered, FailsBy}
-use Rattle.library_reading.specs.ShelfUse.{ShelfState, Gives}
-use Rattle.library_reading.specs.declared.faults.LibraryFault.{LibraryFault}
-use Rattle.library_reading.specs.declared.faults.LibraryFault.TheVariants as library
-use Rattle.library_reading.specs.declared.gathered.Gathered as code
-use Rattle.spec_faults.specs.Refusal.{too_long, bad_byte, open_comment, wrong_syntax, too_deep, too_many_libraries}
-use Rattle.spec_faults.specs.declared.spec_fault.SpecFault.TheVariants as fault
-use Rattle.acceptance_order.specs.Ending.{unread, with_libraries}
-use Rattle.acceptance_order.specs.Part.{goes_on, stops}
-use Rattle.acceptance_order.specs.Texts.{GathersTypes}
+use Rattle.sentence_trees.specs.declared.fault.ReadFault.{ReadFault}
+use Rattle.sentence_trees.specs.declared.fault.ReadFault.TheVariants as read
+use Rattle.lotos_grammar.specs.Gathering.{GotFile, Gathered, nothing_yet, Waiting, item, too_many, misread, Outcome, all_gathered, faulty, without_file, one_too_many, not_read, no_file, Mentioned, Becomes, nothing_waits, a_type, mentions, then, ends}
+use Rattle.lotos_grammar.specs.Gathering as step
+use Rattle.lotos_grammar.specs.GatheredView.{gathered_of}
+use Rattle.lotos_grammar.specs.Progress.{IsGathered, FailsBy}
+use Rattle.lotos_grammar.specs.ShelfUse.{ShelfState, Gives}
+use Rattle.lotos_grammar.specs.declared.faults.LibraryFault.{LibraryFault}
+use Rattle.lotos_grammar.specs.declared.faults.LibraryFault.TheVariants as library
+use Rattle.lotos_grammar.specs.declared.gathered.Gathered as code
+use Rattle.start_values.specs.Refusal.{too_long, bad_byte, open_comment, wrong_syntax, too_deep, too_many_libraries}
+use Rattle.start_values.specs.declared.spec_fault.SpecFault.TheVariants as fault
+use Rattle.spec_acceptance.specs.Ending.{unread, with_libraries}
+use Rattle.spec_acceptance.specs.Part.{goes_on, stops}
+use Rattle.spec_acceptance.specs.Texts.{GathersTypes}
 use Rattle.spec_acceptance.specs.Doing.{Did, Failed, IsLibraryRefusal, with_libraries_refused}
 use Rattle.spec_acceptance.specs.declared.not_accepted.NotAccepted.{NotAccepted}
 use Rattle.spec_acceptance.specs.declared.not_accepted.NotAccepted.TheVariants.{Spec}

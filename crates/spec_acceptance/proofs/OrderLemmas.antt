@@ -4,11 +4,11 @@ use Rattle.std.specs.Prelude.{Vec, Result, Ok, Err, MatchResult}
 use Rattle.std.specs.declared.alloc.Global.{Global}
 use Rattle.lotos_base.specs.WrittenView.{listed_operation_of}
 use Rattle.lotos_base.specs.declared.written_terms.OrderItem.{OrderItem}
-use Rattle.lotos_reading.specs.Reading.{IsOrderFault, IsOrderReading}
-use Rattle.library_reading.specs.ShelfUse.{ShelfState, GivesFile}
-use Rattle.acceptance_order.specs.Ending.{with_spec}
-use Rattle.acceptance_order.specs.Part.{goes_on}
-use Rattle.acceptance_order.specs.Texts.{Gets, IsMisread, Orders, ReadsOrder}
+use Rattle.sentence_trees.specs.Reading.{IsOrderFault, IsOrderReading}
+use Rattle.lotos_grammar.specs.ShelfUse.{ShelfState, GivesFile}
+use Rattle.spec_acceptance.specs.Ending.{with_spec}
+use Rattle.spec_acceptance.specs.Part.{goes_on}
+use Rattle.spec_acceptance.specs.Texts.{Gets, IsMisread, Orders, ReadsOrder}
 use Rattle.spec_acceptance.specs.Doing.{Did, Failed, Faulty, FileFails}
 use Rattle.spec_acceptance.specs.Known.{Resolved, KnowsRanks, ReadsItems, OrdersWith}
 use Rattle.spec_acceptance.specs.declared.not_accepted.NotAccepted.{NotAccepted}

@@ -1,13 +1,13 @@
 -- The whole of the acceptance: its file, its text, and what comes behind it.
 use Rattle.std.proofs.Common.{◌≡◌, subst, ℕ, List, Option}
 use Rattle.std.specs.Prelude.{Result, Ok, Err, MatchResult}
-use Rattle.lotos_reading.specs.Reading.{IsSpecificationReading, IsSpecificationFault}
-use Rattle.library_reading.specs.ShelfUse.{ShelfState, GivesFile}
+use Rattle.sentence_trees.specs.Reading.{IsSpecificationReading, IsSpecificationFault}
+use Rattle.lotos_grammar.specs.ShelfUse.{ShelfState, GivesFile}
 use Rattle.syntax_trees.specs.WrittenDefinition.{WrittenSpecification}
-use Rattle.acceptance_order.specs.Ending.{at_first}
-use Rattle.acceptance_order.specs.Part.{goes_on, Part, Then}
-use Rattle.acceptance_order.specs.Texts.{Gets, IsMisread, ReadsSpecification}
-use Rattle.acceptance_order.specs.Acceptance.{Acceptance, AfterText, IsAccepted}
+use Rattle.spec_acceptance.specs.Ending.{at_first}
+use Rattle.spec_acceptance.specs.Part.{goes_on, Part, Then}
+use Rattle.spec_acceptance.specs.Texts.{Gets, IsMisread, ReadsSpecification}
+use Rattle.spec_acceptance.specs.Acceptance.{Acceptance, AfterText, IsAccepted}
 use Rattle.spec_acceptance.specs.AcceptedView.{AcceptsWith, asked_for}
 use Rattle.spec_acceptance.specs.Doing.{Failed, Faulty, FileFails}
 use Rattle.spec_acceptance.specs.declared.accepted.Accepted.{Accepted}

@@ -29,18 +29,18 @@ use Rattle.behaviour_tree.specs.declared.definitions.Spec.{Spec as CodeSpec}
 use Rattle.behaviour_tree.specs.declared.states.State.{State}
 use Rattle.equation_book.specs.BookCanon.{book_canon, book_is_canon}
 use Rattle.equation_book.specs.declared.book.Book.{Book}
-use Rattle.spec_faults.specs.Refusal as plain
-use Rattle.spec_faults.specs.Refusal.{Refusal}
-use Rattle.spec_faults.specs.RefusalView.{refusal_of, with_known}
-use Rattle.spec_faults.specs.declared.spec_fault.SpecFault.{SpecFault}
+use Rattle.start_values.specs.Refusal as plain
+use Rattle.start_values.specs.Refusal.{Refusal}
+use Rattle.start_values.specs.RefusalView.{refusal_of, with_known}
+use Rattle.start_values.specs.declared.spec_fault.SpecFault.{SpecFault}
 use Rattle.start_values.specs.StartValues.{Start, AreStartValues, IsStartFault}
 use Rattle.start_values.specs.StartView as code
 use Rattle.start_values.specs.StartView.{FailsAs, parameter_sorts}
 use Rattle.start_values.specs.declared.faults.StartFault.{StartFault}
 use Rattle.start_values.specs.declared.faults.StartFault.TheVariants as start_fault
 use Rattle.start_values.proofs.OutcomeLemmas.{start_values_are_ground}
-use Rattle.acceptance_order.specs.Acceptance.{start_of}
-use Rattle.acceptance_order.specs.Ending.{with_spec}
+use Rattle.spec_acceptance.specs.Acceptance.{start_of}
+use Rattle.spec_acceptance.specs.Ending.{with_spec}
 use Rattle.spec_acceptance.specs.Doing.{Faulty, with_spec_refused}
 use Rattle.spec_acceptance.specs.Known.{Resolved, KnowsBook, KnowsValues, MayStart, Starts, StartsWith, RefusesStarts}
 use Rattle.spec_acceptance.specs.declared.accepted.Accepted.{Accepted}
@@ -159,17 +159,17 @@ state_over : (valued : WithValues) (normal : List Sorted) (state : State)
     → AreValues (data_of valued.known.book.flat).signature (parameter_sorts valued.known.spec.parameters.items) (terms_of normal)
     → AreTermsOf (data_of valued.known.book.flat).signature (profiles_of normal) → MayStart valued
     → state_of state ≡ with_values (binding_of (variables_of valued.known.spec.parameters.items) (terms_of normal))
-    (behaviour_of valued.known.spec.body)
-    → node_profiles state.node ≡ profiles_in valued.known.spec.body ++ profiles_of normal
+    (behaviour_of valued.known.spec.body.value)
+    → node_profiles state.node ≡ profiles_in valued.known.spec.body.value ++ profiles_of normal
     → IsStateOf (data_of valued.known.book.flat).signature valued.known.spec state
 state_over valued normal state fit terms may begins kept = record {
   closed =
       subst (λ (b : Behaviour). IsBehaviour signature (length spec.gate_names) spec.processes [] b) (sym begins)
       (closed_by signature (length spec.gate_names) spec.processes (variables_of valued.known.spec.parameters.items) (terms_of normal)
-      (behaviour_of valued.known.spec.body) fit may.over.well_formed.whole.behaviour);
+      (behaviour_of valued.known.spec.body.value) fit may.over.well_formed.whole.behaviour);
   terms =
       subst (λ (ts : List ProfiledTerm). AreTermsOf signature ts) (sym kept)
-      (every_of (IsOf signature) (profiles_in valued.known.spec.body) (profiles_of normal) may.over.body terms);
+      (every_of (IsOf signature) (profiles_in valued.known.spec.body.value) (profiles_of normal) may.over.body terms);
 }
   where
     signature : Signature
@@ -182,8 +182,8 @@ pub started_so : (valued : WithValues) (normal : List Sorted) (state : State) (a
     → terms_of normal ≡ map (book_canon valued.known.book) (terms_of valued.values.items)
     → AreTermsOf (data_of valued.known.book.flat).signature (profiles_of normal) → MayStart valued
     → state_of state ≡ with_values (binding_of (variables_of valued.known.spec.parameters.items) (terms_of normal))
-    (behaviour_of valued.known.spec.body)
-    → node_profiles state.node ≡ profiles_in valued.known.spec.body ++ profiles_of normal → IsClosedNode state.node
+    (behaviour_of valued.known.spec.body.value)
+    → node_profiles state.node ≡ profiles_in valued.known.spec.body.value ++ profiles_of normal → IsClosedNode state.node
     → accepted ≡ record {
       spec = valued.known.spec;
       ranks = valued.known.ranks;
@@ -197,7 +197,7 @@ started_so valued normal state accepted are terms may begins kept closed made =
       same_book = refl;
       begins =
           begins ∙ ap (λ (ts : List Term). with_values (binding_of (variables_of valued.known.spec.parameters.items) ts)
-          (behaviour_of valued.known.spec.body)) are;
+          (behaviour_of valued.known.spec.body.value)) are;
       state = state_over valued normal state (normal_fit valued.known valued.values.items normal are may.fitting) terms may begins kept;
       closed = closed;
     })

@@ -9,13 +9,13 @@ use Rattle.behaviour_tree.specs.Over.{IsSpecOver, IsStateOf}
 use Rattle.behaviour_tree.specs.StateView.{state_of}
 use Rattle.equation_book.specs.BookCanon.{book_canon}
 use Rattle.equation_book.specs.Refusal.{IsOpenedBy}
-use Rattle.library_reading.specs.ShelfUse.{ShelfState}
+use Rattle.lotos_grammar.specs.ShelfUse.{ShelfState}
 use Rattle.path_order.specs.RulesView.{precedence_in, rules_in}
 use Rattle.process_checks.specs.Ranks.{AreRanksOf}
 use Rattle.sort_terms.specs.EquationView.{data_of}
 use Rattle.sort_terms.specs.SignatureView.{signature_of}
-use Rattle.acceptance_order.specs.Acceptance.{Asked, Acceptance}
-use Rattle.acceptance_order.specs.Part.{goes_on, Part}
+use Rattle.spec_acceptance.specs.Acceptance.{Asked, Acceptance}
+use Rattle.spec_acceptance.specs.Part.{goes_on, Part}
 use Rattle.spec_acceptance.specs.Doing.{Did}
 use Rattle.spec_acceptance.specs.declared.accepted.Accepted.{Accepted}
 
@@ -36,7 +36,7 @@ pub record Holds (acceptance : Acceptance) (accepted : Accepted) : Type 0 where
   pub begins :
       state_of accepted.start
       ≡ with_values (binding_of (variables_of accepted.spec.parameters.items) (map (book_canon accepted.book) acceptance.values))
-      (behaviour_of accepted.spec.body)
+      (behaviour_of accepted.spec.body.value)
   pub state : IsStateOf (signature_of accepted.book.flat.signature) accepted.spec accepted.start
   pub closed : IsClosedNode accepted.start.node
 

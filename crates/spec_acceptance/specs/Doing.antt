@@ -6,19 +6,19 @@ use Rattle.lotos_base.specs.Name.{spelling}
 use Rattle.lotos_base.specs.declared.names.Name.{Name}
 use Rattle.sort_terms.specs.EquationView.{data_of}
 use Rattle.behaviour_tree.specs.DefinitionView.{specification_of}
-use Rattle.library_reading.specs.Gathering.{GotFile}
-use Rattle.library_reading.specs.ShelfUse.{ShelfState, Gives, GivesAndLacks, Keeps}
-use Rattle.library_reading.specs.declared.faults.LibraryFault.{LibraryFault}
-use Rattle.library_reading.specs.declared.faults.LibraryFault.TheVariants as library
-use Rattle.library_reading.specs.declared.gathered.Gathered.{Gathered}
-use Rattle.spec_faults.specs.Refusal as plain
-use Rattle.spec_faults.specs.Refusal.{Refusal}
-use Rattle.spec_faults.specs.RefusalView.{refused_of}
-use Rattle.spec_faults.specs.declared.refused.Refused.{Refused}
-use Rattle.spec_faults.specs.declared.spec_fault.SpecFault.{SpecFault}
-use Rattle.spec_faults.specs.declared.spec_fault.SpecFault.TheVariants as fault
-use Rattle.acceptance_order.specs.Ending.{unread, refused, with_data, with_spec}
-use Rattle.acceptance_order.specs.Part.{Comes, goes_on, stops, Part}
+use Rattle.lotos_grammar.specs.Gathering.{GotFile}
+use Rattle.lotos_grammar.specs.ShelfUse.{ShelfState, Gives, GivesAndLacks, Keeps}
+use Rattle.lotos_grammar.specs.declared.faults.LibraryFault.{LibraryFault}
+use Rattle.lotos_grammar.specs.declared.faults.LibraryFault.TheVariants as library
+use Rattle.lotos_grammar.specs.declared.gathered.Gathered.{Gathered}
+use Rattle.start_values.specs.Refusal as plain
+use Rattle.start_values.specs.Refusal.{Refusal}
+use Rattle.start_values.specs.RefusalView.{refused_of}
+use Rattle.start_values.specs.declared.refused.Refused.{Refused}
+use Rattle.start_values.specs.declared.spec_fault.SpecFault.{SpecFault}
+use Rattle.start_values.specs.declared.spec_fault.SpecFault.TheVariants as fault
+use Rattle.spec_acceptance.specs.Ending.{unread, refused, with_data, with_spec}
+use Rattle.spec_acceptance.specs.Part.{Comes, goes_on, stops, Part}
 use Rattle.spec_acceptance.specs.declared.not_accepted.NotAccepted.{NotAccepted}
 use Rattle.spec_acceptance.specs.declared.not_accepted.NotAccepted.TheVariants.{File, Spec, NoMemory}
 use Rattle.spec_acceptance.specs.declared.stages.WithData.{WithData}

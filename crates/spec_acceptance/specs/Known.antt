@@ -17,19 +17,19 @@ use Rattle.behaviour_tree.specs.Closed.{IsClosedNode}
 use Rattle.behaviour_tree.specs.Over.{AreTermsOf, IsSpecOver, IsStateOf}
 use Rattle.behaviour_tree.specs.StateView.{state_of}
 use Rattle.process_checks.specs.Ranks.{AreRanksOf}
-use Rattle.library_reading.specs.ShelfUse.{ShelfState}
-use Rattle.lotos_reading.specs.Reading.{IsOrderReading}
+use Rattle.lotos_grammar.specs.ShelfUse.{ShelfState}
+use Rattle.sentence_trees.specs.Reading.{IsOrderReading}
 use Rattle.path_order.specs.RulesView.{precedence_in, rules_in}
 use Rattle.equation_book.specs.BookCanon.{book_canon}
 use Rattle.equation_book.specs.Refusal.{IsOpenedBy}
-use Rattle.spec_faults.specs.declared.spec_fault.SpecFault.{SpecFault}
+use Rattle.start_values.specs.declared.spec_fault.SpecFault.{SpecFault}
 use Rattle.start_values.specs.StartValues.{AreStartValues}
 use Rattle.start_values.specs.StartView.{parameter_sorts}
-use Rattle.acceptance_order.specs.Acceptance.{start_of}
-use Rattle.acceptance_order.specs.Checks.{Keeps}
-use Rattle.acceptance_order.specs.Ending.{with_spec}
-use Rattle.acceptance_order.specs.Part.{goes_on}
-use Rattle.acceptance_order.specs.Texts.{Orders}
+use Rattle.spec_acceptance.specs.Acceptance.{start_of}
+use Rattle.spec_acceptance.specs.Checks.{Keeps}
+use Rattle.spec_acceptance.specs.Ending.{with_spec}
+use Rattle.spec_acceptance.specs.Part.{goes_on}
+use Rattle.spec_acceptance.specs.Texts.{Orders}
 use Rattle.spec_acceptance.specs.Doing.{Did, with_spec_refused}
 use Rattle.spec_acceptance.specs.declared.accepted.Accepted.{Accepted}
 use Rattle.spec_acceptance.specs.declared.books.WithBook.{WithBook}
@@ -118,7 +118,7 @@ pub record Starts (known : WithValues) (accepted : Accepted) : Type 0 where
   pub begins :
       state_of accepted.start
       ≡ with_values (binding_of (variables_of known.known.spec.parameters.items)
-      (map (book_canon known.known.book) (terms_of known.values.items))) (behaviour_of known.known.spec.body)
+      (map (book_canon known.known.book) (terms_of known.values.items))) (behaviour_of known.known.spec.body.value)
   pub state : IsStateOf (data_of known.known.book.flat).signature known.known.spec accepted.start
   pub closed : IsClosedNode accepted.start.node
 

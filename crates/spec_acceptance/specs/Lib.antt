@@ -1,3 +1,13 @@
 pub mod Doing
 pub mod Known
 pub mod AcceptedView
+pub mod Part
+pub mod PartLaws
+pub mod Ending
+pub mod Texts
+pub mod Types
+pub mod Scopes
+pub mod Checks
+pub mod Book
+pub mod Acceptance
+pub mod AcceptanceLaws

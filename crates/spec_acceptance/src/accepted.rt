@@ -1,8 +1,8 @@
 //! The acceptance of a specification.
 
-ghost use Rattle.acceptance_order.specs.Acceptance.{AfterText, IsAccepted};
-ghost use Rattle.library_reading.specs.ShelfUse.{shelf_state};
-ghost use Rattle.lotos_reading.specs.Reading.{IsSpecificationReading};
+ghost use Rattle.spec_acceptance.specs.Acceptance.{AfterText, IsAccepted};
+ghost use Rattle.lotos_grammar.specs.ShelfUse.{shelf_state};
+ghost use Rattle.sentence_trees.specs.Reading.{IsSpecificationReading};
 ghost use Rattle.spec_acceptance.specs.AcceptedView.{AcceptsWith, asked_for};
 ghost use Rattle.spec_acceptance.specs.Doing.{Failed};
 ghost use Rattle.start_values.specs.WordLimits.{are_within, words_of};
@@ -21,8 +21,7 @@ use equation_book::Book;
 use lotos_base::Shelf;
 use process_checks::Ranks;
 use std::alloc::Global;
-use syntax_trees::SpecText;
-use tree_discard::discard;
+use syntax_trees::{SpecText, discard};
 
 /// A specification that is accepted.
 #[derive(Drop)]

@@ -1,7 +1,7 @@
 //! Opening the book of the data by the order.
 
-ghost use Rattle.acceptance_order.specs.Book.{DoesNotOpen, Opens};
-ghost use Rattle.acceptance_order.specs.Ending.{with_spec};
+ghost use Rattle.spec_acceptance.specs.Book.{DoesNotOpen, Opens};
+ghost use Rattle.spec_acceptance.specs.Ending.{with_spec};
 ghost use Rattle.lotos_base.specs.WrittenTerm.{ListedOperation};
 ghost use Rattle.sort_terms.specs.EquationView.{IsSortedFlat};
 ghost use Rattle.spec_acceptance.specs.Doing.{Faulty};

@@ -1,12 +1,12 @@
 //! Resolving the scopes of the text, and checking its definitions.
 
-ghost use Rattle.acceptance_order.specs.Checks.{Agree, Cyclic, Disagree, Guarded};
-ghost use Rattle.acceptance_order.specs.Ending.{with_data, with_spec};
-ghost use Rattle.acceptance_order.specs.Scopes.{Breaks, StandsFor};
+ghost use Rattle.spec_acceptance.specs.Checks.{Agree, Cyclic, Disagree, Guarded};
+ghost use Rattle.spec_acceptance.specs.Ending.{with_data, with_spec};
+ghost use Rattle.spec_acceptance.specs.Scopes.{Breaks, StandsFor};
 ghost use Rattle.behaviour_tree.specs.DefinitionView.{specification_of};
 ghost use Rattle.spec_acceptance.specs.Doing.{Faulty};
 ghost use Rattle.spec_acceptance.specs.Known.{KnowsData, KnowsRanks, KnowsSpec, Resolved};
-ghost use Rattle.static_scope.specs.GateLists.{TextHasGateLists};
+ghost use Rattle.scope_parts.specs.GateLists.{TextHasGateLists};
 ghost use Rattle.std.specs.Prelude.{◌≡◌, ℕ, List, MatchResult};
 ghost use Rattle.syntax_trees.specs.TakenItems.{without_items};
 ghost use Rattle.syntax_trees.specs.TreeViews.{specification_of as written_specification};
@@ -16,9 +16,9 @@ ghost use Rattle.term_algebra.specs.Equation.{Data};
 use crate::not_accepted::NotAccepted;
 use crate::refusals::{exit_refusal, rank_refusal, scope_refusal};
 use crate::stages::{WithData, WithRanks, WithSpec};
-use definition_scopes::resolve;
 use process_checks::exits;
 use process_checks::ranking::ranks;
+use static_scope::resolve;
 use std::alloc::Global;
 use syntax_trees::SpecText;
 

@@ -1,6 +1,6 @@
 //! Getting a file from the shelf.
 
-ghost use Rattle.library_reading.specs.ShelfUse.{GivesFile, shelf_state};
+ghost use Rattle.lotos_grammar.specs.ShelfUse.{GivesFile, shelf_state};
 ghost use Rattle.spec_acceptance.specs.Doing.{FileFails};
 ghost use Rattle.std.specs.Prelude.{MatchResult};
 

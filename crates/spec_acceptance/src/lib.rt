@@ -1,4 +1,5 @@
-//! The acceptance of a specification: which files are got for it, and what is found in them.
+//! The acceptance of a specification: the order of faults as one definition, which files are got for it,
+//! and what is found in them.
 #![tactic(auto)]
 
 pub mod accepted;
@@ -6,6 +7,7 @@ pub mod books;
 pub mod copies;
 pub mod definitions;
 pub mod files;
+pub mod laws;
 pub mod not_accepted;
 pub mod refusals;
 pub mod stages;

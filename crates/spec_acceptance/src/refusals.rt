@@ -1,7 +1,7 @@
 //! What the faults of the layers come to: a refusal, or want of memory.
 
 ghost use Rattle.equation_book.specs.declared.book_fault.BookFault.TheVariants as book;
-ghost use Rattle.lotos_reading.specs.declared.fault.ReadFault.TheVariants as read;
+ghost use Rattle.sentence_trees.specs.declared.fault.ReadFault.TheVariants as read;
 ghost use Rattle.process_checks.specs.declared.mismatches.ExitFault.TheVariants as exit;
 ghost use Rattle.process_checks.specs.declared.rank_table.RankFault.TheVariants as rank;
 ghost use Rattle.spec_acceptance.specs.Doing.{
@@ -10,20 +10,20 @@ ghost use Rattle.spec_acceptance.specs.Doing.{
   with_libraries_refused,
   with_spec_refused,
 };
-ghost use Rattle.spec_faults.specs.declared.spec_fault.SpecFault.TheVariants as fault_of;
-ghost use Rattle.static_scope.specs.declared.scope_faults.ScopeFault.TheVariants as scope;
+ghost use Rattle.start_values.specs.declared.spec_fault.SpecFault.TheVariants as fault_of;
+ghost use Rattle.scope_parts.specs.declared.scope_faults.ScopeFault.TheVariants as scope;
 ghost use Rattle.std.specs.Prelude.{◌≡◌};
-ghost use Rattle.type_faults.specs.declared.type_faults.TypeFault.TheVariants as type;
+ghost use Rattle.type_definitions.specs.declared.type_faults.TypeFault.TheVariants as type;
 
 use crate::not_accepted::NotAccepted;
 use crate::stages::{WithData, WithSpec, refused_early};
 use equation_book::BookFault;
 use lotos_base::Name;
-use lotos_reading::ReadFault;
 use process_checks::{ExitFault, RankFault};
-use spec_faults::SpecFault;
-use static_scope::ScopeFault;
-use type_faults::TypeFault;
+use scope_parts::ScopeFault;
+use sentence_trees::ReadFault;
+use start_values::SpecFault;
+use type_definitions::TypeFault;
 
 /// A text that is not read, where these libraries were read.
 pub fn read_refusal(libraries: Vec<Name>, text: u32, fault: ReadFault) -> NotAccepted

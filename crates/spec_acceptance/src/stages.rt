@@ -11,7 +11,7 @@ use behaviour_tree::Spec;
 use lotos_base::{Name, OrderItem};
 use process_checks::Ranks;
 use sort_terms::Flat;
-use spec_faults::{Refused, SpecFault};
+use start_values::{Refused, SpecFault};
 
 /// The libraries that were read, and the data.
 #[derive(Drop)]

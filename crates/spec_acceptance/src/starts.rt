@@ -1,7 +1,7 @@
 //! The start values, and the state in which the specification begins with them.
 
-ghost use Rattle.acceptance_order.specs.Acceptance.{start_of};
-ghost use Rattle.acceptance_order.specs.Ending.{with_spec};
+ghost use Rattle.spec_acceptance.specs.Acceptance.{start_of};
+ghost use Rattle.spec_acceptance.specs.Ending.{with_spec};
 ghost use Rattle.lotos_base.specs.WrittenTerm.{ListedOperation};
 ghost use Rattle.spec_acceptance.specs.Doing.{Faulty};
 ghost use Rattle.spec_acceptance.specs.Known.{
@@ -24,9 +24,8 @@ use crate::stages::WithSpec;
 use behaviour_tree::State;
 use lotos_base::NoMemory;
 use sort_terms::Sorted;
-use spec_faults::SpecFault;
 use start_values::normal::normal_values;
-use start_values::{StartFault, start_values};
+use start_values::{SpecFault, StartFault, start_values};
 use std::alloc::Global;
 
 /// What is known of the specification with its book, and the start values as they are read.

@@ -1,11 +1,11 @@
 //! Reading the texts.
 
-ghost use Rattle.acceptance_order.specs.Ending.{at_first, with_spec};
-ghost use Rattle.acceptance_order.specs.Part.{goes_on};
-ghost use Rattle.acceptance_order.specs.Texts.{GathersTypes, IsMisread, Orders};
-ghost use Rattle.library_reading.specs.GatheredView.{gathered_of};
-ghost use Rattle.library_reading.specs.ShelfUse.{shelf_state};
-ghost use Rattle.lotos_reading.specs.Reading.{
+ghost use Rattle.spec_acceptance.specs.Ending.{at_first, with_spec};
+ghost use Rattle.spec_acceptance.specs.Part.{goes_on};
+ghost use Rattle.spec_acceptance.specs.Texts.{GathersTypes, IsMisread, Orders};
+ghost use Rattle.lotos_grammar.specs.GatheredView.{gathered_of};
+ghost use Rattle.lotos_grammar.specs.ShelfUse.{shelf_state};
+ghost use Rattle.sentence_trees.specs.Reading.{
   IsOrderFault,
   IsSpecificationFault,
   IsSpecificationReading,
@@ -19,12 +19,11 @@ use crate::files::file;
 use crate::not_accepted::NotAccepted;
 use crate::refusals::{order_refusal, read_refusal};
 use crate::stages::{WithOrder, WithRanks, refused_early};
-use library_reading::{Gathered, LibraryFault, gather_types};
 use lotos_base::Shelf;
-use spec_faults::SpecFault;
+use lotos_grammar::{Gathered, LibraryFault, gather_types, read_order, read_spec};
+use start_values::SpecFault;
 use std::alloc::Global;
 use syntax_trees::{ItemText, SpecText};
-use text_reading::{read_order, read_spec};
 
 /// Reads the specification.
 pub fn specification(alloc: Global, text: &[u8]) -> Result<SpecText, NotAccepted>

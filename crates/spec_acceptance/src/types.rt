@@ -1,8 +1,8 @@
 //! Flattening the types.
 
-ghost use Rattle.acceptance_order.specs.Ending.{with_libraries};
-ghost use Rattle.acceptance_order.specs.Types.{HaveData, HaveFault};
-ghost use Rattle.library_reading.specs.GatheredView.{gathered_of};
+ghost use Rattle.spec_acceptance.specs.Ending.{with_libraries};
+ghost use Rattle.spec_acceptance.specs.Types.{HaveData, HaveFault};
+ghost use Rattle.lotos_grammar.specs.GatheredView.{gathered_of};
 ghost use Rattle.sort_terms.specs.EquationView.{data_of};
 ghost use Rattle.spec_acceptance.specs.Doing.{Faulty};
 ghost use Rattle.spec_acceptance.specs.Known.{KnowsData};
@@ -12,9 +12,9 @@ ghost use Rattle.type_mentions.specs.DeclaredTypes.{types_of};
 use crate::not_accepted::NotAccepted;
 use crate::refusals::types_refusal;
 use crate::stages::WithData;
-use flatten_types::flatten;
-use library_reading::Gathered;
+use lotos_grammar::Gathered;
 use std::alloc::Global;
+use type_flatten::flatten;
 
 /// The data of the types.
 pub fn data(alloc: Global, gathered: Gathered) -> Result<WithData, NotAccepted>

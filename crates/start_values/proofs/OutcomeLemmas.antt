@@ -7,17 +7,17 @@ use Rattle.term_algebra.specs.Signature.{Signature}
 use Rattle.term_algebra.specs.Sorting.{IsGround, AreGround, IsGroundOf}
 use Rattle.term_algebra.specs.Term.{Term, Terms, variable, node, no_terms, term_then}
 use Rattle.behaviour_semantics.specs.Rule.{AreValues}
-use Rattle.lotos_reading.specs.Reading.{IsTermsReading, IsTermsFault}
-use Rattle.lotos_reading.proofs.Outcomes.{all_have_one_outcome}
-use Rattle.lotos_reading.specs.ReadingLaws.{HasOneOutcome}
-use Rattle.lotos_reading.specs.declared.fault.ReadFault.{ReadFault}
-use Rattle.lotos_reading.specs.declared.fault.ReadFault.TheVariants.{NoMemory}
+use Rattle.sentence_trees.specs.Reading.{IsTermsReading, IsTermsFault}
+use Rattle.sentence_trees.proofs.Outcomes.{all_have_one_outcome}
+use Rattle.sentence_trees.specs.ReadingLaws.{HasOneOutcome}
+use Rattle.sentence_trees.specs.declared.fault.ReadFault.{ReadFault}
+use Rattle.sentence_trees.specs.declared.fault.ReadFault.TheVariants.{NoMemory}
 use Rattle.sort_terms.proofs.ReadsLemmas.{comes_once, reads_sorted}
 use Rattle.sort_terms.specs.Reading.{Reads, AllRead}
 use Rattle.sort_terms.specs.ReadingLaws.{ReadingsAreWellSorted, ReadingComesToOneThing}
 use Rattle.sort_terms.specs.ReadingOutcome as reading
 use Rattle.sort_terms.specs.ReadingOutcome.{SortedTerm, ReadingIs, answered, ComesTo, IsReading}
-use Rattle.spec_faults.specs.Refusal.{Refusal, start_values}
+use Rattle.start_values.specs.Refusal.{Refusal, start_values}
 use Rattle.start_values.specs.declared.words.TheConstants.{WORDS_TEXT}
 use Rattle.start_values.specs.StartValues.{WordTerm, of_word, HaveTerms, told_of_word, IsWordFault, HaveWordFault, HasValue, HaveValues, told_of_term, IsTermFault, HaveTermFault, Start, AreStartValues, IsStartFault, misread, miscounted, misfitting}
 use Rattle.start_values.specs.StartLaws.{StartsHaveOneOutcome, StartValuesAreGround}

@@ -17,7 +17,7 @@ use Rattle.sort_terms.specs.declared.sort_faults.SortFault.{SortFault}
 use Rattle.sort_terms.specs.declared.sort_faults.SortFault.TheVariants as cause
 use Rattle.start_values.proofs.ListLemmas.{next_member}
 use Rattle.behaviour_tree.specs.BehaviourView.{terms_of}
-use Rattle.spec_faults.specs.Refusal.{Refusal, start_values}
+use Rattle.start_values.specs.Refusal.{Refusal, start_values}
 use Rattle.start_values.specs.declared.faults.StartFault.{StartFault}
 use Rattle.start_values.specs.declared.faults.StartFault.TheVariants.{Refused, NoMemory}
 use Rattle.start_values.specs.declared.words.WordTerm as code

@@ -5,11 +5,11 @@ use Rattle.std.proofs.Math.ListN.{drop_of_length-le}
 use Rattle.std.proofs.lemmas.Bool.{and_parts, leb-true}
 use Rattle.std.specs.declared.alloc.Global.{Global}
 use Rattle.lotos_base.specs.WrittenTerm.{WrittenTerm}
-use Rattle.lotos_reading.specs.Reading.{IsTermsReading, IsTermsFault}
-use Rattle.lotos_reading.specs.declared.fault.ReadFault.{ReadFault}
+use Rattle.sentence_trees.specs.Reading.{IsTermsReading, IsTermsFault}
+use Rattle.sentence_trees.specs.declared.fault.ReadFault.{ReadFault}
 use Rattle.start_values.proofs.ListLemmas.{next_member}
-use Rattle.spec_faults.specs.Refusal.{Refusal}
-use Rattle.spec_faults.specs.RefusalView.{refusal_of}
+use Rattle.start_values.specs.Refusal.{Refusal}
+use Rattle.start_values.specs.RefusalView.{refusal_of}
 use Rattle.start_values.specs.declared.words.TheConstants.{WORDS_TEXT}
 use Rattle.start_values.specs.declared.faults.StartFault.{StartFault}
 use Rattle.start_values.specs.declared.faults.StartFault.TheVariants.{Refused, NoMemory}

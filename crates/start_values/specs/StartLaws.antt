@@ -3,7 +3,7 @@ use Rattle.std.specs.Prelude.{◌≡◌, List}
 use Rattle.term_algebra.specs.Term.{Term}
 use Rattle.behaviour_semantics.specs.Rule.{AreValues}
 use Rattle.sort_terms.specs.ReadingLaws.{ReadingsAreWellSorted}
-use Rattle.spec_faults.specs.Refusal.{Refusal}
+use Rattle.start_values.specs.Refusal.{Refusal}
 use Rattle.start_values.specs.StartValues.{Start, AreStartValues, IsStartFault}
 
 -- the words are one list of values at most, or have one fault first, and not both

@@ -8,10 +8,10 @@ use Rattle.term_algebra.specs.Signature.{Signature}
 use Rattle.term_algebra.specs.Term.{Term}
 use Rattle.sort_terms.specs.ReadingOutcome as reading
 use Rattle.sort_terms.specs.ReadingOutcome.{ReadingIs, answered}
-use Rattle.lotos_reading.specs.Reading.{IsTermsReading, IsTermsFault}
-use Rattle.lotos_reading.specs.declared.fault.ReadFault.{ReadFault}
-use Rattle.lotos_reading.specs.declared.fault.ReadFault.TheVariants as read
-use Rattle.spec_faults.specs.Refusal.{Refusal, too_long, bad_byte, open_comment, wrong_syntax, too_deep, start_values, start_term}
+use Rattle.sentence_trees.specs.Reading.{IsTermsReading, IsTermsFault}
+use Rattle.sentence_trees.specs.declared.fault.ReadFault.{ReadFault}
+use Rattle.sentence_trees.specs.declared.fault.ReadFault.TheVariants as read
+use Rattle.start_values.specs.Refusal.{Refusal, too_long, bad_byte, open_comment, wrong_syntax, too_deep, start_values, start_term}
 use Rattle.start_values.specs.declared.words.TheConstants.{WORDS_TEXT}
 
 -- a term among the words, with the number of its word

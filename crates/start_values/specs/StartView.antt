@@ -1,7 +1,7 @@
 -- What the answers of the code say of the words behind `with`.
 use Rattle.std.specs.Prelude.{◌≡◌, ℕ, List, map, Option, None, Some, IsSomeAnd}
 use Rattle.lotos_base.specs.WrittenView.{written_term_of}
-use Rattle.lotos_reading.specs.declared.fault.ReadFault.{ReadFault}
+use Rattle.sentence_trees.specs.declared.fault.ReadFault.{ReadFault}
 use Rattle.sort_terms.specs.EquationView.{variable_of}
 use Rattle.sort_terms.specs.ReadingOutcome as reading
 use Rattle.sort_terms.specs.RefusalView.{refusal_of as reason_of}
@@ -10,8 +10,8 @@ use Rattle.sort_terms.specs.declared.equations.Variable.{Variable}
 use Rattle.sort_terms.specs.declared.signatures.Signature.{Signature}
 use Rattle.sort_terms.specs.declared.sort_faults.SortFault.{SortFault}
 use Rattle.behaviour_semantics.specs.Behaviour.{sorts_of}
-use Rattle.spec_faults.specs.Refusal.{Refusal}
-use Rattle.spec_faults.specs.RefusalView.{refusal_of}
+use Rattle.start_values.specs.Refusal.{Refusal}
+use Rattle.start_values.specs.RefusalView.{refusal_of}
 use Rattle.start_values.specs.StartValues as plain
 use Rattle.start_values.specs.StartValues.{Start, told_of_term, told_of_word}
 use Rattle.start_values.specs.declared.words.WordTerm.{WordTerm}

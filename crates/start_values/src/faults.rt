@@ -2,8 +2,8 @@
 
 ghost use Rattle.std.specs.Prelude.{◌≡◌};
 
+use crate::SpecFault;
 use lotos_base::NoMemory;
-use spec_faults::SpecFault;
 use std::alloc::{AllocError, AllocFailed};
 
 /// Why start values are refused.

@@ -8,8 +8,8 @@ ghost use Rattle.sort_terms.specs.ReaderView.{signature_read};
 ghost use Rattle.sort_terms.specs.ScopeView.{variables_in};
 ghost use Rattle.sort_terms.specs.SignatureView.{signature_of};
 ghost use Rattle.sort_terms.specs.SortedView.{profiled_in, term_in};
-ghost use Rattle.spec_faults.specs.Refusal.{start_values as miscounted_as};
-ghost use Rattle.spec_faults.specs.declared.spec_fault.SpecFault.TheVariants.{
+ghost use Rattle.start_values.specs.Refusal.{start_values as miscounted_as};
+ghost use Rattle.start_values.specs.declared.spec_fault.SpecFault.TheVariants.{
   StartTerm as start_term,
 };
 ghost use Rattle.start_values.specs.StartValues.{
@@ -32,11 +32,11 @@ ghost use Rattle.start_values.specs.declared.faults.StartFault.TheVariants.{Refu
 ghost use Rattle.start_values.specs.WordLimits.{are_within, words_of};
 ghost use Rattle.std.specs.Prelude.{◌≡◌, [], IfOk, IsTrue, MatchResult, length, map};
 
+use crate::SpecFault;
 use crate::faults::StartFault;
 use crate::words::{WordTerm, in_word, word_terms};
 use lotos_base::NoMemory;
 use sort_terms::{Reader, Scope, Signature, SortFault, Sorted, Variable};
-use spec_faults::SpecFault;
 use std::alloc::Global;
 
 /// The terms of the words, each at the sort of its parameter.

@@ -2,8 +2,8 @@
 
 ghost use Rattle.lotos_base.specs.WrittenTerm.{WrittenTerm};
 ghost use Rattle.lotos_base.specs.WrittenView.{text_place_of, written_term_of};
-ghost use Rattle.lotos_reading.specs.Reading.{IsTermsReading};
-ghost use Rattle.spec_faults.specs.declared.spec_fault.SpecFault.TheVariants.{Read as read_fault};
+ghost use Rattle.sentence_trees.specs.Reading.{IsTermsReading};
+ghost use Rattle.start_values.specs.declared.spec_fault.SpecFault.TheVariants.{Read as read_fault};
 ghost use Rattle.start_values.specs.StartValues.{
   HaveTerms,
   HaveWordFault,
@@ -29,12 +29,12 @@ ghost use Rattle.std.specs.Prelude.{
   map,
 };
 
+use crate::SpecFault;
 use crate::faults::StartFault;
 use lotos_base::{NoMemory, Place, Written};
-use lotos_reading::ReadFault;
-use spec_faults::SpecFault;
+use lotos_grammar::read_terms;
+use sentence_trees::ReadFault;
 use std::alloc::Global;
-use text_reading::read_terms;
 
 /// The number of the text that the words behind `with` are, in the places of their faults.
 pub const WORDS_TEXT: u32 = 66;

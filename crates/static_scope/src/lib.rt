@@ -1,28 +1,22 @@
-//! Names, counts and sorts of the definitions and behaviours of a text, resolved (ISO 8807:1989,
-//! static semantics).
+//! Behaviours and definitions of a text with their names, counts and sorts resolved, and the
+//! specification that a text stands for (ISO 8807:1989, static semantics).
 #![tactic(auto)]
 
-pub mod bindings;
-pub mod bound;
-pub mod callable;
-pub mod callables;
-pub mod constants;
-pub mod doubles;
-pub mod exits;
-pub mod fault_order;
-pub mod gate_choices;
-pub mod gate_table;
-pub mod gates;
-pub mod laws;
-pub mod lets;
-pub mod offers;
-pub mod premisses;
-pub mod scope_faults;
-pub mod signs;
-pub mod sorts;
-pub mod terms;
-pub mod truth;
-pub mod values;
-pub mod visible;
+pub mod behaviours;
+pub mod bound_variables;
+pub mod calls;
+pub mod declaring;
+pub mod definitions;
+pub mod formal;
+pub mod frames;
+pub mod heading_parts;
+pub mod headings;
+pub mod nested;
+pub mod own_processes;
+pub mod resolver;
+pub mod resolving;
+pub mod sizes;
+pub mod walk;
 
-pub use scope_faults::ScopeFault;
+pub use resolver::Resolver;
+pub use resolving::resolve;

@@ -1,5 +1,6 @@
 -- Nodes under relabellings and side by side.
-use Rattle.std.proofs.Common.{◌≡◌, ◌<◌, ◌+◌, ◌++◌, ℕ, suc, List, [], ◌∷◌, map, length, drop, get_or, Bool, true, false, cond, append_assoc, Option, None, Some, Vec, Box, Global, refl, ap, sym, ◌∙◌, subst, add-one}
+use Rattle.std.proofs.Common.{◌≡◌, ◌<◌, ◌+◌, ◌++◌, ℕ, suc, List, [], ◌∷◌, map, length, drop, get_or, Bool, true, false, cond, append_assoc, Option, None, Some, Vec, Global, refl, ap, sym, ◌∙◌, subst, add-one}
+use Rattle.std.specs.declared.rc.Rc.{Rc}
 use Rattle.std.specs.Prelude.{filter, not}
 use Rattle.std.proofs.Math.Path.{fun_ext}
 use Rattle.std.proofs.Math.Seq.{drop-cons}
@@ -134,9 +135,9 @@ other_relabelled pairs b e =
 
 -- so a node that is none of those with targets of their own
 pub other_node : (pairs : Relabelling) (node : Node) → (node ≡ Stop → ⊥)
-    → ((b : Box beh.Beh Global) (e : Vec (ℕ × Sorted) Global) → node ≡ Part b e → ⊥)
+    → ((b : Rc beh.Beh Global) (e : Vec (ℕ × Sorted) Global) → node ≡ Part b e → ⊥)
     → ((process : ℕ) (gates : Vec ℕ Global) (values : Vec Sorted Global) → node ≡ Call process gates values → ⊥)
-    → ((inner : Vec (ℕ × ℕ) Global) (target : Box Node Global) → node ≡ Relabel inner target → ⊥)
+    → ((inner : Vec (ℕ × ℕ) Global) (target : Rc Node Global) → node ≡ Relabel inner target → ⊥)
     → relabel pairs (stands_for node) ≡ under (stands_for node) pairs
 other_node pairs Stop s p c r = absurd (s refl)
 other_node pairs (Part b e) s p c r = absurd (p b e refl)
@@ -146,7 +147,7 @@ other_node pairs (Hide' _ _ _) s p c r = refl
 other_node pairs (Enable' _ _ _ _ _) s p c r = refl
 other_node pairs (Disable' _ _ _ _) s p c r = refl
 other_node pairs (Relabel' inner at target) s p c r =
-    absurd (r inner (record { ptr = at.ptr; alloc = at.alloc; value = target }) refl)
+    absurd (r inner (record { ptr = at.ptr; value = target }) refl)
 
 -- the formal gates that a relabelling has
 pub not_lacking : (first : Relabelling) (pair : ℕ × ℕ) (rest : Relabelling) → is_listed (formals_of first) pair.0 ≡ true

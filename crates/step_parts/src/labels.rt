@@ -13,14 +13,14 @@ ghost use Rattle.behaviour_tree.specs.BehaviourView.{meet_of, terms_of, variable
 ghost use Rattle.behaviour_tree.specs.MoveView.{label_of};
 ghost use Rattle.behaviour_tree.specs.Over.{AreTermsOf};
 ghost use Rattle.event_offers.specs.OfferView.{label_profiles};
-ghost use Rattle.menu_builder.specs.Meeting.{may_be_met, meet_told, sorts_told};
+ghost use Rattle.draft_parts.specs.Meeting.{may_be_met, meet_told, sorts_told};
 ghost use Rattle.std.specs.Prelude.{◌≡◌};
 ghost use Rattle.term_algebra.specs.Signature.{Signature};
 ghost use Rattle.term_algebra.specs.Substitution.{is_listed};
 
 use behaviour_tree::{Label, Meet};
+use draft_parts::rules::{gate_under, meet_at};
 use event_offers::labels::alike;
-use menu_builder::rules::{gate_under, meet_at};
 use sort_terms::{Sorted, Variable};
 
 /// Whether both sides of a parallel move together with these labels.

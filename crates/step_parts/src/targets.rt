@@ -69,15 +69,17 @@ ghost use Rattle.term_match.specs.SubstView.{profiled_pairs};
 
 use crate::labels::ends;
 use behaviour_instances::instance;
-use behaviour_tree::boxes::boxed;
+use behaviour_tree::boxes::{owner, shared};
+use behaviour_tree::copies::term_copies;
 use behaviour_tree::{Beh, Label, Meet, Node};
+use draft_parts::rules::gate_under;
 use lotos_base::NoMemory;
-use menu_builder::rules::gate_under;
 use sort_terms::{Sorted, Variable};
 use std::alloc::Global;
+use std::rc::Rc;
 
 /// The closed behaviour as a node.
-pub fn part(alloc: Global, behaviour: Box<Beh>) -> Node
+pub fn part(alloc: Global, behaviour: Rc<Beh>) -> Node
     ensures same { stands_for result ≡ behaviour_of behaviour.value }
     ensures terms { (signature : Signature) → AreTermsOf signature (profiles_in behaviour.value)
         → AreTermsOf signature (node_profiles result) }
@@ -88,50 +90,50 @@ pub fn part(alloc: Global, behaviour: Box<Beh>) -> Node
     Node::Part(behaviour, Vec::new(alloc))
 }
 
-// The behaviour with the values of the environment put in. Where there are none, it is handed on.
-fn closed(behaviour: Box<Beh>, environment: Vec<(u64, Sorted)>) -> Result<Beh, NoMemory>
-    requires { SuitsWhere (profiled_pairs environment.items)
-        (λ n s. IsFree n s (behaviour_of behaviour.value)) }
-    ensures same { IfOk result (λ b. behaviour_of b
-        ≡ with_values (binding (environment_of environment.items))
-        (behaviour_of behaviour.value)) }
+// The behaviour with the values of the environment put in. Where there are none, it is shared.
+fn closed(behaviour: &Rc<Beh>, environment: &Vec<(u64, Sorted)>) -> Result<Rc<Beh>, NoMemory>
+    requires { SuitsWhere (profiled_pairs environment.now.items)
+        (λ n s. IsFree n s (behaviour_of behaviour.now.value)) }
+    ensures same { IfOk result (λ b. behaviour_of b.value
+        ≡ with_values (binding (environment_of environment.now.items))
+        (behaviour_of behaviour.now.value)) }
     ensures terms { IfOk result (λ b. (signature : Signature)
-        → AreTermsOf signature (profiles_in behaviour.value)
-        → AreTermsOf signature (map pair_profile environment.items)
-        → AreTermsOf signature (profiles_in b)) }
+        → AreTermsOf signature (profiles_in behaviour.now.value)
+        → AreTermsOf signature (map pair_profile environment.now.items)
+        → AreTermsOf signature (profiles_in b.value)) }
 {
     if environment.len() == 0 {
-        return Ok(Box::into_inner(behaviour));
+        return owner(behaviour);
     }
-    let body = Box::into_inner(behaviour);
-    instance(&environment, &body)
+    let made = instance(environment, behaviour)?;
+    shared(*environment.allocator(), made)
 }
 
 /// The target of a left side of `[>`: the disabling is gone after the left side has ended.
 pub fn still_disabled(
     alloc: Global,
     label: &Label,
-    target: Node,
-    right: Box<Node>,
-) -> Result<Node, NoMemory>
-    ensures same { IfOk result (λ made. stands_for made ≡ disabled_still (label_of label.now)
-        (stands_for target) (stands_for right.value)) }
+    target: Rc<Node>,
+    right: Rc<Node>,
+) -> Result<Rc<Node>, NoMemory>
+    ensures same { IfOk result (λ made. stands_for made.value ≡ disabled_still (label_of label.now)
+        (stands_for target.value) (stands_for right.value)) }
     ensures terms { IfOk result (λ made. (signature : Signature)
-        → AreTermsOf signature (node_profiles target)
+        → AreTermsOf signature (node_profiles target.value)
         → AreTermsOf signature (node_profiles right.value)
-        → AreTermsOf signature (node_profiles made)) }
-    ensures closed_parts { IfOk result (λ made. HasClosedParts target
-        → HasClosedParts right.value → HasClosedParts made) }
+        → AreTermsOf signature (node_profiles made.value)) }
+    ensures closed_parts { IfOk result (λ made. HasClosedParts target.value
+        → HasClosedParts right.value → HasClosedParts made.value) }
 {
     if ends(label) {
         return Ok(target);
     }
-    Ok(Node::Disable(boxed(alloc, target)?, right))
+    shared(alloc, Node::Disable(target, right))
 }
 
 /// The right side of `>>` with the values that the left side ended with.
 pub fn accepted(
-    right: Box<Beh>,
+    right: Rc<Beh>,
     variables: &Vec<Variable>,
     values: Vec<Sorted>,
     environment: &Vec<(u64, Sorted)>,
@@ -242,39 +244,45 @@ fn add_pair(
 
 /// The node under a relabelling: `stop` stays, a call has its actual gates relabelled, a relabelled
 /// node has the two relabellings as one, and any other node is relabelled.
-pub fn under(alloc: Global, node: Node, pairs: Vec<(u32, u32)>) -> Result<Node, NoMemory>
-    requires { HasClosedParts node }
+pub fn under(alloc: Global, node: &Rc<Node>, pairs: Vec<(u32, u32)>) -> Result<Node, NoMemory>
+    requires { HasClosedParts node.now.value }
     ensures same { IfOk result
-        (λ made. stands_for made ≡ made_under (stands_for node) pairs.items) }
+        (λ made. stands_for made ≡ made_under (stands_for node.now.value) pairs.items) }
     ensures terms { IfOk result (λ made. (signature : Signature)
-        → AreTermsOf signature (node_profiles node) → AreTermsOf signature (node_profiles made)) }
+        → AreTermsOf signature (node_profiles node.now.value)
+        → AreTermsOf signature (node_profiles made)) }
     ensures closed_parts { IfOk result (λ made. (signature : Signature)
         (specification : Specification)
-        → IsClosedBehaviour signature specification (stands_for node) → HasClosedParts made) }
+        → IsClosedBehaviour signature specification (stands_for node.now.value)
+        → HasClosedParts made) }
 {
-    match node {
+    match &**node {
         Node::Stop => Ok(Node::Stop),
-        Node::Part(behaviour, environment) => part_under(alloc, behaviour, environment, pairs),
+        Node::Part(behaviour, environment) => {
+            if stays_apart(behaviour) {
+                return relabelled(node, pairs);
+            }
+            beh_under(alloc, &closed(behaviour, environment)?, pairs)
+        }
         Node::Call {
             process,
             gates,
             values,
-        } => call_under(alloc, process, &gates, values, &pairs),
-        Node::Relabel(inner, target) => {
-            let both = in_turn(alloc, &inner, &pairs)?;
-            Ok(Node::Relabel(both, target))
-        }
-        other => relabelled(alloc, other, pairs),
+        } => call_under(alloc, *process, gates, values, &pairs),
+        Node::Relabel(inner, target) => relabelled(target, in_turn(alloc, inner, &pairs)?),
+        _ => relabelled(node, pairs),
     }
 }
 
 // The node with a relabelling before it.
-fn relabelled(alloc: Global, node: Node, pairs: Vec<(u32, u32)>) -> Result<Node, NoMemory>
-    ensures same { IfOk result (λ made. stands_for made ≡ relabel pairs.items (stands_for node)) }
-    ensures terms { IfOk result (λ made. node_profiles made ≡ node_profiles node) }
-    ensures closed_parts { IfOk result (λ made. HasClosedParts node → HasClosedParts made) }
+fn relabelled(node: &Rc<Node>, pairs: Vec<(u32, u32)>) -> Result<Node, NoMemory>
+    ensures same { IfOk result
+        (λ made. stands_for made ≡ relabel pairs.items (stands_for node.now.value)) }
+    ensures terms { IfOk result (λ made. node_profiles made ≡ node_profiles node.now.value) }
+    ensures closed_parts { IfOk result
+        (λ made. HasClosedParts node.now.value → HasClosedParts made) }
 {
-    let inside = boxed(alloc, node)?;
+    let inside = owner(node)?;
     Ok(Node::Relabel(pairs, inside))
 }
 
@@ -283,49 +291,23 @@ fn call_under(
     alloc: Global,
     process: u32,
     gates: &Vec<u32>,
-    values: Vec<Sorted>,
+    values: &Vec<Sorted>,
     pairs: &Vec<(u32, u32)>,
 ) -> Result<Node, NoMemory>
     ensures same { IfOk result (λ made. stands_for made ≡ call process
-        (map (gate_given pairs.now.items) gates.now.items) (terms_of values.items)) }
-    ensures terms { IfOk result (λ made. node_profiles made ≡ profiles_of values.items) }
+        (map (gate_given pairs.now.items) gates.now.items) (terms_of values.now.items)) }
+    ensures terms { IfOk result (λ made. node_profiles made ≡ profiles_of values.now.items) }
     ensures closed_parts { IfOk result
-        (λ made. Every (λ (value : Value). IsGround (term_in value)) values.items
+        (λ made. Every (λ (value : Value). IsGround (term_in value)) values.now.items
         → HasClosedParts made) }
 {
     let gates = gates_under(alloc, pairs, gates)?;
+    let values = term_copies(alloc, values)?;
     Ok(Node::Call {
         process,
         gates,
         values,
     })
-}
-
-// The behaviour with the values of the environment put in, under a relabelling.
-fn part_under(
-    alloc: Global,
-    behaviour: Box<Beh>,
-    environment: Vec<(u64, Sorted)>,
-    pairs: Vec<(u32, u32)>,
-) -> Result<Node, NoMemory>
-    requires { IsClosedBy environment.items (behaviour_of behaviour.value) }
-    ensures same { IfOk result (λ made. stands_for made
-        ≡ made_under (with_values (binding (environment_of environment.items))
-        (behaviour_of behaviour.value)) pairs.items) }
-    ensures terms { IfOk result (λ made. (signature : Signature)
-        → AreTermsOf signature (profiles_in behaviour.value)
-        → AreTermsOf signature (map pair_profile environment.items)
-        → AreTermsOf signature (node_profiles made)) }
-    ensures closed_parts { IfOk result (λ made. (signature : Signature)
-        (specification : Specification)
-        → IsClosedBehaviour signature specification
-        (with_values (binding (environment_of environment.items)) (behaviour_of behaviour.value))
-        → HasClosedParts made) }
-{
-    if stays_apart(&behaviour) {
-        return relabelled(alloc, Node::Part(behaviour, environment), pairs);
-    }
-    beh_under(alloc, closed(behaviour, environment)?, pairs)
 }
 
 // Whether the behaviour is neither `stop` nor a call.
@@ -340,43 +322,44 @@ fn stays_apart(behaviour: &Beh) -> bool
 }
 
 // The closed behaviour under a relabelling.
-fn beh_under(alloc: Global, behaviour: Beh, pairs: Vec<(u32, u32)>) -> Result<Node, NoMemory>
+fn beh_under(alloc: Global, behaviour: &Rc<Beh>, pairs: Vec<(u32, u32)>) -> Result<Node, NoMemory>
     ensures same { IfOk result
-        (λ made. stands_for made ≡ made_under (behaviour_of behaviour) pairs.items) }
+        (λ made. stands_for made ≡ made_under (behaviour_of behaviour.now.value) pairs.items) }
     ensures terms { IfOk result (λ made. (signature : Signature)
-        → AreTermsOf signature (profiles_in behaviour)
+        → AreTermsOf signature (profiles_in behaviour.now.value)
         → AreTermsOf signature (node_profiles made)) }
     ensures closed_parts { IfOk result (λ made. (signature : Signature)
         (specification : Specification)
-        → IsClosedBehaviour signature specification (behaviour_of behaviour)
+        → IsClosedBehaviour signature specification (behaviour_of behaviour.now.value)
         → HasClosedParts made) }
 {
-    match behaviour {
+    match &**behaviour {
         Beh::Stop => Ok(Node::Stop),
         Beh::Call {
             place: _,
             process,
             gates,
             values,
-        } => call_under(alloc, process, &gates, values, &pairs),
-        other => other_under(alloc, other, pairs),
+        } => call_under(alloc, *process, gates, values, &pairs),
+        _ => other_under(alloc, behaviour, pairs),
     }
 }
 
 // The same of a behaviour that is neither `stop` nor a call.
-fn other_under(alloc: Global, behaviour: Beh, pairs: Vec<(u32, u32)>) -> Result<Node, NoMemory>
+fn other_under(alloc: Global, behaviour: &Rc<Beh>, pairs: Vec<(u32, u32)>) -> Result<Node, NoMemory>
     ensures same { IfOk result
-        (λ made. stands_for made ≡ relabel pairs.items (behaviour_of behaviour)) }
+        (λ made. stands_for made ≡ relabel pairs.items (behaviour_of behaviour.now.value)) }
     ensures terms { IfOk result (λ made. (signature : Signature)
-        → AreTermsOf signature (profiles_in behaviour)
+        → AreTermsOf signature (profiles_in behaviour.now.value)
         → AreTermsOf signature (node_profiles made)) }
     ensures closed_parts { IfOk result (λ made. (signature : Signature)
         (specification : Specification)
-        → IsClosedBehaviour signature specification (behaviour_of behaviour)
+        → IsClosedBehaviour signature specification (behaviour_of behaviour.now.value)
         → HasClosedParts made) }
 {
-    let inside = boxed(alloc, behaviour)?;
-    relabelled(alloc, part(alloc, inside), pairs)
+    let inside = owner(behaviour)?;
+    let node = shared(alloc, part(alloc, inside))?;
+    Ok(Node::Relabel(pairs, node))
 }
 
 // The gates under a relabelling.
@@ -472,15 +455,16 @@ pub fn side_by_side(
     formal: u32,
     gates: &Vec<u32>,
     meet: &Meet,
-    body: &Beh,
+    body: &Rc<Beh>,
 ) -> Result<Node, NoMemory>
     ensures same { IfOk result (λ made. stands_for made
-        ≡ copies formal gates.now.items (meet_of meet.now) (behaviour_of body.now)) }
+        ≡ copies formal gates.now.items (meet_of meet.now) (behaviour_of body.now.value)) }
     ensures terms { IfOk result (λ made. (signature : Signature)
-        → AreTermsOf signature (profiles_in body.now) → AreTermsOf signature (node_profiles made)) }
+        → AreTermsOf signature (profiles_in body.now.value)
+        → AreTermsOf signature (node_profiles made)) }
     ensures closed_parts { IfOk result (λ made. (signature : Signature)
         (specification : Specification)
-        → IsClosedBehaviour signature specification (behaviour_of body.now)
+        → IsClosedBehaviour signature specification (behaviour_of body.now.value)
         → HasClosedParts made) }
 {
     let alloc = *gates.allocator();
@@ -515,18 +499,19 @@ pub fn gate_pair(alloc: Global, formal: u32, actual: u32) -> Result<Vec<(u32, u3
 }
 
 // The copy of the body for one gate.
-fn copied(alloc: Global, formal: u32, actual: u32, body: &Beh) -> Result<Node, NoMemory>
+fn copied(alloc: Global, formal: u32, actual: u32, body: &Rc<Beh>) -> Result<Node, NoMemory>
     ensures same { IfOk result (λ made. stands_for made
-        ≡ made_under (behaviour_of body.now) ((formal, actual) ∷ [])) }
+        ≡ made_under (behaviour_of body.now.value) ((formal, actual) ∷ [])) }
     ensures terms { IfOk result (λ made. (signature : Signature)
-        → AreTermsOf signature (profiles_in body.now) → AreTermsOf signature (node_profiles made)) }
+        → AreTermsOf signature (profiles_in body.now.value)
+        → AreTermsOf signature (node_profiles made)) }
     ensures closed_parts { IfOk result (λ made. (signature : Signature)
         (specification : Specification)
-        → IsClosedBehaviour signature specification (behaviour_of body.now)
+        → IsClosedBehaviour signature specification (behaviour_of body.now.value)
         → HasClosedParts made) }
 {
     let pairs = gate_pair(alloc, formal, actual)?;
-    beh_under(alloc, body.copy(alloc)?, pairs)
+    beh_under(alloc, body, pairs)
 }
 
 // The node beside what comes after it, if anything does.
@@ -542,8 +527,8 @@ fn beside(alloc: Global, node: Node, rest: Option<Node>, meet: &Meet) -> Result<
     match rest {
         None => Ok(node),
         Some(rest) => {
-            let left = boxed(alloc, node)?;
-            let right = boxed(alloc, rest)?;
+            let left = shared(alloc, node)?;
+            let right = shared(alloc, rest)?;
             Ok(Node::Parallel(meet.copy(alloc)?, left, right))
         }
     }

@@ -120,9 +120,11 @@ module _ (ground : Ground) (state : State) (derivation : Derivation) where
       target_state = closed_state ground.data_.signature (specification_of ground.spec) moved.target.value m.parts target_good
 
       pub taken : (if nat_lt moved.behind.leaf (length derivation.leaves.items) then Some not_fitting else None) ≡ None → (target :
-          State)
-          → target.node ≡ moved.target.value → IsTaken ground state derivation moved.label target
-      taken none target same =
+          State) (own : Node)
+          → target.node ≡ own → stands_for own ≡ stands_for moved.target.value
+          → node_profiles own ≡ node_profiles moved.target.value → (IsClosedNode moved.target.value → IsClosedNode own)
+          → IsTaken ground state derivation moved.label target
+      taken none target own same stands profiles still_closed =
           let sound = moved_sound ground is_canon over leaves root (omega arith) closed moved m in
           let few : length leaves ≤ length m.move.sorts =
           ltb-false (length m.move.sorts) (length leaves) (sym same_test ∙ none_more (nat_lt moved.behind.leaf (length
@@ -134,14 +136,14 @@ module _ (ground : Ground) (state : State) (derivation : Derivation) where
               sorts = m.move.sorts;
               move = m.is ∙ ap (λ (l : plain.Label). let n : Move = record m.move { label = l } in Some n) (sym m.label)
                   ∙ ap (λ (b : Behaviour). let n : Move = record m.move { label = label_of moved.label; target = b } in Some n)
-                  (sym m.target ∙ sym (ap stands_for same));
+                  (sym m.target ∙ sym (ap stands_for same ∙ stands));
               leaves = values_of ground.data_.signature m.move.sorts leaves (omega (arith, few, enough)) sound.supplied;
               holds = sound.holds;
             };
             values = m.values;
             over = record {
-              closed = subst (λ (node : Node). IsClosedOn ground (stands_for node)) (sym same) target_good;
-              terms = subst (λ (node : Node). AreTermsOf ground.data_.signature (node_profiles node)) (sym same) m.terms;
+              closed = subst (λ (b : Behaviour). IsClosedOn ground b) (sym (ap stands_for same ∙ stands)) target_good;
+              terms = subst (AreTermsOf ground.data_.signature) (sym (ap node_profiles same ∙ profiles)) m.terms;
             };
-            closed = subst (λ (node : Node). IsClosedNode node) (sym same) target_state;
+            closed = subst (λ (node : Node). IsClosedNode node) (sym same) (still_closed target_state);
           }

@@ -1,13 +1,11 @@
 //! Moves of `>>` from those of its left side.
 
 ghost use Rattle.behaviour_tree.specs.BehaviourView.{behaviour_of, terms_of, variables_of};
-ghost use Rattle.behaviour_tree.specs.BehaviourTerms.{profiles_in, profiles_of};
+ghost use Rattle.behaviour_tree.specs.BehaviourTerms.{profiles_of};
 ghost use Rattle.behaviour_tree.specs.MoveView.{label_of};
 ghost use Rattle.behaviour_tree.specs.Over.{AreTermsOf};
 ghost use Rattle.behaviour_tree.specs.StateView.{
-  environment_of,
   node_profiles,
-  pair_profile,
   stands_for,
 };
 ghost use Rattle.behaviour_semantics.specs.Behaviour.{Specification};
@@ -16,7 +14,7 @@ ghost use Rattle.behaviour_semantics.specs.Rule.{label_values};
 ghost use Rattle.behaviour_semantics.specs.WellFormed.{IsClosedLabel};
 ghost use Rattle.event_offers.specs.OfferView.{label_profiles};
 ghost use Rattle.behaviour_tree.specs.DefinitionView.{specification_of};
-ghost use Rattle.std.specs.Prelude.{◌≡◌, ◌++◌, IfOk, map};
+ghost use Rattle.std.specs.Prelude.{◌≡◌, ◌++◌, IfOk};
 ghost use Rattle.step_parts.specs.TargetNodes.{HasClosedParts, IsAccepting};
 ghost use Rattle.step_taker.specs.Rows.{enabling_row, passing_row};
 ghost use Rattle.step_taker.specs.Sides.{enabling_of, followed, following_profiles, IsFollowing};
@@ -25,12 +23,13 @@ ghost use Rattle.term_algebra.specs.Signature.{Signature};
 
 use crate::moved::Moved;
 use crate::sides::Following;
-use behaviour_tree::boxes::boxed;
-use behaviour_tree::copies::variable_copies;
-use behaviour_tree::{Beh, Label, Node};
+use behaviour_tree::boxes::{owner, shared};
+use behaviour_tree::copies::{environment_copy, variable_copies};
+use behaviour_tree::{Label, Node};
 use lotos_base::NoMemory;
 use sort_terms::Sorted;
 use std::alloc::Global;
+use std::rc::Rc;
 use step_parts::faults::{At, StepFault, misfit};
 use step_parts::labels::{ends, have_sorts};
 use step_parts::targets::accepted;
@@ -94,11 +93,7 @@ fn own_values(alloc: Global, label: Label) -> Vec<Sorted>
 }
 
 // `>>` with another left side.
-fn still_enabled(
-    alloc: Global,
-    left: Box<Node>,
-    side: &Following<'_>,
-) -> Result<Box<Node>, NoMemory>
+fn still_enabled(alloc: Global, left: Rc<Node>, side: &Following<'_>) -> Result<Rc<Node>, NoMemory>
     ensures same { IfOk result
         (λ made. stands_for made.value ≡ enabling_of (stands_for left.value) side.now) }
     ensures terms { IfOk result (λ made. node_profiles made.value
@@ -107,22 +102,13 @@ fn still_enabled(
         → HasClosedParts left.value → HasClosedParts made.value) }
 {
     let variables = variable_copies(alloc, side.variables)?;
-    let right = own_right(alloc, side.right)?;
-    let environment = pair_copies(alloc, side.environment)?;
-    boxed(alloc, Node::Enable(left, variables, right, environment))
-}
-
-// A copy of the right side.
-fn own_right(alloc: Global, right: &Beh) -> Result<Box<Beh>, NoMemory>
-    ensures same { IfOk result (λ made. behaviour_of made.value ≡ behaviour_of right.now) }
-    ensures terms { IfOk result (λ made. profiles_in made.value ≡ profiles_in right.now) }
-{
-    let copy = right.copy(alloc)?;
-    boxed(alloc, copy)
+    let right = owner(side.right)?;
+    let environment = environment_copy(alloc, side.environment)?;
+    shared(alloc, Node::Enable(left, variables, right, environment))
 }
 
 // The right side of `>>` with these values.
-fn begun(alloc: Global, side: &Following<'_>, made: Vec<Sorted>) -> Result<Box<Node>, NoMemory>
+fn begun(alloc: Global, side: &Following<'_>, made: Vec<Sorted>) -> Result<Rc<Node>, NoMemory>
     requires { IsFollowing side.now }
     ensures same { IfOk result (λ node. stands_for node.value
         ≡ with_values (binding_of (variables_of side.now.variables.now.items)
@@ -134,24 +120,9 @@ fn begun(alloc: Global, side: &Following<'_>, made: Vec<Sorted>) -> Result<Box<N
     ensures closed_parts { IfOk result (λ node. (signature : Signature)
         (specification : Specification) → IsAccepting signature specification
         (variables_of side.now.variables.now.items) side.now.environment.now.items made.items
-        (behaviour_of side.now.right.now) → HasClosedParts node.value) }
+        (behaviour_of side.now.right.now.value) → HasClosedParts node.value) }
 {
-    let right = own_right(alloc, side.right)?;
+    let right = owner(side.right)?;
     let node = accepted(right, side.variables, made, side.environment)?;
-    boxed(alloc, node)
-}
-
-// The same pairs.
-fn pair_copies(alloc: Global, pairs: &Vec<(u64, Sorted)>) -> Result<Vec<(u64, Sorted)>, NoMemory>
-    ensures same { IfOk result (λ made. environment_of made.items
-        ≡ environment_of pairs.now.items) }
-    ensures terms { IfOk result (λ made. map pair_profile made.items
-        ≡ map pair_profile pairs.now.items) }
-{
-    let mut made = Vec::with_capacity(alloc, pairs.len())?;
-    for pair in pairs {
-        let value = pair.1.copy()?;
-        made.push((pair.0, value))?;
-    }
-    Ok(made)
+    shared(alloc, node)
 }

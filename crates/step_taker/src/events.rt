@@ -45,11 +45,12 @@ ghost use Rattle.term_algebra.specs.Term.{Term};
 
 use crate::moved::{Moved, Walk};
 use crate::sides::Side;
-use behaviour_tree::boxes::boxed;
+use behaviour_tree::boxes::{owner, shared};
 use behaviour_tree::{Beh, ExitValue, Label, Node, Offer, Shape, Test};
 use lotos_base::NoMemory;
 use sort_terms::{Deciding, Sorted};
 use std::alloc::Global;
+use std::rc::Rc;
 use step_parts::faults::{At, StepFault, misfit};
 use step_parts::leaves::{asked_sorts, checked_leaves, open_sorts};
 use step_parts::node_tests::checked_test;
@@ -83,7 +84,7 @@ pub fn exit_step<D: Deciding>(
     };
     let sorts = open_sorts(walk.alloc, values)?;
     checked_leaves(walk.leaves, at, sorts.as_slice())?;
-    let target = boxed(walk.alloc, Node::Stop)?;
+    let target = shared(walk.alloc, Node::Stop)?;
     let made = results(walk.alloc, values, walk.leaves, at.leaf, data)?;
     Ok(Moved {
         label: Label::Exit(made),
@@ -101,7 +102,7 @@ pub fn action_step<D: Deciding>(
     gate: u32,
     offers: &Vec<Offer>,
     test: &Option<Test>,
-    next: &Beh,
+    next: &Rc<Beh>,
     shape: &Shape,
     at: At,
     data: &mut D,
@@ -112,12 +113,12 @@ pub fn action_step<D: Deciding>(
     requires part { IsPassable
         (ground_of (D.known_data data.old) (D.canon data.old) walk.now.spec.now)
         (plain.action gate (map offer_of offers.now.items)
-        (option_map test_of test.now) (behaviour_of next.now))
+        (option_map test_of test.now) (behaviour_of next.now.value))
         (joined (map offer_profiles offers.now.items) ++ option_profiles test.now
-        ++ profiles_in next.now) }
+        ++ profiles_in next.now.value) }
     ensures answer { (place : Stand)
         → IsThere place (plain.action gate (map offer_of offers.now.items)
-        (option_map test_of test.now) (behaviour_of next.now)) (shape_of shape.now) at
+        (option_map test_of test.now) (behaviour_of next.now.value)) (shape_of shape.now) at
         → IsWalked (ground_of (D.known_data data.old) (D.canon data.old) walk.now.spec.now)
         (terms_of walk.now.leaves.now) place result }
     ensures same_data { D.known_data data.new ≡ D.known_data data.old }
@@ -145,26 +146,26 @@ fn action_target<D: Deciding>(
     walk: &Walk<'_>,
     offers: &Vec<Offer>,
     test: &Option<Test>,
-    next: &Beh,
+    next: &Rc<Beh>,
     at: At,
     data: &mut D,
-) -> Result<Box<Node>, StepFault>
+) -> Result<Rc<Node>, StepFault>
     requires walk { IsWalk
         (ground_of (D.known_data data.old) (D.canon data.old) walk.now.spec.now)
         walk.now.leaves.now at.leaf }
     requires part { IsChosen
         (ground_of (D.known_data data.old) (D.canon data.old) walk.now.spec.now)
-        (map offer_of offers.now.items) (option_map test_of test.now) (behaviour_of next.now)
+        (map offer_of offers.now.items) (option_map test_of test.now) (behaviour_of next.now.value)
         (terms_of walk.now.leaves.now) at.leaf }
     requires test { AreTermsOf (D.known_data data.old).signature (option_profiles test.now) }
-    requires next { AreTermsOf (D.known_data data.old).signature (profiles_in next.now) }
+    requires next { AreTermsOf (D.known_data data.old).signature (profiles_in next.now.value) }
     ensures checked { (n : ℕ) → at.node ≡ kept_number n → IsChecked n
         (first_unmet (D.canon data.old) (tests_of (chosen_values (D.canon data.old)
         (map offer_of offers.now.items) (terms_of walk.now.leaves.now) at.leaf)
         (option_map test_of test.now))) result }
     ensures same { IfOk result (λ made. stands_for made.value
         ≡ with_values (chosen_values (D.canon data.old) (map offer_of offers.now.items)
-        (terms_of walk.now.leaves.now) at.leaf) (behaviour_of next.now)) }
+        (terms_of walk.now.leaves.now) at.leaf) (behaviour_of next.now.value)) }
     ensures terms { IfOk result
         (λ made. AreTermsOf (D.known_data data.old).signature (node_profiles made.value)) }
     ensures closed_parts { IfOk result (λ made. HasClosedParts made.value) }
@@ -176,25 +177,33 @@ fn action_target<D: Deciding>(
     Ok(own_behind(walk.alloc, next, pairs)?)
 }
 
-// A copy of the behaviour with these values.
-fn own_behind(alloc: Global, next: &Beh, pairs: Vec<(u64, Sorted)>) -> Result<Box<Node>, NoMemory>
+// The behaviour with these values.
+fn own_behind(
+    alloc: Global,
+    next: &Rc<Beh>,
+    pairs: Vec<(u64, Sorted)>,
+) -> Result<Rc<Node>, NoMemory>
     ensures same { IfOk result (λ made. stands_for made.value
-        ≡ with_values (binding (environment_of pairs.items)) (behaviour_of next.now)) }
+        ≡ with_values (binding (environment_of pairs.items)) (behaviour_of next.now.value)) }
     ensures terms { IfOk result (λ made. node_profiles made.value
-        ≡ profiles_in next.now ++ map pair_profile pairs.items) }
-    ensures closed_parts { IfOk result (λ made. IsClosedBy pairs.items (behaviour_of next.now)
+        ≡ profiles_in next.now.value ++ map pair_profile pairs.items) }
+    ensures closed_parts { IfOk result (λ made. IsClosedBy pairs.items (behaviour_of next.now.value)
         → HasClosedParts made.value) }
 {
-    let copy = next.copy(alloc)?;
-    let copy = boxed(alloc, copy)?;
-    boxed(alloc, Node::Part(copy, pairs))
+    let own = owner(next)?;
+    shared(alloc, Node::Part(own, pairs))
 }
 
 /// The move of an inner event, or its fault.
-pub fn inner_step(walk: &Walk<'_>, next: &Beh, shape: &Shape, at: At) -> Result<Moved, StepFault>
+pub fn inner_step(
+    walk: &Walk<'_>,
+    next: &Rc<Beh>,
+    shape: &Shape,
+    at: At,
+) -> Result<Moved, StepFault>
     ensures { (base : Ground) (leaves : List Term) (place : Stand)
-        → IsPassable base (plain.inner_action (behaviour_of next.now)) (profiles_in next.now)
-        → IsThere place (plain.inner_action (behaviour_of next.now)) (shape_of shape.now) at
+        → IsPassable base (plain.inner_action (behaviour_of next.now.value)) (profiles_in next.now.value)
+        → IsThere place (plain.inner_action (behaviour_of next.now.value)) (shape_of shape.now) at
         → IsWalked base leaves place result }
 {
     let Shape::Inner = shape else {

@@ -3,6 +3,7 @@
 use behaviour_tree::{Label, Node, Spec};
 use sort_terms::Sorted;
 use std::alloc::Global;
+use std::rc::Rc;
 use step_parts::faults::At;
 
 /// A move of a part: its label and target, and where the walk goes on behind it.
@@ -11,7 +12,7 @@ pub struct Moved {
     /// The label.
     pub label: Label,
     /// The target.
-    pub target: Box<Node>,
+    pub target: Rc<Node>,
     /// The number of the node behind those of the part, and that of the first leaf behind its own.
     pub behind: At,
 }

@@ -20,13 +20,14 @@ ghost use Rattle.term_algebra.specs.Term.{Term};
 
 use crate::moved::{Moved, Walk};
 use crate::sides::Side;
-use behaviour_tree::boxes::boxed;
+use behaviour_tree::boxes::shared;
 use behaviour_tree::{Meet, Node};
+use draft_parts::rules::may_move_alone;
 use event_offers::labels::values;
 use lotos_base::NoMemory;
-use menu_builder::rules::may_move_alone;
 use sort_terms::Deciding;
 use std::alloc::Global;
+use std::rc::Rc;
 use step_parts::faults::{At, StepFault, misfit};
 use step_parts::labels::may_move_together;
 use step_parts::node_tests::checked_pairs;
@@ -111,13 +112,13 @@ pub fn together<D: Deciding>(
     })
 }
 
-// The moved left side beside a copy of the right one.
+// The moved left side beside the right one.
 fn left_target(
     alloc: Global,
     meet: &Meet,
-    left: Box<Node>,
+    left: Rc<Node>,
     right: &Side<'_>,
-) -> Result<Box<Node>, NoMemory>
+) -> Result<Rc<Node>, NoMemory>
     ensures same { IfOk result (λ made. stands_for made.value
         ≡ plain.parallel (meet_of meet.now) (stands_for left.value) (side_of right.now)) }
     ensures terms { IfOk result (λ made. (signature : Signature)
@@ -132,13 +133,13 @@ fn left_target(
     parallel(alloc, meet, left, right)
 }
 
-// A copy of the left side beside the moved right one.
+// The left side beside the moved right one.
 fn right_target(
     alloc: Global,
     meet: &Meet,
     left: &Side<'_>,
-    right: Box<Node>,
-) -> Result<Box<Node>, NoMemory>
+    right: Rc<Node>,
+) -> Result<Rc<Node>, NoMemory>
     ensures same { IfOk result (λ made. stands_for made.value
         ≡ plain.parallel (meet_of meet.now) (side_of left.now) (stands_for right.value)) }
     ensures terms { IfOk result (λ made. (signature : Signature)
@@ -157,9 +158,9 @@ fn right_target(
 fn parallel(
     alloc: Global,
     meet: &Meet,
-    left: Box<Node>,
-    right: Box<Node>,
-) -> Result<Box<Node>, NoMemory>
+    left: Rc<Node>,
+    right: Rc<Node>,
+) -> Result<Rc<Node>, NoMemory>
     ensures same { IfOk result (λ made. stands_for made.value
         ≡ plain.parallel (meet_of meet.now) (stands_for left.value) (stands_for right.value)) }
     ensures terms { IfOk result (λ made. (signature : Signature)
@@ -170,5 +171,5 @@ fn parallel(
         → HasClosedParts right.value → HasClosedParts made.value) }
 {
     let meet = meet.copy(alloc)?;
-    boxed(alloc, Node::Parallel(meet, left, right))
+    shared(alloc, Node::Parallel(meet, left, right))
 }

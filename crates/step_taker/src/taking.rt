@@ -3,15 +3,19 @@
 ghost use Rattle.behaviour_tree.specs.BehaviourTerms.{profiles_of};
 ghost use Rattle.behaviour_tree.specs.Closed.{IsClosedNode};
 ghost use Rattle.behaviour_tree.specs.Over.{AreTermsOf, IsSpecOver, IsStateOf};
-ghost use Rattle.std.specs.Prelude.{◌≡◌, ℕ, length, MatchResult, nat_lt, None, Some, if◌then◌else◌};
+ghost use Rattle.behaviour_tree.specs.StateView.{node_profiles, stands_for};
+ghost use Rattle.std.specs.Prelude.{◌≡◌, ℕ, IfOk, length, MatchResult, nat_lt, None, Some, if◌then◌else◌};
 ghost use Rattle.behaviour_semantics.specs.Fault.{not_fitting};
 ghost use Rattle.step_parts.specs.StepFaults.{IsChecked, kept_number, UnlessMemory};
 ghost use Rattle.step_taker.specs.Taken.{ground_of, IsStepFault, IsTaken};
 
 use crate::moved::Walk;
 use crate::walks::node_step;
-use behaviour_tree::{Derivation, Label, Spec, State};
+use behaviour_tree::{Derivation, Label, Node, Spec, State};
+use lotos_base::NoMemory;
 use sort_terms::{Deciding, Sorted};
+use std::alloc::Global;
+use std::rc::Rc;
 use step_parts::faults::{At, StepFault, misfit};
 
 /// The label and the target of the move that the derivation gives the state, with each value that
@@ -44,7 +48,8 @@ pub fn take<D: Deciding>(
     let at = At { node: 0, leaf: 0 };
     let moved = node_step(&walk, state.node(), &derivation.shape, at, data)?;
     none_left_over(walk.leaves, moved.behind)?;
-    Ok((moved.label, State::of(Box::into_inner(moved.target))))
+    let node = own_node(moved.target, walk.alloc)?;
+    Ok((moved.label, State::of(node)))
 }
 
 // Answers nothing where the derivation has no leaf behind those of its nodes.
@@ -57,4 +62,16 @@ fn none_left_over(leaves: &[Sorted], behind: At) -> Result<(), StepFault>
         return Err(misfit(behind));
     }
     Ok(())
+}
+
+// The node itself, where nothing else has it, and else one with the same parts.
+fn own_node(node: Rc<Node>, alloc: Global) -> Result<Node, NoMemory>
+    ensures same { IfOk result (λ own. stands_for own ≡ stands_for node.value) }
+    ensures terms { IfOk result (λ own. node_profiles own ≡ node_profiles node.value) }
+    ensures closed { IfOk result (λ own. IsClosedNode node.value → IsClosedNode own) }
+{
+    match Rc::try_unwrap(node) {
+        Ok(own) => Ok(own),
+        Err(kept) => kept.copy(alloc),
+    }
 }

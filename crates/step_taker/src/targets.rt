@@ -18,10 +18,11 @@ ghost use Rattle.step_taker.specs.Walked.{IsClosedOn, IsMadeBy, IsPassableSide};
 
 use crate::moved::Moved;
 use crate::sides::Side;
-use behaviour_tree::boxes::boxed;
+use behaviour_tree::boxes::shared;
 use behaviour_tree::{Label, Node, Process};
 use lotos_base::NoMemory;
 use std::alloc::Global;
+use std::rc::Rc;
 use step_parts::faults::{At, StepFault};
 use step_parts::labels::{hide_label, relabel_label};
 use step_parts::targets::{gate_pair, still_disabled, under};
@@ -41,7 +42,7 @@ pub fn hidden(alloc: Global, gates: &Vec<u32>, moved: Moved, at: At) -> Result<M
 }
 
 // The node under `hide`.
-fn hide(alloc: Global, gates: &Vec<u32>, inner: Box<Node>) -> Result<Box<Node>, NoMemory>
+fn hide(alloc: Global, gates: &Vec<u32>, inner: Rc<Node>) -> Result<Rc<Node>, NoMemory>
     ensures same { IfOk result
         (λ made. stands_for made.value ≡ plain.hide gates.now.items (stands_for inner.value)) }
     ensures terms { IfOk result (λ made. node_profiles made.value ≡ node_profiles inner.value) }
@@ -49,7 +50,7 @@ fn hide(alloc: Global, gates: &Vec<u32>, inner: Box<Node>) -> Result<Box<Node>, 
         (λ made. HasClosedParts inner.value → HasClosedParts made.value) }
 {
     let hidden = Vec::from_slice(alloc, gates)?;
-    boxed(alloc, Node::Hide(hidden, inner))
+    shared(alloc, Node::Hide(hidden, inner))
 }
 
 /// The move of the left side of `[>`.
@@ -74,9 +75,9 @@ pub fn disabled(alloc: Global, moved: Moved, right: &Side<'_>, at: At) -> Result
 fn disabled_target(
     alloc: Global,
     label: &Label,
-    target: Box<Node>,
+    target: Rc<Node>,
     right: &Side<'_>,
-) -> Result<Box<Node>, NoMemory>
+) -> Result<Rc<Node>, NoMemory>
     ensures same { IfOk result (λ made. stands_for made.value
         ≡ disabled_still (label_of label.now) (stands_for target.value) (side_of right.now)) }
     ensures terms { IfOk result (λ made. (signature : Signature)
@@ -88,8 +89,7 @@ fn disabled_target(
         → HasClosedParts made.value) }
 {
     let right = right.node(alloc)?;
-    let made = still_disabled(alloc, label, Box::into_inner(target), right)?;
-    boxed(alloc, made)
+    still_disabled(alloc, label, target, right)
 }
 
 /// The move under the relabelling of one formal gate by an actual one.
@@ -188,9 +188,9 @@ fn relabelled(
 // The target under a relabelling.
 fn target_under(
     alloc: Global,
-    target: Box<Node>,
+    target: Rc<Node>,
     pairs: Vec<(u32, u32)>,
-) -> Result<Box<Node>, NoMemory>
+) -> Result<Rc<Node>, NoMemory>
     requires { HasClosedParts target.value }
     ensures same { IfOk result
         (λ made. stands_for made.value ≡ made_under (stands_for target.value) pairs.items) }
@@ -200,6 +200,6 @@ fn target_under(
     ensures closed_parts { IfOk result (λ made. (base : Ground)
         → IsClosedOn base (stands_for target.value) → HasClosedParts made.value) }
 {
-    let made = under(alloc, Box::into_inner(target), pairs)?;
-    boxed(alloc, made)
+    let made = under(alloc, &target, pairs)?;
+    shared(alloc, made)
 }

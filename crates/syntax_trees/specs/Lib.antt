@@ -13,3 +13,8 @@ pub mod NodePlaces
 pub mod Depth
 pub mod DepthExamples
 pub mod TakenItems
+pub mod Firsts
+pub mod TreeFirsts
+pub mod DepthLaws
+pub mod FirstsView
+pub mod Counting

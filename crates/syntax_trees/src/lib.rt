@@ -1,15 +1,16 @@
 //! The syntax trees of a text of LOTOS (ISO 8807:1989, syntax; ACT ONE's types with it), as they are
-//! read and before anything is resolved. Names stand as they are spelled, terms as they are written.
-//!
-//! Each node has a place. The place of a definition is that of its name, of a binary behaviour its
-//! sign, and of every other form its first token. `specs/` has the plain value of each tree, over
-//! which the rules on types and on scopes are defined.
+//! read and before anything is resolved, and how deep their nodes stand, which is found before any
+//! tree is made. Names stand as they are spelled, terms as they are written.
 #![tactic(auto)]
 
 mod behaviour_grouping;
 pub mod behaviours;
 pub mod definitions;
+mod depth_grouping;
+pub mod depth_laws;
+mod discarding;
 pub mod equations;
+pub mod firsts;
 pub mod grouping;
 pub mod items;
 pub mod laws;
@@ -20,6 +21,8 @@ mod taking;
 pub use behaviour_grouping::group;
 pub use behaviours::{BehForm, BehText, ExitText, GateText, OfferText, Sign};
 pub use definitions::{InnerText, ProcessText, SpecText};
+pub use discarding::discard;
 pub use equations::{EqText, EqnsText, GroupText, TestText};
+pub use firsts::FirstNodes;
 pub use items::{ItemBody, ItemText, OpText, PairText};
 pub use named::{Named, VarText};

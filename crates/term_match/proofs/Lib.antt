@@ -3,3 +3,10 @@ pub mod PathLemmas
 pub mod DistinctLemmas
 pub mod SearchLemmas
 pub mod MatchLemmas
+pub mod NumberLemmas
+pub mod AppearanceLemmas
+pub mod AgreeLemmas
+pub mod RoomLemmas
+pub mod StateLemmas
+pub mod UnifierLemmas
+pub mod ListLemmas

@@ -6,3 +6,11 @@ pub mod FoundView
 pub mod Search
 pub mod Matched
 pub mod Laws
+pub mod Appearance
+pub mod Renumbering
+pub mod NewNumbers
+pub mod Disagreement
+pub mod DifferenceView
+pub mod Solving
+pub mod DemandView
+pub mod Unified

@@ -4,9 +4,9 @@ use Rattle.std.specs.Prelude.{Option, Some, option_map, option_and_then}
 use Rattle.lotos_base.specs.declared.places.Place.{Place}
 use Rattle.lotos_base.specs.WrittenView.{text_place_of}
 use Rattle.syntax_trees.specs.Depth.{first_deeper}
-use Rattle.tree_depth.specs.Firsts.{everywhere}
-use Rattle.depth_rows.specs.MeaningNodes.{nodes_in}
-use Rattle.depth_rows.proofs.Facts.{closable, closed_is}
+use Rattle.syntax_trees.specs.Firsts.{everywhere}
+use Rattle.text_depth.specs.MeaningNodes.{nodes_in}
+use Rattle.text_depth.proofs.Facts.{closable, closed_is}
 use Rattle.text_depth.specs.declared.part.KeptPart.{KeptPart}
 use Rattle.text_depth.specs.PartView.{kept_of}
 use Rattle.std.specs.List.{list_all}
@@ -15,7 +15,7 @@ use Rattle.ll_engine.specs.Derivation.{Production, Forest, Derives, leaves}
 use Rattle.ll_engine.specs.Language.{ContextFree}
 use Rattle.ll_engine.proofs.KeptSets.{predictive_after}
 use Rattle.ll_engine.proofs.Uniqueness.{one_tree}
-use Rattle.derivation_fold.specs.Fold.{kept_in_front, first_value, value_of_tree}
+use Rattle.ll_engine.specs.Fold.{kept_in_front, first_value, value_of_tree}
 use Rattle.lotos_lexer.specs.declared.tokens.Token.{Token}
 use Rattle.lotos_rows.specs.declared.starts.TheConstants as starts
 use Rattle.lotos_rows.specs.Kept.{is_kept_kind}
@@ -23,9 +23,9 @@ use Rattle.lotos_rows.specs.Rows as lotos
 use Rattle.lotos_rows.specs.Rows.{grammar_from}
 use Rattle.tree_building.specs.Meaning.{Meaning}
 use Rattle.sentence_trees.specs.Sentences.{kind_of, Derived}
-use Rattle.depth_rows.specs.DepthPart.{DepthPart, depth_of}
-use Rattle.depth_rows.specs.RowDepth.{closed_part, numbered_row_depth}
-use Rattle.depth_rows.proofs.FoldedDepths.{depths_hold}
+use Rattle.text_depth.specs.DepthPart.{DepthPart, depth_of}
+use Rattle.text_depth.specs.RowDepth.{closed_part, numbered_row_depth}
+use Rattle.text_depth.proofs.FoldedDepths.{depths_hold}
 use Rattle.text_depth.specs.LotosRows.{HasLotosRows}
 
 pub of_specifications : HasLotosRows (grammar_from starts.SPEC)

@@ -1,2 +1,14 @@
 pub mod PartLists
 pub mod Depths
+pub mod Inversions
+pub mod Facts
+pub mod NamesDepths
+pub mod TermsDepths
+pub mod TypesDepths
+pub mod EquationsDepths
+pub mod RenamingsDepths
+pub mod BehavioursDepths
+pub mod DefinitionsDepths
+pub mod StartsDepths
+pub mod RowDepths
+pub mod FoldedDepths

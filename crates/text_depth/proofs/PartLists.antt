@@ -6,12 +6,12 @@ use Rattle.lotos_base.specs.declared.places.Place as code
 use Rattle.lotos_base.specs.WrittenView.{text_place_of}
 use Rattle.std.proofs.lemmas.List.{length-map, length-reverse}
 use Rattle.term_algebra.specs.Equation.{Place}
-use Rattle.derivation_fold.specs.Run.{from_last}
+use Rattle.ll_engine.specs.Run.{from_last}
 use Rattle.syntax_trees.specs.Grouping.{leftmost, grouped}
-use Rattle.tree_depth.specs.Firsts.{Firsts, between, everywhere, followed, below}
-use Rattle.tree_depth.specs.TreeFirsts.{names_firsts}
-use Rattle.depth_rows.specs.DepthPart.{DepthPart}
-use Rattle.depth_rows.specs.RowDepth.{both, closed_part, closed_parts, joined_parts}
+use Rattle.syntax_trees.specs.Firsts.{Firsts, between, everywhere, followed, below}
+use Rattle.syntax_trees.specs.TreeFirsts.{names_firsts}
+use Rattle.text_depth.specs.DepthPart.{DepthPart}
+use Rattle.text_depth.specs.RowDepth.{both, closed_part, closed_parts, joined_parts}
 
 pub joined_last : (parts : List DepthPart) (some others : DepthPart) →
     joined_parts (parts ++ some ∷ others ∷ []) ≡ joined_parts (parts ++ both some others ∷ [])

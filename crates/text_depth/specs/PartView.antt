@@ -1,8 +1,8 @@
 -- The plain value of what the code keeps of a part.
-use Rattle.derivation_fold.specs.Run.{from_last}
+use Rattle.ll_engine.specs.Run.{from_last}
 use Rattle.lotos_base.specs.WrittenView.{text_place_of}
-use Rattle.tree_depth.specs.FirstsView.{firsts_of}
-use Rattle.depth_rows.specs.DepthPart.{DepthPart}
+use Rattle.syntax_trees.specs.FirstsView.{firsts_of}
+use Rattle.text_depth.specs.DepthPart.{DepthPart}
 use Rattle.text_depth.specs.declared.part.KeptPart.{KeptPart}
 
 abbrev pub kept_of : KeptPart → DepthPart

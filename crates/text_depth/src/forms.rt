@@ -1,13 +1,13 @@
 //! What the rows of terms and behaviours keep of their parts.
 
 ghost use Rattle.std.specs.Prelude.{◌≡◌, IfOk, fold, option_map};
-ghost use Rattle.derivation_fold.specs.Run.{from_last};
+ghost use Rattle.ll_engine.specs.Run.{from_last};
 ghost use Rattle.lotos_base.specs.WrittenView.{text_place_of};
-ghost use Rattle.tree_depth.specs.Firsts.{between};
-ghost use Rattle.tree_depth.specs.FirstsView.{firsts_of};
-ghost use Rattle.tree_depth.specs.TreeFirsts.{names_firsts};
-ghost use Rattle.depth_rows.specs.DepthPart.{before_first_operand, of_flat};
-ghost use Rattle.depth_rows.specs.RowDepth.{applied_name, around_middle, bracket_first, bracketed_term, call_end, choice_form, chosen_part, end_of_choice, exit_first, factor_first, first_operand, guard_prefix, in_front, inner_prefix, left_grouped, named_first, one_operand, par_form, sign_part, stop_first, terms_before, token_name, word_form};
+ghost use Rattle.syntax_trees.specs.Firsts.{between};
+ghost use Rattle.syntax_trees.specs.FirstsView.{firsts_of};
+ghost use Rattle.syntax_trees.specs.TreeFirsts.{names_firsts};
+ghost use Rattle.text_depth.specs.DepthPart.{before_first_operand, of_flat};
+ghost use Rattle.text_depth.specs.RowDepth.{applied_name, around_middle, bracket_first, bracketed_term, call_end, choice_form, chosen_part, end_of_choice, exit_first, factor_first, first_operand, guard_prefix, in_front, inner_prefix, left_grouped, named_first, one_operand, par_form, sign_part, stop_first, terms_before, token_name, word_form};
 ghost use Rattle.text_depth.specs.PartView.{kept_of};
 
 use crate::lists::{Kept, both};
@@ -15,7 +15,7 @@ use crate::part::{KeptPart, grouped_firsts, turned};
 use lotos_base::Place;
 use lotos_lexer::Token;
 use std::alloc::{AllocError, Global};
-use tree_depth::FirstNodes;
+use syntax_trees::FirstNodes;
 
 /// The name that is the row's token.
 #[tactic(auto, using(tree_building::proofs::FromLast::from_last_more, tree_building::proofs::FromLast::from_last_none))]

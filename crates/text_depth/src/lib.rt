@@ -1,9 +1,10 @@
-//! The first node of a text that is too deep, from the derivation of its tokens and before any tree is made. The work is linear
-//! in the text, and nothing recurses over it.
+//! The first node of a text that is too deep, from the derivation of its tokens and before any tree
+//! is made. The work is linear in the text, and nothing recurses over it.
 #![tactic(auto)]
 
 mod depth;
 mod forms;
+pub mod laws;
 mod lists;
 pub mod part;
 mod rows;

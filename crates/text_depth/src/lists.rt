@@ -1,16 +1,16 @@
 //! Parts that are taken together.
 
 ghost use Rattle.std.specs.Prelude.{◌≡◌, IfOk, Some, option_map};
-ghost use Rattle.derivation_fold.specs.Run.{from_last};
+ghost use Rattle.ll_engine.specs.Run.{from_last};
 ghost use Rattle.lotos_base.specs.WrittenView.{text_place_of};
-ghost use Rattle.tree_depth.specs.Firsts.{everywhere};
-ghost use Rattle.depth_rows.specs.RowDepth.{both, closed_part, closed_parts, closing, joined_parts, together};
+ghost use Rattle.syntax_trees.specs.Firsts.{everywhere};
+ghost use Rattle.text_depth.specs.RowDepth.{both, closed_part, closed_parts, closing, joined_parts, together};
 ghost use Rattle.text_depth.specs.PartView.{kept_of};
 
 use crate::part::{KeptPart, grouped_firsts};
 use lotos_base::Place;
 use std::alloc::{AllocError, Global};
-use tree_depth::FirstNodes;
+use syntax_trees::FirstNodes;
 
 /// What a row keeps: a part, or none where its parts are not those of the row.
 pub type Kept = Result<Option<KeptPart>, AllocError>;

@@ -1,19 +1,19 @@
 //! What is kept of a part of a text.
 
 ghost use Rattle.std.specs.Prelude.{◌≡◌, IfOk, reverse};
-ghost use Rattle.derivation_fold.specs.Run.{from_last};
+ghost use Rattle.ll_engine.specs.Run.{from_last};
 ghost use Rattle.lotos_base.specs.WrittenView.{text_place_of};
 ghost use Rattle.syntax_trees.specs.Grouping.{grouped};
-ghost use Rattle.tree_depth.specs.Firsts.{between};
-ghost use Rattle.tree_depth.specs.FirstsView.{firsts_of};
-ghost use Rattle.depth_rows.specs.DepthPart.{of_firsts, of_flat, of_names};
-ghost use Rattle.depth_rows.specs.RowDepth.{grouped_firsts, or_no_nodes};
+ghost use Rattle.syntax_trees.specs.Firsts.{between};
+ghost use Rattle.syntax_trees.specs.FirstsView.{firsts_of};
+ghost use Rattle.text_depth.specs.DepthPart.{of_firsts, of_flat, of_names};
+ghost use Rattle.text_depth.specs.RowDepth.{grouped_firsts, or_no_nodes};
 ghost use Rattle.text_depth.specs.PartView.{kept_of};
 
 use lotos_base::Place;
 use std::alloc::{AllocError, Global};
+use syntax_trees::FirstNodes;
 use syntax_trees::grouping::group_operands;
-use tree_depth::FirstNodes;
 
 /// What is kept of a part of a text. Lists are held from the last member to the first.
 #[derive(Debug, Drop)]

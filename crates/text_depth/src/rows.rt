@@ -1,16 +1,16 @@
 //! What each row keeps of its part, as the actions of a fold over a derivation.
 
 ghost use Rattle.std.specs.Prelude.{◌≡◌, IfOk, option_map};
-ghost use Rattle.derivation_fold.specs.Run.{from_last};
+ghost use Rattle.ll_engine.specs.Run.{from_last};
 ghost use Rattle.lotos_rows.specs.Kept.{is_kept_kind};
-ghost use Rattle.depth_rows.specs.DepthPart.{DepthPart};
-ghost use Rattle.depth_rows.specs.RowDepth.{behaviours_row_depth, definitions_row_depth, equations_row_depth, names_row_depth, numbered_row_depth, row_depth, starts_row_depth, terms_row_depth, types_row_depth};
+ghost use Rattle.text_depth.specs.DepthPart.{DepthPart};
+ghost use Rattle.text_depth.specs.RowDepth.{behaviours_row_depth, definitions_row_depth, equations_row_depth, names_row_depth, numbered_row_depth, row_depth, starts_row_depth, terms_row_depth, types_row_depth};
 ghost use Rattle.text_depth.specs.PartView.{kept_of};
 
 use crate::forms;
 use crate::lists::{Kept, closing, together};
 use crate::part::KeptPart;
-use derivation_fold::Actions;
+use ll_engine::Actions;
 use lotos_lexer::Token;
 use lotos_rows::behaviours::BehavioursRow;
 use lotos_rows::definitions::DefinitionsRow;

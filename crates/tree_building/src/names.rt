@@ -6,9 +6,9 @@ ghost use Rattle.lotos_base.specs.WrittenView.{placed_name_of};
 ghost use Rattle.lotos_sentences.specs.Names.{named, spelled, variables_of_sort};
 ghost use Rattle.lotos_sentences.specs.Behaviours.{variable_named};
 ghost use Rattle.syntax_trees.specs.TreeViews.{variable_of};
-ghost use Rattle.derivation_fold.specs.Run.{from_last};
+ghost use Rattle.ll_engine.specs.Run.{from_last};
 ghost use Rattle.tree_building.specs.MeaningView.{meaning};
-ghost use Rattle.tree_building.specs.NamesMeaning.{infix_operation, name_alone, name_before_names, no_names, no_variables, prefix_operation, profile_of_names, same_name, same_names, same_variables, token_named, variables_before_variables};
+ghost use Rattle.tree_building.specs.NamesMeaning.{infix_operation, name_alone, name_before_names, prefix_operation, profile_of_names, same_names, token_named, variables_before_variables};
 ghost use Rattle.tree_building.specs.RowMeaning.{names_row_means};
 
 use crate::names_values::{NamedOp, OpProfile};
@@ -60,6 +60,24 @@ pub fn variable_of_sort(alloc: Global, name: Named, sort: &Named) -> Result<VarT
     })
 }
 
+/// A copy of a name with its place.
+pub fn copied_name(alloc: Global, name: &Named) -> Result<Named, AllocError>
+    ensures { IfOk result (λ copy. placed_name_of copy ≡ placed_name_of name.now) }
+{
+    Ok((name.0, name.1.copy(alloc)?))
+}
+
+/// A copy of names with their places.
+pub fn copied_names(alloc: Global, names: &[Named]) -> Result<Vec<Named>, AllocError>
+    ensures { IfOk result (λ copies. map placed_name_of copies.items ≡ map placed_name_of names.now) }
+{
+    let mut copies = Vec::with_capacity(alloc, names.len())?;
+    for name in names {
+        copies.push(copied_name(alloc, name)?)?;
+    }
+    Ok(copies)
+}
+
 /// Puts a variable of the sort for each of the names in front.
 #[tactic(auto, using(crate::proofs::FromLast::from_last_more, crate::proofs::FromLast::from_last_none))]
 pub fn add_variables(
@@ -86,35 +104,19 @@ fn token_name(alloc: Global, text: &[u8], token: Option<Token>) -> Built
     }
 }
 
-fn the_name(mut parts: Vec<Value>) -> Option<Value>
-    ensures { option_map meaning result ≡ same_name (from_last meaning parts.items) }
+fn the_names(parts: &mut Vec<Value>) -> Option<Value>
+    ensures { option_map meaning result ≡ same_names (from_last meaning parts.old.items) }
 {
-    let name = take::<Named>(&mut parts)?;
-    Some(Value::Name(name))
-}
-
-/// No names.
-#[tactic(auto, using(crate::proofs::FromLast::from_last_none))]
-pub fn empty_names(alloc: Global) -> Value
-    ensures { Some (meaning result) ≡ no_names }
-{
-    Value::Names(Vec::new(alloc))
-}
-
-/// The names that the part has.
-pub fn the_names(mut parts: Vec<Value>) -> Option<Value>
-    ensures { option_map meaning result ≡ same_names (from_last meaning parts.items) }
-{
-    let names = take::<Vec<Named>>(&mut parts)?;
+    let names = take::<Vec<Named>>(parts)?;
     Some(Value::Names(names))
 }
 
 /// A list of the name that the part is.
 #[tactic(auto, using(crate::proofs::FromLast::from_last_more, crate::proofs::FromLast::from_last_none))]
-pub fn one_name(alloc: Global, mut parts: Vec<Value>) -> Built
-    ensures { IfOk result (λ built. option_map meaning built ≡ name_alone (from_last meaning parts.items)) }
+pub fn one_name(alloc: Global, parts: &mut Vec<Value>) -> Built
+    ensures { IfOk result (λ built. option_map meaning built ≡ name_alone (from_last meaning parts.old.items)) }
 {
-    let Some(name) = take::<Named>(&mut parts) else {
+    let Some(name) = take::<Named>(parts) else {
         return Ok(None);
     };
     let mut names = Vec::new(alloc);
@@ -123,65 +125,49 @@ pub fn one_name(alloc: Global, mut parts: Vec<Value>) -> Built
 }
 
 #[tactic(auto, using(crate::proofs::FromLast::from_last_more))]
-fn joined_names(mut parts: Vec<Value>) -> Built
-    ensures { IfOk result (λ built. option_map meaning built ≡ name_before_names (from_last meaning parts.items)) }
+fn joined_names(parts: &mut Vec<Value>) -> Built
+    ensures { IfOk result (λ built. option_map meaning built ≡ name_before_names (from_last meaning parts.old.items)) }
 {
-    let Some(name) = take::<Named>(&mut parts) else {
+    let Some(name) = take::<Named>(parts) else {
         return Ok(None);
     };
-    let Some(mut names) = take::<Vec<Named>>(&mut parts) else {
+    let Some(mut names) = take::<Vec<Named>>(parts) else {
         return Ok(None);
     };
     names.push(name)?;
     Ok(Some(Value::Names(names)))
 }
 
-/// No variables.
-#[tactic(auto, using(crate::proofs::FromLast::from_last_none))]
-pub fn empty_variables(alloc: Global) -> Value
-    ensures { Some (meaning result) ≡ no_variables }
+fn joined_variables(alloc: Global, parts: &mut Vec<Value>) -> Built
+    ensures { IfOk result (λ built. option_map meaning built ≡ variables_before_variables (from_last meaning parts.old.items)) }
 {
-    Value::Variables(Vec::new(alloc))
-}
-
-/// The variables that the part has.
-pub fn the_variables(mut parts: Vec<Value>) -> Option<Value>
-    ensures { option_map meaning result ≡ same_variables (from_last meaning parts.items) }
-{
-    let variables = take::<Vec<VarText>>(&mut parts)?;
-    Some(Value::Variables(variables))
-}
-
-fn joined_variables(alloc: Global, mut parts: Vec<Value>) -> Built
-    ensures { IfOk result (λ built. option_map meaning built ≡ variables_before_variables (from_last meaning parts.items)) }
-{
-    let Some(names) = take::<Vec<Named>>(&mut parts) else {
+    let Some(names) = take::<Vec<Named>>(parts) else {
         return Ok(None);
     };
-    let Some(sort) = take::<Named>(&mut parts) else {
+    let Some(sort) = take::<Named>(parts) else {
         return Ok(None);
     };
-    let Some(mut variables) = take::<Vec<VarText>>(&mut parts) else {
+    let Some(mut variables) = take::<Vec<VarText>>(parts) else {
         return Ok(None);
     };
     add_variables(alloc, names, &sort, &mut variables)?;
     Ok(Some(Value::Variables(variables)))
 }
 
-fn operation_before_arguments(mut parts: Vec<Value>) -> Option<Value>
-    ensures { option_map meaning result ≡ prefix_operation (from_last meaning parts.items) }
+fn operation_before_arguments(parts: &mut Vec<Value>) -> Option<Value>
+    ensures { option_map meaning result ≡ prefix_operation (from_last meaning parts.old.items) }
 {
-    let name = take::<Named>(&mut parts)?;
+    let name = take::<Named>(parts)?;
     Some(Value::Operation(NamedOp {
         name,
         form: Form::Prefix,
     }))
 }
 
-fn operation_between_arguments(mut parts: Vec<Value>) -> Option<Value>
-    ensures { option_map meaning result ≡ infix_operation (from_last meaning parts.items) }
+fn operation_between_arguments(parts: &mut Vec<Value>) -> Option<Value>
+    ensures { option_map meaning result ≡ infix_operation (from_last meaning parts.old.items) }
 {
-    let name = take::<Named>(&mut parts)?;
+    let name = take::<Named>(parts)?;
     Some(Value::Operation(NamedOp {
         name,
         form: Form::Infix,
@@ -189,11 +175,11 @@ fn operation_between_arguments(mut parts: Vec<Value>) -> Option<Value>
 }
 
 #[tactic(auto, using(crate::proofs::FromLast::map_reverse))]
-fn profile(mut parts: Vec<Value>) -> Option<Value>
-    ensures { option_map meaning result ≡ profile_of_names (from_last meaning parts.items) }
+fn profile(parts: &mut Vec<Value>) -> Option<Value>
+    ensures { option_map meaning result ≡ profile_of_names (from_last meaning parts.old.items) }
 {
-    let arguments = take::<Vec<Named>>(&mut parts)?;
-    let result_sort = take::<Named>(&mut parts)?;
+    let arguments = take::<Vec<Named>>(parts)?;
+    let result_sort = take::<Named>(parts)?;
     Some(Value::Profile(OpProfile {
         arguments: turned(arguments),
         result: result_sort,
@@ -201,21 +187,22 @@ fn profile(mut parts: Vec<Value>) -> Option<Value>
 }
 
 /// What a row of names and lists of them builds from its token and its parts.
+#[tactic(auto, using(crate::proofs::FromLast::from_last_none))]
 pub fn build(
     alloc: Global,
     text: &[u8],
     row: NamesRow,
     token: Option<Token>,
-    parts: Vec<Value>,
+    parts: &mut Vec<Value>,
 ) -> Built
-    ensures { IfOk result (λ built. option_map meaning built ≡ names_row_means text.now row token (from_last meaning parts.items)) }
+    ensures { IfOk result (λ built. option_map meaning built ≡ names_row_means text.now row token (from_last meaning parts.old.items)) }
 {
     match row {
         NamesRow::Name | NamesRow::DigitName | NamesRow::SignName => token_name(alloc, text, token),
         NamesRow::NoMoreNames
         | NamesRow::NoOptionalNames
         | NamesRow::NoOptionalGates
-        | NamesRow::NoMoreLooseNames => Ok(Some(empty_names(alloc))),
+        | NamesRow::NoMoreLooseNames => Ok(Some(Value::Names(Vec::new(alloc)))),
         NamesRow::MoreNames
         | NamesRow::OptionalNames
         | NamesRow::Gates
@@ -224,9 +211,9 @@ pub fn build(
         | NamesRow::MoreLooseNames => Ok(the_names(parts)),
         NamesRow::Names | NamesRow::LooseNames => joined_names(parts),
         NamesRow::Variables => joined_variables(alloc, parts),
-        NamesRow::NoMoreVariables => Ok(Some(empty_variables(alloc))),
-        NamesRow::MoreVariables => Ok(the_variables(parts)),
-        NamesRow::NameOfOperation => Ok(the_name(parts)),
+        NamesRow::NoMoreVariables => Ok(Some(Value::Variables(Vec::new(alloc)))),
+        NamesRow::MoreVariables => Ok(take::<Vec<VarText>>(parts).map(Value::Variables)),
+        NamesRow::NameOfOperation => Ok(take::<Named>(parts).map(Value::Name)),
         NamesRow::PrefixOperation => Ok(operation_before_arguments(parts)),
         NamesRow::InfixOperation => Ok(operation_between_arguments(parts)),
         NamesRow::Profile => Ok(profile(parts)),

@@ -4,13 +4,13 @@ ghost use Rattle.std.specs.Prelude.{◌≡◌, ◌++◌, IfOk, OnOk, Some, map, 
 ghost use Rattle.lotos_base.specs.WrittenView.{placed_name_of, written_term_of};
 ghost use Rattle.lotos_sentences.specs.Terms.{applied, infix_term};
 ghost use Rattle.syntax_trees.specs.LeftGrouping.{grouped_left};
-ghost use Rattle.derivation_fold.specs.Run.{from_last};
+ghost use Rattle.ll_engine.specs.Run.{from_last};
 ghost use Rattle.tree_building.specs.MeaningView.{meaning};
 ghost use Rattle.tree_building.specs.RowMeaning.{terms_row_means};
-ghost use Rattle.tree_building.specs.TermsMeaning.{applied_factor, bracketed_factor, factor_before_factors, no_factors, no_terms, same_terms, term_before_terms, term_of_factors, with_sorts};
+ghost use Rattle.tree_building.specs.TermsMeaning.{applied_factor, bracketed_factor, factor_before_factors, term_before_terms, term_of_factors, with_sorts};
 ghost use Rattle.tree_building.specs.TermsViews.{factor_of};
 
-use crate::names::{Built, empty_names, one_name, turned};
+use crate::names::{Built, one_name, turned};
 use crate::terms_values::StartedTerm;
 use crate::value::{Value, take};
 use lotos_base::{Form, Written};
@@ -93,13 +93,13 @@ fn marked(term: Written, mark: Vec<Named>) -> Result<Written, AllocError>
     })
 }
 
-fn whole_term(alloc: Global, mut parts: Vec<Value>) -> Built
-    ensures { IfOk result (λ built. option_map meaning built ≡ term_of_factors (from_last meaning parts.items)) }
+fn whole_term(alloc: Global, parts: &mut Vec<Value>) -> Built
+    ensures { IfOk result (λ built. option_map meaning built ≡ term_of_factors (from_last meaning parts.old.items)) }
 {
-    let Some(first) = take::<StartedTerm>(&mut parts) else {
+    let Some(first) = take::<StartedTerm>(parts) else {
         return Ok(None);
     };
-    let Some(behind) = take::<Vec<(Named, Written)>>(&mut parts) else {
+    let Some(behind) = take::<Vec<(Named, Written)>>(parts) else {
         return Ok(None);
     };
     Ok(Some(Value::Term(StartedTerm {
@@ -108,40 +108,33 @@ fn whole_term(alloc: Global, mut parts: Vec<Value>) -> Built
     })))
 }
 
-#[tactic(auto, using(crate::proofs::FromLast::from_last_none))]
-fn empty_factors(alloc: Global) -> Value
-    ensures { Some (meaning result) ≡ no_factors }
-{
-    Value::Factors(Vec::new(alloc))
-}
-
 #[tactic(auto, using(crate::proofs::FromLast::from_last_more))]
-fn joined_factors(mut parts: Vec<Value>) -> Built
-    ensures { IfOk result (λ built. option_map meaning built ≡ factor_before_factors (from_last meaning parts.items)) }
+fn joined_factors(parts: &mut Vec<Value>) -> Built
+    ensures { IfOk result (λ built. option_map meaning built ≡ factor_before_factors (from_last meaning parts.old.items)) }
 {
-    let Some(operation) = take::<Named>(&mut parts) else {
+    let Some(operation) = take::<Named>(parts) else {
         return Ok(None);
     };
-    let Some(factor) = take::<StartedTerm>(&mut parts) else {
+    let Some(factor) = take::<StartedTerm>(parts) else {
         return Ok(None);
     };
-    let Some(mut factors) = take::<Vec<(Named, Written)>>(&mut parts) else {
+    let Some(mut factors) = take::<Vec<(Named, Written)>>(parts) else {
         return Ok(None);
     };
     factors.push((operation, factor.term))?;
     Ok(Some(Value::Factors(factors)))
 }
 
-fn factor_of_operation(alloc: Global, mut parts: Vec<Value>) -> Built
-    ensures { IfOk result (λ built. option_map meaning built ≡ applied_factor (from_last meaning parts.items)) }
+fn factor_of_operation(alloc: Global, parts: &mut Vec<Value>) -> Built
+    ensures { IfOk result (λ built. option_map meaning built ≡ applied_factor (from_last meaning parts.old.items)) }
 {
-    let Some(name) = take::<Named>(&mut parts) else {
+    let Some(name) = take::<Named>(parts) else {
         return Ok(None);
     };
-    let Some(arguments) = take::<Vec<Written>>(&mut parts) else {
+    let Some(arguments) = take::<Vec<Written>>(parts) else {
         return Ok(None);
     };
-    let Some(mark) = take::<Vec<Named>>(&mut parts) else {
+    let Some(mark) = take::<Vec<Named>>(parts) else {
         return Ok(None);
     };
     let start = name.0;
@@ -149,16 +142,16 @@ fn factor_of_operation(alloc: Global, mut parts: Vec<Value>) -> Built
     Ok(Some(Value::Term(StartedTerm { start, term })))
 }
 
-fn factor_in_brackets(token: Option<Token>, mut parts: Vec<Value>) -> Built
-    ensures { IfOk result (λ built. option_map meaning built ≡ bracketed_factor token (from_last meaning parts.items)) }
+fn factor_in_brackets(token: Option<Token>, parts: &mut Vec<Value>) -> Built
+    ensures { IfOk result (λ built. option_map meaning built ≡ bracketed_factor token (from_last meaning parts.old.items)) }
 {
     let Some(left) = token else {
         return Ok(None);
     };
-    let Some(inside) = take::<StartedTerm>(&mut parts) else {
+    let Some(inside) = take::<StartedTerm>(parts) else {
         return Ok(None);
     };
-    let Some(mark) = take::<Vec<Named>>(&mut parts) else {
+    let Some(mark) = take::<Vec<Named>>(parts) else {
         return Ok(None);
     };
     Ok(Some(Value::Term(StartedTerm {
@@ -167,30 +160,14 @@ fn factor_in_brackets(token: Option<Token>, mut parts: Vec<Value>) -> Built
     })))
 }
 
-/// No terms.
-#[tactic(auto, using(crate::proofs::FromLast::from_last_none))]
-pub fn empty_terms(alloc: Global) -> Value
-    ensures { Some (meaning result) ≡ no_terms }
-{
-    Value::Terms(Vec::new(alloc))
-}
-
-/// The terms that the part has.
-pub fn the_terms(mut parts: Vec<Value>) -> Option<Value>
-    ensures { option_map meaning result ≡ same_terms (from_last meaning parts.items) }
-{
-    let terms = take::<Vec<Written>>(&mut parts)?;
-    Some(Value::Terms(terms))
-}
-
 #[tactic(auto, using(crate::proofs::FromLast::from_last_more))]
-fn joined_terms(mut parts: Vec<Value>) -> Built
-    ensures { IfOk result (λ built. option_map meaning built ≡ term_before_terms (from_last meaning parts.items)) }
+fn joined_terms(parts: &mut Vec<Value>) -> Built
+    ensures { IfOk result (λ built. option_map meaning built ≡ term_before_terms (from_last meaning parts.old.items)) }
 {
-    let Some(first) = take::<StartedTerm>(&mut parts) else {
+    let Some(first) = take::<StartedTerm>(parts) else {
         return Ok(None);
     };
-    let Some(mut terms) = take::<Vec<Written>>(&mut parts) else {
+    let Some(mut terms) = take::<Vec<Written>>(parts) else {
         return Ok(None);
     };
     terms.push(first.term)?;
@@ -198,18 +175,21 @@ fn joined_terms(mut parts: Vec<Value>) -> Built
 }
 
 /// What a row of terms builds from its token and its parts.
-pub fn build(alloc: Global, row: TermsRow, token: Option<Token>, parts: Vec<Value>) -> Built
-    ensures { IfOk result (λ built. option_map meaning built ≡ terms_row_means row token (from_last meaning parts.items)) }
+#[tactic(auto, using(crate::proofs::FromLast::from_last_none))]
+pub fn build(alloc: Global, row: TermsRow, token: Option<Token>, parts: &mut Vec<Value>) -> Built
+    ensures { IfOk result (λ built. option_map meaning built ≡ terms_row_means row token (from_last meaning parts.old.items)) }
 {
     match row {
         TermsRow::Term => whole_term(alloc, parts),
-        TermsRow::NoMoreFactors => Ok(Some(empty_factors(alloc))),
+        TermsRow::NoMoreFactors => Ok(Some(Value::Factors(Vec::new(alloc)))),
         TermsRow::MoreFactors => joined_factors(parts),
         TermsRow::AppliedFactor => factor_of_operation(alloc, parts),
         TermsRow::BracketedFactor => factor_in_brackets(token, parts),
-        TermsRow::NoArguments | TermsRow::NoMoreTerms => Ok(Some(empty_terms(alloc))),
-        TermsRow::Arguments | TermsRow::MoreTerms => Ok(the_terms(parts)),
-        TermsRow::NoSortMark => Ok(Some(empty_names(alloc))),
+        TermsRow::NoArguments | TermsRow::NoMoreTerms => Ok(Some(Value::Terms(Vec::new(alloc)))),
+        TermsRow::Arguments | TermsRow::MoreTerms => Ok(take::<Vec<Written>>(parts).map(
+            Value::Terms,
+        )),
+        TermsRow::NoSortMark => Ok(Some(Value::Names(Vec::new(alloc)))),
         TermsRow::SortMark => one_name(alloc, parts),
         TermsRow::TermList => joined_terms(parts),
     }

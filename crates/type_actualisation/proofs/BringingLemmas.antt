@@ -6,31 +6,31 @@ use Rattle.lotos_base.specs.WrittenTerm.{PlacedName}
 use Rattle.term_algebra.specs.Signature.{Sort, Operation}
 use Rattle.term_algebra.specs.Equation.{IsWellFormedData}
 use Rattle.sort_terms.specs.WellFormedTest.{all_differ, are_one_operation, are_one_sort}
-use Rattle.type_faults.specs.FaultView.{HoldsOfFault, IsFaultFound}
-use Rattle.type_faults.specs.declared.type_faults.TypeFault.{TypeFault as CodeFault}
-use Rattle.type_faults.proofs.HoldsLemmas.{holds_weaker}
-use Rattle.type_flatten.specs.TypeFault.{TypeFault, double_operation, double_sort, fault_if, first_fault, too_large}
-use Rattle.type_flatten.specs.Presentation.{Presentation as PlainPresentation, is_same_operation, is_same_sort, is_too_large, presentation_limit, with_new}
-use Rattle.type_flatten.specs.Actualisation.{Actualising, actual_operation, actual_sort, actualisation, actualised_equations, actualised_operations, actualised_sorts, formal_operations_of, formal_sorts_of, other_operation_image, operation_renamer, other_operations_of, other_sort_image, other_sorts_of, sort_renamer}
-use Rattle.type_flatten.specs.ActualisationFaults.{Coming, coming_at, coming_clash, coming_fault, coming_operations, coming_sorts, coming_too_many, formal_operation_fault, formal_sort_fault, operations_clash, there_already}
-use Rattle.type_flatten.specs.Flattened.{data_of}
-use Rattle.presentation_lists.specs.OperationListView.{HasOperationKeys, operations_in}
-use Rattle.presentation_lists.specs.SortListView.{HasSortKeys, sorts_in}
-use Rattle.presentation_lists.specs.declared.operation_list.OperationList.{OperationList}
-use Rattle.presentation_lists.specs.declared.sort_list.SortList.{SortList}
-use Rattle.equation_lists.specs.EquationListView.{HasEquationKeys, HaveSidesOf, equations_in}
-use Rattle.equation_lists.specs.declared.equation_list.EquationList.{EquationList}
-use Rattle.type_images.specs.ProfiledImage.{number_in}
+use Rattle.type_definitions.specs.FaultView.{HoldsOfFault, IsFaultFound}
+use Rattle.type_definitions.specs.declared.type_faults.TypeFault.{TypeFault as CodeFault}
+use Rattle.type_definitions.proofs.HoldsLemmas.{holds_weaker}
+use Rattle.type_definitions.specs.TypeFault.{TypeFault, double_operation, double_sort, fault_if, first_fault, too_large}
+use Rattle.type_definitions.specs.Presentation.{Presentation as PlainPresentation, is_same_operation, is_same_sort, is_too_large, presentation_limit, with_new}
+use Rattle.type_definitions.specs.Actualisation.{Actualising, actual_operation, actual_sort, actualisation, actualised_equations, actualised_operations, actualised_sorts, formal_operations_of, formal_sorts_of, other_operation_image, operation_renamer, other_operations_of, other_sort_image, other_sorts_of, sort_renamer}
+use Rattle.type_definitions.specs.ActualisationFaults.{Coming, coming_at, coming_clash, coming_fault, coming_operations, coming_sorts, coming_too_many, formal_operation_fault, formal_sort_fault, operations_clash, there_already}
+use Rattle.type_definitions.specs.Flattened.{data_of}
+use Rattle.type_presentations.specs.OperationListView.{HasOperationKeys, operations_in}
+use Rattle.type_presentations.specs.SortListView.{HasSortKeys, sorts_in}
+use Rattle.type_presentations.specs.declared.operation_list.OperationList.{OperationList}
+use Rattle.type_presentations.specs.declared.sort_list.SortList.{SortList}
+use Rattle.type_presentations.specs.EquationListView.{HasEquationKeys, HaveSidesOf, equations_in}
+use Rattle.type_presentations.specs.declared.equation_list.EquationList.{EquationList}
+use Rattle.type_definitions.specs.ProfiledImage.{number_in}
 use Rattle.type_presentations.specs.MarksView.{IsKnown, marks_in}
 use Rattle.type_presentations.specs.PresentationView.{IsSound, IsWithinLimits, presentation_of}
 use Rattle.type_presentations.specs.declared.presentations.Presentation.{Presentation}
-use Rattle.formal_actuals.specs.Actuals.{AreActualOperations, AreActualSorts, actuals_from}
-use Rattle.actualised_equations.specs.Brought.{IsBrought}
-use Rattle.actualised_members.specs.CameView.{place_kept}
-use Rattle.actualised_members.specs.FaultPlaces.{fault_at}
-use Rattle.actualised_members.specs.SourceView.{AreOperationsComing, AreSortsComing}
-use Rattle.actualised_members.specs.declared.came.Came.{Came}
-use Rattle.actualised_members.specs.declared.source.Source.{Source}
+use Rattle.actual_members.specs.Actuals.{AreActualOperations, AreActualSorts, actuals_from}
+use Rattle.type_actualisation.specs.Brought.{IsBrought}
+use Rattle.actual_members.specs.CameView.{place_kept}
+use Rattle.actual_members.specs.FaultPlaces.{fault_at}
+use Rattle.actual_members.specs.SourceView.{AreOperationsComing, AreSortsComing}
+use Rattle.actual_members.specs.declared.came.Came.{Came}
+use Rattle.actual_members.specs.declared.source.Source.{Source}
 use Rattle.type_actualisation.specs.Parts.{HasBroughtOperations, HasBroughtSorts, HasOperationParts, HasParts, HasSortParts, HaveCome, IsBroughtIn, IsComingFault, HasBroughtRest, IsFaultBehindPairs, IsFormalOperationFault, IsFormalSortFault, fault_behind_pairs, fault_kept}
 use Rattle.type_actualisation.proofs.FaultLemmas.{found_first, found_later, found_same, later_is, none_at, none_first, operation_twice, sort_twice, too_much}
 

@@ -3,13 +3,13 @@ use Rattle.std.proofs.Common.{◌≡◌, ℕ, Bool, true, List, refl, ap, sym, �
 use Rattle.std.specs.Prelude.{Option, Some, None}
 use Rattle.lotos_base.specs.WrittenTerm.{PlacedName}
 use Rattle.term_algebra.specs.Equation.{Place}
-use Rattle.type_faults.specs.FaultView.{HoldsOfFault, IsFaultFound}
-use Rattle.type_faults.specs.declared.type_faults.TypeFault.{TypeFault as CodeFault}
-use Rattle.type_faults.proofs.HoldsLemmas.{holds_weaker}
-use Rattle.type_flatten.specs.TypeFault.{TypeFault, double_operation, double_sort, first_fault, too_large}
-use Rattle.actualised_members.specs.CameView.{place_kept}
-use Rattle.actualised_members.specs.FaultPlaces.{fault_at}
-use Rattle.actualised_members.specs.declared.came.Came.{Came}
+use Rattle.type_definitions.specs.FaultView.{HoldsOfFault, IsFaultFound}
+use Rattle.type_definitions.specs.declared.type_faults.TypeFault.{TypeFault as CodeFault}
+use Rattle.type_definitions.proofs.HoldsLemmas.{holds_weaker}
+use Rattle.type_definitions.specs.TypeFault.{TypeFault, double_operation, double_sort, first_fault, too_large}
+use Rattle.actual_members.specs.CameView.{place_kept}
+use Rattle.actual_members.specs.FaultPlaces.{fault_at}
+use Rattle.actual_members.specs.declared.came.Came.{Came}
 use Rattle.type_actualisation.specs.Parts.{fault_kept}
 
 pub first_fails : (a rest : Option TypeFault) (fault : TypeFault) → a ≡ Some fault → first_fault a rest ≡ Some fault

@@ -1,3 +1,7 @@
 mod FaultLemmas
 mod BringingLemmas
 mod PairLemmas
+pub mod FormalLemmas
+pub mod MapLemmas
+pub mod DataLemmas
+pub mod BroughtLemmas

@@ -7,19 +7,19 @@ use Rattle.term_algebra.specs.Signature.{Sort, Operation}
 use Rattle.syntax_trees.specs.WrittenItem.{WrittenPair}
 use Rattle.syntax_trees.specs.TreeViews.{pair_of}
 use Rattle.syntax_trees.specs.declared.items.PairText.{PairText}
-use Rattle.name_positions.specs.NamesView.{HasNames}
-use Rattle.name_positions.specs.declared.names.NamePositions.{NamePositions}
-use Rattle.type_faults.specs.FaultView.{IsFaultFound}
-use Rattle.type_faults.specs.declared.type_faults.TypeFault.{TypeFault as CodeFault}
-use Rattle.type_flatten.specs.TypeFault.{TypeFault}
-use Rattle.type_flatten.specs.Presentation.{Presentation as PlainPresentation}
-use Rattle.type_flatten.specs.Renaming.{operation_pairs_fault}
-use Rattle.type_flatten.specs.Actualisation.{Actualising, formal_operations_of}
-use Rattle.type_flatten.specs.ActualisationFaults.{actual_pairs_fault, actualising_fault}
+use Rattle.type_presentations.specs.NamesView.{HasNames}
+use Rattle.type_presentations.specs.declared.names.NamePositions.{NamePositions}
+use Rattle.type_definitions.specs.FaultView.{IsFaultFound}
+use Rattle.type_definitions.specs.declared.type_faults.TypeFault.{TypeFault as CodeFault}
+use Rattle.type_definitions.specs.TypeFault.{TypeFault}
+use Rattle.type_definitions.specs.Presentation.{Presentation as PlainPresentation}
+use Rattle.type_definitions.specs.Renaming.{operation_pairs_fault}
+use Rattle.type_definitions.specs.Actualisation.{Actualising, formal_operations_of}
+use Rattle.type_definitions.specs.ActualisationFaults.{actual_pairs_fault, actualising_fault}
 use Rattle.type_pairs.specs.PairIndexView.{pairs_in}
 use Rattle.type_presentations.specs.PresentationView.{presentation_of}
 use Rattle.type_presentations.specs.declared.presentations.Presentation.{Presentation}
-use Rattle.actualised_members.specs.declared.source.Source.{Source}
+use Rattle.actual_members.specs.declared.source.Source.{Source}
 use Rattle.type_actualisation.specs.Actualised.{IsActualised}
 use Rattle.type_actualisation.specs.Indexed.{HasSortSource, IsFaultBehindSortPairs, IsFaultOfOperationPairs, IsFaultOfSortPairs, IsActualisingFault, IsWithOperations, fault_behind_sort_pairs}
 use Rattle.type_actualisation.specs.Parts.{HasParts, IsBroughtIn, IsFaultBehindPairs, fault_behind_pairs}

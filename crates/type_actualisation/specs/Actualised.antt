@@ -1,7 +1,7 @@
 -- What an actualisation answers.
 use Rattle.std.specs.Prelude.{◌≡◌, None}
-use Rattle.type_flatten.specs.Actualisation.{Actualising, actualisation}
-use Rattle.type_flatten.specs.ActualisationFaults.{actualising_fault}
+use Rattle.type_definitions.specs.Actualisation.{Actualising, actualisation}
+use Rattle.type_definitions.specs.ActualisationFaults.{actualising_fault}
 use Rattle.type_presentations.specs.PresentationView.{IsSound, IsWithinLimits, presentation_of}
 use Rattle.type_presentations.specs.declared.presentations.Presentation.{Presentation}
 

@@ -2,19 +2,19 @@
 use Rattle.std.specs.Prelude.{◌≡◌, [], List, map, None, Option}
 use Rattle.syntax_trees.specs.TreeViews.{pair_of}
 use Rattle.syntax_trees.specs.declared.items.PairText.{PairText}
-use Rattle.type_faults.specs.FaultView.{IsFaultFound}
-use Rattle.type_faults.specs.declared.type_faults.TypeFault.{TypeFault as CodeFault}
-use Rattle.type_flatten.specs.TypeFault.{TypeFault, first_fault}
-use Rattle.type_flatten.specs.Presentation.{Presentation as PlainPresentation}
-use Rattle.type_flatten.specs.Renaming.{operation_pairs_fault}
-use Rattle.type_flatten.specs.Actualisation.{Actualising, actualisation}
-use Rattle.type_flatten.specs.ActualisationFaults.{actual_pairs_fault, actualising_fault}
+use Rattle.type_definitions.specs.FaultView.{IsFaultFound}
+use Rattle.type_definitions.specs.declared.type_faults.TypeFault.{TypeFault as CodeFault}
+use Rattle.type_definitions.specs.TypeFault.{TypeFault, first_fault}
+use Rattle.type_definitions.specs.Presentation.{Presentation as PlainPresentation}
+use Rattle.type_definitions.specs.Renaming.{operation_pairs_fault}
+use Rattle.type_definitions.specs.Actualisation.{Actualising, actualisation}
+use Rattle.type_definitions.specs.ActualisationFaults.{actual_pairs_fault, actualising_fault}
 use Rattle.type_pairs.specs.PairIndexView.{pairs_in}
 use Rattle.type_pairs.specs.declared.pair_index.PairIndex.{PairIndex}
 use Rattle.type_presentations.specs.PresentationView.{IsSound, IsWithinLimits, presentation_of}
 use Rattle.type_presentations.specs.declared.presentations.Presentation.{Presentation}
-use Rattle.actualised_members.specs.SourceView.{IsSourceOfSorts}
-use Rattle.actualised_members.specs.declared.source.Source.{Source}
+use Rattle.actual_members.specs.SourceView.{IsSourceOfSorts}
+use Rattle.actual_members.specs.declared.source.Source.{Source}
 use Rattle.type_actualisation.specs.Parts.{fault_behind_pairs}
 
 -- ---- Pairs of sorts, then of operations.

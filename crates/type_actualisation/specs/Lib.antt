@@ -1,3 +1,5 @@
 pub mod Actualised
 pub mod Parts
 pub mod Indexed
+pub mod ActualisationLaws
+pub mod Brought

@@ -3,32 +3,32 @@ use Rattle.std.specs.Prelude.{◌≡◌, ℕ, false, None, Option, map, List}
 use Rattle.lotos_base.specs.Name.{spelling}
 use Rattle.lotos_base.specs.WrittenView.{placed_name_of}
 use Rattle.term_algebra.specs.Equation.{IsWellFormedData}
-use Rattle.name_positions.specs.NamesView.{HasNames}
-use Rattle.type_faults.specs.FaultView.{IsFaultFound}
-use Rattle.type_faults.specs.declared.type_faults.TypeFault.{TypeFault as CodeFault}
-use Rattle.type_flatten.specs.TypeFault.{TypeFault, double_operation, double_sort, first_fault, too_large}
-use Rattle.type_flatten.specs.Presentation.{is_too_large}
-use Rattle.type_flatten.specs.Flattened.{data_of}
-use Rattle.type_flatten.specs.Actualisation.{Actualising, actualisation, formal_operations_of, formal_sorts_of}
-use Rattle.type_flatten.specs.ActualisationFaults.{coming_fault, formal_operation_fault, formal_sort_fault}
+use Rattle.type_presentations.specs.NamesView.{HasNames}
+use Rattle.type_definitions.specs.FaultView.{IsFaultFound}
+use Rattle.type_definitions.specs.declared.type_faults.TypeFault.{TypeFault as CodeFault}
+use Rattle.type_definitions.specs.TypeFault.{TypeFault, double_operation, double_sort, first_fault, too_large}
+use Rattle.type_definitions.specs.Presentation.{is_too_large}
+use Rattle.type_definitions.specs.Flattened.{data_of}
+use Rattle.type_definitions.specs.Actualisation.{Actualising, actualisation, formal_operations_of, formal_sorts_of}
+use Rattle.type_definitions.specs.ActualisationFaults.{coming_fault, formal_operation_fault, formal_sort_fault}
 use Rattle.type_pairs.specs.PairIndexView.{pairs_in}
-use Rattle.presentation_lists.specs.SortListView.{sorts_in}
-use Rattle.presentation_lists.specs.OperationListView.{operations_in}
-use Rattle.presentation_lists.specs.declared.operation_list.OperationList.{OperationList}
-use Rattle.presentation_lists.specs.declared.sort_list.SortList.{SortList}
-use Rattle.equation_lists.specs.EquationListView.{HaveSidesOf, equations_in}
+use Rattle.type_presentations.specs.SortListView.{sorts_in}
+use Rattle.type_presentations.specs.OperationListView.{operations_in}
+use Rattle.type_presentations.specs.declared.operation_list.OperationList.{OperationList}
+use Rattle.type_presentations.specs.declared.sort_list.SortList.{SortList}
+use Rattle.type_presentations.specs.EquationListView.{HaveSidesOf, equations_in}
 use Rattle.type_presentations.specs.MarksView.{marks_in}
 use Rattle.type_presentations.specs.PresentationView.{IsSound, IsWithinLimits, presentation_of}
 use Rattle.type_presentations.specs.declared.presentations.Presentation.{Presentation}
-use Rattle.formal_actuals.specs.PartsView.{IsBaseOf}
-use Rattle.actualisation_laws.specs.ActualisationLaws.{HasActuals}
-use Rattle.actualised_equations.specs.Brought.{IsKeyed}
-use Rattle.actualised_members.specs.Brought.{OperationsCame, SortsCame}
-use Rattle.actualised_members.specs.CameView.{operations_with, place_kept, sorts_with}
-use Rattle.actualised_members.specs.FaultPlaces.{fault_at}
-use Rattle.actualised_members.specs.SourceView.{IsSourceOfOperations, IsSourceOfSorts}
-use Rattle.actualised_members.specs.declared.came.Came.{Came}
-use Rattle.actualised_members.specs.declared.source.Source.{Source}
+use Rattle.actual_members.specs.PartsView.{IsBaseOf}
+use Rattle.type_actualisation.specs.ActualisationLaws.{HasActuals}
+use Rattle.type_actualisation.specs.Brought.{IsKeyed}
+use Rattle.actual_members.specs.Brought.{OperationsCame, SortsCame}
+use Rattle.actual_members.specs.CameView.{operations_with, place_kept, sorts_with}
+use Rattle.actual_members.specs.FaultPlaces.{fault_at}
+use Rattle.actual_members.specs.SourceView.{IsSourceOfOperations, IsSourceOfSorts}
+use Rattle.actual_members.specs.declared.came.Came.{Came}
+use Rattle.actual_members.specs.declared.source.Source.{Source}
 
 -- ---- Sorts, then operations.
 

@@ -1,10 +1,10 @@
 //! Actualisations.
 
-ghost use Rattle.actual_pairs.specs.FormalNames.{names_of_formal_sorts};
-ghost use Rattle.formal_actuals.specs.Actuals.{actualising_with};
+ghost use Rattle.type_pairs.specs.FormalNames.{names_of_formal_sorts};
+ghost use Rattle.actual_members.specs.Actuals.{actualising_with};
 ghost use Rattle.lotos_base.specs.Name.{spelling};
 ghost use Rattle.lotos_base.specs.WrittenView.{placed_name_of};
-ghost use Rattle.name_positions.specs.NamesView.{HasNames};
+ghost use Rattle.type_presentations.specs.NamesView.{HasNames};
 ghost use Rattle.std.specs.Prelude.{MatchResult};
 ghost use Rattle.syntax_trees.specs.TreeViews.{pairs_of};
 ghost use Rattle.type_actualisation.specs.Actualised.{IsActualised};
@@ -18,9 +18,9 @@ ghost use Rattle.type_actualisation.specs.Indexed.{
   IsWithOperations,
   HasSortSource,
 };
-ghost use Rattle.type_faults.specs.FaultView.{IsFaultFound};
-ghost use Rattle.type_flatten.specs.Actualisation.{Actualising};
-ghost use Rattle.type_flatten.specs.ActualisationFaults.{actualising_fault};
+ghost use Rattle.type_definitions.specs.FaultView.{IsFaultFound};
+ghost use Rattle.type_definitions.specs.Actualisation.{Actualising};
+ghost use Rattle.type_definitions.specs.ActualisationFaults.{actualising_fault};
 ghost use Rattle.type_presentations.specs.PresentationView.{
   IsSound,
   IsWithinLimits,
@@ -28,16 +28,13 @@ ghost use Rattle.type_presentations.specs.PresentationView.{
 };
 
 use crate::bringing::bring;
-use actual_pairs::look_at_actual_sort_pairs;
-use actualised_members::Source;
-use formal_actuals::{formal_op_names, formal_sort_names};
+use actual_members::{Source, formal_op_names, formal_sort_names};
 use lotos_base::Name;
-use name_positions::NamePositions;
 use std::alloc::Global;
 use syntax_trees::{Named, PairText};
-use type_faults::TypeFault;
-use type_pairs::{PairIndex, look_at_op_pairs};
-use type_presentations::Presentation;
+use type_definitions::TypeFault;
+use type_pairs::{PairIndex, look_at_actual_sort_pairs, look_at_op_pairs};
+use type_presentations::{NamePositions, Presentation};
 
 /// The presentation of the type of this name that actualises the base by the actual types, whose
 /// union is given, and by these pairs: what is not formal in the base comes in behind the actual

@@ -1,8 +1,8 @@
 //! What comes into the actual types.
 
 ghost use Rattle.lotos_base.specs.WrittenView.{placed_name_of};
-ghost use Rattle.presentation_lists.specs.OperationListView.{HasOperationKeys, operations_in};
-ghost use Rattle.presentation_lists.specs.SortListView.{HasSortKeys, sorts_in};
+ghost use Rattle.type_presentations.specs.OperationListView.{HasOperationKeys, operations_in};
+ghost use Rattle.type_presentations.specs.SortListView.{HasSortKeys, sorts_in};
 ghost use Rattle.sort_terms.specs.WellFormedTest.{all_differ, are_one_operation, are_one_sort};
 ghost use Rattle.std.specs.Prelude.{◌≡◌, ◌≤◌, length, MatchResult, OnOk, true};
 ghost use Rattle.type_actualisation.specs.Parts.{
@@ -19,19 +19,19 @@ ghost use Rattle.type_actualisation.specs.Parts.{
   IsFormalOperationFault,
   IsFormalSortFault,
 };
-ghost use Rattle.type_flatten.specs.Actualisation.{Actualising};
-ghost use Rattle.type_flatten.specs.Presentation.{presentation_limit};
+ghost use Rattle.type_definitions.specs.Actualisation.{Actualising};
+ghost use Rattle.type_definitions.specs.Presentation.{presentation_limit};
 ghost use Rattle.type_presentations.specs.PresentationView.{IsSound, IsWithinLimits};
 
+use crate::bring_equations;
 use crate::refusals::{refuse_kept, refuse_many_equations};
-use actualised_equations::bring_equations;
-use actualised_members::{Came, Source, bring_ops, bring_sorts};
-use formal_actuals::{actual_op_numbers, actual_sort_numbers};
-use presentation_lists::{OperationList, SortList};
+use actual_members::{
+    Came, Source, actual_op_numbers, actual_sort_numbers, bring_ops, bring_sorts,
+};
 use std::alloc::Global;
 use syntax_trees::Named;
-use type_faults::TypeFault;
-use type_presentations::Presentation;
+use type_definitions::TypeFault;
+use type_presentations::{OperationList, Presentation, SortList};
 
 /// Brings into the actual types what is not formal in the base, where each formal sort and
 /// operation becomes its actual one. Refused are a formal sort without an actual one, then a

@@ -1,25 +1,25 @@
 //! Faults that were kept while sorts and operations came in.
 
-ghost use Rattle.actualised_members.specs.CameView.{place_kept};
-ghost use Rattle.actualised_members.specs.FaultPlaces.{fault_at};
-ghost use Rattle.equation_lists.specs.EquationListView.{equations_in};
+ghost use Rattle.actual_members.specs.CameView.{place_kept};
+ghost use Rattle.actual_members.specs.FaultPlaces.{fault_at};
+ghost use Rattle.type_presentations.specs.EquationListView.{equations_in};
 ghost use Rattle.lotos_base.specs.WrittenView.{placed_name_of};
 ghost use Rattle.std.specs.Prelude.{◌≡◌, false, length, MatchResult, nat_lt, None, true};
 ghost use Rattle.type_actualisation.specs.Parts.{fault_kept};
-ghost use Rattle.type_faults.specs.FaultView.{HoldsOfFault, IsFaultFound};
-ghost use Rattle.type_flatten.specs.Presentation.{presentation_limit};
-ghost use Rattle.type_flatten.specs.TypeFault.{
+ghost use Rattle.type_definitions.specs.FaultView.{HoldsOfFault, IsFaultFound};
+ghost use Rattle.type_definitions.specs.Presentation.{presentation_limit};
+ghost use Rattle.type_definitions.specs.TypeFault.{
   double_operation as operation_twice,
   double_sort as sort_twice,
   too_large as too_much,
 };
 
-use actualised_members::Came;
-use equation_lists::EquationList;
+use actual_members::Came;
 use std::alloc::Global;
 use syntax_trees::Named;
-use type_faults::TypeFault;
-use union_parts::faults::{double_operation, double_sort, too_large};
+use type_definitions::TypeFault;
+use type_presentations::EquationList;
+use type_unions::faults::{double_operation, double_sort, too_large};
 
 // How many equations a presentation has at most.
 const LIMIT: usize = 65_536;

@@ -15,17 +15,17 @@ use Rattle.term_algebra.specs.Equation.{Place}
 use Rattle.syntax_trees.specs.WrittenItem.{WrittenOperation}
 use Rattle.sort_terms.specs.ReadingOutcome.{one_name, is_sort_name}
 use Rattle.sort_terms.specs.WellFormedTest.{has_known_sorts, all_below}
-use Rattle.name_positions.specs.PositionOfName.{position_of_name}
-use Rattle.presentation_growth.specs.Growth.{with_one_sort, with_one_operation, with_sort_mark, with_operation_mark}
-use Rattle.type_flatten.specs.TypeFault.{TypeFault, unknown_sort, no_reading, double_sort, double_operation, too_large, first_fault, fault_along}
-use Rattle.type_flatten.specs.Presentation.{Presentation, first_position, has_sort_clash, has_operation_clash, is_too_large, presentation_limit}
-use Rattle.type_flatten.specs.Union.{presentation_fault}
-use Rattle.type_flatten.specs.Declarations.{sort_numbered, with_sort, sort_fault, with_operation, operation_fault, fits_form, unknown_sort_among}
-use Rattle.presentation_growth.proofs.GrowthLemmas.{sorts_differ, operations_differ}
+use Rattle.type_presentations.specs.PositionOfName.{position_of_name}
+use Rattle.type_presentations.specs.Growth.{with_one_sort, with_one_operation, with_sort_mark, with_operation_mark}
+use Rattle.type_definitions.specs.TypeFault.{TypeFault, unknown_sort, no_reading, double_sort, double_operation, too_large, first_fault, fault_along}
+use Rattle.type_definitions.specs.Presentation.{Presentation, first_position, has_sort_clash, has_operation_clash, is_too_large, presentation_limit}
+use Rattle.type_definitions.specs.Union.{presentation_fault}
+use Rattle.type_definitions.specs.Declarations.{sort_numbered, with_sort, sort_fault, with_operation, operation_fault, fits_form, unknown_sort_among}
+use Rattle.type_presentations.proofs.GrowthLemmas.{sorts_differ, operations_differ}
 use Rattle.type_presentations.proofs.SizeLemmas.{within_limits}
-use Rattle.type_faults.proofs.WalkLemmas.{next_of, so_far}
-use Rattle.type_faults.specs.FaultView.{IsFaultFound}
-use Rattle.type_faults.specs.declared.type_faults.TypeFault.{TypeFault as CodeFault}
+use Rattle.type_definitions.proofs.WalkLemmas.{next_of, so_far}
+use Rattle.type_definitions.specs.FaultView.{IsFaultFound}
+use Rattle.type_definitions.specs.declared.type_faults.TypeFault.{TypeFault as CodeFault}
 use Rattle.type_declarations.specs.DeclarationMade.{IsFaultOfSorts, IsFaultOfOperations}
 use Rattle.type_declarations.specs.DeclaredOperation.{declared_operation, sort_names}
 

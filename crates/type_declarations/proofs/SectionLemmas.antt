@@ -2,11 +2,11 @@
 use Rattle.std.proofs.Common.{◌≡◌, ℕ, Bool, true, false, List, ap, sym, ◌∙◌}
 use Rattle.std.specs.Prelude.{Option, Some, None, fold}
 use Rattle.syntax_trees.specs.WrittenItem.{WrittenOperation, WrittenSections}
-use Rattle.type_flatten.specs.TypeFault.{TypeFault, fault_along}
-use Rattle.type_flatten.specs.Presentation.{Presentation}
-use Rattle.type_flatten.specs.Declarations.{with_sort, sort_fault, with_operation, operation_fault, with_formal_sorts, with_sorts, with_formal_operations, with_declarations, declaration_fault}
-use Rattle.type_faults.specs.FaultView.{IsFaultFound}
-use Rattle.type_faults.specs.declared.type_faults.TypeFault.{TypeFault as CodeFault}
+use Rattle.type_definitions.specs.TypeFault.{TypeFault, fault_along}
+use Rattle.type_definitions.specs.Presentation.{Presentation}
+use Rattle.type_definitions.specs.Declarations.{with_sort, sort_fault, with_operation, operation_fault, with_formal_sorts, with_sorts, with_formal_operations, with_declarations, declaration_fault}
+use Rattle.type_definitions.specs.FaultView.{IsFaultFound}
+use Rattle.type_definitions.specs.declared.type_faults.TypeFault.{TypeFault as CodeFault}
 use Rattle.type_declarations.specs.DeclarationMade.{IsDeclarationFault}
 use Rattle.type_declarations.specs.DeclaredOperation.{sort_names}
 use Rattle.type_declarations.proofs.DeclareLemmas.{first_fails, later_fails, none_fails, ops_keep_sorts}

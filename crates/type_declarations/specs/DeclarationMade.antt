@@ -2,11 +2,11 @@
 use Rattle.std.specs.Prelude.{◌≡◌, ℕ, Bool, List, None, fold}
 use Rattle.syntax_trees.specs.WrittenItem.{WrittenOperation, WrittenSections}
 use Rattle.lotos_base.specs.WrittenTerm.{PlacedName}
-use Rattle.type_flatten.specs.TypeFault.{fault_along}
-use Rattle.type_flatten.specs.Presentation.{Presentation as PlainPresentation}
-use Rattle.type_flatten.specs.Declarations.{sort_fault, with_sort, operation_fault, with_operation, declaration_fault, with_declarations}
-use Rattle.type_faults.specs.FaultView.{IsFaultFound}
-use Rattle.type_faults.specs.declared.type_faults.TypeFault.{TypeFault}
+use Rattle.type_definitions.specs.TypeFault.{fault_along}
+use Rattle.type_definitions.specs.Presentation.{Presentation as PlainPresentation}
+use Rattle.type_definitions.specs.Declarations.{sort_fault, with_sort, operation_fault, with_operation, declaration_fault, with_declarations}
+use Rattle.type_definitions.specs.FaultView.{IsFaultFound}
+use Rattle.type_definitions.specs.declared.type_faults.TypeFault.{TypeFault}
 use Rattle.type_presentations.specs.PresentationView.{IsSound, IsWithinLimits, presentation_of}
 use Rattle.type_presentations.specs.declared.presentations.Presentation.{Presentation}
 

@@ -3,10 +3,10 @@ use Rattle.std.specs.Prelude.{◌<◌, ◌^◌, ℕ, List, length, map}
 use Rattle.lotos_base.specs.WrittenTerm.{PlacedName}
 use Rattle.term_algebra.specs.Signature.{Sort, Operation}
 use Rattle.syntax_trees.specs.WrittenItem.{WrittenOperation}
-use Rattle.name_positions.specs.NamesView.{HasNames}
-use Rattle.name_positions.specs.declared.names.NamePositions.{NamePositions}
-use Rattle.type_flatten.specs.Presentation.{Presentation}
-use Rattle.type_flatten.specs.Declarations.{sort_numbered}
+use Rattle.type_presentations.specs.NamesView.{HasNames}
+use Rattle.type_presentations.specs.declared.names.NamePositions.{NamePositions}
+use Rattle.type_definitions.specs.Presentation.{Presentation}
+use Rattle.type_definitions.specs.Declarations.{sort_numbered}
 
 -- the names of its sorts
 abbrev pub sort_names : Presentation → List (List ℕ)

@@ -1,7 +1,7 @@
 -- What the code makes of a presentation.
 use Rattle.std.specs.Prelude.{◌≡◌, Option, None}
-use Rattle.type_flatten.specs.TypeFault.{TypeFault}
-use Rattle.type_flatten.specs.Presentation.{Presentation as PlainPresentation}
+use Rattle.type_definitions.specs.TypeFault.{TypeFault}
+use Rattle.type_definitions.specs.Presentation.{Presentation as PlainPresentation}
 use Rattle.type_presentations.specs.PresentationView.{IsSound, IsWithinLimits, presentation_of}
 use Rattle.type_presentations.specs.declared.presentations.Presentation.{Presentation}
 

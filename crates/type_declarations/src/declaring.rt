@@ -14,10 +14,9 @@ use crate::operations::declare_ops;
 use crate::sections::SectionTexts;
 use crate::sorts::declare_sorts;
 use lotos_base::Name;
-use name_positions::NamePositions;
 use std::alloc::Global;
-use type_faults::TypeFault;
-use type_presentations::Presentation;
+use type_definitions::TypeFault;
+use type_presentations::{NamePositions, Presentation};
 
 /// The presentation with the sorts and operations that the type of this name declares: formal
 /// sorts, own sorts, formal operations, own operations, each in text order.

@@ -2,8 +2,8 @@
 
 ghost use Rattle.lotos_base.specs.Name.{spelling};
 ghost use Rattle.lotos_base.specs.WrittenView.{form_of, text_place_of};
-ghost use Rattle.name_positions.specs.NamesView.{HasNames};
-ghost use Rattle.presentation_growth.specs.Growth.{with_one_operation};
+ghost use Rattle.type_presentations.specs.NamesView.{HasNames};
+ghost use Rattle.type_presentations.specs.Growth.{with_one_operation};
 ghost use Rattle.sort_terms.specs.Operations.{operation_of};
 ghost use Rattle.sort_terms.specs.WellFormedTest.{has_known_sorts};
 ghost use Rattle.std.specs.Prelude.{
@@ -28,15 +28,15 @@ ghost use Rattle.type_declarations.specs.DeclarationMade.{
   IsFaultOfOperations,
 };
 ghost use Rattle.type_declarations.specs.Making.{IsMade};
-ghost use Rattle.type_faults.specs.FaultView.{IsFaultFound};
-ghost use Rattle.type_flatten.specs.Declarations.{
+ghost use Rattle.type_definitions.specs.FaultView.{IsFaultFound};
+ghost use Rattle.type_definitions.specs.Declarations.{
   fits_form,
   operation_fault,
   unknown_sort_among,
   with_operation,
 };
-ghost use Rattle.type_flatten.specs.Presentation.{Presentation as PlainPresentation};
-ghost use Rattle.type_flatten.specs.Union.{presentation_fault};
+ghost use Rattle.type_definitions.specs.Presentation.{Presentation as PlainPresentation};
+ghost use Rattle.type_definitions.specs.Union.{presentation_fault};
 ghost use Rattle.type_presentations.specs.PresentationView.{
   IsSound,
   IsWithinLimits,
@@ -45,13 +45,11 @@ ghost use Rattle.type_presentations.specs.PresentationView.{
 
 use crate::sort_numbers::{sort_named, sorts_named};
 use lotos_base::{Form, Name, Place};
-use name_positions::NamePositions;
-use presentation_growth::{grow_by_op, mark_op};
 use sort_terms::{Op, SortFault};
 use std::alloc::Global;
 use syntax_trees::OpText;
-use type_faults::TypeFault;
-use type_presentations::Presentation;
+use type_definitions::TypeFault;
+use type_presentations::{NamePositions, Presentation, grow_by_op, mark_op};
 
 /// Declares operations, one after another, formal or not. It is refused at the first whose
 /// arguments do not fit its form, one of whose sorts is none, that is a second one of its name,

@@ -1,18 +1,18 @@
 //! Sorts by their names.
 
 ghost use Rattle.lotos_base.specs.WrittenView.{placed_name_of};
-ghost use Rattle.name_positions.specs.NamesView.{HasNames};
+ghost use Rattle.type_presentations.specs.NamesView.{HasNames};
 ghost use Rattle.std.specs.Prelude.{◌≡◌, ◌∷◌, [], None, MatchResult, map};
 ghost use Rattle.syntax_trees.specs.TreeViews.{placed_names_of};
 ghost use Rattle.type_declarations.specs.DeclaredOperation.{AreFewNames, sort_names};
-ghost use Rattle.type_faults.specs.FaultView.{IsFaultFound};
-ghost use Rattle.type_flatten.specs.Declarations.{sort_numbered, unknown_sort_among};
-ghost use Rattle.type_flatten.specs.Presentation.{Presentation as PlainPresentation};
+ghost use Rattle.type_definitions.specs.FaultView.{IsFaultFound};
+ghost use Rattle.type_definitions.specs.Declarations.{sort_numbered, unknown_sort_among};
+ghost use Rattle.type_definitions.specs.Presentation.{Presentation as PlainPresentation};
 
-use name_positions::NamePositions;
 use std::alloc::Global;
 use syntax_trees::Named;
-use type_faults::TypeFault;
+use type_definitions::TypeFault;
+use type_presentations::NamePositions;
 
 /// The numbers of the sorts with these names, or the first name that is that of no sort. The names
 /// of the sorts are given.

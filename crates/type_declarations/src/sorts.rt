@@ -2,15 +2,15 @@
 
 ghost use Rattle.lotos_base.specs.Name.{spelling};
 ghost use Rattle.lotos_base.specs.WrittenView.{placed_name_of, text_place_of};
-ghost use Rattle.presentation_growth.specs.Growth.{with_one_sort};
+ghost use Rattle.type_presentations.specs.Growth.{with_one_sort};
 ghost use Rattle.sort_terms.specs.Operations.{sort_of};
 ghost use Rattle.std.specs.Prelude.{MatchResult};
 ghost use Rattle.syntax_trees.specs.TreeViews.{placed_names_of};
 ghost use Rattle.type_declarations.specs.DeclarationMade.{AreSortsDeclared, IsFaultOfSorts};
 ghost use Rattle.type_declarations.specs.Making.{IsMade};
-ghost use Rattle.type_faults.specs.FaultView.{IsFaultFound};
-ghost use Rattle.type_flatten.specs.Declarations.{sort_fault, with_sort};
-ghost use Rattle.type_flatten.specs.Union.{presentation_fault};
+ghost use Rattle.type_definitions.specs.FaultView.{IsFaultFound};
+ghost use Rattle.type_definitions.specs.Declarations.{sort_fault, with_sort};
+ghost use Rattle.type_definitions.specs.Union.{presentation_fault};
 ghost use Rattle.type_presentations.specs.PresentationView.{
   IsSound,
   IsWithinLimits,
@@ -18,12 +18,11 @@ ghost use Rattle.type_presentations.specs.PresentationView.{
 };
 
 use lotos_base::{Name, Place};
-use presentation_growth::{grow_by_sort, mark_sort};
 use sort_terms::Sort;
 use std::alloc::Global;
 use syntax_trees::Named;
-use type_faults::TypeFault;
-use type_presentations::Presentation;
+use type_definitions::TypeFault;
+use type_presentations::{Presentation, grow_by_sort, mark_sort};
 
 /// Declares sorts, one after another, formal or not. It is refused at the first that is a second
 /// one of its name, or one too many.

@@ -1,1 +1,13 @@
 pub mod SignatureLemmas
+pub mod OccurrenceLemmas
+pub mod OverLemmas
+pub mod AskedLemmas
+pub mod SortLemmas
+pub mod SideLemmas
+pub mod PremissLemmas
+pub mod CollectLemmas
+pub mod NumberingLemmas
+pub mod MadeLemmas
+pub mod GivenLemmas
+pub mod GroupLemmas
+pub mod SectionLemmas

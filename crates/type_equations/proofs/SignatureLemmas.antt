@@ -7,7 +7,7 @@ use Rattle.term_algebra.specs.Signature.{Signature, Sort, Operation}
 use Rattle.sort_terms.specs.Operations.{operation_of, signature_listing, sort_of}
 use Rattle.sort_terms.specs.declared.operations.Op.{Op as CodeOp}
 use Rattle.sort_terms.specs.declared.operations.Sort.{Sort as CodeSort}
-use Rattle.type_flatten.specs.Presentation.{presentation_limit}
+use Rattle.type_definitions.specs.Presentation.{presentation_limit}
 
 below : (m n limit big : ℕ) → m ≡ n → n ≤ limit → limit < big → m < big
 below m n limit big is most less = omega arith

@@ -1,0 +1,5 @@
+pub mod SideLaws
+pub mod ScopeFor
+pub mod Truth
+pub mod ProfiledNumbering
+pub mod SectionScope

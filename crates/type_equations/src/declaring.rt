@@ -5,9 +5,9 @@ ghost use Rattle.sort_terms.specs.ReaderView.{signature_read};
 ghost use Rattle.sort_terms.specs.SignatureView.{signature_of};
 ghost use Rattle.std.specs.Prelude.{◌≡◌, MatchResult, OnOk};
 ghost use Rattle.type_declarations.specs.SectionView.{sections_of};
-ghost use Rattle.type_faults.specs.FaultView.{HoldsOfFault};
-ghost use Rattle.type_flatten.specs.DeclaredEquations.{GiveAll, HasFirstFault};
-ghost use Rattle.type_flatten.specs.Extension.{asked_of};
+ghost use Rattle.type_definitions.specs.FaultView.{HoldsOfFault};
+ghost use Rattle.type_definitions.specs.DeclaredEquations.{GiveAll, HasFirstFault};
+ghost use Rattle.type_definitions.specs.Extension.{asked_of};
 ghost use Rattle.type_presentations.specs.PresentationView.{
   IsSound,
   IsWithinLimits,
@@ -15,13 +15,12 @@ ghost use Rattle.type_presentations.specs.PresentationView.{
 };
 
 use crate::signatures::signature_copy;
-use equation_reading::sort_with_truth;
+use crate::{add_section, check_section, sort_with_truth};
 use lotos_base::Name;
-use section_equations::{add_section, check_section};
 use sort_terms::{Reader, Signature};
 use std::alloc::Global;
 use type_declarations::SectionTexts;
-use type_faults::TypeFault;
+use type_definitions::TypeFault;
 use type_presentations::Presentation;
 
 /// The presentation with the equations that the type of this name declares. Formal equations are

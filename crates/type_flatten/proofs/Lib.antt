@@ -1,1 +1,5 @@
-pub mod WithNewLemmas
+pub mod OneTypeLemmas
+pub mod OneTypeSteps
+pub mod AllTypesLemmas
+pub mod OrderLemmas
+pub mod FlatDataLemmas

@@ -1,15 +1,1 @@
-pub mod TypeFault
-pub mod Presentation
-pub mod Union
-pub mod UnionLaws
-pub mod UnionExamples
-pub mod Declarations
-pub mod DeclaredEquations
-pub mod DeclarationExamples
-pub mod Extension
-pub mod Renaming
-pub mod Actualisation
-pub mod ActualisationFaults
-pub mod RenamingExamples
-pub mod ActualisationExamples
-pub mod Flattened
+pub mod FlatView

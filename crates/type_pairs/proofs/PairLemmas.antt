@@ -11,10 +11,10 @@ use Rattle.syntax_trees.specs.WrittenItem.{WrittenPair}
 use Rattle.syntax_trees.specs.TreeViews.{pair_of}
 use Rattle.syntax_trees.specs.declared.items.PairText.{PairText}
 use Rattle.sort_terms.specs.ReadingOutcome.{one_name, is_sort_name}
-use Rattle.type_flatten.specs.TypeFault.{unknown_sort, unknown_operation, double_sort, double_operation}
-use Rattle.type_flatten.specs.Presentation.{first_position}
-use Rattle.type_flatten.specs.Renaming.{pair_for, is_old_name, is_new_name, names_operation, sort_pair_fault, operation_pair_fault, sort_pairs_fault, operation_pairs_fault}
-use Rattle.type_faults.proofs.WalkLemmas.{AreOneByOne}
+use Rattle.type_definitions.specs.TypeFault.{unknown_sort, unknown_operation, double_sort, double_operation}
+use Rattle.type_definitions.specs.Presentation.{first_position}
+use Rattle.type_definitions.specs.Renaming.{pair_for, is_old_name, is_new_name, names_operation, sort_pair_fault, operation_pair_fault, sort_pairs_fault, operation_pairs_fault}
+use Rattle.type_definitions.proofs.WalkLemmas.{AreOneByOne}
 
 abbrev pub old_name : WrittenPair → List ℕ
 old_name pair = pair.replaced.name

@@ -1,2 +1,4 @@
 pub mod PairNames
 pub mod PairIndexView
+pub mod FormalNames
+pub mod NewNamesView

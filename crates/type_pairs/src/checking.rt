@@ -1,14 +1,14 @@
 //! What is wrong with one pair.
 
 ghost use Rattle.lotos_base.specs.Name.{spelling};
-ghost use Rattle.name_positions.specs.NamesView.{HasNames};
+ghost use Rattle.type_presentations.specs.NamesView.{HasNames};
 ghost use Rattle.sort_terms.specs.ReadingOutcome.{is_sort_name};
 ghost use Rattle.std.specs.Prelude.{◌≡◌, true, List, None, MatchResult};
 ghost use Rattle.syntax_trees.specs.TreeViews.{pair_of};
 ghost use Rattle.syntax_trees.specs.WrittenItem.{WrittenPair};
 ghost use Rattle.term_algebra.specs.Signature.{Signature};
-ghost use Rattle.type_faults.specs.FaultView.{IsFaultFound};
-ghost use Rattle.type_flatten.specs.Renaming.{operation_pair_fault, sort_pair_fault};
+ghost use Rattle.type_definitions.specs.FaultView.{IsFaultFound};
+ghost use Rattle.type_definitions.specs.Renaming.{operation_pair_fault, sort_pair_fault};
 ghost use Rattle.type_pairs.specs.PairNames.{
   names_of_operations,
   names_of_sorts,
@@ -16,10 +16,10 @@ ghost use Rattle.type_pairs.specs.PairNames.{
   old_names,
 };
 
-use name_positions::NamePositions;
 use std::alloc::Global;
 use syntax_trees::PairText;
-use type_faults::TypeFault;
+use type_definitions::TypeFault;
+use type_presentations::NamePositions;
 
 /// Looks at a pair of sorts behind earlier ones. It is refused where its old name is that of no
 /// sort; then where an earlier pair has the old name; then where one of those with which it may not

@@ -1,18 +1,18 @@
 //! Pairs that are found by their old names.
 
 ghost use Rattle.lotos_base.specs.Name.{spelling};
-ghost use Rattle.name_positions.specs.NamesView.{HasNames};
+ghost use Rattle.type_presentations.specs.NamesView.{HasNames};
 ghost use Rattle.std.proofs.Props.{props};
 ghost use Rattle.std.specs.Option.{option_map};
 ghost use Rattle.std.specs.Prelude.{◌≡◌, IfOk, map};
 ghost use Rattle.syntax_trees.specs.TreeViews.{pair_of};
-ghost use Rattle.type_flatten.specs.Renaming.{pair_for};
+ghost use Rattle.type_definitions.specs.Renaming.{pair_for};
 ghost use Rattle.type_pairs.specs.PairNames.{old_names};
 
 use lotos_base::{Name, NoMemory};
-use name_positions::NamePositions;
 use std::alloc::Global;
 use syntax_trees::PairText;
+use type_presentations::NamePositions;
 
 /// Pairs, each of which is found by its old name.
 #[derive(Drop)]

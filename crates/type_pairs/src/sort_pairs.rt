@@ -1,20 +1,20 @@
 //! The pairs of sorts of a renaming.
 
-ghost use Rattle.name_positions.specs.NamesView.{HasNames};
+ghost use Rattle.type_presentations.specs.NamesView.{HasNames};
 ghost use Rattle.std.specs.Prelude.{◌≡◌, [], None, MatchResult, map};
 ghost use Rattle.syntax_trees.specs.TreeViews.{pair_of};
 ghost use Rattle.term_algebra.specs.Signature.{Signature};
-ghost use Rattle.type_faults.specs.FaultView.{IsFaultFound};
-ghost use Rattle.type_flatten.specs.Renaming.{sort_pairs_fault};
+ghost use Rattle.type_definitions.specs.FaultView.{IsFaultFound};
+ghost use Rattle.type_definitions.specs.Renaming.{sort_pairs_fault};
 ghost use Rattle.type_pairs.specs.PairIndexView.{pairs_in};
 ghost use Rattle.type_pairs.specs.PairNames.{names_of_sorts};
 
 use crate::checking::look_at_sort_pair;
 use crate::pair_index::PairIndex;
-use name_positions::NamePositions;
 use std::alloc::Global;
 use syntax_trees::PairText;
-use type_faults::TypeFault;
+use type_definitions::TypeFault;
+use type_presentations::NamePositions;
 
 /// Looks at pairs of sorts in text order, no two of which may share a new name. It is refused at
 /// the first pair with a fault: `UnknownSort` at an old name that is that of no sort; `DoubleSort`

@@ -7,9 +7,9 @@ use Rattle.term_algebra.specs.Signature.{Signature, Operation, IsSort, IsOperati
 use Rattle.term_algebra.specs.Term.{Term, Terms, variable, node, no_terms, term_then}
 use Rattle.term_algebra.specs.Sorting.{HasSort, HaveSorts, Occurs, OccursAmong}
 use Rattle.term_algebra.specs.Equation.{Variable, Equation, IsDeclared, IsEquationOver}
-use Rattle.type_images.specs.Images.{term_image, terms_image, variable_image, equation_image}
-use Rattle.type_images.specs.ProfiledImage.{profile_in}
-use Rattle.type_images.specs.ImageLaws.{IsSignatureMap}
+use Rattle.type_definitions.specs.Images.{term_image, terms_image, variable_image, equation_image}
+use Rattle.type_definitions.specs.ProfiledImage.{profile_in}
+use Rattle.type_definitions.specs.ImageLaws.{IsSignatureMap}
 use Rattle.type_presentations.specs.ImagesOfEquations.{EquationImagesAreWellFormed}
 
 -- ---- Sorts.

@@ -3,8 +3,8 @@ use Rattle.std.proofs.Common.{◌≡◌, ℕ, suc, ◌+◌, ◌<◌, Bool, true,
 use Rattle.std.specs.Prelude.{not, nat_eq}
 use Rattle.std.specs.List.{list_any}
 use Rattle.std.proofs.lemmas.Bool.{eqb-true}
-use Rattle.type_flatten.specs.Presentation.{with_new}
-use Rattle.presentation_lists.proofs.OnceLemmas.{any_once, came_once, grown_if_new, stays_if_old}
+use Rattle.type_definitions.specs.Presentation.{with_new}
+use Rattle.type_presentations.proofs.OnceLemmas.{any_once, came_once, grown_if_new, stays_if_old}
 
 pub record Marked (old known : List ℕ) (number : ℕ) (is_new : Bool) : Type 0 where
   pub appended : known ≡ with_new nat_eq [] (old ++ number ∷ [])

@@ -2,8 +2,8 @@
 use Rattle.std.proofs.Common.{◌≡◌, ℕ, zero, suc, ◌+◌, ◌<◌, ◌≤◌, Bool, true, false, List, [], ◌∷◌, map, length, drop, refl, ap, sym, ◌∙◌, arith}
 use Rattle.std.specs.Prelude.{◌||◌, nat_lt, if◌then◌else◌}
 use Rattle.std.proofs.lemmas.Bool.{lt-ltb}
-use Rattle.type_flatten.specs.Presentation.{is_marked}
-use Rattle.type_flatten.specs.Actualisation.{marked_from}
+use Rattle.type_definitions.specs.Presentation.{is_marked}
+use Rattle.type_definitions.specs.Actualisation.{marked_from}
 
 -- whether one from this position on is
 abbrev pub some_marked : {A : Type 0} → List ℕ → ℕ → List A → Bool

@@ -13,11 +13,11 @@ use Rattle.sort_terms.specs.WellFormedTest.{all_below, has_known_sorts, all_diff
 use Rattle.sort_terms.specs.declared.equations.Equation.{Equation as CodeEquation}
 use Rattle.sort_terms.proofs.NodeLemmas.{both_true}
 use Rattle.sort_terms.proofs.WellFormedLemmas.{well_formed_test, test_well_formed}
-use Rattle.type_images.specs.ProfiledImage.{profile_in}
-use Rattle.type_images.specs.ImageLaws.{IsSignatureMap}
-use Rattle.type_flatten.specs.Presentation.{nothing}
-use Rattle.type_flatten.specs.Flattened.{data_of}
-use Rattle.equation_lists.specs.EquationListView.{HaveSidesOf}
+use Rattle.type_definitions.specs.ProfiledImage.{profile_in}
+use Rattle.type_definitions.specs.ImageLaws.{IsSignatureMap}
+use Rattle.type_definitions.specs.Presentation.{nothing}
+use Rattle.type_definitions.specs.Flattened.{data_of}
+use Rattle.type_presentations.specs.EquationListView.{HaveSidesOf}
 use Rattle.type_presentations.proofs.EquationImageLemmas.{image_over, identity_image}
 
 -- ---- Parts of a well-formed signature.

@@ -2,7 +2,7 @@
 use Rattle.std.proofs.Common.{◌≡◌, ◌≤◌, Bool, true, false, List, length, refl}
 use Rattle.std.specs.Prelude.{◌||◌, nat_lt}
 use Rattle.std.proofs.lemmas.Bool.{ltb-false}
-use Rattle.type_flatten.specs.Presentation.{Presentation, presentation_limit, is_too_large}
+use Rattle.type_definitions.specs.Presentation.{Presentation, presentation_limit, is_too_large}
 
 abbrev Neither : Bool → Bool → Type 0
 Neither a b = (a ≡ false) × (b ≡ false)

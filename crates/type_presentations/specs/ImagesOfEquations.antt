@@ -2,8 +2,8 @@
 use Rattle.std.specs.Prelude.{◌≡◌, ℕ}
 use Rattle.term_algebra.specs.Signature.{Signature}
 use Rattle.term_algebra.specs.Equation.{Equation, IsEquationOver}
-use Rattle.type_images.specs.Images.{equation_image}
-use Rattle.type_images.specs.ImageLaws.{IsSignatureMap}
+use Rattle.type_definitions.specs.Images.{equation_image}
+use Rattle.type_definitions.specs.ImageLaws.{IsSignatureMap}
 
 pub record EquationImagesAreWellFormed : Type 0 where
   -- its image is well formed over the other one

@@ -1,3 +1,12 @@
 pub mod MarksView
 pub mod PresentationView
 pub mod ImagesOfEquations
+pub mod Keys
+pub mod KeyView
+pub mod SortListView
+pub mod OperationListView
+pub mod Growth
+pub mod EquationKeys
+pub mod EquationListView
+pub mod PositionOfName
+pub mod NamesView

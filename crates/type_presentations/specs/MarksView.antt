@@ -1,6 +1,6 @@
 -- The marked numbers.
 use Rattle.std.specs.Prelude.{◌≡◌, ℕ, nat_eq, List, []}
-use Rattle.type_flatten.specs.Presentation.{with_new}
+use Rattle.type_definitions.specs.Presentation.{with_new}
 use Rattle.type_presentations.specs.declared.marks.Marks.{Marks}
 
 -- the numbers in the order in which they were marked

@@ -1,11 +1,11 @@
 -- The presentation that a presentation of the code stands for, and what is so of each.
 use Rattle.std.specs.Prelude.{◌≡◌, false}
 use Rattle.term_algebra.specs.Equation.{IsWellFormedData}
-use Rattle.type_flatten.specs.Presentation.{Presentation as PlainPresentation, is_too_large}
-use Rattle.type_flatten.specs.Flattened.{data_of}
-use Rattle.presentation_lists.specs.SortListView.{HasSortKeys, sorts_in}
-use Rattle.presentation_lists.specs.OperationListView.{HasOperationKeys, operations_in}
-use Rattle.equation_lists.specs.EquationListView.{HasEquationKeys, HaveSidesOf, equations_in}
+use Rattle.type_definitions.specs.Presentation.{Presentation as PlainPresentation, is_too_large}
+use Rattle.type_definitions.specs.Flattened.{data_of}
+use Rattle.type_presentations.specs.SortListView.{HasSortKeys, sorts_in}
+use Rattle.type_presentations.specs.OperationListView.{HasOperationKeys, operations_in}
+use Rattle.type_presentations.specs.EquationListView.{HasEquationKeys, HaveSidesOf, equations_in}
 use Rattle.type_presentations.specs.MarksView.{IsKnown, marks_in}
 use Rattle.type_presentations.specs.declared.presentations.Presentation.{Presentation}
 

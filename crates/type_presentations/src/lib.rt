@@ -1,14 +1,40 @@
-//! The presentations of types: their sorts, operations and equations, and what is formal
-//! (ISO 8807:1989, data part).
+//! The presentations of types: their sorts, operations and equations, each once and found by keys,
+//! and what is formal (ISO 8807:1989, data part).
 #![tactic(auto)]
 
 ghost use Rattle.type_presentations.specs.ImagesOfEquations.{EquationImagesAreWellFormed};
 
+pub mod equation_keys;
+pub mod equation_list;
+pub mod equation_list_laws;
+pub mod growing_equations;
+pub mod growing_operations;
+pub mod growing_sorts;
+pub mod key_laws;
+pub mod key_set;
+pub mod keys;
+pub mod marking;
 pub mod marks;
+pub mod names;
+pub mod operation_list;
 pub mod presentations;
+pub mod sort_list;
 
+pub use equation_keys::equation_key;
+pub use equation_list::EquationList;
+pub use equation_list_laws::equation_keys_tell;
+pub use growing_equations::grow_by_equation;
+pub use growing_operations::grow_by_op;
+pub use growing_sorts::grow_by_sort;
+pub use key_laws::keys_tell;
+pub use key_set::KeySet;
+pub use keys::{name_key, operation_key, profile_key, sort_key};
+pub use marking::{mark_op, mark_sort};
 pub use marks::Marks;
+pub use names::NamePositions;
+pub use operation_list::OperationList;
 pub use presentations::Presentation;
+pub use sort_list::SortList;
 
 /// Under maps from one signature to another the image of a well-formed equation of the one is a
 /// well-formed equation of the other; where the numbers stay, it is the same.

@@ -1,13 +1,13 @@
 //! Marks of what is formal.
 
 ghost use Rattle.std.specs.Prelude.{◌≡◌, ◌∷◌, ◌++◌, [], OnOk, map, nat_eq};
-ghost use Rattle.type_flatten.specs.Presentation.{is_marked, with_new};
-ghost use Rattle.type_images.specs.ProfiledImage.{number_in};
+ghost use Rattle.type_definitions.specs.Presentation.{is_marked, with_new};
+ghost use Rattle.type_definitions.specs.ProfiledImage.{number_in};
 
 use indexmap::IndexSet;
 use lotos_base::NoMemory;
 use std::alloc::Global;
-use type_images::number_at;
+use type_definitions::number_at;
 
 /// Numbers that are marked, in the order in which they came.
 #[derive(Drop)]

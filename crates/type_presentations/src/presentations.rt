@@ -1,13 +1,12 @@
 //! Presentations.
 
 ghost use Rattle.std.specs.Prelude.{◌≡◌, ◌<◌, ◌^◌, length, nat_lt};
-ghost use Rattle.type_flatten.specs.Actualisation.{is_formal, marked_from};
-ghost use Rattle.type_flatten.specs.Presentation.{is_too_large, nothing};
+ghost use Rattle.type_definitions.specs.Actualisation.{is_formal, marked_from};
+ghost use Rattle.type_definitions.specs.Presentation.{is_too_large, nothing};
 ghost use Rattle.type_presentations.specs.MarksView.{IsKnown, marks_in};
 
 use crate::marks::Marks;
-use equation_lists::EquationList;
-use presentation_lists::{OperationList, SortList};
+use crate::{EquationList, OperationList, SortList};
 use std::alloc::Global;
 
 // How many sorts, operations or equations a presentation has at most.

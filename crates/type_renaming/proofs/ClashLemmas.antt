@@ -8,10 +8,10 @@ use Rattle.std.proofs.lemmas.List.Folds.{list_any-append}
 use Rattle.term_algebra.specs.Equation.{Place}
 use Rattle.syntax_trees.specs.WrittenItem.{WrittenPair}
 use Rattle.sort_terms.specs.WellFormedTest.{all_differ}
-use Rattle.presentation_lists.proofs.KeptLemmas.{differ_and_one}
-use Rattle.type_flatten.specs.TypeFault.{TypeFault}
-use Rattle.type_flatten.specs.Renaming.{clash_at, clash_with, clash_among}
-use Rattle.type_faults.proofs.WalkLemmas.{AreOneByOne, next_of}
+use Rattle.type_presentations.proofs.KeptLemmas.{differ_and_one}
+use Rattle.type_definitions.specs.TypeFault.{TypeFault}
+use Rattle.type_definitions.specs.Renaming.{clash_at, clash_with, clash_among}
+use Rattle.type_definitions.proofs.WalkLemmas.{AreOneByOne, next_of}
 
 -- ---- Tests.
 

@@ -9,11 +9,11 @@ use Rattle.term_algebra.specs.Signature.{Signature, Operation, IsWellFormedSigna
 use Rattle.term_algebra.specs.Term.{Term, Terms, variable, node, no_terms, term_then}
 use Rattle.term_algebra.specs.Sorting.{HasSort, HaveSorts}
 use Rattle.term_algebra.specs.Equation.{Variable, Equation, IsEquationOver}
-use Rattle.type_images.specs.Images.{term_image, terms_image, variable_image, equation_image}
-use Rattle.type_images.specs.ProfiledImage.{number_in, profile_in}
-use Rattle.type_images.specs.ImageLaws.{IsSignatureMap}
-use Rattle.type_flatten.specs.Presentation.{Presentation}
-use Rattle.type_flatten.specs.DeclaredEquations.{with_equation}
+use Rattle.type_definitions.specs.Images.{term_image, terms_image, variable_image, equation_image}
+use Rattle.type_definitions.specs.ProfiledImage.{number_in, profile_in}
+use Rattle.type_definitions.specs.ImageLaws.{IsSignatureMap}
+use Rattle.type_definitions.specs.Presentation.{Presentation}
+use Rattle.type_definitions.specs.DeclaredEquations.{with_equation}
 use Rattle.type_renaming.specs.Parts.{KeepsProfilesOf, with_equations}
 use Rattle.type_renaming.specs.SameNumbers.{KeepNumbers}
 

@@ -12,9 +12,9 @@ use Rattle.term_algebra.specs.Twins.{form_eq}
 use Rattle.syntax_trees.specs.WrittenItem.{WrittenPair, WrittenPairs}
 use Rattle.sort_terms.specs.ReadingOutcome.{one_name}
 use Rattle.sort_terms.specs.WellFormedTest.{are_one_sort, are_one_operation}
-use Rattle.presentation_lists.proofs.AddedLemmas.{by_name, by_profile}
-use Rattle.presentation_lists.proofs.KeyedLemmas.{mutual_by_key}
-use Rattle.type_flatten.specs.Renaming.{pair_for, sort_under, operation_under, renamed_sort, renamed_operation}
+use Rattle.type_presentations.proofs.AddedLemmas.{by_name, by_profile}
+use Rattle.type_presentations.proofs.KeyedLemmas.{mutual_by_key}
+use Rattle.type_definitions.specs.Renaming.{pair_for, sort_under, operation_under, renamed_sort, renamed_operation}
 use Rattle.type_renaming.specs.Clashes.{giving, giving_operation, have_one_profile}
 
 -- ---- Tests.

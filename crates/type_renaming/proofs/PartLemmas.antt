@@ -14,8 +14,8 @@ use Rattle.sort_terms.specs.Operations.{operation_of}
 use Rattle.sort_terms.specs.declared.operations.Op.{Op}
 use Rattle.sort_terms.specs.WellFormedTest.{has_known_sorts, all_differ, are_one_sort, are_one_operation}
 use Rattle.sort_terms.proofs.WellFormedLemmas.{test_well_formed}
-use Rattle.type_flatten.specs.Presentation.{Presentation, is_too_large, presentation_limit}
-use Rattle.type_flatten.specs.Renaming.{pair_for, operation_under, renamed_sort, renamed_operation, renaming}
+use Rattle.type_definitions.specs.Presentation.{Presentation, is_too_large, presentation_limit}
+use Rattle.type_definitions.specs.Renaming.{pair_for, operation_under, renamed_sort, renamed_operation, renaming}
 use Rattle.type_presentations.proofs.SizeLemmas.{within_limits}
 use Rattle.type_renaming.specs.Parts.{KeepsProfilesOf, sorts_alone, with_these_operations}
 

@@ -4,9 +4,9 @@ use Rattle.std.specs.Prelude.{Option, Some, None, false}
 use Rattle.std.proofs.lemmas.List.{length-map}
 use Rattle.term_algebra.specs.Signature.{Sort, Operation}
 use Rattle.syntax_trees.specs.WrittenItem.{WrittenPair, WrittenPairs}
-use Rattle.type_flatten.specs.TypeFault.{TypeFault, first_fault}
-use Rattle.type_flatten.specs.Presentation.{Presentation, is_too_large}
-use Rattle.type_flatten.specs.Renaming.{renaming, renaming_fault, renamed_sort, renamed_operation, renamed_sort_clash, renamed_operation_clash, sort_pairs_fault, operation_pairs_fault}
+use Rattle.type_definitions.specs.TypeFault.{TypeFault, first_fault}
+use Rattle.type_definitions.specs.Presentation.{Presentation, is_too_large}
+use Rattle.type_definitions.specs.Renaming.{renaming, renaming_fault, renamed_sort, renamed_operation, renamed_sort_clash, renamed_operation_clash, sort_pairs_fault, operation_pairs_fault}
 use Rattle.type_renaming.specs.Parts.{sorts_alone, with_these_operations, with_equations, with_marks}
 use Rattle.type_renaming.proofs.PartLemmas.{as_large}
 

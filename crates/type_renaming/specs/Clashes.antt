@@ -6,8 +6,8 @@ use Rattle.term_algebra.specs.Twins.{form_eq}
 use Rattle.syntax_trees.specs.WrittenItem.{WrittenPair, WrittenPairs}
 use Rattle.sort_terms.specs.ReadingOutcome.{one_name}
 use Rattle.sort_terms.specs.WellFormedTest.{are_one_sort, are_one_operation}
-use Rattle.type_flatten.specs.TypeFault.{TypeFault, double_sort, double_operation}
-use Rattle.type_flatten.specs.Renaming.{pair_for, renamed_sort, renamed_operation, clash_with}
+use Rattle.type_definitions.specs.TypeFault.{TypeFault, double_sort, double_operation}
+use Rattle.type_definitions.specs.Renaming.{pair_for, renamed_sort, renamed_operation, clash_with}
 
 -- of a sort
 abbrev pub sort_clash : List ℕ → WrittenPairs → List Sort → Sort → Option TypeFault

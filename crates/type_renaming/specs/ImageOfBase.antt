@@ -1,10 +1,10 @@
 -- What two renamers make of a presentation, and the first clash within it.
 use Rattle.std.specs.Prelude.{◌≡◌, Option, None, length, map}
-use Rattle.type_flatten.specs.TypeFault.{TypeFault, first_fault}
-use Rattle.type_flatten.specs.Presentation.{Presentation as PlainPresentation}
-use Rattle.type_flatten.specs.Renaming.{renamed_sort, renamed_operation, renamed_sort_clash, renamed_operation_clash}
-use Rattle.type_faults.specs.FaultView.{IsFaultFound}
-use Rattle.type_faults.specs.declared.type_faults.TypeFault.{TypeFault as CodeFault}
+use Rattle.type_definitions.specs.TypeFault.{TypeFault, first_fault}
+use Rattle.type_definitions.specs.Presentation.{Presentation as PlainPresentation}
+use Rattle.type_definitions.specs.Renaming.{renamed_sort, renamed_operation, renamed_sort_clash, renamed_operation_clash}
+use Rattle.type_definitions.specs.FaultView.{IsFaultFound}
+use Rattle.type_definitions.specs.declared.type_faults.TypeFault.{TypeFault as CodeFault}
 use Rattle.type_presentations.specs.PresentationView.{IsSound, IsWithinLimits, presentation_of}
 use Rattle.type_presentations.specs.declared.presentations.Presentation.{Presentation}
 use Rattle.type_renaming.specs.Parts.{sorts_alone, with_these_operations, with_equations, with_marks}

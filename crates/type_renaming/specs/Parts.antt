@@ -2,7 +2,7 @@
 use Rattle.std.specs.Prelude.{◌≡◌, ℕ, List, [], length, ◌++◌}
 use Rattle.term_algebra.specs.Signature.{Signature, Sort, Operation, IsOperation}
 use Rattle.term_algebra.specs.Equation.{Equation}
-use Rattle.type_flatten.specs.Presentation.{Presentation}
+use Rattle.type_definitions.specs.Presentation.{Presentation}
 
 -- sorts, and nothing else
 abbrev pub sorts_alone : List Sort → Presentation

@@ -1,10 +1,10 @@
 -- What a renaming makes of its base, and its first fault.
 use Rattle.std.specs.Prelude.{◌≡◌, ℕ, List, None}
 use Rattle.syntax_trees.specs.WrittenItem.{WrittenPairs}
-use Rattle.type_flatten.specs.Presentation.{Presentation as PlainPresentation}
-use Rattle.type_flatten.specs.Renaming.{renaming, renaming_fault}
-use Rattle.type_faults.specs.FaultView.{IsFaultFound}
-use Rattle.type_faults.specs.declared.type_faults.TypeFault.{TypeFault}
+use Rattle.type_definitions.specs.Presentation.{Presentation as PlainPresentation}
+use Rattle.type_definitions.specs.Renaming.{renaming, renaming_fault}
+use Rattle.type_definitions.specs.FaultView.{IsFaultFound}
+use Rattle.type_definitions.specs.declared.type_faults.TypeFault.{TypeFault}
 use Rattle.type_presentations.specs.PresentationView.{IsSound, IsWithinLimits, presentation_of}
 use Rattle.type_presentations.specs.declared.presentations.Presentation.{Presentation}
 

@@ -1,7 +1,7 @@
 -- Lists of new numbers under which sorts and operations keep their numbers.
 use Rattle.std.specs.Prelude.{◌≡◌, ◌<◌, ℕ, List, length}
 use Rattle.term_algebra.specs.Signature.{Signature}
-use Rattle.type_images.specs.ProfiledImage.{number_in}
+use Rattle.type_definitions.specs.ProfiledImage.{number_in}
 
 -- Each sort and each operation of the signature keeps its number.
 pub record KeepNumbers (signature : Signature) (new_sorts new_operations : List ℕ) : Type 0 where

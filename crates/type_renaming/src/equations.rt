@@ -1,6 +1,6 @@
 //! Equations and marks of the base, which stay.
 
-ghost use Rattle.equation_lists.specs.EquationListView.{HasSidesOver};
+ghost use Rattle.type_presentations.specs.EquationListView.{HasSidesOver};
 ghost use Rattle.sort_terms.specs.EquationView.{equation_of};
 ghost use Rattle.std.specs.Prelude.{
   ◌≡◌,
@@ -12,8 +12,8 @@ ghost use Rattle.std.specs.Prelude.{
   OnOk,
 };
 ghost use Rattle.term_algebra.specs.Equation.{IsEquationOver};
-ghost use Rattle.type_flatten.specs.DeclaredEquations.{with_equation};
-ghost use Rattle.type_images.specs.ProfiledImage.{number_in};
+ghost use Rattle.type_definitions.specs.DeclaredEquations.{with_equation};
+ghost use Rattle.type_definitions.specs.ProfiledImage.{number_in};
 ghost use Rattle.type_presentations.specs.MarksView.{IsKnown, marks_in};
 ghost use Rattle.type_presentations.specs.PresentationView.{
   IsSound,
@@ -24,11 +24,10 @@ ghost use Rattle.type_renaming.specs.Parts.{KeepsProfilesOf, with_equations, wit
 ghost use Rattle.type_renaming.specs.SameNumbers.{KeepNumbers};
 
 use lotos_base::NoMemory;
-use presentation_growth::grow_by_equation;
 use sort_terms::Equation;
 use std::alloc::Global;
-use type_images::image_of_equation;
-use type_presentations::{Marks, Presentation};
+use type_definitions::image_of_equation;
+use type_presentations::{Marks, Presentation, grow_by_equation};
 
 /// Puts the equations of the base behind those of the presentation, whose sorts and operations have
 /// the numbers of those of the base and their profiles.

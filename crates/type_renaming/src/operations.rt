@@ -1,6 +1,6 @@
 //! Operations under the pairs of a renaming.
 
-ghost use Rattle.presentation_growth.specs.Growth.{with_one_operation};
+ghost use Rattle.type_presentations.specs.Growth.{with_one_operation};
 ghost use Rattle.sort_terms.specs.Operations.{operation_of};
 ghost use Rattle.sort_terms.specs.WellFormedTest.{
   all_differ,
@@ -24,9 +24,9 @@ ghost use Rattle.std.specs.Prelude.{
 };
 ghost use Rattle.syntax_trees.specs.TreeViews.{pair_of};
 ghost use Rattle.type_declarations.specs.Making.{IsMade};
-ghost use Rattle.type_faults.specs.FaultView.{IsFaultFound};
-ghost use Rattle.type_flatten.specs.Presentation.{presentation_limit};
-ghost use Rattle.type_flatten.specs.Renaming.{
+ghost use Rattle.type_definitions.specs.FaultView.{IsFaultFound};
+ghost use Rattle.type_definitions.specs.Presentation.{presentation_limit};
+ghost use Rattle.type_definitions.specs.Renaming.{
   pair_for,
   renamed_operation,
   renamed_operation_clash,
@@ -48,13 +48,12 @@ ghost use Rattle.type_renaming.specs.RenamerView.{operation_pairs_in, type_name_
 
 use crate::renamer::Renamer;
 use lotos_base::NoMemory;
-use presentation_growth::grow_by_op;
 use sort_terms::Op;
 use std::alloc::Global;
 use std::rc::Rc;
 use syntax_trees::PairText;
-use type_faults::TypeFault;
-use type_presentations::Presentation;
+use type_definitions::TypeFault;
+use type_presentations::{Presentation, grow_by_op};
 
 /// Puts the images of the operations into a presentation that has their sorts and no operations. It
 /// is refused at the first operation whose image has the name, form and profile of that of an

@@ -5,7 +5,7 @@ ghost use Rattle.sort_terms.specs.Operations.{operation_of, sort_of};
 ghost use Rattle.std.specs.Option.{option_map};
 ghost use Rattle.std.specs.Prelude.{◌≡◌, IfOk};
 ghost use Rattle.syntax_trees.specs.TreeViews.{pair_of};
-ghost use Rattle.type_flatten.specs.Renaming.{pair_for, renamed_operation, renamed_sort};
+ghost use Rattle.type_definitions.specs.Renaming.{pair_for, renamed_operation, renamed_sort};
 ghost use Rattle.type_pairs.specs.PairIndexView.{pairs_in};
 ghost use Rattle.type_renaming.specs.Clashes.{giving};
 

@@ -22,12 +22,11 @@ use crate::operations::rename_ops;
 use crate::renamer::Renamer;
 use crate::sorts::rename_sorts;
 use lotos_base::Name;
-use name_positions::NamePositions;
 use std::alloc::Global;
 use syntax_trees::PairText;
-use type_faults::TypeFault;
+use type_definitions::TypeFault;
 use type_pairs::{look_at_op_pairs, look_at_sort_pairs};
-use type_presentations::Presentation;
+use type_presentations::{NamePositions, Presentation};
 
 /// The presentation of the type of this name that renames the base by these pairs: the image of
 /// the base, with its marks. What is renamed has the type as its origin; numbers stay.

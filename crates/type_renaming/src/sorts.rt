@@ -1,6 +1,6 @@
 //! Sorts under the pairs of a renaming.
 
-ghost use Rattle.presentation_growth.specs.Growth.{with_one_sort};
+ghost use Rattle.type_presentations.specs.Growth.{with_one_sort};
 ghost use Rattle.sort_terms.specs.Operations.{sort_of};
 ghost use Rattle.sort_terms.specs.WellFormedTest.{all_differ, are_one_sort};
 ghost use Rattle.std.specs.List.{list_any};
@@ -19,9 +19,9 @@ ghost use Rattle.std.specs.Prelude.{
 };
 ghost use Rattle.syntax_trees.specs.TreeViews.{pair_of};
 ghost use Rattle.type_declarations.specs.Making.{IsMade};
-ghost use Rattle.type_faults.specs.FaultView.{IsFaultFound};
-ghost use Rattle.type_flatten.specs.Presentation.{presentation_limit};
-ghost use Rattle.type_flatten.specs.Renaming.{
+ghost use Rattle.type_definitions.specs.FaultView.{IsFaultFound};
+ghost use Rattle.type_definitions.specs.Presentation.{presentation_limit};
+ghost use Rattle.type_definitions.specs.Renaming.{
   pair_for,
   renamed_sort,
   renamed_sort_clash,
@@ -39,12 +39,11 @@ ghost use Rattle.type_renaming.specs.RenamerView.{sort_pairs_in, type_name_in};
 
 use crate::renamer::Renamer;
 use lotos_base::NoMemory;
-use presentation_growth::grow_by_sort;
 use sort_terms::Sort;
 use std::alloc::Global;
 use syntax_trees::PairText;
-use type_faults::TypeFault;
-use type_presentations::Presentation;
+use type_definitions::TypeFault;
+use type_presentations::{Presentation, grow_by_sort};
 
 /// The presentation of the images of the sorts, no two of which have one name. It is refused at the
 /// first sort whose image has the name of that of an earlier one.

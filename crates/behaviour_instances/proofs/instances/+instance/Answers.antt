@@ -14,7 +14,7 @@ use Rattle.behaviour_tree.specs.declared.behaviours.Beh.{Beh}
 use Rattle.behaviour_instances.specs.InstanceTerms.{instance_profiles, terms_placed}
 use Rattle.behaviour_instances.proofs.FormLemmas.{inside_same, inside_terms, read_instance, read_suits, same_three, same_two}
 use Rattle.behaviour_instances.proofs.UnlistedLemmas.{suits_below}
-use Rattle.behaviour_instances.proofs.WeightLemmas.{below_inside, boxed_part, form_lighter, inside_part, left_below, left_part, right_below, right_part, unboxed_lighter, weight}
+use Rattle.behaviour_instances.proofs.WeightLemmas.{below_inside, shared_part, form_lighter, inside_part, left_below, left_part, right_below, right_part, held_lighter, weight}
 use Rattle.behaviour_instances.proofs.instances.+instance.Goals as goal
 
 pub instance-returns-in-Stop-clause-same : goal.instance-returns-in-Stop-clause-same
@@ -245,33 +245,33 @@ instance-returns-in-Call-clause-terms t c =
     IfOk-weaker c.call_instance.result _ _
     (λ made e. e ∙ ap (instance_profiles (profiled_binding (profiled_pairs c.args.environment.now.items))) (sym c.in-Call.is)) c.call_instance.ensures.terms
 
-pub boxed_instance-instance-requires : goal.boxed_instance-instance-requires
-boxed_instance-instance-requires t c = (
-  unboxed_lighter c.deref.result.now c.args.part.now.value _ c.deref.ensures c.decreases,
+pub shared_instance-instance-requires : goal.shared_instance-instance-requires
+shared_instance-instance-requires t c = (
+  held_lighter c.deref.result.now c.args.part.now.value _ c.deref.ensures c.decreases,
   read_suits c.args.environment.now.items _ _ c.deref.ensures c.requires,
 )
 
-pub boxed_instance-returns : goal.boxed_instance-returns
-boxed_instance-returns t c =
-    IfOk-weaker c.boxed.result _ _
+pub shared_instance-returns : goal.shared_instance-returns
+shared_instance-returns t c =
+    IfOk-weaker c.shared.result _ _
     (λ kept e. read_instance c.args.environment.now.items kept.value c.in_ok-made.made c.deref.result.now c.args.part.now.value
-    e c.in_ok-made.ensures.same c.in_ok-made.ensures.terms c.deref.ensures) c.boxed.ensures
+    e c.in_ok-made.ensures.same c.in_ok-made.ensures.terms c.deref.ensures) c.shared.ensures
 
-pub inside_instance-boxed_instance-requires : goal.inside_instance-boxed_instance-requires
-inside_instance-boxed_instance-requires t c =
+pub inside_instance-shared_instance-requires : goal.inside_instance-shared_instance-requires
+inside_instance-shared_instance-requires t c =
     (below_inside (weight (behaviour_of c.args.part.now.value)) _ c.decreases, c.requires)
 
-pub both_instances-boxed_instance-requires : goal.both_instances-boxed_instance-requires
-both_instances-boxed_instance-requires t c =
+pub both_instances-shared_instance-requires : goal.both_instances-shared_instance-requires
+both_instances-shared_instance-requires t c =
     (left_below (weight (behaviour_of c.args.left.now.value)) (weight (behaviour_of c.args.right.now.value)) _ c.decreases, c.requires.left)
 
-pub both_instances-boxed_instance-requires-2 : goal.both_instances-boxed_instance-requires-2
-both_instances-boxed_instance-requires-2 t c =
+pub both_instances-shared_instance-requires-2 : goal.both_instances-shared_instance-requires-2
+both_instances-shared_instance-requires-2 t c =
     (right_below (weight (behaviour_of c.args.left.now.value)) (weight (behaviour_of c.args.right.now.value)) _ c.decreases, c.requires.right)
 
-pub inner_instance-boxed_instance-requires : goal.inner_instance-boxed_instance-requires
-inner_instance-boxed_instance-requires t c =
-    (boxed_part (weight (behaviour_of c.args.next.now.value)) _ c.decreases, λ n s o. c.requires n s o)
+pub inner_instance-shared_instance-requires : goal.inner_instance-shared_instance-requires
+inner_instance-shared_instance-requires t c =
+    (shared_part (weight (behaviour_of c.args.next.now.value)) _ c.decreases, λ n s o. c.requires n s o)
 
 pub inner_instance-returns-clause-same : goal.inner_instance-returns-clause-same
 inner_instance-returns-clause-same t c =
@@ -281,9 +281,9 @@ pub inner_instance-returns-clause-terms : goal.inner_instance-returns-clause-ter
 inner_instance-returns-clause-terms t c =
     c.in_ok-next.ensures.terms
 
-pub guard_instance-boxed_instance-requires : goal.guard_instance-boxed_instance-requires
-guard_instance-boxed_instance-requires t c =
-    (boxed_part (weight (behaviour_of c.args.next.now.value)) _ c.decreases, λ n s o. c.requires n s (inr o))
+pub guard_instance-shared_instance-requires : goal.guard_instance-shared_instance-requires
+guard_instance-shared_instance-requires t c =
+    (shared_part (weight (behaviour_of c.args.next.now.value)) _ c.decreases, λ n s o. c.requires n s (inr o))
 
 pub guard_instance-placed_test-requires : goal.guard_instance-placed_test-requires
 guard_instance-placed_test-requires t c =
@@ -339,9 +339,9 @@ pub parallel_instance-returns-clause-terms : goal.parallel_instance-returns-clau
 parallel_instance-returns-clause-terms t c =
     same_two (λ (x y : List ProfiledTerm). x ++ y) _ _ _ _ c.in_ok-sides.ensures.left.terms c.in_ok-sides.ensures.right.terms
 
-pub hide_instance-boxed_instance-requires : goal.hide_instance-boxed_instance-requires
-hide_instance-boxed_instance-requires t c =
-    (boxed_part (weight (behaviour_of c.args.next.now.value)) _ c.decreases, λ n s o. c.requires n s o)
+pub hide_instance-shared_instance-requires : goal.hide_instance-shared_instance-requires
+hide_instance-shared_instance-requires t c =
+    (shared_part (weight (behaviour_of c.args.next.now.value)) _ c.decreases, λ n s o. c.requires n s o)
 
 pub hide_instance-returns-clause-same : goal.hide_instance-returns-clause-same
 hide_instance-returns-clause-same t c =
@@ -351,9 +351,9 @@ pub hide_instance-returns-clause-terms : goal.hide_instance-returns-clause-terms
 hide_instance-returns-clause-terms t c =
     c.in_ok-next.ensures.terms
 
-pub gate_instance-boxed_instance-requires : goal.gate_instance-boxed_instance-requires
-gate_instance-boxed_instance-requires t c =
-    (boxed_part (weight (behaviour_of c.args.next.now.value)) _ c.decreases, λ n s o. c.requires n s o)
+pub gate_instance-shared_instance-requires : goal.gate_instance-shared_instance-requires
+gate_instance-shared_instance-requires t c =
+    (shared_part (weight (behaviour_of c.args.next.now.value)) _ c.decreases, λ n s o. c.requires n s o)
 
 pub gate_instance-returns-clause-same : goal.gate_instance-returns-clause-same
 gate_instance-returns-clause-same t c =
@@ -363,9 +363,9 @@ pub gate_instance-returns-clause-terms : goal.gate_instance-returns-clause-terms
 gate_instance-returns-clause-terms t c =
     c.in_ok-next.ensures.terms
 
-pub par_instance-boxed_instance-requires : goal.par_instance-boxed_instance-requires
-par_instance-boxed_instance-requires t c =
-    (boxed_part (weight (behaviour_of c.args.next.now.value)) _ c.decreases, λ n s o. c.requires n s o)
+pub par_instance-shared_instance-requires : goal.par_instance-shared_instance-requires
+par_instance-shared_instance-requires t c =
+    (shared_part (weight (behaviour_of c.args.next.now.value)) _ c.decreases, λ n s o. c.requires n s o)
 
 pub par_instance-returns-clause-same : goal.par_instance-returns-clause-same
 par_instance-returns-clause-same t c =
@@ -382,8 +382,8 @@ enable_instance-inside_instance-requires t c = (
       (λ n s o. c.requires n s (inr o)),
 )
 
-pub enable_instance-boxed_instance-requires : goal.enable_instance-boxed_instance-requires
-enable_instance-boxed_instance-requires t c =
+pub enable_instance-shared_instance-requires : goal.enable_instance-shared_instance-requires
+enable_instance-shared_instance-requires t c =
     (left_part (weight (behaviour_of c.args.left.now.value)) (weight (behaviour_of c.args.right.now.value)) _ c.decreases, λ n s o. c.requires n s (inl o))
 
 pub enable_instance-returns-clause-same : goal.enable_instance-returns-clause-same
@@ -439,8 +439,8 @@ action_instance-action_below-requires t c = (
   (c.requires, (c.in_ok-inner.ensures.profiled, c.in_ok-inner.ensures.plain)),
 )
 
-pub action_below-boxed_instance-requires : goal.action_below-boxed_instance-requires
-action_below-boxed_instance-requires t c = (
+pub action_below-shared_instance-requires : goal.action_below-shared_instance-requires
+action_below-shared_instance-requires t c = (
   below_inside (weight (behaviour_of c.args.next.now.value)) _ c.decreases,
   suits_below (numbers_of (asked_variables (map offer_of c.args.offers.now.items))) c.args.inner.now.items c.args.environment.now.items _ c.requires.profiled
       (λ n s o. c.requires.suited n s (inr (o.0, inr o.1))),

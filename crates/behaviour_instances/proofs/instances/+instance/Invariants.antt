@@ -12,8 +12,8 @@ abbrev pub decreases-action_instance : goal.decreases-action_instance
 decreases-action_instance l =
     4 * weight (action l.gate (map offer_of l.offers.now.items) (option_map test_of l.test.now) (behaviour_of l.next.now.value))
 
-abbrev pub decreases-boxed_instance : goal.decreases-boxed_instance
-decreases-boxed_instance l = 4 * weight (behaviour_of l.part.now.value) + 2
+abbrev pub decreases-shared_instance : goal.decreases-shared_instance
+decreases-shared_instance l = 4 * weight (behaviour_of l.part.now.value) + 2
 
 abbrev pub decreases-inside_instance : goal.decreases-inside_instance
 decreases-inside_instance l = 4 * weight (behaviour_of l.part.now.value) + 3

@@ -1,10 +1,10 @@
 use Rattle.std.proofs.Common.{ℕ, List, ◌∙◌, subst, refl}
 use Rattle.std.specs.Prelude.{Option, IfSome, IfNone}
 use Rattle.term_algebra.specs.Signature.{Signature}
-use Rattle.overlap_pairs.specs.TwoSides.{RuleSides}
-use Rattle.overlap_pairs.specs.OverlapPair.{HaveNoOverlap, IsOverlapPair, IsOverOverlap}
-use Rattle.overlap_pairs.specs.SidesView.{borrowed_sides, overlap_of}
-use Rattle.overlap_pairs.specs.declared.sides.Overlap.{Overlap}
+use Rattle.critical_pairs.specs.TwoSides.{RuleSides}
+use Rattle.critical_pairs.specs.OverlapPair.{HaveNoOverlap, IsOverlapPair, IsOverOverlap}
+use Rattle.critical_pairs.specs.SidesView.{borrowed_sides, overlap_of}
+use Rattle.critical_pairs.specs.declared.sides.Overlap.{Overlap}
 use Rattle.critical_pairs.specs.PairView.{rule_sides}
 use Rattle.critical_pairs.proofs.listing.pair_at.Goals as goal
 

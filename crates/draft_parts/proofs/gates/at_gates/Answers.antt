@@ -1,7 +1,7 @@
 use Rattle.std.proofs.Common.{◌≡◌, ◌+◌, ℕ, List, subst, refl, arith}
 use Rattle.std.specs.Prelude.{slice_index}
-use Rattle.draft_lists.specs.Lists.{plain_drafts}
-use Rattle.form_drafts.specs.HasDrafts.{gate_drafts}
+use Rattle.draft_parts.specs.Lists.{plain_drafts}
+use Rattle.draft_parts.specs.HasDrafts.{gate_drafts}
 use Rattle.draft_parts.specs.Made.{AreThese}
 use Rattle.draft_parts.proofs.MadeLemmas.{by_rule_of, one_gate, gates_done}
 use Rattle.draft_parts.proofs.gates.at_gates.Goals as goal

@@ -1,9 +1,9 @@
 use Rattle.std.proofs.Common.{drop}
 use Rattle.term_algebra.specs.Signature.{Signature}
 use Rattle.behaviour_semantics.specs.WellFormed.{Every}
-use Rattle.menu_builder.specs.DraftTerms.{HasTermsOf}
-use Rattle.draft_lists.specs.Lists.{plain_drafts}
-use Rattle.form_drafts.specs.HasDrafts.{gate_drafts}
+use Rattle.draft_parts.specs.DraftTerms.{HasTermsOf}
+use Rattle.draft_parts.specs.Lists.{plain_drafts}
+use Rattle.draft_parts.specs.HasDrafts.{gate_drafts}
 use Rattle.draft_parts.proofs.MadeLemmas.{AreAtGates}
 use Rattle.draft_parts.proofs.gates.at_gates.Given as goal
 

@@ -2,10 +2,10 @@ use Rattle.std.proofs.Common.{◌≤◌, length, drop}
 use Rattle.term_algebra.specs.Signature.{Signature}
 use Rattle.behaviour_semantics.specs.WellFormed.{Every}
 use Rattle.behaviour_tree.specs.BehaviourView.{meet_of}
-use Rattle.menu_builder.specs.DraftTerms.{HasTermsOf}
-use Rattle.draft_lists.specs.Lists.{plain_drafts}
-use Rattle.form_drafts.specs.HasDrafts.{row_drafts}
-use Rattle.form_drafts.specs.Rows.{calls_copied}
+use Rattle.draft_parts.specs.DraftTerms.{HasTermsOf}
+use Rattle.draft_parts.specs.Lists.{plain_drafts}
+use Rattle.draft_parts.specs.HasDrafts.{row_drafts}
+use Rattle.draft_parts.specs.Rows.{calls_copied}
 use Rattle.draft_parts.specs.Made.{AreThese}
 use Rattle.draft_parts.proofs.gates.calls_beside.Given as goal
 

@@ -2,10 +2,10 @@ use Rattle.std.proofs.Common.{◌≡◌, ◌<◌, ◌+◌, ◌-◌, ℕ, List, [
 use Rattle.std.proofs.Math.Dec.{eqb}
 use Rattle.behaviour_semantics.specs.Draft as plain
 use Rattle.behaviour_semantics.specs.Shape.{relabelled}
-use Rattle.form_drafts.specs.Rows.{copied}
+use Rattle.draft_parts.specs.Rows.{copied}
 use Rattle.behaviour_tree.specs.BehaviourView.{meet_of}
-use Rattle.draft_lists.specs.Lists.{plain_drafts}
-use Rattle.form_drafts.specs.HasDrafts.{all_relabelled, row_drafts}
+use Rattle.draft_parts.specs.Lists.{plain_drafts}
+use Rattle.draft_parts.specs.HasDrafts.{all_relabelled, row_drafts}
 use Rattle.draft_parts.specs.Made.{AreThese}
 use Rattle.draft_parts.proofs.MadeLemmas.{by_rule_of, one_copy, row_from}
 use Rattle.draft_parts.proofs.gates.copies_beside.Goals as goal

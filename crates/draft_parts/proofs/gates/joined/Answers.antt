@@ -1,8 +1,8 @@
 use Rattle.std.proofs.Common.{Bool, if◌then◌else◌, sym, subst}
 use Rattle.std.proofs.lemmas.Result.{IfOk-weaker}
 use Rattle.behaviour_tree.specs.BehaviourView.{meet_of}
-use Rattle.draft_lists.specs.Lists.{plain_drafts}
-use Rattle.form_drafts.specs.HasDrafts.{beside_drafts}
+use Rattle.draft_parts.specs.Lists.{plain_drafts}
+use Rattle.draft_parts.specs.HasDrafts.{beside_drafts}
 use Rattle.draft_parts.specs.Made.{AreThese}
 use Rattle.draft_parts.proofs.gates.joined.Goals as goal
 

@@ -1,8 +1,8 @@
 use Rattle.std.proofs.Common.{List, sym, subst}
 use Rattle.behaviour_semantics.specs.WellFormed.{Every}
 use Rattle.event_offers.specs.declared.drafts.Draft.{Draft}
-use Rattle.menu_builder.specs.DraftTerms.{HasTermsOf}
-use Rattle.draft_lists.proofs.ListLemmas.{at_index}
+use Rattle.draft_parts.specs.DraftTerms.{HasTermsOf}
+use Rattle.draft_parts.proofs.ListLemmas.{at_index}
 use Rattle.draft_parts.proofs.MadeLemmas.{copy_turn, more_over}
 use Rattle.draft_parts.proofs.parts.draft_copies.Goals as goal
 

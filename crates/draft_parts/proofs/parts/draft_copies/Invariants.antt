@@ -1,8 +1,8 @@
 use Rattle.std.proofs.Common.{◌≡◌, ◌++◌, drop}
 use Rattle.term_algebra.specs.Signature.{Signature}
 use Rattle.behaviour_semantics.specs.WellFormed.{Every}
-use Rattle.menu_builder.specs.DraftTerms.{HasTermsOf}
-use Rattle.draft_lists.specs.Lists.{plain_drafts}
+use Rattle.draft_parts.specs.DraftTerms.{HasTermsOf}
+use Rattle.draft_parts.specs.Lists.{plain_drafts}
 use Rattle.draft_parts.proofs.parts.draft_copies.Given as goal
 
 abbrev pub invariant-loop-draft : goal.invariant-loop-draft

@@ -1,9 +1,9 @@
 use Rattle.std.proofs.Common.{ℕ, List, Bor, option_map, subst, ap, ◌∙◌}
 use Rattle.std.proofs.lemmas.Result.{IfOk-weaker}
-use Rattle.acceptance_order.specs.Acceptance.{IsAccepted}
+use Rattle.spec_acceptance.specs.Acceptance.{IsAccepted}
 use Rattle.printed_texts.specs.ReportLines.{unread_text}
 use Rattle.refusal_lines.specs.RefusalText.{refusal_text}
-use Rattle.spec_faults.specs.RefusalView.{refused_of}
+use Rattle.start_values.specs.RefusalView.{refused_of}
 use Rattle.spec_acceptance.specs.AcceptedView.{asked_for}
 use Rattle.spec_acceptance.specs.Doing.{Failed}
 use Rattle.spec_acceptance.specs.declared.not_accepted.NotAccepted.{NotAccepted}

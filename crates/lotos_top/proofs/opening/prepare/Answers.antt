@@ -1,6 +1,6 @@
 use Rattle.std.proofs.Common.{Option, Some, IfOk, sym, ap, subst, ◌∙◌}
 use Rattle.std.proofs.lemmas.Result.{IfOk-weaker}
-use Rattle.library_reading.specs.ShelfUse.{shelf_state}
+use Rattle.lotos_grammar.specs.ShelfUse.{shelf_state}
 use Rattle.lotos_top.specs.Prepared.{IsReady}
 use Rattle.start_values.specs.WordLimits.{words_of}
 use Rattle.lotos_top.specs.Words.{CommandLine, command_line, line_of}

@@ -1,6 +1,6 @@
 use Rattle.std.proofs.Common.{inl, ℕ, List, Bor, option_map, refl}
-use Rattle.acceptance_order.specs.Acceptance.{IsAccepted}
-use Rattle.library_reading.specs.ShelfUse.{shelf_state}
+use Rattle.spec_acceptance.specs.Acceptance.{IsAccepted}
+use Rattle.lotos_grammar.specs.ShelfUse.{shelf_state}
 use Rattle.spec_acceptance.specs.AcceptedView.{asked_for}
 use Rattle.start_values.specs.WordLimits.{words_of}
 use Rattle.lotos_top.specs.Words.{session}

@@ -1,5 +1,5 @@
 use Rattle.std.proofs.Common.{subst, ◌∙◌}
-use Rattle.library_reading.specs.ShelfUse.{shelf_state}
+use Rattle.lotos_grammar.specs.ShelfUse.{shelf_state}
 use Rattle.lotos_top.specs.Prepared.{IsReady}
 use Rattle.lotos_top.specs.Run.{streams}
 use Rattle.start_values.specs.WordLimits.{words_of}

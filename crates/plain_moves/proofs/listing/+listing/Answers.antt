@@ -1,4 +1,4 @@
-use Rattle.std.proofs.Common.{◌≡◌, ◌<◌, ◌-◌, ℕ, List, [], length, sym, subst, ap, map, ◌∙◌, arith, ltb-true, Option, Some, option_map}
+use Rattle.std.proofs.Common.{◌≡◌, ◌<◌, ◌-◌, ℕ, List, [], length, refl, sym, subst, ap, map, ◌∙◌, arith, ltb-true, Option, Some, option_map}
 use Rattle.std.specs.Prelude.{slice_get, zip}
 use Rattle.std.proofs.lemmas.Option.{slice_get-map, slice_get-get_or}
 use Rattle.std.proofs.lemmas.Result.{IfOk-weaker}
@@ -13,73 +13,63 @@ use Rattle.plain_moves.proofs.FormLemmas.{action_listed, hide_listed, enable_lis
 use Rattle.plain_moves.proofs.ListsLemmas.{empty_signature}
 use Rattle.plain_moves.proofs.listing.+listing.Goals as goal
 
-pub by_form-returns-in_ok-copy-in-Action : goal.by_form-returns-in_ok-copy-in-Action
-by_form-returns-in_ok-copy-in-Action t c =
+pub by_form-returns-in_ok-clone-in-Action : goal.by_form-returns-in_ok-clone-in-Action
+by_form-returns-in_ok-clone-in-Action t c =
     let processes = map process_of c.args.processes.now in
     IfOk-weaker c.single-in-Action.result _ _ (λ o listed.
     subst (λ (b : PlainBehaviour). IsListedByForm processes c.args.depth (without_values b) (list_of o)) (sym c.in-Action.is)
-    (action_listed processes c.args.depth c.in-Action.gate c.in-Action.next.value (without_values c.in_ok-copy-in-Action.field-0)
-    (list_of o) (c.in_ok-copy-in-Action.ensures ∙ ap without_values c.deref.ensures) listed))
+    (action_listed processes c.args.depth c.in-Action.gate c.in-Action.next.value (without_values c.in_ok-clone-in-Action.field-0.value)
+    (list_of o) (ap without_values c.in_ok-clone-in-Action.ensures.cases) listed))
     c.single-in-Action.ensures
 
 pub by_form-returns-in_ok-rights-in-Parallel : goal.by_form-returns-in_ok-rights-in-Parallel
 by_form-returns-in_ok-rights-in-Parallel t c =
     let processes = map process_of c.args.processes.now in
-    let left = subst (λ (b : PlainBehaviour). IsListed processes c.args.depth (without_values b)
-    (list_of c.in_ok-lefts-in-Parallel.lefts)) c.deref-in-Parallel.ensures c.in_ok-lefts-in-Parallel.ensures in
-    let right = subst (λ (b : PlainBehaviour). IsListed processes c.args.depth (without_values b)
-    (list_of c.in_ok-rights-in-Parallel.rights)) c.deref-in-Parallel-2.ensures c.in_ok-rights-in-Parallel.ensures in
     IfOk-weaker c.in_parallel.result _ _ (λ o listed.
     subst (λ (b : PlainBehaviour). IsListedByForm processes c.args.depth (without_values b) (list_of o)) (sym c.in-Parallel.is)
     (parallel_listed processes c.args.depth (meet_of c.in-Parallel.meet) (without_values c.in-Parallel.left.value)
-    (without_values c.in-Parallel.right.value)
-    (without_values c.deref-in-Parallel-3.result.now) (without_values c.deref-in-Parallel-4.result.now)
+    (without_values c.in-Parallel.right.value) (without_values c.in-Parallel.left.value) (without_values c.in-Parallel.right.value)
     (list_of c.in_ok-lefts-in-Parallel.lefts) (list_of c.in_ok-rights-in-Parallel.rights) (list_of o)
-    (ap without_values c.deref-in-Parallel-3.ensures) (ap without_values c.deref-in-Parallel-4.ensures) left right listed))
+    refl refl c.in_ok-lefts-in-Parallel.ensures c.in_ok-rights-in-Parallel.ensures listed))
     c.in_parallel.ensures
 
 pub by_form-returns-in_ok-parts-in-Hide : goal.by_form-returns-in_ok-parts-in-Hide
 by_form-returns-in_ok-parts-in-Hide t c =
     let processes = map process_of c.args.processes.now in
-    let part = subst (λ (b : PlainBehaviour). IsListed processes c.args.depth (without_values b) (list_of c.in_ok-parts-in-Hide.parts))
-    c.deref-in-Hide.ensures c.in_ok-parts-in-Hide.ensures in
     IfOk-weaker c.each_of.result _ _ (λ o listed.
     subst (λ (b : PlainBehaviour). IsListedByForm processes c.args.depth (without_values b) (list_of o)) (sym c.in-Hide.is)
-    (hide_listed processes c.args.depth c.in-Hide.gates.items c.deref-in-Hide-2.result.now (without_values c.in-Hide.part.value)
+    (hide_listed processes c.args.depth c.in-Hide.gates.items c.deref.result.now (without_values c.in-Hide.part.value)
     (list_of c.in_ok-parts-in-Hide.parts) (list_of o)
-    c.deref-in-Hide-2.ensures.value part (listed empty_signature)))
+    c.deref.ensures.value c.in_ok-parts-in-Hide.ensures (listed empty_signature)))
     c.each_of.ensures
 
 pub by_form-returns-in_ok-lefts-in-Enable : goal.by_form-returns-in_ok-lefts-in-Enable
 by_form-returns-in_ok-lefts-in-Enable t c =
     let processes = map process_of c.args.processes.now in
-    let part = subst (λ (b : PlainBehaviour). IsListed processes c.args.depth (without_values b)
-    (list_of c.in_ok-lefts-in-Enable.lefts)) c.deref-in-Enable.ensures c.in_ok-lefts-in-Enable.ensures in
     IfOk-weaker c.each_of-in-Enable.result _ _ (λ o listed.
     subst (λ (b : PlainBehaviour). IsListedByForm processes c.args.depth (without_values b) (list_of o)) (sym c.in-Enable.is)
     (enable_listed processes c.args.depth (without_values c.in-Enable.left.value) (without_values c.in-Enable.right.value)
-    (without_values c.deref-in-Enable-2.result.now) (list_of c.in_ok-lefts-in-Enable.lefts) (list_of o)
-    (ap without_values c.deref-in-Enable-2.ensures) part listed))
+    (without_values c.in-Enable.right.value) (list_of c.in_ok-lefts-in-Enable.lefts) (list_of o)
+    refl c.in_ok-lefts-in-Enable.ensures listed))
     c.each_of-in-Enable.ensures
 
 pub by_form-returns-in_ok-parts-in-Relabel : goal.by_form-returns-in_ok-parts-in-Relabel
 by_form-returns-in_ok-parts-in-Relabel t c =
     let processes = map process_of c.args.processes.now in
-    let part = subst (λ (b : PlainBehaviour). IsListed processes c.args.depth (without_values b)
-    (list_of c.in_ok-parts-in-Relabel.parts)) c.deref-in-Relabel.ensures c.in_ok-parts-in-Relabel.ensures in
     IfOk-weaker c.each_of-in-Relabel.result _ _ (λ o listed.
     subst (λ (b : PlainBehaviour). IsListedByForm processes c.args.depth (without_values b) (list_of o)) (sym c.in-Relabel.is)
-    (relabel_listed processes c.args.depth c.in-Relabel.pairs.items c.deref-in-Relabel-2.result.now
+    (relabel_listed processes c.args.depth c.in-Relabel.pairs.items c.deref-in-Relabel.result.now
     (without_values c.in-Relabel.part.value) (list_of c.in_ok-parts-in-Relabel.parts) (list_of o)
-    c.deref-in-Relabel-2.ensures.value part (listed empty_signature)))
+    c.deref-in-Relabel.ensures.value c.in_ok-parts-in-Relabel.ensures (listed empty_signature)))
     c.each_of-in-Relabel.ensures
 
 pub moves-returns : goal.moves-returns
 moves-returns t c =
     let processes = map process_of c.args.processes.now in
     IfOk-weaker c.by_form.result _ _ (λ o listed.
-    deeper_listed processes c.args.depth (without_values c.args.body.now) (list_of o) (omega arith)
-    (subst (λ (b : Behaviour). IsListedByForm processes (c.args.depth - 1) b (list_of o)) c.in_ok-opened.ensures listed))
+    deeper_listed processes c.args.depth (without_values c.args.body.now.value) (list_of o) (omega arith)
+    (subst (λ (b : Behaviour). IsListedByForm processes (c.args.depth - 1) b (list_of o))
+    (ap without_values c.deref.ensures ∙ c.in_ok-opened.ensures) listed))
     c.by_form.ensures
 
 pub by_form-returns-in-Call : goal.by_form-returns-in-Call

@@ -1,8 +1,8 @@
 use Rattle.std.proofs.Common.{List, map, ap, sym, subst}
 use Rattle.lotos_base.specs.WrittenView.{written_term_of}
 use Rattle.lotos_base.specs.declared.written_terms.Written.{Written}
-use Rattle.lotos_reading.specs.Reading.{IsTermsReading}
-use Rattle.menu_listing.specs.Menus.{entries_in}
+use Rattle.sentence_trees.specs.Reading.{IsTermsReading}
+use Rattle.menu_builder.specs.Menus.{entries_in}
 use Rattle.session_log.specs.CourseView.{basis_over, progress_of}
 use Rattle.session_log.specs.Lines.{said_by}
 use Rattle.session_log.proofs.ReplayLemmas.{tells_line, no_form, stops_unread, stops_misread, step_told_of_line, label_told_of_line}

@@ -1,7 +1,7 @@
 use Rattle.std.proofs.Common.{sym, ◌∙◌}
 use Rattle.behaviour_semantics.specs.Behaviour.{sorts_of}
 use Rattle.behaviour_tree.specs.BehaviourView.{variables_of}
-use Rattle.menu_builder.proofs.MeetingLemmas.{ends_told}
+use Rattle.draft_parts.proofs.MeetingLemmas.{ends_told}
 use Rattle.step_parts.proofs.labels.have_sorts.Goals as goal
 
 pub returns : goal.returns

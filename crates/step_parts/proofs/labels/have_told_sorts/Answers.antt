@@ -1,5 +1,5 @@
 use Rattle.std.proofs.Common.{arith}
-use Rattle.menu_builder.proofs.MeetingLemmas.{unlike_counts}
+use Rattle.draft_parts.proofs.MeetingLemmas.{unlike_counts}
 use Rattle.step_parts.proofs.labels.have_told_sorts.Goals as goal
 
 pub returns-then-len : goal.returns-then-len

@@ -2,7 +2,7 @@ use Rattle.std.proofs.Common.{◌≡◌, drop}
 use Rattle.behaviour_semantics.specs.Behaviour.{sorts_of}
 use Rattle.behaviour_tree.specs.BehaviourTerms.{profiles_of}
 use Rattle.behaviour_tree.specs.BehaviourView.{variables_of}
-use Rattle.menu_builder.specs.Meeting.{sorts_told}
+use Rattle.draft_parts.specs.Meeting.{sorts_told}
 use Rattle.step_parts.proofs.labels.have_told_sorts.Given as goal
 
 abbrev pub invariant-loop-i : goal.invariant-loop-i

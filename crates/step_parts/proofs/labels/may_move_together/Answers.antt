@@ -1,6 +1,6 @@
 use Rattle.std.proofs.Common.{sym, ◌∙◌}
 use Rattle.behaviour_tree.specs.BehaviourView.{meet_of}
-use Rattle.menu_builder.proofs.MeetingLemmas.{together_told}
+use Rattle.draft_parts.proofs.MeetingLemmas.{together_told}
 use Rattle.step_parts.proofs.labels.may_move_together.Goals as goal
 
 pub returns : goal.returns

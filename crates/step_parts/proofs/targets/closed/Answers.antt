@@ -1,6 +1,5 @@
 use Rattle.std.proofs.Common.{◌≡◌, ap, sym, ◌∙◌, subst, arith}
 use Rattle.std.proofs.lemmas.Result.{IfOk-weaker}
-use Rattle.std.specs.Prelude.{IfOk}
 use Rattle.term_algebra.specs.Substitution.{binding}
 use Rattle.behaviour_semantics.specs.Replacement.{with_values}
 use Rattle.term_match.specs.SubstView.{profiled_pairs}
@@ -17,28 +16,33 @@ use Rattle.step_parts.proofs.targets.closed.Goals as goal
 
 pub returns-then-len-eq0-clause-same : goal.returns-then-len-eq0-clause-same
 returns-then-len-eq0-clause-same c =
-    ap behaviour_of c.into_inner.ensures
-    ∙ sym (no_values c.args.environment.items (behaviour_of c.args.behaviour.value)
-    (none_there c.args.environment.items (omega (arith, c.if-len-eq0.true, c.len.ensures, c.args.environment.ok.0))))
+    IfOk-weaker c.owner.result _ _ (λ made e.
+    ap behaviour_of e
+    ∙ sym (no_values c.args.environment.now.items (behaviour_of c.args.behaviour.now.value)
+    (none_there c.args.environment.now.items (omega (arith, c.if-len-eq0.true, c.len.ensures, c.args.environment.now.ok.0)))))
+    c.owner.ensures
 
 pub returns-then-len-eq0-clause-terms : goal.returns-then-len-eq0-clause-terms
-returns-then-len-eq0-clause-terms c = λ signature h k.
-    subst (λ (b : Beh). AreTermsOf signature (profiles_in b)) (sym c.into_inner.ensures) h
+returns-then-len-eq0-clause-terms c =
+    IfOk-weaker c.owner.result _ _ (λ made e signature h k.
+    subst (λ (b : Beh). AreTermsOf signature (profiles_in b)) (sym e) h) c.owner.ensures
 
 pub instance-requires : goal.instance-requires
 instance-requires c =
-    subst (λ (b : Beh). SuitsWhere (profiled_pairs c.args.environment.items) (λ n s. IsFree n s (behaviour_of b)))
-    (sym c.into_inner-body.ensures) c.requires
+    subst (λ (b : Beh). SuitsWhere (profiled_pairs c.args.environment.now.items) (λ n s. IsFree n s (behaviour_of b)))
+    (sym c.deref.ensures) c.requires
 
 pub returns-clause-same : goal.returns-clause-same
 returns-clause-same c =
-    subst (λ (b : Beh). IfOk c.instance.result (λ made. behaviour_of made
-    ≡ with_values (binding (environment_of c.args.environment.items)) (behaviour_of b))) c.into_inner-body.ensures
-    c.instance.ensures.same
+    IfOk-weaker c.shared.result _ _ (λ made e.
+    ap behaviour_of e ∙ c.in_ok-made.ensures.same
+    ∙ ap (λ (b : Beh). with_values (binding (environment_of c.args.environment.now.items)) (behaviour_of b)) c.deref.ensures)
+    c.shared.ensures
 
 pub returns-clause-terms : goal.returns-clause-terms
 returns-clause-terms c =
-    IfOk-weaker c.instance.result _ _ (λ made e signature h k.
-    subst (AreTermsOf signature) (sym e)
-    (of_signatures signature c.args.environment.items c.into_inner-body.result
-    (subst (λ (b : Beh). AreTermsOf signature (profiles_in b)) (sym c.into_inner-body.ensures) h) k)) c.instance.ensures.terms
+    IfOk-weaker c.shared.result _ _ (λ made e signature h k.
+    subst (λ (b : Beh). AreTermsOf signature (profiles_in b)) (sym e)
+    (subst (AreTermsOf signature) (sym c.in_ok-made.ensures.terms)
+    (of_signatures signature c.args.environment.now.items c.deref.result.now
+    (subst (λ (b : Beh). AreTermsOf signature (profiles_in b)) (sym c.deref.ensures) h) k))) c.shared.ensures

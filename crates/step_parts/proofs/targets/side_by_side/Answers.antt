@@ -10,7 +10,7 @@ use Rattle.step_parts.proofs.targets.side_by_side.Goals as goal
 pub loop-at-init : goal.loop-at-init
 loop-at-init c = record {
   within = omega (arith, c.len-at.ensures, c.args.gates.now.ok.0);
-  same = ap (map (λ (a : ℕ). under (behaviour_of c.args.body.now) ((c.args.formal, a) ∷ [])))
+  same = ap (map (λ (a : ℕ). under (behaviour_of c.args.body.now.value) ((c.args.formal, a) ∷ [])))
       (drop_all c.len-at.result c.args.gates.now.items (omega (arith, c.len-at.ensures, c.args.gates.now.ok.0)));
   terms = λ signature h. tt;
   closed_parts = λ signature specification h. tt;
@@ -19,7 +19,7 @@ loop-at-init c = record {
 pub loop-at-preserved : goal.loop-at-preserved
 loop-at-preserved c = record {
   within = omega (arith, c.loop-at.invariant.within);
-  same = one_beside (meet_of c.args.meet.now) (λ (a : ℕ). under (behaviour_of c.args.body.now) ((c.args.formal, a) ∷ []))
+  same = one_beside (meet_of c.args.meet.now) (λ (a : ℕ). under (behaviour_of c.args.body.now.value) ((c.args.formal, a) ∷ []))
       c.args.gates.now.items (c.loop-at.at - 1) c.loop-at.at c.index.result.now c.in_ok-copy.copy c.in_ok-beside.field-0 c.loop-at.rest
       (omega (arith, c.loop-at.invariant.within, c.loop-at-test.true)) (omega (arith, c.loop-at-test.true)) c.index.ensures
       c.in_ok-copy.ensures.same c.in_ok-beside.ensures.same c.loop-at.invariant.same;
@@ -35,10 +35,10 @@ pub returns-clause-same : goal.returns-clause-same
 returns-clause-same c =
     let none : c.loop-at.at ≡ 0 = omega (arith, c.loop-at-test.false) in
     whole_stands (meet_of c.args.meet.now) c.loop-at.rest c.or_stop.result
-    (map (λ (a : ℕ). under (behaviour_of c.args.body.now) ((c.args.formal, a) ∷ [])) c.args.gates.now.items) c.or_stop.ensures.some
+    (map (λ (a : ℕ). under (behaviour_of c.args.body.now.value) ((c.args.formal, a) ∷ [])) c.args.gates.now.items) c.or_stop.ensures.some
     c.or_stop.ensures.none
     (subst (λ (n : ℕ). StandsBeside (meet_of c.args.meet.now) c.loop-at.rest
-    (map (λ (a : ℕ). under (behaviour_of c.args.body.now) ((c.args.formal, a) ∷ [])) (drop n c.args.gates.now.items))) none
+    (map (λ (a : ℕ). under (behaviour_of c.args.body.now.value) ((c.args.formal, a) ∷ [])) (drop n c.args.gates.now.items))) none
     c.loop-at.invariant.same)
 
 pub returns-clause-terms : goal.returns-clause-terms

@@ -13,10 +13,10 @@ abbrev pub invariant-loop-at : goal.invariant-loop-at
 invariant-loop-at l = record {
   within : l.at ≤ length l.gates.items;
   same : StandsBeside (meet_of l.meet) l.rest
-      (map (λ (a : ℕ). under (behaviour_of l.body) ((l.formal, a) ∷ [])) (drop l.at l.gates.items));
-  terms : (signature : Signature) → AreTermsOf signature (profiles_in l.body) → AreTermsOf signature (rest_profiles l.rest);
+      (map (λ (a : ℕ). under (behaviour_of l.body.value) ((l.formal, a) ∷ [])) (drop l.at l.gates.items));
+  terms : (signature : Signature) → AreTermsOf signature (profiles_in l.body.value) → AreTermsOf signature (rest_profiles l.rest);
   closed_parts : (signature : Signature) (specification : Specification)
-      → IsClosedBehaviour signature specification (behaviour_of l.body) → HasClosedRest l.rest;
+      → IsClosedBehaviour signature specification (behaviour_of l.body.value) → HasClosedRest l.rest;
 }
 
 abbrev pub decreases-loop-at : goal.decreases-loop-at

@@ -3,7 +3,8 @@ use Rattle.std.proofs.lemmas.Result.{IfOk-weaker}
 use Rattle.term_algebra.specs.Substitution.{binding}
 use Rattle.behaviour_semantics.specs.Behaviour.{Behaviour, numbers_of}
 use Rattle.behaviour_semantics.specs.Replacement.{with_values, binding_of}
-use Rattle.behaviour_tree.specs.BehaviourView.{terms_of, variables_of}
+use Rattle.behaviour_tree.specs.BehaviourTerms.{profiles_in}
+use Rattle.behaviour_tree.specs.BehaviourView.{behaviour_of, terms_of, variables_of}
 use Rattle.behaviour_tree.specs.Over.{AreTermsOf}
 use Rattle.behaviour_tree.specs.StateView.{environment_of, node_profiles, stands_for}
 use Rattle.behaviour_tree.specs.declared.states.Node.{Node}
@@ -19,20 +20,20 @@ accepted-requires c =
 
 pub returns-clause-same : goal.returns-clause-same
 returns-clause-same c =
-    IfOk-weaker c.boxed.result _ _ (λ made e. ap stands_for e ∙ c.in_ok-node.ensures.same
+    IfOk-weaker c.shared.result _ _ (λ made e. ap stands_for e ∙ c.in_ok-node.ensures.same
     ∙ ap (λ (b : Behaviour). with_values (binding_of (variables_of c.args.side.now.variables.now.items) (terms_of c.args.made.items))
     (with_values (without (numbers_of (variables_of c.args.side.now.variables.now.items)) (binding (environment_of
-    c.args.side.now.environment.now.items))) b)) c.in_ok-right.ensures.same) c.boxed.ensures
+    c.args.side.now.environment.now.items))) b)) (ap behaviour_of c.in_ok-right.ensures)) c.shared.ensures
 
 pub returns-clause-terms : goal.returns-clause-terms
 returns-clause-terms c =
-    IfOk-weaker c.boxed.result _ _ (λ made e signature h k. subst (λ (node : Node). AreTermsOf signature (node_profiles node)) (sym e)
-    (c.in_ok-node.ensures.terms signature (subst (AreTermsOf signature) (sym c.in_ok-right.ensures.terms) (first_terms signature _ _ h))
-    (second_terms signature _ _ h) k)) c.boxed.ensures
+    IfOk-weaker c.shared.result _ _ (λ made e signature h k. subst (λ (node : Node). AreTermsOf signature (node_profiles node)) (sym e)
+    (c.in_ok-node.ensures.terms signature (subst (AreTermsOf signature) (sym (ap profiles_in c.in_ok-right.ensures)) (first_terms signature _ _ h))
+    (second_terms signature _ _ h) k)) c.shared.ensures
 
 pub returns-clause-closed_parts : goal.returns-clause-closed_parts
 returns-clause-closed_parts c =
-    IfOk-weaker c.boxed.result _ _ (λ made e signature specification h. parts_as made.value _ e (c.in_ok-node.ensures.closed_parts
+    IfOk-weaker c.shared.result _ _ (λ made e signature specification h. parts_as made.value _ e (c.in_ok-node.ensures.closed_parts
     signature specification
     (subst (λ (b : Behaviour). IsAccepting signature specification (variables_of c.args.side.now.variables.now.items)
-    c.args.side.now.environment.now.items c.args.made.items b) (sym c.in_ok-right.ensures.same) h))) c.boxed.ensures
+    c.args.side.now.environment.now.items c.args.made.items b) (sym (ap behaviour_of c.in_ok-right.ensures)) h))) c.shared.ensures

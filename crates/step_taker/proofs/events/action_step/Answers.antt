@@ -29,11 +29,11 @@ returns-in_default g c =
     record {
       answer = λ place there. misfit_there (ground_of (g.D.Deciding.known_data c.args.data.now) (g.D.Deciding.canon c.args.data.now)
           c.args.walk.now.spec.now) (terms_of c.args.walk.now.leaves.now) place (action c.args.gate (map offer_of
-          c.args.offers.now.items) (option_map test_of c.args.test.now) (behaviour_of c.args.next.now)) (shape_of c.args.shape.now)
+          c.args.offers.now.items) (option_map test_of c.args.test.now) (behaviour_of c.args.next.now.value)) (shape_of c.args.shape.now)
           c.args.at there c.misfit.result
           (unfit_action (setting_on (ground_of (g.D.Deciding.known_data c.args.data.now) (g.D.Deciding.canon c.args.data.now)
           c.args.walk.now.spec.now)) (terms_of c.args.walk.now.leaves.now) c.args.at.leaf c.args.shape.now c.args.gate (map offer_of
-          c.args.offers.now.items) (option_map test_of c.args.test.now) (behaviour_of c.args.next.now) c.in_default.not-Act)
+          c.args.offers.now.items) (option_map test_of c.args.test.now) (behaviour_of c.args.next.now.value) c.in_default.not-Act)
           c.misfit.ensures;
       same_data = refl;
       same_canon = refl;
@@ -52,12 +52,12 @@ returns-in_err-checked_leaves-clause-answer g c =
     c.from_residual-in_err-checked_leaves.ensures.1
     (there_refused (ground_of (g.D.Deciding.known_data c.args.data.now) (g.D.Deciding.canon c.args.data.now) c.args.walk.now.spec.now)
     (terms_of c.args.walk.now.leaves.now) place (action c.args.gate (map offer_of c.args.offers.now.items) (option_map test_of
-    c.args.test.now) (behaviour_of c.args.next.now)) act c.args.at (of_shape place (action c.args.gate (map offer_of
-    c.args.offers.now.items) (option_map test_of c.args.test.now) (behaviour_of c.args.next.now)) _ act c.args.at (sym (ap shape_of
+    c.args.test.now) (behaviour_of c.args.next.now.value)) act c.args.at (of_shape place (action c.args.gate (map offer_of
+    c.args.offers.now.items) (option_map test_of c.args.test.now) (behaviour_of c.args.next.now.value)) _ act c.args.at (sym (ap shape_of
     c.in-Act.is)) there) c.in_err-checked_leaves.field-0.0
     (leaves_told (ground_of (g.D.Deciding.known_data c.args.data.now) (g.D.Deciding.canon c.args.data.now) c.args.walk.now.spec.now)
     (terms_of c.args.walk.now.leaves.now) c.args.gate (map offer_of c.args.offers.now.items) (option_map test_of c.args.test.now)
-    (behaviour_of c.args.next.now) place.number c.args.at.leaf c.in_err-checked_leaves.field-0.0
+    (behaviour_of c.args.next.now.value) place.number c.args.at.leaf c.in_err-checked_leaves.field-0.0
     (told_more place.number _ _ (λ w is. ap (wrong_leaves (g.D.Deciding.known_data c.args.data.now).signature (terms_of
     c.args.walk.now.leaves.now) c.args.at.leaf) (sym (c.as_slice.ensures.value ∙ c.in_ok-sorts.ensures)) ∙ is)
     c.in_err-checked_leaves.field-0.0
@@ -68,7 +68,7 @@ pub offered-requires-clause-terms : goal.offered-requires-clause-terms
 offered-requires-clause-terms g c =
     first_terms (g.D.Deciding.known_data c.args.data.now).signature (joined (map offer_profiles c.args.offers.now.items))
     (option_profiles c.args.test.now) (first_terms (g.D.Deciding.known_data c.args.data.now).signature ((joined (map offer_profiles
-    c.args.offers.now.items)) ++ (option_profiles c.args.test.now)) (profiles_in c.args.next.now) c.requires.part.terms_of_signature)
+    c.args.offers.now.items)) ++ (option_profiles c.args.test.now)) (profiles_in c.args.next.now.value) c.requires.part.terms_of_signature)
 
 pub offered-requires-clause-leaves : goal.offered-requires-clause-leaves
 offered-requires-clause-leaves g c =
@@ -93,7 +93,7 @@ action_target-requires-clause-walk g c =
 pub action_target-requires-clause-part : goal.action_target-requires-clause-part
 action_target-requires-clause-part g c =
     (carried (λ (d : Data) (f : Term → Term). IsChosen (ground_of d f c.args.walk.now.spec.now) (map offer_of c.args.offers.now.items)
-    (option_map test_of c.args.test.now) (behaviour_of c.args.next.now) (terms_of c.args.walk.now.leaves.now) c.args.at.leaf) _ _ _ _
+    (option_map test_of c.args.test.now) (behaviour_of c.args.next.now.value) (terms_of c.args.walk.now.leaves.now) c.args.at.leaf) _ _ _ _
     (sym c.offered.ensures.same_data) (sym c.offered.ensures.same_canon) (record {
       binders = c.requires.part.closed.2;
       tested = c.requires.part.closed.3;
@@ -110,13 +110,13 @@ action_target-requires-clause-test g c =
     subst (λ (d : Data). AreTermsOf d.signature (option_profiles c.args.test.now)) (sym c.offered.ensures.same_data) (second_terms
     (g.D.Deciding.known_data c.args.data.now).signature (joined (map offer_profiles c.args.offers.now.items)) (option_profiles
     c.args.test.now) (first_terms (g.D.Deciding.known_data c.args.data.now).signature ((joined (map offer_profiles
-    c.args.offers.now.items)) ++ (option_profiles c.args.test.now)) (profiles_in c.args.next.now) c.requires.part.terms_of_signature))
+    c.args.offers.now.items)) ++ (option_profiles c.args.test.now)) (profiles_in c.args.next.now.value) c.requires.part.terms_of_signature))
 
 pub action_target-requires-clause-next : goal.action_target-requires-clause-next
 action_target-requires-clause-next g c =
-    subst (λ (d : Data). AreTermsOf d.signature (profiles_in c.args.next.now)) (sym c.offered.ensures.same_data) (second_terms
+    subst (λ (d : Data). AreTermsOf d.signature (profiles_in c.args.next.now.value)) (sym c.offered.ensures.same_data) (second_terms
     (g.D.Deciding.known_data c.args.data.now).signature ((joined (map offer_profiles c.args.offers.now.items)) ++ (option_profiles
-    c.args.test.now)) (profiles_in c.args.next.now) c.requires.part.terms_of_signature)
+    c.args.test.now)) (profiles_in c.args.next.now.value) c.requires.part.terms_of_signature)
 
 pub returns-in_err-target-clause-answer : goal.returns-in_err-target-clause-answer
 returns-in_err-target-clause-answer g c =
@@ -126,12 +126,12 @@ returns-in_err-target-clause-answer g c =
     c.from_residual-in_err-target.ensures.1
     (there_refused (ground_of (g.D.Deciding.known_data c.args.data.now) (g.D.Deciding.canon c.args.data.now) c.args.walk.now.spec.now)
     (terms_of c.args.walk.now.leaves.now) place (action c.args.gate (map offer_of c.args.offers.now.items) (option_map test_of
-    c.args.test.now) (behaviour_of c.args.next.now)) act c.args.at (of_shape place (action c.args.gate (map offer_of
-    c.args.offers.now.items) (option_map test_of c.args.test.now) (behaviour_of c.args.next.now)) _ act c.args.at (sym (ap shape_of
+    c.args.test.now) (behaviour_of c.args.next.now.value)) act c.args.at (of_shape place (action c.args.gate (map offer_of
+    c.args.offers.now.items) (option_map test_of c.args.test.now) (behaviour_of c.args.next.now.value)) _ act c.args.at (sym (ap shape_of
     c.in-Act.is)) there) c.in_err-target.field-0.0
     (test_told (ground_of (g.D.Deciding.known_data c.args.data.now) (g.D.Deciding.canon c.args.data.now) c.args.walk.now.spec.now)
     (terms_of c.args.walk.now.leaves.now) c.args.gate (map offer_of c.args.offers.now.items) (option_map test_of c.args.test.now)
-    (behaviour_of c.args.next.now) place.number c.args.at.leaf
+    (behaviour_of c.args.next.now.value) place.number c.args.at.leaf
     (ap (wrong_leaves (g.D.Deciding.known_data c.args.data.now).signature (terms_of c.args.walk.now.leaves.now) c.args.at.leaf) (sym
     (c.as_slice.ensures.value ∙ c.in_ok-sorts.ensures)) ∙ c.in_ok-checked_leaves.ensures.checked (g.D.Deciding.known_data
     c.args.data.now).signature place.number c.requires.walk.leaves_of_signature there.node)
@@ -146,12 +146,12 @@ returns-clause-answer g c =
     λ place there.
     there_walked (ground_of (g.D.Deciding.known_data c.args.data.now) (g.D.Deciding.canon c.args.data.now) c.args.walk.now.spec.now)
     (terms_of c.args.walk.now.leaves.now) place (action c.args.gate (map offer_of c.args.offers.now.items) (option_map test_of
-    c.args.test.now) (behaviour_of c.args.next.now)) act c.args.at (of_shape place (action c.args.gate (map offer_of
-    c.args.offers.now.items) (option_map test_of c.args.test.now) (behaviour_of c.args.next.now)) _ act c.args.at (sym (ap shape_of
+    c.args.test.now) (behaviour_of c.args.next.now.value)) act c.args.at (of_shape place (action c.args.gate (map offer_of
+    c.args.offers.now.items) (option_map test_of c.args.test.now) (behaviour_of c.args.next.now.value)) _ act c.args.at (sym (ap shape_of
     c.in-Act.is)) there) (Ok _)
     (action_moved (ground_of (g.D.Deciding.known_data c.args.data.now) (g.D.Deciding.canon c.args.data.now) c.args.walk.now.spec.now)
     (terms_of c.args.walk.now.leaves.now) c.args.gate (map offer_of c.args.offers.now.items) (option_map test_of c.args.test.now)
-    (behaviour_of c.args.next.now) place.number c.args.at.leaf _
+    (behaviour_of c.args.next.now.value) place.number c.args.at.leaf _
     (ap (wrong_leaves (g.D.Deciding.known_data c.args.data.now).signature (terms_of c.args.walk.now.leaves.now) c.args.at.leaf) (sym
     (c.as_slice.ensures.value ∙ c.in_ok-sorts.ensures)) ∙ c.in_ok-checked_leaves.ensures.checked (g.D.Deciding.known_data
     c.args.data.now).signature place.number c.requires.walk.leaves_of_signature there.node)
@@ -160,7 +160,7 @@ returns-clause-answer g c =
     (c.in_ok-target.ensures.checked place.number there.node))
     (ap (gate_event c.args.gate) c.in_ok-made.ensures.same)
     (subst (λ (f : Term → Term). stands_for c.in_ok-target.target.value ≡ with_values (chosen_values f (map offer_of
-    c.args.offers.now.items) (terms_of c.args.walk.now.leaves.now) c.args.at.leaf) (behaviour_of c.args.next.now))
+    c.args.offers.now.items) (terms_of c.args.walk.now.leaves.now) c.args.at.leaf) (behaviour_of c.args.next.now.value))
     c.offered.ensures.same_canon c.in_ok-target.ensures.same)
     (c.below.ensures.node place.number there.node)
     (ap (λ (k : ℕ). c.args.at.leaf + k) (c.len.ensures ∙ c.in_ok-sorts.sorts.ok.0 ∙ ap length c.in_ok-sorts.ensures)) (record {

@@ -39,7 +39,7 @@ pub checked_test-requires-clause-suited : goal.checked_test-requires-clause-suit
 checked_test-requires-clause-suited g c =
     test_suited (ground_of (g.D.Deciding.known_data c.args.data.now) (g.D.Deciding.canon c.args.data.now) c.args.walk.now.spec.now)
     (g.met.D.Deciding.is_canon c.args.data.now) (map offer_of c.args.offers.now.items) (option_map test_of c.args.test.now)
-    (behaviour_of c.args.next.now) (terms_of c.args.walk.now.leaves.now) c.args.at.leaf c.requires.part c.in_ok-pairs.pairs.items
+    (behaviour_of c.args.next.now.value) (terms_of c.args.walk.now.leaves.now) c.args.at.leaf c.requires.part c.in_ok-pairs.pairs.items
     c.in_ok-pairs.ensures.same c.in_ok-pairs.ensures.over
 
 pub returns-in_err-checked_test-clause-checked : goal.returns-in_err-checked_test-clause-checked
@@ -61,7 +61,7 @@ returns-clause-checked g c =
 
 pub returns-clause-same : goal.returns-clause-same
 returns-clause-same g c =
-    c.in_ok-own_behind.ensures.same ∙ ap (λ (values : Substitution). with_values values (behaviour_of c.args.next.now)) (ap binding
+    c.in_ok-own_behind.ensures.same ∙ ap (λ (values : Substitution). with_values values (behaviour_of c.args.next.now.value)) (ap binding
     c.in_ok-pairs.ensures.same)
 
 pub returns-clause-terms : goal.returns-clause-terms
@@ -73,5 +73,5 @@ pub returns-clause-closed_parts : goal.returns-clause-closed_parts
 returns-clause-closed_parts g c =
     c.in_ok-own_behind.ensures.closed_parts (chosen_closed (ground_of (g.D.Deciding.known_data c.args.data.now) (g.D.Deciding.canon
     c.args.data.now) c.args.walk.now.spec.now) (g.met.D.Deciding.is_canon c.args.data.now) (map offer_of c.args.offers.now.items)
-    (option_map test_of c.args.test.now) (behaviour_of c.args.next.now) (terms_of c.args.walk.now.leaves.now) c.args.at.leaf
+    (option_map test_of c.args.test.now) (behaviour_of c.args.next.now.value) (terms_of c.args.walk.now.leaves.now) c.args.at.leaf
     c.requires.part c.in_ok-pairs.pairs.items c.in_ok-pairs.ensures.same c.in_ok-pairs.ensures.over)

@@ -12,9 +12,9 @@ use Rattle.step_taker.proofs.events.inner_step.Goals as goal
 
 pub returns-in_default : goal.returns-in_default
 returns-in_default c =
-    λ ground leaves place passable there. misfit_there ground leaves place (inner_action (behaviour_of c.args.next.now)) (shape_of
+    λ ground leaves place passable there. misfit_there ground leaves place (inner_action (behaviour_of c.args.next.now.value)) (shape_of
     c.args.shape.now) c.args.at there c.misfit.result
-    (unfit_inner (setting_on ground) leaves c.args.at.leaf c.args.shape.now (behaviour_of c.args.next.now) c.in_default.not-Inner)
+    (unfit_inner (setting_on ground) leaves c.args.at.leaf c.args.shape.now (behaviour_of c.args.next.now.value) c.in_default.not-Inner)
     c.misfit.ensures
 
 pub returns-in_err-target : goal.returns-in_err-target
@@ -24,9 +24,9 @@ returns-in_err-target c =
 pub returns : goal.returns
 returns c =
     λ ground leaves place passable there.
-    there_walked ground leaves place (inner_action (behaviour_of c.args.next.now)) inner_step c.args.at (of_shape place (inner_action
-    (behaviour_of c.args.next.now)) _ inner_step c.args.at (sym (ap shape_of c.in-Inner.is)) there) (Ok _)
-    (inner_moved ground leaves (behaviour_of c.args.next.now) place.number c.args.at.leaf _ refl c.in_ok-target.ensures.same
+    there_walked ground leaves place (inner_action (behaviour_of c.args.next.now.value)) inner_step c.args.at (of_shape place (inner_action
+    (behaviour_of c.args.next.now.value)) _ inner_step c.args.at (sym (ap shape_of c.in-Inner.is)) there) (Ok _)
+    (inner_moved ground leaves (behaviour_of c.args.next.now.value) place.number c.args.at.leaf _ refl c.in_ok-target.ensures.same
     (c.below.ensures.node place.number there.node) c.below.ensures.leaf (record {
       parts = c.in_ok-target.ensures.closed_parts ground.data_.signature (specification_of ground.spec) passable.closed tt;
       terms = c.in_ok-target.ensures.terms ground.data_.signature passable.terms_of_signature;

@@ -13,15 +13,15 @@ use Rattle.step_taker.proofs.events.own_behind.Goals as goal
 
 pub returns-clause-same : goal.returns-clause-same
 returns-clause-same c =
-    IfOk-weaker c.boxed-2.result _ _ (λ made e. ap stands_for e ∙ ap (with_values (binding (environment_of c.args.pairs.items))) (ap
-    behaviour_of c.in_ok-copy-2.ensures ∙ c.in_ok-copy.ensures.same)) c.boxed-2.ensures
+    IfOk-weaker c.shared.result _ _ (λ made e. ap stands_for e ∙ ap (with_values (binding (environment_of c.args.pairs.items))) (ap
+    behaviour_of c.in_ok-own.ensures)) c.shared.ensures
 
 pub returns-clause-terms : goal.returns-clause-terms
 returns-clause-terms c =
-    IfOk-weaker c.boxed-2.result _ _ (λ made e. ap node_profiles e ∙ ap (λ (ts : List ProfiledTerm). ts ++ map pair_profile
-    c.args.pairs.items) (ap profiles_in c.in_ok-copy-2.ensures ∙ c.in_ok-copy.ensures.terms)) c.boxed-2.ensures
+    IfOk-weaker c.shared.result _ _ (λ made e. ap node_profiles e ∙ ap (λ (ts : List ProfiledTerm). ts ++ map pair_profile
+    c.args.pairs.items) (ap profiles_in c.in_ok-own.ensures)) c.shared.ensures
 
 pub returns-clause-closed_parts : goal.returns-clause-closed_parts
 returns-clause-closed_parts c =
-    IfOk-weaker c.boxed-2.result _ _ (λ made e closed. parts_as made.value _ e (subst (λ (b : Behaviour). IsClosedBy c.args.pairs.items
-    b) (sym (ap behaviour_of c.in_ok-copy-2.ensures ∙ c.in_ok-copy.ensures.same)) closed)) c.boxed-2.ensures
+    IfOk-weaker c.shared.result _ _ (λ made e closed. parts_as made.value _ e (subst (λ (b : Behaviour). IsClosedBy c.args.pairs.items
+    b) (sym (ap behaviour_of c.in_ok-own.ensures)) closed)) c.shared.ensures

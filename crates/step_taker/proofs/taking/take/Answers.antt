@@ -4,7 +4,6 @@ use Rattle.behaviour_semantics.specs.Fault.{not_fitting, size}
 use Rattle.step_taker.proofs.TakenLemmas.{taken, left_told, root, root_told, target_state}
 use Rattle.behaviour_tree.specs.BehaviourTerms.{profiles_of}
 use Rattle.behaviour_tree.specs.BehaviourView.{terms_of}
-use Rattle.behaviour_tree.specs.Closed.{IsClosedNode}
 use Rattle.behaviour_tree.specs.MoveView.{shape_of}
 use Rattle.behaviour_tree.specs.Over.{AreTermsOf}
 use Rattle.behaviour_tree.specs.StateView.{stands_for}
@@ -75,7 +74,7 @@ returns-in_err-none_left_over-clause-answer g c =
 
 pub of-requires : goal.of-requires
 of-requires g c =
-    subst (λ (node : Node). IsClosedNode node) (sym c.into_inner.ensures) (target_state (ground_of (g.D.Deciding.known_data
+    c.in_ok-node.ensures.closed (target_state (ground_of (g.D.Deciding.known_data
     c.args.data.now) (g.D.Deciding.canon c.args.data.now) c.args.spec.now) c.args.state.now c.args.derivation.now c.in_ok-moved.moved
     (subst (λ (items : List Sorted). IsMoved (ground_of (g.D.Deciding.known_data c.args.data.now) (g.D.Deciding.canon
     c.args.data.now) c.args.spec.now) (terms_of items) (root (ground_of (g.D.Deciding.known_data c.args.data.now) (g.D.Deciding.canon
@@ -114,4 +113,4 @@ returns-clause-answer g c =
       node = refl;
       leaf = refl;
     }))).node_behind))
-    c.of.result (c.of.ensures ∙ c.into_inner.ensures)
+    c.of.result c.in_ok-node.node c.of.ensures c.in_ok-node.ensures.same c.in_ok-node.ensures.terms c.in_ok-node.ensures.closed

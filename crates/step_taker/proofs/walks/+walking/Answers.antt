@@ -166,19 +166,19 @@ node_step-parallel_step-requires g t c κs within = (
       c.requires.walk,
       (
         (passable_as (ground_of (g.D.Deciding.known_data c.args.data.now) (g.D.Deciding.canon c.args.data.now) c.args.walk.now.spec.now)
-            (stands_for c.args.node.now) (parallel (meet_of c.in-Parallel.meet) (stands_for c.deref-in-Parallel.result.now) (stands_for
-            c.deref-in-Parallel-2.result.now)) (node_profiles c.args.node.now) ((node_profiles c.deref-in-Parallel.result.now) ++
-            (node_profiles c.deref-in-Parallel-2.result.now)) ((ap stands_for c.in-Parallel.is) ∙ two_as (λ (l r : Node). (parallel
+            (stands_for c.args.node.now) (parallel (meet_of c.in-Parallel.meet) (stands_for c.in-Parallel.left.value) (stands_for
+            c.in-Parallel.right.value)) (node_profiles c.args.node.now) ((node_profiles c.in-Parallel.left.value) ++
+            (node_profiles c.in-Parallel.right.value)) ((ap stands_for c.in-Parallel.is) ∙ two_as (λ (l r : Node). (parallel
             (meet_of
-            c.in-Parallel.meet) (stands_for l) (stands_for r))) _ _ _ _ (sym c.deref-in-Parallel.ensures) (sym
-            c.deref-in-Parallel-2.ensures)) ((ap node_profiles c.in-Parallel.is) ∙ two_as (λ (l r : Node). node_profiles l ++
+            c.in-Parallel.meet) (stands_for l) (stands_for r))) _ _ _ _ (sym (refl {a = c.in-Parallel.left.value})) (sym
+            (refl {a = c.in-Parallel.right.value}))) ((ap node_profiles c.in-Parallel.is) ∙ two_as (λ (l r : Node). node_profiles l ++
             node_profiles
-            r) _ _ _ _ (sym c.deref-in-Parallel.ensures) (sym c.deref-in-Parallel-2.ensures)) c.requires.node.passable),
+            r) _ _ _ _ (sym (refl {a = c.in-Parallel.left.value})) (sym (refl {a = c.in-Parallel.right.value}))) c.requires.node.passable),
         (
           (subst (λ (node :
-              Node). IsClosedNode node) (sym c.deref-in-Parallel.ensures) (subst (λ (node : Node). IsClosedNode node) c.in-Parallel.is
+              Node). IsClosedNode node) (sym (refl {a = c.in-Parallel.left.value})) (subst (λ (node : Node). IsClosedNode node) c.in-Parallel.is
               c.requires.node.states).0),
-          (subst (λ (node : Node). IsClosedNode node) (sym c.deref-in-Parallel-2.ensures) (subst (λ (node :
+          (subst (λ (node : Node). IsClosedNode node) (sym (refl {a = c.in-Parallel.right.value})) (subst (λ (node :
               Node). IsClosedNode node) c.in-Parallel.is c.requires.node.states).1),
         ),
       ),
@@ -189,10 +189,10 @@ node_step-parallel_step-requires g t c κs within = (
 pub node_step-returns-in-Parallel-clause-answer : goal.node_step-returns-in-Parallel-clause-answer
 node_step-returns-in-Parallel-clause-answer g t c =
     λ place there. c.parallel_step.ensures.answer place (of_behaviour place (stands_for c.args.node.now) (parallel (meet_of
-    c.in-Parallel.meet) (stands_for c.deref-in-Parallel.result.now) (stands_for c.deref-in-Parallel-2.result.now)) (shape_of
+    c.in-Parallel.meet) (stands_for c.in-Parallel.left.value) (stands_for c.in-Parallel.right.value)) (shape_of
     c.args.shape.now) c.args.at (sym ((ap stands_for c.in-Parallel.is) ∙ two_as (λ (l r : Node). (parallel (meet_of
-    c.in-Parallel.meet) (stands_for l) (stands_for r))) _ _ _ _ (sym c.deref-in-Parallel.ensures) (sym
-    c.deref-in-Parallel-2.ensures))) there)
+    c.in-Parallel.meet) (stands_for l) (stands_for r))) _ _ _ _ (sym (refl {a = c.in-Parallel.left.value})) (sym
+    (refl {a = c.in-Parallel.right.value})))) there)
 
 pub node_step-returns-in-Parallel-clause-same_data : goal.node_step-returns-in-Parallel-clause-same_data
 node_step-returns-in-Parallel-clause-same_data g t c =
@@ -211,21 +211,21 @@ node_step-disable_step-requires g t c κs within = (
       c.requires.walk,
       (
         (passable_as (ground_of (g.D.Deciding.known_data c.args.data.now) (g.D.Deciding.canon c.args.data.now) c.args.walk.now.spec.now)
-            (stands_for c.args.node.now) (disable (stands_for c.deref-in-Disable.result.now) (stands_for
-            c.deref-in-Disable-2.result.now))
-            (node_profiles c.args.node.now) ((node_profiles c.deref-in-Disable.result.now) ++ (node_profiles
-            c.deref-in-Disable-2.result.now)) ((ap stands_for c.in-Disable.is) ∙ two_as (λ (l r : Node). (disable (stands_for l)
+            (stands_for c.args.node.now) (disable (stands_for c.in-Disable.left.value) (stands_for
+            c.in-Disable.right.value))
+            (node_profiles c.args.node.now) ((node_profiles c.in-Disable.left.value) ++ (node_profiles
+            c.in-Disable.right.value)) ((ap stands_for c.in-Disable.is) ∙ two_as (λ (l r : Node). (disable (stands_for l)
             (stands_for
-            r))) _ _ _ _ (sym c.deref-in-Disable.ensures) (sym c.deref-in-Disable-2.ensures)) ((ap node_profiles c.in-Disable.is) ∙
+            r))) _ _ _ _ (sym (refl {a = c.in-Disable.left.value})) (sym (refl {a = c.in-Disable.right.value}))) ((ap node_profiles c.in-Disable.is) ∙
             two_as (λ
-            (l r : Node). node_profiles l ++ node_profiles r) _ _ _ _ (sym c.deref-in-Disable.ensures) (sym
-            c.deref-in-Disable-2.ensures))
+            (l r : Node). node_profiles l ++ node_profiles r) _ _ _ _ (sym (refl {a = c.in-Disable.left.value})) (sym
+            (refl {a = c.in-Disable.right.value})))
             c.requires.node.passable),
         (
-          (subst (λ (node : Node). IsClosedNode node) (sym c.deref-in-Disable.ensures) (subst (λ (node : Node).
+          (subst (λ (node : Node). IsClosedNode node) (sym (refl {a = c.in-Disable.left.value})) (subst (λ (node : Node).
               IsClosedNode node) c.in-Disable.is c.requires.node.states).0),
           (subst (λ (node : Node). IsClosedNode node) (sym
-              c.deref-in-Disable-2.ensures) (subst (λ (node : Node). IsClosedNode node) c.in-Disable.is c.requires.node.states).1),
+              (refl {a = c.in-Disable.right.value})) (subst (λ (node : Node). IsClosedNode node) c.in-Disable.is c.requires.node.states).1),
         ),
       ),
     ),
@@ -235,9 +235,9 @@ node_step-disable_step-requires g t c κs within = (
 pub node_step-returns-in-Disable-clause-answer : goal.node_step-returns-in-Disable-clause-answer
 node_step-returns-in-Disable-clause-answer g t c =
     λ place there. c.disable_step.ensures.answer place (of_behaviour place (stands_for c.args.node.now) (disable (stands_for
-    c.deref-in-Disable.result.now) (stands_for c.deref-in-Disable-2.result.now)) (shape_of c.args.shape.now) c.args.at (sym ((ap
+    c.in-Disable.left.value) (stands_for c.in-Disable.right.value)) (shape_of c.args.shape.now) c.args.at (sym ((ap
     stands_for c.in-Disable.is) ∙ two_as (λ (l r : Node). (disable (stands_for l) (stands_for r))) _ _ _ _ (sym
-    c.deref-in-Disable.ensures) (sym c.deref-in-Disable-2.ensures))) there)
+    (refl {a = c.in-Disable.left.value})) (sym (refl {a = c.in-Disable.right.value})))) there)
 
 pub node_step-returns-in-Disable-clause-same_data : goal.node_step-returns-in-Disable-clause-same_data
 node_step-returns-in-Disable-clause-same_data g t c =
@@ -256,13 +256,13 @@ node_step-hide_step-requires g t c κs within = (
       c.requires.walk,
       (
         (passable_as (ground_of (g.D.Deciding.known_data c.args.data.now) (g.D.Deciding.canon c.args.data.now) c.args.walk.now.spec.now)
-            (stands_for c.args.node.now) (hide c.in-Hide.gates.items (stands_for c.deref-in-Hide.result.now)) (node_profiles
+            (stands_for c.args.node.now) (hide c.in-Hide.gates.items (stands_for c.in-Hide.inner.value)) (node_profiles
             c.args.node.now)
-            (node_profiles c.deref-in-Hide.result.now) ((ap stands_for c.in-Hide.is) ∙ ap (λ (n : Node). hide c.in-Hide.gates.items
-            (stands_for n)) (sym c.deref-in-Hide.ensures)) ((ap node_profiles c.in-Hide.is) ∙ ap node_profiles (sym
-            c.deref-in-Hide.ensures))
+            (node_profiles c.in-Hide.inner.value) ((ap stands_for c.in-Hide.is) ∙ ap (λ (n : Node). hide c.in-Hide.gates.items
+            (stands_for n)) (sym (refl {a = c.in-Hide.inner.value}))) ((ap node_profiles c.in-Hide.is) ∙ ap node_profiles (sym
+            (refl {a = c.in-Hide.inner.value})))
             c.requires.node.passable),
-        (subst (λ (node : Node). IsClosedNode node) (sym c.deref-in-Hide.ensures) (subst (λ (node : Node).
+        (subst (λ (node : Node). IsClosedNode node) (sym (refl {a = c.in-Hide.inner.value})) (subst (λ (node : Node).
             IsClosedNode node) c.in-Hide.is c.requires.node.states)),
       ),
     ),
@@ -272,8 +272,8 @@ node_step-hide_step-requires g t c κs within = (
 pub node_step-returns-in-Hide-clause-answer : goal.node_step-returns-in-Hide-clause-answer
 node_step-returns-in-Hide-clause-answer g t c =
     λ place there. c.hide_step.ensures.answer place (of_behaviour place (stands_for c.args.node.now) (hide c.in-Hide.gates.items
-    (stands_for c.deref-in-Hide.result.now)) (shape_of c.args.shape.now) c.args.at (sym ((ap stands_for c.in-Hide.is) ∙ ap (λ (n :
-    Node). hide c.in-Hide.gates.items (stands_for n)) (sym c.deref-in-Hide.ensures))) there)
+    (stands_for c.in-Hide.inner.value)) (shape_of c.args.shape.now) c.args.at (sym ((ap stands_for c.in-Hide.is) ∙ ap (λ (n :
+    Node). hide c.in-Hide.gates.items (stands_for n)) (sym (refl {a = c.in-Hide.inner.value})))) there)
 
 pub node_step-returns-in-Hide-clause-same_data : goal.node_step-returns-in-Hide-clause-same_data
 node_step-returns-in-Hide-clause-same_data g t c =
@@ -327,27 +327,27 @@ node_step-enable_step-requires g t c κs within = (
       c.requires.walk,
       (
         (passable_as (ground_of (g.D.Deciding.known_data c.args.data.now) (g.D.Deciding.canon c.args.data.now) c.args.walk.now.spec.now)
-            (stands_for c.args.node.now) (enable (stands_for c.deref-in-Enable-2.result.now) (variables_of c.in-Enable.variables.items)
+            (stands_for c.args.node.now) (enable (stands_for c.in-Enable.left.value) (variables_of c.in-Enable.variables.items)
             (with_values (without (numbers_of (variables_of c.in-Enable.variables.items)) (binding (environment_of
-            c.in-Enable.environment.items))) (behaviour_of c.deref-in-Enable.result.now))) (node_profiles c.args.node.now)
-            ((node_profiles c.deref-in-Enable-2.result.now) ++ (profiles_in c.deref-in-Enable.result.now ++ (map pair_profile
+            c.in-Enable.environment.items))) (behaviour_of c.in-Enable.right.value))) (node_profiles c.args.node.now)
+            ((node_profiles c.in-Enable.left.value) ++ (profiles_in c.in-Enable.right.value ++ (map pair_profile
             c.in-Enable.environment.items))) ((ap stands_for c.in-Enable.is) ∙ ap (λ (l : Node). enable (stands_for l) (variables_of
             c.in-Enable.variables.items) (with_values (without (numbers_of (variables_of c.in-Enable.variables.items)) (binding
-            (environment_of c.in-Enable.environment.items))) (behaviour_of c.in-Enable.right.value))) (sym c.deref-in-Enable-2.ensures)
-            ∙ ap (λ (r : Beh). enable (stands_for c.deref-in-Enable-2.result.now) (variables_of c.in-Enable.variables.items) (with_values
+            (environment_of c.in-Enable.environment.items))) (behaviour_of c.in-Enable.right.value))) (sym (refl {a = c.in-Enable.left.value}))
+            ∙ ap (λ (r : Beh). enable (stands_for c.in-Enable.left.value) (variables_of c.in-Enable.variables.items) (with_values
             (without (numbers_of (variables_of c.in-Enable.variables.items)) (binding (environment_of
-            c.in-Enable.environment.items))) (behaviour_of r))) (sym c.deref-in-Enable.ensures)) ((ap node_profiles c.in-Enable.is) ∙
+            c.in-Enable.environment.items))) (behaviour_of r))) (sym (refl {a = c.in-Enable.right.value}))) ((ap node_profiles c.in-Enable.is) ∙
             append_assoc (node_profiles c.in-Enable.left.value) (profiles_in c.in-Enable.right.value) (map pair_profile
             c.in-Enable.environment.items)
             ∙ ap (λ (l : Node). node_profiles l ++ (profiles_in c.in-Enable.right.value ++ (map pair_profile
-            c.in-Enable.environment.items))) (sym c.deref-in-Enable-2.ensures)
-            ∙ ap (λ (r : Beh). (node_profiles c.deref-in-Enable-2.result.now) ++ (profiles_in r ++ (map pair_profile
-            c.in-Enable.environment.items))) (sym c.deref-in-Enable.ensures)) c.requires.node.passable),
+            c.in-Enable.environment.items))) (sym (refl {a = c.in-Enable.left.value}))
+            ∙ ap (λ (r : Beh). (node_profiles c.in-Enable.left.value) ++ (profiles_in r ++ (map pair_profile
+            c.in-Enable.environment.items))) (sym (refl {a = c.in-Enable.right.value}))) c.requires.node.passable),
         (
-          (subst (λ (node : Node). IsClosedNode node) (sym c.deref-in-Enable-2.ensures) (subst (λ (node : Node). IsClosedNode node)
+          (subst (λ (node : Node). IsClosedNode node) (sym (refl {a = c.in-Enable.left.value})) (subst (λ (node : Node). IsClosedNode node)
               c.in-Enable.is c.requires.node.states).0),
           subst (λ (b : Beh). IsClosedUnder (variables_of c.in-Enable.variables.items)
-              c.in-Enable.environment.items (behaviour_of b)) (sym c.deref-in-Enable.ensures) (subst (λ (node : Node). IsClosedNode node)
+              c.in-Enable.environment.items (behaviour_of b)) (sym (refl {a = c.in-Enable.right.value})) (subst (λ (node : Node). IsClosedNode node)
               c.in-Enable.is c.requires.node.states).1,
         ),
       ),
@@ -358,15 +358,15 @@ node_step-enable_step-requires g t c κs within = (
 pub node_step-returns-in-Enable-clause-answer : goal.node_step-returns-in-Enable-clause-answer
 node_step-returns-in-Enable-clause-answer g t c =
     λ place there. c.enable_step.ensures.answer place (of_behaviour place (stands_for c.args.node.now) (enable (stands_for
-    c.deref-in-Enable-2.result.now) (variables_of c.in-Enable.variables.items) (with_values (without (numbers_of (variables_of
+    c.in-Enable.left.value) (variables_of c.in-Enable.variables.items) (with_values (without (numbers_of (variables_of
     c.in-Enable.variables.items)) (binding (environment_of c.in-Enable.environment.items))) (behaviour_of
-    c.deref-in-Enable.result.now))) (shape_of c.args.shape.now) c.args.at (sym ((ap stands_for c.in-Enable.is) ∙ ap (λ (l : Node).
+    c.in-Enable.right.value))) (shape_of c.args.shape.now) c.args.at (sym ((ap stands_for c.in-Enable.is) ∙ ap (λ (l : Node).
     enable (stands_for l) (variables_of c.in-Enable.variables.items) (with_values (without (numbers_of (variables_of
     c.in-Enable.variables.items)) (binding (environment_of c.in-Enable.environment.items))) (behaviour_of c.in-Enable.right.value)))
-    (sym c.deref-in-Enable-2.ensures)
-    ∙ ap (λ (r : Beh). enable (stands_for c.deref-in-Enable-2.result.now) (variables_of c.in-Enable.variables.items) (with_values
+    (sym (refl {a = c.in-Enable.left.value}))
+    ∙ ap (λ (r : Beh). enable (stands_for c.in-Enable.left.value) (variables_of c.in-Enable.variables.items) (with_values
     (without (numbers_of (variables_of c.in-Enable.variables.items)) (binding (environment_of c.in-Enable.environment.items)))
-    (behaviour_of r))) (sym c.deref-in-Enable.ensures))) there)
+    (behaviour_of r))) (sym (refl {a = c.in-Enable.right.value})))) there)
 
 pub node_step-returns-in-Enable-clause-same_data : goal.node_step-returns-in-Enable-clause-same_data
 node_step-returns-in-Enable-clause-same_data g t c =
@@ -378,7 +378,7 @@ node_step-returns-in-Enable-clause-same_canon g t c =
 
 pub side_step-beh_step-requires : goal.side_step-beh_step-requires
 side_step-beh_step-requires g t c κs within = (
-  (level_less (shape_of c.args.shape.now) (side_of c.args.side.now) _ 4 2 _ (omega arith) (sym (ap side_of c.in-Closed.is))
+  (level_less (shape_of c.args.shape.now) (side_of c.args.side.now) _ 4 2 _ (omega arith) (sym (ap side_of c.in-Closed.is ∙ ap behaviour_of (sym c.deref.ensures)))
       c.decreases),
   (
     search rules,
@@ -386,8 +386,8 @@ side_step-beh_step-requires g t c κs within = (
       c.requires.walk,
       (passable_as (ground_of (g.D.Deciding.known_data c.args.data.now)
           (g.D.Deciding.canon c.args.data.now) c.args.walk.now.spec.now) (side_of c.args.side.now) _ (side_profiles c.args.side.now)
-          _ (ap
-          side_of c.in-Closed.is) (ap side_profiles c.in-Closed.is) c.requires.side.passable),
+          _ (ap side_of c.in-Closed.is ∙ ap behaviour_of (sym c.deref.ensures))
+          (ap side_profiles c.in-Closed.is ∙ ap profiles_in (sym c.deref.ensures)) c.requires.side.passable),
     ),
   ),
 )
@@ -395,7 +395,7 @@ side_step-beh_step-requires g t c κs within = (
 pub side_step-returns-in-Closed-clause-answer : goal.side_step-returns-in-Closed-clause-answer
 side_step-returns-in-Closed-clause-answer g t c =
     λ place there. c.beh_step.ensures.answer place (of_behaviour place (side_of c.args.side.now) _ (shape_of c.args.shape.now) c.args.at
-    (sym (ap side_of c.in-Closed.is)) there)
+    (sym (ap side_of c.in-Closed.is ∙ ap behaviour_of (sym c.deref.ensures))) there)
 
 pub side_step-returns-in-Closed-clause-same_data : goal.side_step-returns-in-Closed-clause-same_data
 side_step-returns-in-Closed-clause-same_data g t c =
@@ -407,7 +407,7 @@ side_step-returns-in-Closed-clause-same_canon g t c =
 
 pub side_step-node_step-requires : goal.side_step-node_step-requires
 side_step-node_step-requires g t c κs within = (
-  (level_less (shape_of c.args.shape.now) (side_of c.args.side.now) _ 4 3 _ (omega arith) (sym (ap side_of c.in-Standing.is))
+  (level_less (shape_of c.args.shape.now) (side_of c.args.side.now) _ 4 3 _ (omega arith) (sym (ap side_of c.in-Standing.is ∙ ap stands_for (sym c.deref-in-Standing.ensures)))
       c.decreases),
   (
     search rules,
@@ -416,9 +416,10 @@ side_step-node_step-requires g t c κs within = (
       (record {
         passable = (passable_as (ground_of (g.D.Deciding.known_data
             c.args.data.now) (g.D.Deciding.canon c.args.data.now) c.args.walk.now.spec.now) (side_of c.args.side.now) _ (side_profiles
-            c.args.side.now) _ (ap side_of c.in-Standing.is) (ap side_profiles c.in-Standing.is) c.requires.side.passable);
-        states = subst (λ
-            (side : Side). IsSideState side) c.in-Standing.is c.requires.side.states;
+            c.args.side.now) _ (ap side_of c.in-Standing.is ∙ ap stands_for (sym c.deref-in-Standing.ensures))
+            (ap side_profiles c.in-Standing.is ∙ ap node_profiles (sym c.deref-in-Standing.ensures)) c.requires.side.passable);
+        states = subst (λ (node : Node). IsClosedNode node) (sym c.deref-in-Standing.ensures)
+            (subst (λ (side : Side). IsSideState side) c.in-Standing.is c.requires.side.states);
       }),
     ),
   ),
@@ -427,7 +428,7 @@ side_step-node_step-requires g t c κs within = (
 pub side_step-returns-in-Standing-clause-answer : goal.side_step-returns-in-Standing-clause-answer
 side_step-returns-in-Standing-clause-answer g t c =
     λ place there. c.node_step.ensures.answer place (of_behaviour place (side_of c.args.side.now) _ (shape_of c.args.shape.now) c.args.at
-    (sym (ap side_of c.in-Standing.is)) there)
+    (sym (ap side_of c.in-Standing.is ∙ ap stands_for (sym c.deref-in-Standing.ensures))) there)
 
 pub side_step-returns-in-Standing-clause-same_data : goal.side_step-returns-in-Standing-clause-same_data
 side_step-returns-in-Standing-clause-same_data g t c =
@@ -485,19 +486,19 @@ pub beh_step-action_step-requires-clause-part : goal.beh_step-action_step-requir
 beh_step-action_step-requires-clause-part g t c =
     (passable_as (ground_of (g.D.Deciding.known_data c.args.data.now) (g.D.Deciding.canon c.args.data.now) c.args.walk.now.spec.now)
     (behaviour_of c.args.behaviour.now) (action c.in-Action.gate (map offer_of c.in-Action.offers.items) (option_map test_of
-    c.in-Action.test) (behaviour_of c.deref.result.now)) (profiles_in c.args.behaviour.now) ((joined (map offer_profiles
-    c.in-Action.offers.items) ++ option_profiles c.in-Action.test) ++ (profiles_in c.deref.result.now)) ((ap behaviour_of
+    c.in-Action.test) (behaviour_of c.in-Action.next.value)) (profiles_in c.args.behaviour.now) ((joined (map offer_profiles
+    c.in-Action.offers.items) ++ option_profiles c.in-Action.test) ++ (profiles_in c.in-Action.next.value)) ((ap behaviour_of
     c.in-Action.is) ∙ ap (λ (x : Beh). (action c.in-Action.gate (map offer_of c.in-Action.offers.items) (option_map test_of
-    c.in-Action.test) (behaviour_of x))) (sym c.deref.ensures)) ((ap profiles_in c.in-Action.is) ∙ ap (λ (x : Beh). ((joined (map
-    offer_profiles c.in-Action.offers.items) ++ option_profiles c.in-Action.test) ++ (profiles_in x))) (sym c.deref.ensures))
+    c.in-Action.test) (behaviour_of x))) (sym (refl {a = c.in-Action.next.value}))) ((ap profiles_in c.in-Action.is) ∙ ap (λ (x : Beh). ((joined (map
+    offer_profiles c.in-Action.offers.items) ++ option_profiles c.in-Action.test) ++ (profiles_in x))) (sym (refl {a = c.in-Action.next.value})))
     c.requires.part)
 
 pub beh_step-returns-in-Action-clause-answer : goal.beh_step-returns-in-Action-clause-answer
 beh_step-returns-in-Action-clause-answer g t c =
     λ place there. c.action_step.ensures.answer place (of_behaviour place (behaviour_of c.args.behaviour.now) (action c.in-Action.gate
-    (map offer_of c.in-Action.offers.items) (option_map test_of c.in-Action.test) (behaviour_of c.deref.result.now)) (shape_of
+    (map offer_of c.in-Action.offers.items) (option_map test_of c.in-Action.test) (behaviour_of c.in-Action.next.value)) (shape_of
     c.args.shape.now) c.args.at (sym ((ap behaviour_of c.in-Action.is) ∙ ap (λ (x : Beh). (action c.in-Action.gate (map offer_of
-    c.in-Action.offers.items) (option_map test_of c.in-Action.test) (behaviour_of x))) (sym c.deref.ensures))) there)
+    c.in-Action.offers.items) (option_map test_of c.in-Action.test) (behaviour_of x))) (sym (refl {a = c.in-Action.next.value})))) there)
 
 pub beh_step-returns-in-Action-clause-same_data : goal.beh_step-returns-in-Action-clause-same_data
 beh_step-returns-in-Action-clause-same_data g t c =
@@ -512,12 +513,12 @@ beh_step-returns-in-Inner-clause-answer g t c =
     λ place there. c.inner_step.ensures (ground_of (g.D.Deciding.known_data c.args.data.now) (g.D.Deciding.canon c.args.data.now)
     c.args.walk.now.spec.now) (terms_of c.args.walk.now.leaves.now) place (passable_as (ground_of (g.D.Deciding.known_data
     c.args.data.now) (g.D.Deciding.canon c.args.data.now) c.args.walk.now.spec.now) (behaviour_of c.args.behaviour.now) (inner_action
-    (behaviour_of c.deref-in-Inner.result.now)) (profiles_in c.args.behaviour.now) (profiles_in c.deref-in-Inner.result.now) ((ap
-    behaviour_of c.in-Inner.is) ∙ ap (λ (x : Beh). (inner_action (behaviour_of x))) (sym c.deref-in-Inner.ensures)) ((ap profiles_in
-    c.in-Inner.is) ∙ ap (λ (x : Beh). (profiles_in x)) (sym c.deref-in-Inner.ensures)) c.requires.part) (of_behaviour place
-    (behaviour_of c.args.behaviour.now) (inner_action (behaviour_of c.deref-in-Inner.result.now)) (shape_of c.args.shape.now)
+    (behaviour_of c.in-Inner.next.value)) (profiles_in c.args.behaviour.now) (profiles_in c.in-Inner.next.value) ((ap
+    behaviour_of c.in-Inner.is) ∙ ap (λ (x : Beh). (inner_action (behaviour_of x))) (sym (refl {a = c.in-Inner.next.value}))) ((ap profiles_in
+    c.in-Inner.is) ∙ ap (λ (x : Beh). (profiles_in x)) (sym (refl {a = c.in-Inner.next.value}))) c.requires.part) (of_behaviour place
+    (behaviour_of c.args.behaviour.now) (inner_action (behaviour_of c.in-Inner.next.value)) (shape_of c.args.shape.now)
     c.args.at (sym ((ap behaviour_of c.in-Inner.is) ∙ ap (λ (x : Beh). (inner_action (behaviour_of x))) (sym
-    c.deref-in-Inner.ensures))) there)
+    (refl {a = c.in-Inner.next.value})))) there)
 
 pub beh_step-returns-in-Inner-clause-same_data : goal.beh_step-returns-in-Inner-clause-same_data
 beh_step-returns-in-Inner-clause-same_data g t c =
@@ -536,11 +537,11 @@ beh_step-guard_step-requires g t c κs within = (
       c.requires.walk,
       (passable_as (ground_of (g.D.Deciding.known_data c.args.data.now) (g.D.Deciding.canon c.args.data.now)
           c.args.walk.now.spec.now) (behaviour_of c.args.behaviour.now) (guard (test_of c.in-Guard.test) (behaviour_of
-          c.deref-in-Guard.result.now)) (profiles_in c.args.behaviour.now) (test_profiles c.in-Guard.test ++ (profiles_in
-          c.deref-in-Guard.result.now)) ((ap behaviour_of c.in-Guard.is) ∙ ap (λ (x : Beh). (guard (test_of c.in-Guard.test)
+          c.deref.result.now)) (profiles_in c.args.behaviour.now) (test_profiles c.in-Guard.test ++ (profiles_in
+          c.deref.result.now)) ((ap behaviour_of c.in-Guard.is) ∙ ap (λ (x : Beh). (guard (test_of c.in-Guard.test)
           (behaviour_of
-          x))) (sym c.deref-in-Guard.ensures)) ((ap profiles_in c.in-Guard.is) ∙ ap (λ (x : Beh). (test_profiles c.in-Guard.test ++
-          (profiles_in x))) (sym c.deref-in-Guard.ensures)) c.requires.part),
+          x))) (sym c.deref.ensures)) ((ap profiles_in c.in-Guard.is) ∙ ap (λ (x : Beh). (test_profiles c.in-Guard.test ++
+          (profiles_in x))) (sym c.deref.ensures)) c.requires.part),
     ),
   ),
 )
@@ -548,8 +549,8 @@ beh_step-guard_step-requires g t c κs within = (
 pub beh_step-returns-in-Guard-clause-answer : goal.beh_step-returns-in-Guard-clause-answer
 beh_step-returns-in-Guard-clause-answer g t c =
     λ place there. c.guard_step.ensures.answer place (of_behaviour place (behaviour_of c.args.behaviour.now) (guard (test_of
-    c.in-Guard.test) (behaviour_of c.deref-in-Guard.result.now)) (shape_of c.args.shape.now) c.args.at (sym ((ap behaviour_of
-    c.in-Guard.is) ∙ ap (λ (x : Beh). (guard (test_of c.in-Guard.test) (behaviour_of x))) (sym c.deref-in-Guard.ensures))) there)
+    c.in-Guard.test) (behaviour_of c.deref.result.now)) (shape_of c.args.shape.now) c.args.at (sym ((ap behaviour_of
+    c.in-Guard.is) ∙ ap (λ (x : Beh). (guard (test_of c.in-Guard.test) (behaviour_of x))) (sym c.deref.ensures))) there)
 
 pub beh_step-returns-in-Guard-clause-same_data : goal.beh_step-returns-in-Guard-clause-same_data
 beh_step-returns-in-Guard-clause-same_data g t c =
@@ -604,13 +605,13 @@ beh_step-parallel_step-requires g t c κs within = (
       (
         (passable_as (ground_of (g.D.Deciding.known_data c.args.data.now) (g.D.Deciding.canon c.args.data.now)
             c.args.walk.now.spec.now) (behaviour_of c.args.behaviour.now) (parallel (meet_of c.in-Parallel.meet) (behaviour_of
-            c.deref-in-Parallel.result.now) (behaviour_of c.deref-in-Parallel-2.result.now)) (profiles_in c.args.behaviour.now)
+            c.in-Parallel.left.value) (behaviour_of c.in-Parallel.right.value)) (profiles_in c.args.behaviour.now)
             ((profiles_in
-            c.deref-in-Parallel.result.now) ++ (profiles_in c.deref-in-Parallel-2.result.now)) ((ap behaviour_of c.in-Parallel.is) ∙
+            c.in-Parallel.left.value) ++ (profiles_in c.in-Parallel.right.value)) ((ap behaviour_of c.in-Parallel.is) ∙
             two_as
             (λ (l r : Beh). (parallel (meet_of c.in-Parallel.meet) (behaviour_of l) (behaviour_of r))) _ _ _ _ (sym
-            c.deref-in-Parallel.ensures) (sym c.deref-in-Parallel-2.ensures)) ((ap profiles_in c.in-Parallel.is) ∙ two_as (λ (l r : Beh).
-            profiles_in l ++ profiles_in r) _ _ _ _ (sym c.deref-in-Parallel.ensures) (sym c.deref-in-Parallel-2.ensures))
+            (refl {a = c.in-Parallel.left.value})) (sym (refl {a = c.in-Parallel.right.value}))) ((ap profiles_in c.in-Parallel.is) ∙ two_as (λ (l r : Beh).
+            profiles_in l ++ profiles_in r) _ _ _ _ (sym (refl {a = c.in-Parallel.left.value})) (sym (refl {a = c.in-Parallel.right.value})))
             c.requires.part),
         (tt, tt),
       ),
@@ -621,10 +622,10 @@ beh_step-parallel_step-requires g t c κs within = (
 pub beh_step-returns-in-Parallel-clause-answer : goal.beh_step-returns-in-Parallel-clause-answer
 beh_step-returns-in-Parallel-clause-answer g t c =
     λ place there. c.parallel_step.ensures.answer place (of_behaviour place (behaviour_of c.args.behaviour.now) (parallel (meet_of
-    c.in-Parallel.meet) (behaviour_of c.deref-in-Parallel.result.now) (behaviour_of c.deref-in-Parallel-2.result.now)) (shape_of
+    c.in-Parallel.meet) (behaviour_of c.in-Parallel.left.value) (behaviour_of c.in-Parallel.right.value)) (shape_of
     c.args.shape.now) c.args.at (sym ((ap behaviour_of c.in-Parallel.is) ∙ two_as (λ (l r : Beh). (parallel (meet_of
-    c.in-Parallel.meet) (behaviour_of l) (behaviour_of r))) _ _ _ _ (sym c.deref-in-Parallel.ensures) (sym
-    c.deref-in-Parallel-2.ensures))) there)
+    c.in-Parallel.meet) (behaviour_of l) (behaviour_of r))) _ _ _ _ (sym (refl {a = c.in-Parallel.left.value})) (sym
+    (refl {a = c.in-Parallel.right.value})))) there)
 
 pub beh_step-returns-in-Parallel-clause-same_data : goal.beh_step-returns-in-Parallel-clause-same_data
 beh_step-returns-in-Parallel-clause-same_data g t c =
@@ -644,10 +645,10 @@ beh_step-hide_step-requires g t c κs within = (
       (
         (passable_as (ground_of (g.D.Deciding.known_data c.args.data.now) (g.D.Deciding.canon c.args.data.now)
             c.args.walk.now.spec.now) (behaviour_of c.args.behaviour.now) (hide c.in-Hide.gates.items (behaviour_of
-            c.deref-in-Hide.result.now)) (profiles_in c.args.behaviour.now) (profiles_in c.deref-in-Hide.result.now) ((ap behaviour_of
-            c.in-Hide.is) ∙ ap (λ (x : Beh). (hide c.in-Hide.gates.items (behaviour_of x))) (sym c.deref-in-Hide.ensures)) ((ap
+            c.in-Hide.next.value)) (profiles_in c.args.behaviour.now) (profiles_in c.in-Hide.next.value) ((ap behaviour_of
+            c.in-Hide.is) ∙ ap (λ (x : Beh). (hide c.in-Hide.gates.items (behaviour_of x))) (sym (refl {a = c.in-Hide.next.value}))) ((ap
             profiles_in
-            c.in-Hide.is) ∙ ap (λ (x : Beh). (profiles_in x)) (sym c.deref-in-Hide.ensures)) c.requires.part),
+            c.in-Hide.is) ∙ ap (λ (x : Beh). (profiles_in x)) (sym (refl {a = c.in-Hide.next.value}))) c.requires.part),
         tt,
       ),
     ),
@@ -657,8 +658,8 @@ beh_step-hide_step-requires g t c κs within = (
 pub beh_step-returns-in-Hide-clause-answer : goal.beh_step-returns-in-Hide-clause-answer
 beh_step-returns-in-Hide-clause-answer g t c =
     λ place there. c.hide_step.ensures.answer place (of_behaviour place (behaviour_of c.args.behaviour.now) (hide c.in-Hide.gates.items
-    (behaviour_of c.deref-in-Hide.result.now)) (shape_of c.args.shape.now) c.args.at (sym ((ap behaviour_of c.in-Hide.is) ∙ ap (λ (x
-    : Beh). (hide c.in-Hide.gates.items (behaviour_of x))) (sym c.deref-in-Hide.ensures))) there)
+    (behaviour_of c.in-Hide.next.value)) (shape_of c.args.shape.now) c.args.at (sym ((ap behaviour_of c.in-Hide.is) ∙ ap (λ (x
+    : Beh). (hide c.in-Hide.gates.items (behaviour_of x))) (sym (refl {a = c.in-Hide.next.value})))) there)
 
 pub beh_step-returns-in-Hide-clause-same_data : goal.beh_step-returns-in-Hide-clause-same_data
 beh_step-returns-in-Hide-clause-same_data g t c =
@@ -677,15 +678,15 @@ beh_step-disable_step-requires g t c κs within = (
       c.requires.walk,
       (
         (passable_as (ground_of (g.D.Deciding.known_data c.args.data.now) (g.D.Deciding.canon c.args.data.now)
-            c.args.walk.now.spec.now) (behaviour_of c.args.behaviour.now) (disable (behaviour_of c.deref-in-Disable.result.now)
+            c.args.walk.now.spec.now) (behaviour_of c.args.behaviour.now) (disable (behaviour_of c.in-Disable.left.value)
             (behaviour_of
-            c.deref-in-Disable-2.result.now)) (profiles_in c.args.behaviour.now) ((profiles_in c.deref-in-Disable.result.now) ++
+            c.in-Disable.right.value)) (profiles_in c.args.behaviour.now) ((profiles_in c.in-Disable.left.value) ++
             (profiles_in
-            c.deref-in-Disable-2.result.now)) ((ap behaviour_of c.in-Disable.is) ∙ two_as (λ (l r : Beh). (disable (behaviour_of l)
-            (behaviour_of r))) _ _ _ _ (sym c.deref-in-Disable.ensures) (sym c.deref-in-Disable-2.ensures)) ((ap profiles_in
+            c.in-Disable.right.value)) ((ap behaviour_of c.in-Disable.is) ∙ two_as (λ (l r : Beh). (disable (behaviour_of l)
+            (behaviour_of r))) _ _ _ _ (sym (refl {a = c.in-Disable.left.value})) (sym (refl {a = c.in-Disable.right.value}))) ((ap profiles_in
             c.in-Disable.is)
-            ∙ two_as (λ (l r : Beh). profiles_in l ++ profiles_in r) _ _ _ _ (sym c.deref-in-Disable.ensures) (sym
-            c.deref-in-Disable-2.ensures)) c.requires.part),
+            ∙ two_as (λ (l r : Beh). profiles_in l ++ profiles_in r) _ _ _ _ (sym (refl {a = c.in-Disable.left.value})) (sym
+            (refl {a = c.in-Disable.right.value}))) c.requires.part),
         (tt, tt),
       ),
     ),
@@ -695,9 +696,9 @@ beh_step-disable_step-requires g t c κs within = (
 pub beh_step-returns-in-Disable-clause-answer : goal.beh_step-returns-in-Disable-clause-answer
 beh_step-returns-in-Disable-clause-answer g t c =
     λ place there. c.disable_step.ensures.answer place (of_behaviour place (behaviour_of c.args.behaviour.now) (disable (behaviour_of
-    c.deref-in-Disable.result.now) (behaviour_of c.deref-in-Disable-2.result.now)) (shape_of c.args.shape.now) c.args.at (sym ((ap
+    c.in-Disable.left.value) (behaviour_of c.in-Disable.right.value)) (shape_of c.args.shape.now) c.args.at (sym ((ap
     behaviour_of c.in-Disable.is) ∙ two_as (λ (l r : Beh). (disable (behaviour_of l) (behaviour_of r))) _ _ _ _ (sym
-    c.deref-in-Disable.ensures) (sym c.deref-in-Disable-2.ensures))) there)
+    (refl {a = c.in-Disable.left.value})) (sym (refl {a = c.in-Disable.right.value})))) there)
 
 pub beh_step-returns-in-Disable-clause-same_data : goal.beh_step-returns-in-Disable-clause-same_data
 beh_step-returns-in-Disable-clause-same_data g t c =
@@ -843,29 +844,29 @@ beh_step-enable_step-requires g t c κs within = (
       c.requires.walk,
       (
         (passable_as (ground_of (g.D.Deciding.known_data c.args.data.now) (g.D.Deciding.canon c.args.data.now) c.args.walk.now.spec.now)
-            (behaviour_of c.args.behaviour.now) (enable (behaviour_of c.deref-in-Enable-2.result.now) (variables_of
+            (behaviour_of c.args.behaviour.now) (enable (behaviour_of c.in-Enable.left.value) (variables_of
             c.in-Enable.variables.items) (with_values (without (numbers_of (variables_of c.in-Enable.variables.items)) (binding
-            (environment_of c.new-environment.result.items))) (behaviour_of c.deref-in-Enable.result.now))) (profiles_in
-            c.args.behaviour.now) ((profiles_in c.deref-in-Enable-2.result.now) ++ ((profiles_in c.deref-in-Enable.result.now) ++ (map
+            (environment_of c.new-environment.result.items))) (behaviour_of c.in-Enable.right.value))) (profiles_in
+            c.args.behaviour.now) ((profiles_in c.in-Enable.left.value) ++ ((profiles_in c.in-Enable.right.value) ++ (map
             pair_profile c.new-environment.result.items))) ((ap behaviour_of c.in-Enable.is) ∙ two_as (λ (l r : Beh). enable
-            (behaviour_of l) (variables_of c.in-Enable.variables.items) (behaviour_of r)) _ _ _ _ (sym c.deref-in-Enable-2.ensures) (sym
-            c.deref-in-Enable.ensures)
-            ∙ ap (enable (behaviour_of c.deref-in-Enable-2.result.now) (variables_of c.in-Enable.variables.items)) (sym (nothing_put
-            (variables_of c.in-Enable.variables.items) c.new-environment.result.items (behaviour_of c.deref-in-Enable.result.now)
+            (behaviour_of l) (variables_of c.in-Enable.variables.items) (behaviour_of r)) _ _ _ _ (sym (refl {a = c.in-Enable.left.value})) (sym
+            (refl {a = c.in-Enable.right.value}))
+            ∙ ap (enable (behaviour_of c.in-Enable.left.value) (variables_of c.in-Enable.variables.items)) (sym (nothing_put
+            (variables_of c.in-Enable.variables.items) c.new-environment.result.items (behaviour_of c.in-Enable.right.value)
             c.new-environment.ensures.items))) ((ap profiles_in c.in-Enable.is) ∙ two_as (λ (l r : Beh). profiles_in l ++ profiles_in
-            r) _ _ _ _ (sym c.deref-in-Enable-2.ensures) (sym c.deref-in-Enable.ensures)
-            ∙ ap (λ (ts : List ProfiledTerm). (profiles_in c.deref-in-Enable-2.result.now) ++ ts) (sym (ap (λ (env : List (ℕ × Sorted)).
-            (profiles_in c.deref-in-Enable.result.now) ++ map pair_profile env) c.new-environment.ensures.items ∙ append-nil
-            (profiles_in c.deref-in-Enable.result.now)))) c.requires.part),
+            r) _ _ _ _ (sym (refl {a = c.in-Enable.left.value})) (sym (refl {a = c.in-Enable.right.value}))
+            ∙ ap (λ (ts : List ProfiledTerm). (profiles_in c.in-Enable.left.value) ++ ts) (sym (ap (λ (env : List (ℕ × Sorted)).
+            (profiles_in c.in-Enable.right.value) ++ map pair_profile env) c.new-environment.ensures.items ∙ append-nil
+            (profiles_in c.in-Enable.right.value)))) c.requires.part),
         (
           tt,
           closed_by_none (g.D.Deciding.known_data c.args.data.now).signature (specification_of c.args.walk.now.spec.now) (variables_of
-              c.in-Enable.variables.items) c.new-environment.result.items (behaviour_of c.deref-in-Enable-2.result.now) (behaviour_of
-              c.deref-in-Enable.result.now) c.new-environment.ensures.items
+              c.in-Enable.variables.items) c.new-environment.result.items (behaviour_of c.in-Enable.left.value) (behaviour_of
+              c.in-Enable.right.value) c.new-environment.ensures.items
               (subst (λ (b : Behaviour). IsClosedOn (ground_of (g.D.Deciding.known_data c.args.data.now) (g.D.Deciding.canon
               c.args.data.now) c.args.walk.now.spec.now) b) ((ap behaviour_of c.in-Enable.is) ∙ two_as (λ (l r : Beh). enable
-              (behaviour_of l) (variables_of c.in-Enable.variables.items) (behaviour_of r)) _ _ _ _ (sym c.deref-in-Enable-2.ensures)
-              (sym c.deref-in-Enable.ensures)) c.requires.part.closed),
+              (behaviour_of l) (variables_of c.in-Enable.variables.items) (behaviour_of r)) _ _ _ _ (sym (refl {a = c.in-Enable.left.value}))
+              (sym (refl {a = c.in-Enable.right.value}))) c.requires.part.closed),
         ),
       ),
     ),
@@ -875,13 +876,13 @@ beh_step-enable_step-requires g t c κs within = (
 pub beh_step-returns-in-Enable-clause-answer : goal.beh_step-returns-in-Enable-clause-answer
 beh_step-returns-in-Enable-clause-answer g t c =
     λ place there. c.enable_step.ensures.answer place (of_behaviour place (behaviour_of c.args.behaviour.now) (enable (behaviour_of
-    c.deref-in-Enable-2.result.now) (variables_of c.in-Enable.variables.items) (with_values (without (numbers_of (variables_of
+    c.in-Enable.left.value) (variables_of c.in-Enable.variables.items) (with_values (without (numbers_of (variables_of
     c.in-Enable.variables.items)) (binding (environment_of c.new-environment.result.items))) (behaviour_of
-    c.deref-in-Enable.result.now))) (shape_of c.args.shape.now) c.args.at (sym ((ap behaviour_of c.in-Enable.is) ∙ two_as (λ (l r :
+    c.in-Enable.right.value))) (shape_of c.args.shape.now) c.args.at (sym ((ap behaviour_of c.in-Enable.is) ∙ two_as (λ (l r :
     Beh). enable (behaviour_of l) (variables_of c.in-Enable.variables.items) (behaviour_of r)) _ _ _ _ (sym
-    c.deref-in-Enable-2.ensures) (sym c.deref-in-Enable.ensures)
-    ∙ ap (enable (behaviour_of c.deref-in-Enable-2.result.now) (variables_of c.in-Enable.variables.items)) (sym (nothing_put
-    (variables_of c.in-Enable.variables.items) c.new-environment.result.items (behaviour_of c.deref-in-Enable.result.now)
+    (refl {a = c.in-Enable.left.value})) (sym (refl {a = c.in-Enable.right.value}))
+    ∙ ap (enable (behaviour_of c.in-Enable.left.value) (variables_of c.in-Enable.variables.items)) (sym (nothing_put
+    (variables_of c.in-Enable.variables.items) c.new-environment.result.items (behaviour_of c.in-Enable.right.value)
     c.new-environment.ensures.items)))) there)
 
 pub beh_step-returns-in-Enable-clause-same_data : goal.beh_step-returns-in-Enable-clause-same_data
@@ -908,9 +909,9 @@ beh_step-returns-in_err-opened-in-ParGate-clause-same_canon g t c =
 pub beh_step-node_step-requires : goal.beh_step-node_step-requires
 beh_step-node_step-requires g t c κs within = (
   (opened_less (shape_of c.args.shape.now) (behaviour_of c.args.behaviour.now) (stands_for c.in_ok-opened-in-ParGate.opened)
-      c.in-ParGate.gate c.in-ParGate.gates.items (meet_of c.in-ParGate.meet) (behaviour_of c.deref-in-ParGate.result.now) 2 3 _ (omega
+      c.in-ParGate.gate c.in-ParGate.gates.items (meet_of c.in-ParGate.meet) (behaviour_of c.in-ParGate.next.value) 2 3 _ (omega
       arith) ((ap behaviour_of c.in-ParGate.is) ∙ ap (λ (x : Beh). (par_gate c.in-ParGate.gate c.in-ParGate.gates.items (meet_of
-      c.in-ParGate.meet) (behaviour_of x))) (sym c.deref-in-ParGate.ensures)) c.in_ok-opened-in-ParGate.ensures.same c.decreases),
+      c.in-ParGate.meet) (behaviour_of x))) (sym (refl {a = c.in-ParGate.next.value}))) c.in_ok-opened-in-ParGate.ensures.same c.decreases),
   (
     search rules,
     (
@@ -923,30 +924,30 @@ beh_step-node_step-requires g t c κs within = (
               (g.D.Deciding.known_data c.args.data.now) (specification_of c.args.walk.now.spec.now) c.requires.walk.over.well_formed
               (g.D.Deciding.canon c.args.data.now) (keeps_ground (ground_of (g.D.Deciding.known_data c.args.data.now) (g.D.Deciding.canon
               c.args.data.now) c.args.walk.now.spec.now) (g.met.D.Deciding.is_canon c.args.data.now)) (leaves_in []) (par_gate
-              c.in-ParGate.gate c.in-ParGate.gates.items (meet_of c.in-ParGate.meet) (behaviour_of c.deref-in-ParGate.result.now)) (subst
+              c.in-ParGate.gate c.in-ParGate.gates.items (meet_of c.in-ParGate.meet) (behaviour_of c.in-ParGate.next.value)) (subst
               (λ (b : Behaviour). IsClosedOn (ground_of (g.D.Deciding.known_data c.args.data.now) (g.D.Deciding.canon c.args.data.now)
               c.args.walk.now.spec.now) b) ((ap behaviour_of c.in-ParGate.is) ∙ ap (λ (x : Beh). (par_gate c.in-ParGate.gate
-              c.in-ParGate.gates.items (meet_of c.in-ParGate.meet) (behaviour_of x))) (sym c.deref-in-ParGate.ensures))
+              c.in-ParGate.gates.items (meet_of c.in-ParGate.meet) (behaviour_of x))) (sym (refl {a = c.in-ParGate.next.value})))
               c.requires.part.closed)));
           terms_of_signature = c.in_ok-opened-in-ParGate.ensures.terms (g.D.Deciding.known_data
               c.args.data.now).signature (subst (AreTermsOf (g.D.Deciding.known_data c.args.data.now).signature) ((ap profiles_in
-              c.in-ParGate.is) ∙ ap (λ (x : Beh). (profiles_in x)) (sym c.deref-in-ParGate.ensures)) c.requires.part.terms_of_signature);
+              c.in-ParGate.is) ∙ ap (λ (x : Beh). (profiles_in x)) (sym (refl {a = c.in-ParGate.next.value}))) c.requires.part.terms_of_signature);
         });
         states = closed_state (g.D.Deciding.known_data c.args.data.now).signature (specification_of c.args.walk.now.spec.now)
             c.in_ok-opened-in-ParGate.opened (c.in_ok-opened-in-ParGate.ensures.closed_parts (g.D.Deciding.known_data
             c.args.data.now).signature (specification_of c.args.walk.now.spec.now) (subst (λ (b : Behaviour). IsClosedOn (ground_of
             (g.D.Deciding.known_data c.args.data.now) (g.D.Deciding.canon c.args.data.now) c.args.walk.now.spec.now) b) ((ap behaviour_of
             c.in-ParGate.is) ∙ ap (λ (x : Beh). (par_gate c.in-ParGate.gate c.in-ParGate.gates.items (meet_of c.in-ParGate.meet)
-            (behaviour_of x))) (sym c.deref-in-ParGate.ensures)) c.requires.part.closed).4) (subst (λ (b : Behaviour). IsClosedOn
+            (behaviour_of x))) (sym (refl {a = c.in-ParGate.next.value}))) c.requires.part.closed).4) (subst (λ (b : Behaviour). IsClosedOn
             (ground_of (g.D.Deciding.known_data c.args.data.now) (g.D.Deciding.canon c.args.data.now) c.args.walk.now.spec.now) b) (sym
             c.in_ok-opened-in-ParGate.ensures.same) (opened_closed (g.D.Deciding.known_data c.args.data.now) (specification_of
             c.args.walk.now.spec.now) c.requires.walk.over.well_formed (g.D.Deciding.canon c.args.data.now) (keeps_ground (ground_of
             (g.D.Deciding.known_data c.args.data.now) (g.D.Deciding.canon c.args.data.now) c.args.walk.now.spec.now)
             (g.met.D.Deciding.is_canon c.args.data.now)) (leaves_in []) (par_gate c.in-ParGate.gate c.in-ParGate.gates.items (meet_of
-            c.in-ParGate.meet) (behaviour_of c.deref-in-ParGate.result.now)) (subst (λ (b : Behaviour). IsClosedOn (ground_of
+            c.in-ParGate.meet) (behaviour_of c.in-ParGate.next.value)) (subst (λ (b : Behaviour). IsClosedOn (ground_of
             (g.D.Deciding.known_data c.args.data.now) (g.D.Deciding.canon c.args.data.now) c.args.walk.now.spec.now) b) ((ap behaviour_of
             c.in-ParGate.is) ∙ ap (λ (x : Beh). (par_gate c.in-ParGate.gate c.in-ParGate.gates.items (meet_of c.in-ParGate.meet)
-            (behaviour_of x))) (sym c.deref-in-ParGate.ensures)) c.requires.part.closed)));
+            (behaviour_of x))) (sym (refl {a = c.in-ParGate.next.value}))) c.requires.part.closed)));
       }),
     ),
   ),
@@ -957,16 +958,16 @@ beh_step-returns-in_ok-opened-in-ParGate-clause-answer g t c =
     λ place there.
     there_walked (ground_of (g.D.Deciding.known_data c.args.data.now) (g.D.Deciding.canon c.args.data.now) c.args.walk.now.spec.now)
     (terms_of c.args.walk.now.leaves.now) place (par_gate c.in-ParGate.gate c.in-ParGate.gates.items (meet_of c.in-ParGate.meet)
-    (behaviour_of c.deref-in-ParGate.result.now)) (shape_of c.args.shape.now) c.args.at (of_behaviour place (behaviour_of
+    (behaviour_of c.in-ParGate.next.value)) (shape_of c.args.shape.now) c.args.at (of_behaviour place (behaviour_of
     c.args.behaviour.now) (par_gate c.in-ParGate.gate c.in-ParGate.gates.items (meet_of c.in-ParGate.meet) (behaviour_of
-    c.deref-in-ParGate.result.now)) (shape_of c.args.shape.now) c.args.at (sym ((ap behaviour_of c.in-ParGate.is) ∙ ap (λ (x : Beh).
+    c.in-ParGate.next.value)) (shape_of c.args.shape.now) c.args.at (sym ((ap behaviour_of c.in-ParGate.is) ∙ ap (λ (x : Beh).
     (par_gate c.in-ParGate.gate c.in-ParGate.gates.items (meet_of c.in-ParGate.meet) (behaviour_of x))) (sym
-    c.deref-in-ParGate.ensures))) there) c.node_step.result
+    (refl {a = c.in-ParGate.next.value})))) there) c.node_step.result
     (copies_walked (ground_of (g.D.Deciding.known_data c.args.data.now) (g.D.Deciding.canon c.args.data.now) c.args.walk.now.spec.now)
     (terms_of c.args.walk.now.leaves.now) c.in-ParGate.gate c.in-ParGate.gates.items (meet_of c.in-ParGate.meet) (behaviour_of
-    c.deref-in-ParGate.result.now) (shape_of c.args.shape.now) place.number c.args.at.leaf c.node_step.result
+    c.in-ParGate.next.value) (shape_of c.args.shape.now) place.number c.args.at.leaf c.node_step.result
     (c.node_step.ensures.answer (stand (copies c.in-ParGate.gate c.in-ParGate.gates.items (meet_of c.in-ParGate.meet) (behaviour_of
-    c.deref-in-ParGate.result.now)) (shape_of c.args.shape.now) place.number c.args.at.leaf) (record {
+    c.in-ParGate.next.value)) (shape_of c.args.shape.now) place.number c.args.at.leaf) (record {
       behaviour =
           c.in_ok-opened-in-ParGate.ensures.same;
       same_shape = refl;

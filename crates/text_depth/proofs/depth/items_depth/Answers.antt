@@ -5,7 +5,7 @@ use Rattle.lotos_rows.specs.declared.starts.TheConstants as starts
 use Rattle.sentence_trees.specs.Sentences.{kind_of}
 use Rattle.sentence_trees.proofs.DefinitionsCases.{all_sentences_derived}
 use Rattle.tree_building.specs.Meaning.{some_items}
-use Rattle.lotos_reading.specs.Reading.{node_limit}
+use Rattle.sentence_trees.specs.Reading.{node_limit}
 use Rattle.text_depth.specs.LotosRows.{HasLotosRows}
 use Rattle.text_depth.proofs.Depths.{deep_is, derived_at, of_types}
 use Rattle.text_depth.proofs.depth.items_depth.Goals as goal

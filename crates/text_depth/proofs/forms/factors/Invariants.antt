@@ -1,8 +1,8 @@
 use Rattle.std.proofs.Common.{◌≡◌, length}
 use Rattle.std.specs.Prelude.{fold}
-use Rattle.derivation_fold.specs.Run.{from_last}
-use Rattle.tree_depth.specs.Firsts.{between}
-use Rattle.tree_depth.specs.FirstsView.{firsts_of}
+use Rattle.ll_engine.specs.Run.{from_last}
+use Rattle.syntax_trees.specs.Firsts.{between}
+use Rattle.syntax_trees.specs.FirstsView.{firsts_of}
 use Rattle.text_depth.proofs.forms.factors.Given as goal
 
 abbrev pub invariant-loop-next : goal.invariant-loop-next

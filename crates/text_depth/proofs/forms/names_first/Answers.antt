@@ -2,8 +2,8 @@ use Rattle.std.proofs.Common.{◌∙◌, ◌∷◌, [], ap, map, sym}
 use Rattle.std.proofs.lemmas.List.{map-append}
 use Rattle.lotos_base.specs.WrittenView.{text_place_of}
 use Rattle.tree_building.proofs.FromLast.{map_reverse}
-use Rattle.tree_depth.specs.FirstsView.{firsts_of}
-use Rattle.tree_depth.specs.TreeFirsts.{names_firsts}
+use Rattle.syntax_trees.specs.FirstsView.{firsts_of}
+use Rattle.syntax_trees.specs.TreeFirsts.{names_firsts}
 use Rattle.text_depth.proofs.PartLists.{names_firsts_append}
 use Rattle.text_depth.proofs.forms.names_first.Goals as goal
 

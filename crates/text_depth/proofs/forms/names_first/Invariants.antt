@@ -1,8 +1,8 @@
 use Rattle.std.proofs.Common.{◌≡◌, map, length}
-use Rattle.derivation_fold.specs.Run.{from_last}
+use Rattle.ll_engine.specs.Run.{from_last}
 use Rattle.lotos_base.specs.WrittenView.{text_place_of}
-use Rattle.tree_depth.specs.FirstsView.{firsts_of}
-use Rattle.tree_depth.specs.TreeFirsts.{names_firsts}
+use Rattle.syntax_trees.specs.FirstsView.{firsts_of}
+use Rattle.syntax_trees.specs.TreeFirsts.{names_firsts}
 use Rattle.text_depth.proofs.forms.names_first.Given as goal
 
 abbrev pub invariant-loop-place : goal.invariant-loop-place

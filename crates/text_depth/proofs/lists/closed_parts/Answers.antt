@@ -1,7 +1,7 @@
 use Rattle.std.proofs.Common.{◌∙◌, ap, sym, arith}
-use Rattle.derivation_fold.specs.Run.{from_last}
+use Rattle.ll_engine.specs.Run.{from_last}
 use Rattle.tree_building.proofs.FromLast.{from_last_more, from_last_none}
-use Rattle.depth_rows.specs.RowDepth.{closed_parts}
+use Rattle.text_depth.specs.RowDepth.{closed_parts}
 use Rattle.text_depth.specs.PartView.{kept_of}
 use Rattle.text_depth.proofs.PartLists.{empty_is, found_first, none_first}
 use Rattle.text_depth.proofs.lists.closed_parts.Goals as goal

@@ -1,10 +1,10 @@
 use Rattle.std.proofs.Common.{◌∙◌, ◌∷◌, [], ◌++◌, ap, append_assoc, map, sym, arith}
 use Rattle.std.proofs.lemmas.List.{map-append}
-use Rattle.derivation_fold.specs.Run.{from_last}
+use Rattle.ll_engine.specs.Run.{from_last}
 use Rattle.lotos_base.specs.WrittenView.{text_place_of}
 use Rattle.tree_building.proofs.FromLast.{from_last_none, map_reverse}
-use Rattle.depth_rows.specs.DepthPart.{of_names}
-use Rattle.depth_rows.specs.RowDepth.{joined_parts}
+use Rattle.text_depth.specs.DepthPart.{of_names}
+use Rattle.text_depth.specs.RowDepth.{joined_parts}
 use Rattle.text_depth.specs.PartView.{kept_of}
 use Rattle.text_depth.proofs.PartLists.{empty_is, joined_last}
 use Rattle.text_depth.proofs.lists.joined_parts.Goals as goal

@@ -1,6 +1,6 @@
 use Rattle.std.proofs.Common.{◌≡◌, ◌++◌, ◌∷◌, [], map, length}
-use Rattle.derivation_fold.specs.Run.{from_last}
-use Rattle.depth_rows.specs.RowDepth.{joined_parts}
+use Rattle.ll_engine.specs.Run.{from_last}
+use Rattle.text_depth.specs.RowDepth.{joined_parts}
 use Rattle.text_depth.specs.PartView.{kept_of}
 use Rattle.text_depth.proofs.lists.joined_parts.Given as goal
 

@@ -1,11 +1,11 @@
 use Rattle.std.proofs.Common.{◌∙◌, ℕ, ap, map, sym, arith}
 use Rattle.std.proofs.lemmas.Result.{IfOk-weaker}
-use Rattle.derivation_fold.specs.Run.{from_last}
+use Rattle.ll_engine.specs.Run.{from_last}
 use Rattle.syntax_trees.specs.Grouping.{grouped}
 use Rattle.tree_building.proofs.FromLast.{map_reverse}
-use Rattle.tree_depth.specs.Firsts.{between}
-use Rattle.tree_depth.specs.FirstsView.{firsts_of}
-use Rattle.depth_rows.specs.RowDepth.{or_no_nodes}
+use Rattle.syntax_trees.specs.Firsts.{between}
+use Rattle.syntax_trees.specs.FirstsView.{firsts_of}
+use Rattle.text_depth.specs.RowDepth.{or_no_nodes}
 use Rattle.text_depth.proofs.PartLists.{length-from_last, no_tree}
 use Rattle.text_depth.proofs.part.grouped_firsts.Goals as goal
 

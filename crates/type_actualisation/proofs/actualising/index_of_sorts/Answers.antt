@@ -1,5 +1,5 @@
 use Rattle.std.proofs.lemmas.Result.{MatchResult-weaker, err_from_is_err_and}
-use Rattle.type_faults.specs.declared.type_faults.TypeFault.TheVariants.{NoMemory}
+use Rattle.type_definitions.specs.declared.type_faults.TypeFault.TheVariants.{NoMemory}
 use Rattle.type_presentations.specs.PresentationView.{presentation_of}
 use Rattle.type_actualisation.proofs.PairLemmas.{sort_pairs_refused, sorts_named}
 use Rattle.type_actualisation.proofs.actualising.index_of_sorts.Goals as goal

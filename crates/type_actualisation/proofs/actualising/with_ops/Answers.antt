@@ -1,6 +1,6 @@
 use Rattle.std.proofs.Common.{refl}
 use Rattle.std.proofs.lemmas.Result.{MatchResult-weaker, err_from_is_err_and}
-use Rattle.type_faults.specs.declared.type_faults.TypeFault.TheVariants.{NoMemory}
+use Rattle.type_definitions.specs.declared.type_faults.TypeFault.TheVariants.{NoMemory}
 use Rattle.type_actualisation.proofs.PairLemmas.{behind_sort_pairs_refused, pairs_refused, parts_of, parts_refused, with_operations}
 use Rattle.type_actualisation.proofs.actualising.with_ops.Goals as goal
 

@@ -3,9 +3,9 @@ use Rattle.std.proofs.lemmas.Result.{MatchResult-weaker, err_from_is_err_and}
 use Rattle.lotos_base.specs.Name.{spelling}
 use Rattle.lotos_base.specs.WrittenView.{placed_name_of}
 use Rattle.syntax_trees.specs.TreeViews.{pairs_of}
-use Rattle.type_faults.specs.declared.type_faults.TypeFault.TheVariants.{NoMemory}
+use Rattle.type_definitions.specs.declared.type_faults.TypeFault.TheVariants.{NoMemory}
 use Rattle.type_presentations.specs.PresentationView.{presentation_of}
-use Rattle.formal_actuals.specs.Actuals.{actualising_with}
+use Rattle.actual_members.specs.Actuals.{actualising_with}
 use Rattle.type_actualisation.proofs.PairLemmas.{actualised, first_refused, later_refused, refused}
 use Rattle.type_actualisation.proofs.actualising.with_sorts.Goals as goal
 

@@ -1,6 +1,6 @@
 use Rattle.std.proofs.lemmas.Result.{err_from_is_err_and}
 use Rattle.lotos_base.specs.WrittenView.{placed_name_of}
-use Rattle.type_faults.specs.declared.type_faults.TypeFault.TheVariants.{NoMemory}
+use Rattle.type_definitions.specs.declared.type_faults.TypeFault.TheVariants.{NoMemory}
 use Rattle.type_actualisation.proofs.BringingLemmas.{brought, brought_as, completed, coming_refused, kept_refused, many_refused_at}
 use Rattle.type_actualisation.proofs.bringing.complete.Goals as goal
 

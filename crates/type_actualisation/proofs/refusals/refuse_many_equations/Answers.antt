@@ -1,9 +1,9 @@
 use Rattle.std.proofs.Common.{length, sym, ◌∙◌}
 use Rattle.std.specs.Prelude.{nat_lt}
 use Rattle.lotos_base.specs.WrittenView.{placed_name_of}
-use Rattle.equation_lists.specs.EquationListView.{equations_in}
-use Rattle.type_flatten.specs.Presentation.{presentation_limit}
-use Rattle.type_flatten.specs.TypeFault.{too_large}
+use Rattle.type_presentations.specs.EquationListView.{equations_in}
+use Rattle.type_definitions.specs.Presentation.{presentation_limit}
+use Rattle.type_definitions.specs.TypeFault.{too_large}
 use Rattle.type_actualisation.proofs.FaultLemmas.{found_where}
 use Rattle.type_actualisation.proofs.refusals.refuse_many_equations.Goals as goal
 

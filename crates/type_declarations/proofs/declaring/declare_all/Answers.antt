@@ -3,10 +3,10 @@ use Rattle.std.specs.Prelude.{true}
 use Rattle.std.proofs.lemmas.Result.{err_from_is_err_and}
 use Rattle.lotos_base.specs.Name.{spelling}
 use Rattle.term_algebra.specs.Signature.{Sort}
-use Rattle.name_positions.specs.NamesView.{HasNames}
+use Rattle.type_presentations.specs.NamesView.{HasNames}
 use Rattle.syntax_trees.specs.TreeViews.{operation_of}
-use Rattle.type_faults.proofs.HoldsLemmas.{holds_weaker}
-use Rattle.type_faults.specs.declared.type_faults.TypeFault.TheVariants.{NoMemory}
+use Rattle.type_definitions.proofs.HoldsLemmas.{holds_weaker}
+use Rattle.type_definitions.specs.declared.type_faults.TypeFault.TheVariants.{NoMemory}
 use Rattle.type_presentations.specs.PresentationView.{presentation_of}
 use Rattle.type_declarations.specs.SectionView.{sections_of}
 use Rattle.type_declarations.proofs.SectionLemmas.{refused, formal_sorts_fail, sorts_fail, has_sorts, formal_operations_fail, has_formal_operations, operations_fail, all_declared, sort_names_stay}

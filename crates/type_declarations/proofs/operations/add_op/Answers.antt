@@ -3,10 +3,10 @@ use Rattle.std.specs.Prelude.{Some}
 use Rattle.lotos_base.specs.Name.{spelling}
 use Rattle.lotos_base.specs.WrittenView.{text_place_of}
 use Rattle.sort_terms.specs.Operations.{operation_of}
-use Rattle.type_flatten.specs.TypeFault.{double_operation, too_large}
-use Rattle.type_flatten.specs.Presentation.{Presentation, is_too_large}
+use Rattle.type_definitions.specs.TypeFault.{double_operation, too_large}
+use Rattle.type_definitions.specs.Presentation.{Presentation, is_too_large}
 use Rattle.type_presentations.specs.PresentationView.{presentation_of}
-use Rattle.presentation_growth.specs.Growth.{with_one_operation}
+use Rattle.type_presentations.specs.Growth.{with_one_operation}
 use Rattle.type_declarations.proofs.DeclareLemmas.{operations_next, size_last, nothing_wrong, no_sort_clash}
 use Rattle.type_declarations.proofs.operations.add_op.Goals as goal
 

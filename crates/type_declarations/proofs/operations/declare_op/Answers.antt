@@ -6,10 +6,10 @@ use Rattle.lotos_base.specs.WrittenView.{form_of}
 use Rattle.term_algebra.specs.Signature.{Operation}
 use Rattle.sort_terms.specs.Operations.{operation_of}
 use Rattle.syntax_trees.specs.TreeViews.{operation_of as written_operation_of}
-use Rattle.type_faults.proofs.HoldsLemmas.{holds_weaker}
-use Rattle.type_flatten.specs.Presentation.{Presentation, is_too_large}
+use Rattle.type_definitions.proofs.HoldsLemmas.{holds_weaker}
+use Rattle.type_definitions.specs.Presentation.{Presentation, is_too_large}
 use Rattle.type_presentations.specs.PresentationView.{presentation_of}
-use Rattle.presentation_growth.specs.Growth.{with_operation_mark}
+use Rattle.type_presentations.specs.Growth.{with_operation_mark}
 use Rattle.type_declarations.specs.DeclaredOperation.{sort_names}
 use Rattle.type_declarations.proofs.DeclareLemmas.{fits_as_written, misfit, sort_missing, operation_fault_is, with_operation_is, sorts_are_known, few_names}
 use Rattle.type_declarations.proofs.operations.declare_op.Goals as goal

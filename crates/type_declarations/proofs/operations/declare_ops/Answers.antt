@@ -1,11 +1,11 @@
 use Rattle.std.proofs.Common.{ℕ, List, ap, sym, subst}
-use Rattle.name_positions.specs.NamesView.{HasNames}
-use Rattle.type_flatten.specs.Presentation.{Presentation}
+use Rattle.type_presentations.specs.NamesView.{HasNames}
+use Rattle.type_definitions.specs.Presentation.{Presentation}
 use Rattle.type_declarations.specs.DeclaredOperation.{sort_names}
 use Rattle.std.proofs.lemmas.Result.{err_from_is_err_and}
 use Rattle.syntax_trees.specs.TreeViews.{operation_of}
-use Rattle.type_faults.proofs.HoldsLemmas.{holds_weaker}
-use Rattle.type_faults.proofs.WalkLemmas.{begins, goes, fails, ends, next_of, none_of}
+use Rattle.type_definitions.proofs.HoldsLemmas.{holds_weaker}
+use Rattle.type_definitions.proofs.WalkLemmas.{begins, goes, fails, ends, next_of, none_of}
 use Rattle.type_declarations.proofs.DeclareLemmas.{operations_fault}
 use Rattle.type_declarations.proofs.operations.declare_ops.Goals as goal
 

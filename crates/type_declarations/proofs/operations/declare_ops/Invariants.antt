@@ -1,9 +1,9 @@
 use Rattle.std.proofs.Common.{map, drop}
 use Rattle.lotos_base.specs.Name.{spelling}
 use Rattle.syntax_trees.specs.TreeViews.{operation_of}
-use Rattle.type_flatten.specs.Declarations.{operation_fault, with_operation}
-use Rattle.type_faults.proofs.WalkLemmas.{Walking}
-use Rattle.name_positions.specs.NamesView.{HasNames}
+use Rattle.type_definitions.specs.Declarations.{operation_fault, with_operation}
+use Rattle.type_definitions.proofs.WalkLemmas.{Walking}
+use Rattle.type_presentations.specs.NamesView.{HasNames}
 use Rattle.type_presentations.specs.PresentationView.{IsSound, IsWithinLimits, presentation_of}
 use Rattle.type_declarations.specs.DeclaredOperation.{sort_names}
 use Rattle.type_declarations.proofs.operations.declare_ops.Given as goal

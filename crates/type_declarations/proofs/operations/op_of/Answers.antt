@@ -5,8 +5,8 @@ use Rattle.lotos_base.specs.WrittenView.{form_of, placed_name_of}
 use Rattle.lotos_base.specs.declared.places.Place.{Place}
 use Rattle.lotos_base.specs.declared.names.Name.{Name}
 use Rattle.syntax_trees.specs.TreeViews.{placed_names_of}
-use Rattle.type_faults.proofs.HoldsLemmas.{holds_weaker}
-use Rattle.type_flatten.specs.Declarations.{sort_numbered, unknown_sort_among}
+use Rattle.type_definitions.proofs.HoldsLemmas.{holds_weaker}
+use Rattle.type_definitions.specs.Declarations.{sort_numbered, unknown_sort_among}
 use Rattle.type_declarations.proofs.DeclareLemmas.{unknown_before, unknown_after, known_both, operation_made}
 use Rattle.type_declarations.proofs.operations.op_of.Goals as goal
 

@@ -3,8 +3,8 @@ use Rattle.std.specs.Prelude.{Some}
 use Rattle.lotos_base.specs.Name.{spelling}
 use Rattle.lotos_base.specs.WrittenView.{text_place_of, placed_name_of}
 use Rattle.term_algebra.specs.Signature.{Sort}
-use Rattle.name_positions.proofs.NameLemmas.{named_of}
-use Rattle.type_flatten.specs.TypeFault.{unknown_sort}
+use Rattle.type_presentations.proofs.NameLemmas.{named_of}
+use Rattle.type_definitions.specs.TypeFault.{unknown_sort}
 use Rattle.type_declarations.specs.DeclaredOperation.{sort_names}
 use Rattle.type_declarations.proofs.DeclareLemmas.{sort_is_known, sort_is_unknown, number_within}
 use Rattle.type_declarations.proofs.sort_numbers.sort_named.Goals as goal

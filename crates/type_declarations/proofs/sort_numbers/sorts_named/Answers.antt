@@ -6,9 +6,9 @@ use Rattle.lotos_base.specs.WrittenView.{placed_name_of}
 use Rattle.lotos_base.specs.declared.places.Place.{Place}
 use Rattle.lotos_base.specs.declared.names.Name.{Name}
 use Rattle.syntax_trees.specs.TreeViews.{placed_names_of}
-use Rattle.name_positions.proofs.NameLemmas.{whole}
-use Rattle.type_faults.proofs.HoldsLemmas.{holds_weaker}
-use Rattle.type_flatten.specs.Declarations.{sort_numbered, unknown_sort_among}
+use Rattle.type_presentations.proofs.NameLemmas.{whole}
+use Rattle.type_definitions.proofs.HoldsLemmas.{holds_weaker}
+use Rattle.type_definitions.specs.Declarations.{sort_numbered, unknown_sort_among}
 use Rattle.type_declarations.proofs.DeclareLemmas.{unknown_here, known_more, numbers_more}
 use Rattle.type_declarations.proofs.sort_numbers.sorts_named.Goals as goal
 

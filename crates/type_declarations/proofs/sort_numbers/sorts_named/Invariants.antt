@@ -1,9 +1,9 @@
 use Rattle.std.proofs.Common.{◌≡◌, map, take}
 use Rattle.std.specs.Prelude.{None}
 use Rattle.syntax_trees.specs.TreeViews.{placed_names_of}
-use Rattle.name_positions.specs.NamesView.{HasNames}
-use Rattle.type_flatten.specs.Presentation.{Presentation}
-use Rattle.type_flatten.specs.Declarations.{sort_numbered, unknown_sort_among}
+use Rattle.type_presentations.specs.NamesView.{HasNames}
+use Rattle.type_definitions.specs.Presentation.{Presentation}
+use Rattle.type_definitions.specs.Declarations.{sort_numbered, unknown_sort_among}
 use Rattle.type_declarations.specs.DeclaredOperation.{sort_names}
 use Rattle.type_declarations.proofs.sort_numbers.sorts_named.Given as goal
 

@@ -5,10 +5,10 @@ use Rattle.lotos_base.specs.Name.{spelling}
 use Rattle.lotos_base.specs.WrittenView.{placed_name_of}
 use Rattle.term_algebra.specs.Signature.{Sort}
 use Rattle.sort_terms.specs.Operations.{sort_of}
-use Rattle.type_faults.proofs.HoldsLemmas.{holds_weaker}
-use Rattle.type_flatten.specs.Presentation.{Presentation, is_too_large}
+use Rattle.type_definitions.proofs.HoldsLemmas.{holds_weaker}
+use Rattle.type_definitions.specs.Presentation.{Presentation, is_too_large}
 use Rattle.type_presentations.specs.PresentationView.{presentation_of}
-use Rattle.presentation_growth.specs.Growth.{with_sort_mark}
+use Rattle.type_presentations.specs.Growth.{with_sort_mark}
 use Rattle.type_declarations.proofs.DeclareLemmas.{sort_fault_is, with_sort_is}
 use Rattle.type_declarations.proofs.sorts.declare_sort.Goals as goal
 

@@ -1,7 +1,7 @@
 use Rattle.std.proofs.lemmas.Result.{err_from_is_err_and}
 use Rattle.lotos_base.specs.WrittenView.{placed_name_of}
-use Rattle.type_faults.proofs.HoldsLemmas.{holds_weaker}
-use Rattle.type_faults.proofs.WalkLemmas.{begins, goes, fails, ends, next_of, none_of}
+use Rattle.type_definitions.proofs.HoldsLemmas.{holds_weaker}
+use Rattle.type_definitions.proofs.WalkLemmas.{begins, goes, fails, ends, next_of, none_of}
 use Rattle.type_declarations.proofs.DeclareLemmas.{sorts_fault}
 use Rattle.type_declarations.proofs.sorts.declare_sorts.Goals as goal
 

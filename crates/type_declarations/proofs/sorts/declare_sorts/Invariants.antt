@@ -1,8 +1,8 @@
 use Rattle.std.proofs.Common.{drop}
 use Rattle.lotos_base.specs.Name.{spelling}
 use Rattle.syntax_trees.specs.TreeViews.{placed_names_of}
-use Rattle.type_flatten.specs.Declarations.{sort_fault, with_sort}
-use Rattle.type_faults.proofs.WalkLemmas.{Walking}
+use Rattle.type_definitions.specs.Declarations.{sort_fault, with_sort}
+use Rattle.type_definitions.proofs.WalkLemmas.{Walking}
 use Rattle.type_presentations.specs.PresentationView.{IsSound, IsWithinLimits, presentation_of}
 use Rattle.type_declarations.proofs.sorts.declare_sorts.Given as goal
 

@@ -2,11 +2,11 @@ use Rattle.std.proofs.Common.{true, false, sym}
 use Rattle.std.proofs.lemmas.Result.{err_from_is_err_and}
 use Rattle.lotos_base.specs.Name.{spelling}
 use Rattle.syntax_trees.specs.TreeViews.{equations_of}
-use Rattle.type_faults.proofs.HoldsLemmas.{holds_weaker}
-use Rattle.type_flatten.specs.DeclaredEquations.{asked_of_section}
+use Rattle.type_definitions.proofs.HoldsLemmas.{holds_weaker}
+use Rattle.type_definitions.specs.DeclaredEquations.{asked_of_section}
 use Rattle.type_presentations.specs.PresentationView.{presentation_of}
-use Rattle.equation_reading.proofs.AskedLemmas.{give_append, fault_later}
-use Rattle.section_equations.proofs.GivenLemmas.{fault_first}
+use Rattle.type_equations.proofs.AskedLemmas.{give_append, fault_later}
+use Rattle.type_equations.proofs.GivenLemmas.{fault_first}
 use Rattle.type_equations.proofs.declaring.give_by_reader.Goals as goal
 
 pub returns-in_err-check_section-clause-given : goal.returns-in_err-check_section-clause-given

@@ -3,8 +3,8 @@ use Rattle.std.specs.Prelude.{Some}
 use Rattle.lotos_base.specs.Name.{spelling}
 use Rattle.lotos_base.specs.WrittenView.{text_place_of}
 use Rattle.syntax_trees.specs.TreeViews.{pair_of}
-use Rattle.name_positions.proofs.NameLemmas.{named_of}
-use Rattle.type_flatten.specs.TypeFault.{double_sort}
+use Rattle.type_presentations.proofs.NameLemmas.{named_of}
+use Rattle.type_definitions.specs.TypeFault.{double_sort}
 use Rattle.type_pairs.specs.PairNames.{old_names, new_names}
 use Rattle.type_pairs.proofs.PairLemmas.{old_name, new_name, old_sort_listed, new_sort_taken, sort_pair_fine}
 use Rattle.type_pairs.proofs.checking.look_at_names.Goals as goal

@@ -4,8 +4,8 @@ use Rattle.lotos_base.specs.Name.{spelling}
 use Rattle.lotos_base.specs.WrittenView.{text_place_of}
 use Rattle.syntax_trees.specs.TreeViews.{pair_of}
 use Rattle.term_algebra.specs.Signature.{Operation}
-use Rattle.name_positions.proofs.NameLemmas.{named_of}
-use Rattle.type_flatten.specs.TypeFault.{unknown_operation, double_operation}
+use Rattle.type_presentations.proofs.NameLemmas.{named_of}
+use Rattle.type_definitions.specs.TypeFault.{unknown_operation, double_operation}
 use Rattle.type_pairs.specs.PairNames.{names_of_operations, old_names}
 use Rattle.type_pairs.proofs.PairLemmas.{old_name, old_operation_unknown, old_operation_listed, operation_pair_fine}
 use Rattle.type_pairs.proofs.checking.look_at_op_pair.Goals as goal

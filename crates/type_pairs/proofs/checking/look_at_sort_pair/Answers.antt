@@ -4,8 +4,8 @@ use Rattle.lotos_base.specs.Name.{spelling}
 use Rattle.lotos_base.specs.WrittenView.{text_place_of}
 use Rattle.syntax_trees.specs.TreeViews.{pair_of}
 use Rattle.term_algebra.specs.Signature.{Sort}
-use Rattle.name_positions.proofs.NameLemmas.{named_of}
-use Rattle.type_flatten.specs.TypeFault.{unknown_sort}
+use Rattle.type_presentations.proofs.NameLemmas.{named_of}
+use Rattle.type_definitions.specs.TypeFault.{unknown_sort}
 use Rattle.type_pairs.specs.PairNames.{names_of_sorts}
 use Rattle.type_pairs.proofs.PairLemmas.{old_sort_unknown}
 use Rattle.type_pairs.proofs.checking.look_at_sort_pair.Goals as goal

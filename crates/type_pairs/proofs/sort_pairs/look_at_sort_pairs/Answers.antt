@@ -4,11 +4,11 @@ use Rattle.lotos_base.specs.Name.{spelling}
 use Rattle.syntax_trees.specs.TreeViews.{pair_of}
 use Rattle.syntax_trees.specs.WrittenItem.{WrittenPair}
 use Rattle.syntax_trees.specs.declared.items.PairText.{PairText}
-use Rattle.name_positions.specs.NamesView.{HasNames}
-use Rattle.name_positions.proofs.NameLemmas.{whole, more_names, as_many_names}
-use Rattle.type_faults.proofs.HoldsLemmas.{holds_weaker}
-use Rattle.type_faults.proofs.WalkLemmas.{looked_on, looked_at, nothing_left}
-use Rattle.type_flatten.specs.Renaming.{sort_pair_fault, sort_pairs_fault}
+use Rattle.type_presentations.specs.NamesView.{HasNames}
+use Rattle.type_presentations.proofs.NameLemmas.{whole, more_names, as_many_names}
+use Rattle.type_definitions.proofs.HoldsLemmas.{holds_weaker}
+use Rattle.type_definitions.proofs.WalkLemmas.{looked_on, looked_at, nothing_left}
+use Rattle.type_definitions.specs.Renaming.{sort_pair_fault, sort_pairs_fault}
 use Rattle.type_pairs.specs.PairNames.{old_names}
 use Rattle.type_pairs.proofs.PairLemmas.{sort_pairs_one_by_one, old_name, new_name}
 use Rattle.type_pairs.proofs.sort_pairs.look_at_sort_pairs.Goals as goal

@@ -1,8 +1,8 @@
 use Rattle.std.proofs.Common.{◌≡◌, [], map, take, drop}
 use Rattle.term_algebra.specs.Signature.{Signature}
 use Rattle.syntax_trees.specs.TreeViews.{pair_of}
-use Rattle.name_positions.specs.NamesView.{HasNames}
-use Rattle.type_flatten.specs.Renaming.{sort_pairs_fault}
+use Rattle.type_presentations.specs.NamesView.{HasNames}
+use Rattle.type_definitions.specs.Renaming.{sort_pairs_fault}
 use Rattle.type_pairs.specs.PairNames.{names_of_sorts, new_names, old_names}
 use Rattle.type_pairs.proofs.sort_pairs.look_at_sort_pairs.Given as goal
 

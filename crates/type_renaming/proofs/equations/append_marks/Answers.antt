@@ -1,6 +1,6 @@
 use Rattle.std.proofs.Common.{◌≡◌, ℕ, List, ◌++◌, ◌∷◌, [], get_or, take, length, ap, sym, ◌∙◌, append_assoc, arith}
 use Rattle.std.proofs.lemmas.List.{append-nil, take_more}
-use Rattle.name_positions.proofs.NameLemmas.{whole}
+use Rattle.type_presentations.proofs.NameLemmas.{whole}
 use Rattle.type_presentations.specs.MarksView.{marks_in}
 use Rattle.type_renaming.proofs.equations.append_marks.Goals as goal
 

@@ -4,10 +4,10 @@ use Rattle.term_algebra.specs.Equation.{Equation, IsEquationOver}
 use Rattle.sort_terms.specs.EquationView.{equation_of}
 use Rattle.sort_terms.specs.ProfiledTerm.{ProfiledTerm, IsOf}
 use Rattle.sort_terms.specs.SortedView.{profiled_in}
-use Rattle.type_images.specs.ImageLaws.{IsSignatureMap}
-use Rattle.type_images.specs.ProfiledImage.{number_in, profiled_image, KeepsProfiles}
-use Rattle.type_images.proofs.ImageLemmas.{image_of_signature, keeps_profiles}
-use Rattle.type_flatten.specs.DeclaredEquations.{with_equation}
+use Rattle.type_definitions.specs.ImageLaws.{IsSignatureMap}
+use Rattle.type_definitions.specs.ProfiledImage.{number_in, profiled_image, KeepsProfiles}
+use Rattle.type_definitions.proofs.ImageLemmas.{image_of_signature, keeps_profiles}
+use Rattle.type_definitions.specs.DeclaredEquations.{with_equation}
 use Rattle.type_presentations.specs.PresentationView.{presentation_of}
 use Rattle.type_presentations.proofs.EquationImageLemmas.{image_over}
 use Rattle.type_renaming.proofs.KeptLemmas.{is_signature_map, equation_stays}

@@ -4,12 +4,12 @@ use Rattle.term_algebra.specs.Equation.{Equation}
 use Rattle.sort_terms.specs.EquationView.{equation_of}
 use Rattle.sort_terms.specs.Operations.{sort_of}
 use Rattle.sort_terms.specs.declared.equations.Equation.{Equation as CodeEquation}
-use Rattle.presentation_lists.specs.SortListView.{sorts_in}
-use Rattle.presentation_lists.specs.OperationListView.{operations_in}
-use Rattle.name_positions.proofs.NameLemmas.{whole}
-use Rattle.type_faults.proofs.WalkLemmas.{so_far}
-use Rattle.type_flatten.specs.Presentation.{Presentation}
-use Rattle.type_flatten.specs.DeclaredEquations.{with_equation}
+use Rattle.type_presentations.specs.SortListView.{sorts_in}
+use Rattle.type_presentations.specs.OperationListView.{operations_in}
+use Rattle.type_presentations.proofs.NameLemmas.{whole}
+use Rattle.type_definitions.proofs.WalkLemmas.{so_far}
+use Rattle.type_definitions.specs.Presentation.{Presentation}
+use Rattle.type_definitions.specs.DeclaredEquations.{with_equation}
 use Rattle.type_presentations.specs.PresentationView.{presentation_of}
 use Rattle.type_presentations.proofs.SizeLemmas.{within_limits}
 use Rattle.type_renaming.specs.Parts.{KeepsProfilesOf, with_equations}

@@ -1,5 +1,5 @@
 use Rattle.std.proofs.Common.{◌≡◌, ◌<◌, ℕ, length}
-use Rattle.type_images.specs.ProfiledImage.{number_in}
+use Rattle.type_definitions.specs.ProfiledImage.{number_in}
 use Rattle.type_renaming.proofs.equations.numbers_below.Given as goal
 
 abbrev pub invariant-loop-number : goal.invariant-loop-number

@@ -6,12 +6,12 @@ use Rattle.sort_terms.specs.Operations.{operation_of}
 use Rattle.type_renaming.proofs.PartLemmas.{shared, image_is_known}
 use Rattle.sort_terms.specs.WellFormedTest.{all_differ, are_one_operation, has_known_sorts}
 use Rattle.syntax_trees.specs.WrittenItem.{WrittenPairs}
-use Rattle.type_flatten.specs.TypeFault.{double_operation}
-use Rattle.type_flatten.specs.Presentation.{Presentation}
-use Rattle.type_flatten.specs.Renaming.{pair_for, renamed_operation}
+use Rattle.type_definitions.specs.TypeFault.{double_operation}
+use Rattle.type_definitions.specs.Presentation.{Presentation}
+use Rattle.type_definitions.specs.Renaming.{pair_for, renamed_operation}
 use Rattle.type_presentations.specs.PresentationView.{presentation_of}
-use Rattle.presentation_growth.specs.Growth.{with_one_operation}
-use Rattle.presentation_growth.proofs.GrowthLemmas.{operations_differ}
+use Rattle.type_presentations.specs.Growth.{with_one_operation}
+use Rattle.type_presentations.proofs.GrowthLemmas.{operations_differ}
 use Rattle.type_renaming.specs.RenamerView.{operation_pairs_in, type_name_in}
 use Rattle.type_renaming.proofs.ClashLemmas.{second_is, no_clash, from_either_side}
 use Rattle.type_renaming.proofs.PairLemmas.{operations_turned}

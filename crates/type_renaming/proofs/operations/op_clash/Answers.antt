@@ -5,9 +5,9 @@ use Rattle.sort_terms.specs.Operations.{operation_of}
 use Rattle.type_renaming.proofs.PartLemmas.{shared}
 use Rattle.sort_terms.specs.WellFormedTest.{are_one_operation}
 use Rattle.syntax_trees.specs.TreeViews.{pair_of}
-use Rattle.type_flatten.specs.TypeFault.{double_operation}
-use Rattle.type_flatten.specs.Renaming.{pair_for, renamed_operation}
-use Rattle.type_faults.proofs.HoldsLemmas.{holds_weaker}
+use Rattle.type_definitions.specs.TypeFault.{double_operation}
+use Rattle.type_definitions.specs.Renaming.{pair_for, renamed_operation}
+use Rattle.type_definitions.proofs.HoldsLemmas.{holds_weaker}
 use Rattle.type_renaming.specs.RenamerView.{operation_pairs_in, type_name_in}
 use Rattle.type_renaming.proofs.ClashLemmas.{own_clash, is_told, from_either_side}
 use Rattle.type_renaming.proofs.PairLemmas.{operations_turned, operations_alike}

@@ -5,9 +5,9 @@ use Rattle.type_renaming.proofs.PartLemmas.{shared}
 use Rattle.sort_terms.specs.declared.operations.Op.{Op}
 use Rattle.sort_terms.specs.WellFormedTest.{are_one_operation}
 use Rattle.syntax_trees.specs.TreeViews.{pair_of}
-use Rattle.type_flatten.specs.TypeFault.{double_operation}
-use Rattle.type_flatten.specs.Renaming.{pair_for, renamed_operation}
-use Rattle.type_faults.proofs.WalkLemmas.{none_of}
+use Rattle.type_definitions.specs.TypeFault.{double_operation}
+use Rattle.type_definitions.specs.Renaming.{pair_for, renamed_operation}
+use Rattle.type_definitions.proofs.WalkLemmas.{none_of}
 use Rattle.type_renaming.specs.Clashes.{giving_operation, operation_clash}
 use Rattle.type_renaming.specs.RenamerView.{operation_pairs_in, type_name_in}
 use Rattle.type_renaming.proofs.ClashLemmas.{walks_on, stops, none_further}

@@ -10,14 +10,14 @@ use Rattle.syntax_trees.specs.WrittenItem.{WrittenPairs}
 use Rattle.sort_terms.specs.Operations.{operation_of}
 use Rattle.sort_terms.specs.WellFormedTest.{are_one_operation, has_known_sorts}
 use Rattle.sort_terms.specs.declared.operations.Op.{Op}
-use Rattle.name_positions.proofs.NameLemmas.{whole}
-use Rattle.type_flatten.specs.TypeFault.{TypeFault, double_operation}
-use Rattle.type_flatten.specs.Presentation.{Presentation, is_too_large}
-use Rattle.type_flatten.specs.Renaming.{clash_among, pair_for, renamed_operation}
-use Rattle.type_faults.proofs.HoldsLemmas.{holds_weaker}
-use Rattle.type_faults.proofs.WalkLemmas.{looked_on, looked_at, none_of, so_far}
+use Rattle.type_presentations.proofs.NameLemmas.{whole}
+use Rattle.type_definitions.specs.TypeFault.{TypeFault, double_operation}
+use Rattle.type_definitions.specs.Presentation.{Presentation, is_too_large}
+use Rattle.type_definitions.specs.Renaming.{clash_among, pair_for, renamed_operation}
+use Rattle.type_definitions.proofs.HoldsLemmas.{holds_weaker}
+use Rattle.type_definitions.proofs.WalkLemmas.{looked_on, looked_at, none_of, so_far}
 use Rattle.type_presentations.specs.PresentationView.{presentation_of}
-use Rattle.presentation_growth.specs.Growth.{with_one_operation}
+use Rattle.type_presentations.specs.Growth.{with_one_operation}
 use Rattle.type_renaming.specs.Clashes.{operation_clash}
 use Rattle.type_renaming.specs.Parts.{with_these_operations}
 use Rattle.type_renaming.specs.RenamerView.{operation_pairs_in, type_name_in}

@@ -1,8 +1,8 @@
 use Rattle.std.proofs.Common.{◌≡◌, map, take, drop}
 use Rattle.term_algebra.specs.Signature.{Operation}
 use Rattle.sort_terms.specs.WellFormedTest.{are_one_operation}
-use Rattle.type_flatten.specs.TypeFault.{double_operation}
-use Rattle.type_flatten.specs.Renaming.{clash_among, pair_for, renamed_operation, renamed_operation_clash}
+use Rattle.type_definitions.specs.TypeFault.{double_operation}
+use Rattle.type_definitions.specs.Renaming.{clash_among, pair_for, renamed_operation, renamed_operation_clash}
 use Rattle.type_presentations.specs.PresentationView.{IsSound, presentation_of}
 use Rattle.type_renaming.specs.Parts.{operations_alone, with_these_operations}
 use Rattle.type_renaming.specs.RenamerView.{operation_pairs_in, type_name_in}

@@ -4,14 +4,14 @@ use Rattle.std.proofs.lemmas.List.{length-map}
 use Rattle.std.proofs.lemmas.Result.{err_from_is_err_and}
 use Rattle.term_algebra.specs.Signature.{Operation}
 use Rattle.sort_terms.specs.WellFormedTest.{all_differ, are_one_operation, has_known_sorts}
-use Rattle.presentation_lists.specs.OperationListView.{operations_in}
-use Rattle.presentation_growth.proofs.GrowthLemmas.{operations_differ}
-use Rattle.type_faults.specs.FaultView.{IsFaultFound}
-use Rattle.type_faults.specs.declared.type_faults.TypeFault.{TypeFault as CodeFault}
-use Rattle.type_faults.specs.declared.type_faults.TypeFault.TheVariants.{NoMemory}
-use Rattle.type_faults.proofs.HoldsLemmas.{holds_weaker}
-use Rattle.type_flatten.specs.Presentation.{Presentation, is_too_large, presentation_limit}
-use Rattle.type_flatten.specs.Renaming.{renamed_operation, renamed_operation_clash}
+use Rattle.type_presentations.specs.OperationListView.{operations_in}
+use Rattle.type_presentations.proofs.GrowthLemmas.{operations_differ}
+use Rattle.type_definitions.specs.FaultView.{IsFaultFound}
+use Rattle.type_definitions.specs.declared.type_faults.TypeFault.{TypeFault as CodeFault}
+use Rattle.type_definitions.specs.declared.type_faults.TypeFault.TheVariants.{NoMemory}
+use Rattle.type_definitions.proofs.HoldsLemmas.{holds_weaker}
+use Rattle.type_definitions.specs.Presentation.{Presentation, is_too_large, presentation_limit}
+use Rattle.type_definitions.specs.Renaming.{renamed_operation, renamed_operation_clash}
 use Rattle.type_presentations.specs.PresentationView.{presentation_of}
 use Rattle.type_presentations.proofs.SizeLemmas.{within_limits}
 use Rattle.type_renaming.specs.ImageOfBase.{IsOperationClash}

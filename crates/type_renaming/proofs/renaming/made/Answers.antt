@@ -4,13 +4,13 @@ use Rattle.std.proofs.lemmas.Result.{err_from_is_err_and}
 use Rattle.term_algebra.specs.Signature.{Sort}
 use Rattle.sort_terms.specs.Operations.{sort_of}
 use Rattle.sort_terms.specs.WellFormedTest.{all_differ, are_one_sort}
-use Rattle.presentation_lists.specs.SortListView.{sorts_in}
-use Rattle.presentation_growth.proofs.GrowthLemmas.{sorts_differ}
-use Rattle.type_faults.specs.FaultView.{IsFaultFound}
-use Rattle.type_faults.specs.declared.type_faults.TypeFault.{TypeFault as CodeFault}
-use Rattle.type_faults.proofs.HoldsLemmas.{holds_weaker}
-use Rattle.type_flatten.specs.Presentation.{Presentation, presentation_limit}
-use Rattle.type_flatten.specs.Renaming.{renamed_sort, renamed_sort_clash}
+use Rattle.type_presentations.specs.SortListView.{sorts_in}
+use Rattle.type_presentations.proofs.GrowthLemmas.{sorts_differ}
+use Rattle.type_definitions.specs.FaultView.{IsFaultFound}
+use Rattle.type_definitions.specs.declared.type_faults.TypeFault.{TypeFault as CodeFault}
+use Rattle.type_definitions.proofs.HoldsLemmas.{holds_weaker}
+use Rattle.type_definitions.specs.Presentation.{Presentation, presentation_limit}
+use Rattle.type_definitions.specs.Renaming.{renamed_sort, renamed_sort_clash}
 use Rattle.type_presentations.specs.PresentationView.{presentation_of}
 use Rattle.type_presentations.proofs.SizeLemmas.{within_limits}
 use Rattle.type_renaming.specs.ImageOfBase.{clash_in, IsClash}

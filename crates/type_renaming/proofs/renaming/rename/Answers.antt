@@ -5,14 +5,14 @@ use Rattle.lotos_base.specs.Name.{spelling}
 use Rattle.term_algebra.specs.Signature.{Sort, Operation}
 use Rattle.syntax_trees.specs.TreeViews.{pair_of, pairs_of}
 use Rattle.syntax_trees.specs.WrittenItem.{WrittenPairs}
-use Rattle.name_positions.specs.NamesView.{HasNames}
-use Rattle.name_positions.specs.declared.names.NamePositions.{NamePositions}
-use Rattle.type_faults.proofs.HoldsLemmas.{holds_weaker}
-use Rattle.type_faults.specs.FaultView.{IsFaultFound}
-use Rattle.type_faults.specs.declared.type_faults.TypeFault.{TypeFault as CodeFault}
-use Rattle.type_faults.specs.declared.type_faults.TypeFault.TheVariants.{NoMemory}
-use Rattle.type_flatten.specs.Presentation.{Presentation}
-use Rattle.type_flatten.specs.Renaming.{renaming, renaming_fault}
+use Rattle.type_presentations.specs.NamesView.{HasNames}
+use Rattle.type_presentations.specs.declared.names.NamePositions.{NamePositions}
+use Rattle.type_definitions.proofs.HoldsLemmas.{holds_weaker}
+use Rattle.type_definitions.specs.FaultView.{IsFaultFound}
+use Rattle.type_definitions.specs.declared.type_faults.TypeFault.{TypeFault as CodeFault}
+use Rattle.type_definitions.specs.declared.type_faults.TypeFault.TheVariants.{NoMemory}
+use Rattle.type_definitions.specs.Presentation.{Presentation}
+use Rattle.type_definitions.specs.Renaming.{renaming, renaming_fault}
 use Rattle.type_presentations.specs.PresentationView.{IsSound, IsWithinLimits, presentation_of}
 use Rattle.type_presentations.specs.declared.presentations.Presentation.{Presentation as CodePresentation}
 use Rattle.type_renaming.specs.Renamed.{IsRenamed, IsRenamingFault}

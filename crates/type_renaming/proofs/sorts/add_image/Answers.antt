@@ -5,12 +5,12 @@ use Rattle.term_algebra.specs.Signature.{Sort}
 use Rattle.sort_terms.specs.Operations.{sort_of}
 use Rattle.sort_terms.specs.WellFormedTest.{all_differ, are_one_sort}
 use Rattle.syntax_trees.specs.WrittenItem.{WrittenPairs}
-use Rattle.type_flatten.specs.TypeFault.{double_sort}
-use Rattle.type_flatten.specs.Presentation.{Presentation}
-use Rattle.type_flatten.specs.Renaming.{pair_for, renamed_sort}
+use Rattle.type_definitions.specs.TypeFault.{double_sort}
+use Rattle.type_definitions.specs.Presentation.{Presentation}
+use Rattle.type_definitions.specs.Renaming.{pair_for, renamed_sort}
 use Rattle.type_presentations.specs.PresentationView.{presentation_of}
-use Rattle.presentation_growth.specs.Growth.{with_one_sort}
-use Rattle.presentation_growth.proofs.GrowthLemmas.{sorts_differ}
+use Rattle.type_presentations.specs.Growth.{with_one_sort}
+use Rattle.type_presentations.proofs.GrowthLemmas.{sorts_differ}
 use Rattle.type_renaming.specs.RenamerView.{sort_pairs_in, type_name_in}
 use Rattle.type_renaming.proofs.ClashLemmas.{second_is, no_clash, from_either_side}
 use Rattle.type_renaming.proofs.PairLemmas.{sorts_turned}

@@ -1,7 +1,7 @@
 use Rattle.std.proofs.Common.{List, ℕ, ap, sym}
 use Rattle.std.specs.Prelude.{Some}
 use Rattle.lotos_base.specs.WrittenView.{text_place_of}
-use Rattle.type_flatten.specs.TypeFault.{double_sort}
+use Rattle.type_definitions.specs.TypeFault.{double_sort}
 use Rattle.type_renaming.proofs.sorts.double_sort_at.Goals as goal
 
 pub returns : goal.returns

@@ -7,13 +7,13 @@ use Rattle.syntax_trees.specs.WrittenItem.{WrittenPairs}
 use Rattle.sort_terms.specs.Operations.{sort_of}
 use Rattle.sort_terms.specs.WellFormedTest.{are_one_sort}
 use Rattle.sort_terms.specs.declared.operations.Sort.{Sort as CodeSort}
-use Rattle.name_positions.proofs.NameLemmas.{whole}
-use Rattle.type_flatten.specs.TypeFault.{TypeFault, double_sort}
-use Rattle.type_flatten.specs.Presentation.{Presentation, is_too_large}
-use Rattle.type_flatten.specs.Renaming.{clash_among, pair_for, renamed_sort, renaming}
-use Rattle.type_faults.proofs.HoldsLemmas.{holds_weaker}
-use Rattle.type_faults.proofs.WalkLemmas.{looked_on, looked_at, none_of, so_far}
-use Rattle.presentation_growth.specs.Growth.{with_one_sort}
+use Rattle.type_presentations.proofs.NameLemmas.{whole}
+use Rattle.type_definitions.specs.TypeFault.{TypeFault, double_sort}
+use Rattle.type_definitions.specs.Presentation.{Presentation, is_too_large}
+use Rattle.type_definitions.specs.Renaming.{clash_among, pair_for, renamed_sort, renaming}
+use Rattle.type_definitions.proofs.HoldsLemmas.{holds_weaker}
+use Rattle.type_definitions.proofs.WalkLemmas.{looked_on, looked_at, none_of, so_far}
+use Rattle.type_presentations.specs.Growth.{with_one_sort}
 use Rattle.type_renaming.specs.Clashes.{sort_clash}
 use Rattle.type_renaming.specs.Parts.{sorts_alone}
 use Rattle.type_renaming.specs.RenamerView.{sort_pairs_in, type_name_in}

@@ -2,8 +2,8 @@ use Rattle.std.proofs.Common.{◌≡◌, map, take, drop}
 use Rattle.term_algebra.specs.Signature.{Sort}
 use Rattle.sort_terms.specs.Operations.{sort_of}
 use Rattle.sort_terms.specs.WellFormedTest.{are_one_sort}
-use Rattle.type_flatten.specs.TypeFault.{double_sort}
-use Rattle.type_flatten.specs.Renaming.{clash_among, pair_for, renamed_sort, renamed_sort_clash, renaming}
+use Rattle.type_definitions.specs.TypeFault.{double_sort}
+use Rattle.type_definitions.specs.Renaming.{clash_among, pair_for, renamed_sort, renamed_sort_clash, renaming}
 use Rattle.type_presentations.specs.PresentationView.{IsSound, presentation_of}
 use Rattle.type_renaming.specs.Parts.{sorts_alone}
 use Rattle.type_renaming.specs.RenamerView.{sort_pairs_in, type_name_in}

@@ -4,9 +4,9 @@ use Rattle.term_algebra.specs.Signature.{Sort}
 use Rattle.sort_terms.specs.Operations.{sort_of}
 use Rattle.sort_terms.specs.WellFormedTest.{are_one_sort}
 use Rattle.syntax_trees.specs.TreeViews.{pair_of}
-use Rattle.type_flatten.specs.TypeFault.{double_sort}
-use Rattle.type_flatten.specs.Renaming.{pair_for, renamed_sort}
-use Rattle.type_faults.proofs.HoldsLemmas.{holds_weaker}
+use Rattle.type_definitions.specs.TypeFault.{double_sort}
+use Rattle.type_definitions.specs.Renaming.{pair_for, renamed_sort}
+use Rattle.type_definitions.proofs.HoldsLemmas.{holds_weaker}
 use Rattle.type_renaming.specs.RenamerView.{sort_pairs_in, type_name_in}
 use Rattle.type_renaming.proofs.ClashLemmas.{own_clash, is_told, from_either_side}
 use Rattle.type_renaming.proofs.PairLemmas.{sorts_turned, sorts_alike}

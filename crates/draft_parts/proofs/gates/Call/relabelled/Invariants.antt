@@ -1,5 +1,5 @@
 use Rattle.std.proofs.Common.{◌≡◌, ◌++◌, drop}
-use Rattle.form_drafts.specs.Rows.{call_pairs}
+use Rattle.draft_parts.specs.Rows.{call_pairs}
 use Rattle.draft_parts.proofs.gates.Call.relabelled.Given as goal
 
 abbrev pub invariant-loop-i : goal.invariant-loop-i

@@ -1,7 +1,7 @@
 use Rattle.std.proofs.Common.{◌≡◌, ◌++◌, ℕ, ◌≤◌, List, inl, inr, refl, codes, length, subst}
-use Rattle.line_commands.specs.Request.{save}
-use Rattle.session_answers.specs.CommandRefusal.{unwritten}
-use Rattle.session_answers.specs.ShelfAnswer.{trace_limit, HasPut, saved_text, refusal_in}
+use Rattle.line_server.specs.Request.{save}
+use Rattle.session_reports.specs.CommandRefusal.{unwritten}
+use Rattle.session_reports.specs.ShelfAnswer.{trace_limit, HasPut, saved_text, refusal_in}
 use Rattle.history_lines.specs.LinesView.{standing_of}
 use Rattle.history_lines.specs.Serving.{moment_of, Gives, IsBeforeOrBehind}
 use Rattle.history_lines.proofs.ServingLemmas.{either_way}

@@ -1,6 +1,6 @@
 use Rattle.std.proofs.Common.{◌≡◌, ◌++◌, ◌<◌, ◌+◌, inl, refl, codes, length, arith}
-use Rattle.line_commands.specs.Request.{replay}
-use Rattle.session_answers.specs.ShelfAnswer.{trace_limit}
+use Rattle.line_server.specs.Request.{replay}
+use Rattle.session_reports.specs.ShelfAnswer.{trace_limit}
 use Rattle.history_lines.specs.LinesView.{standing_of}
 use Rattle.history_lines.specs.Serving.{moment_of, Gives, IsBeforeOrBehind}
 use Rattle.history_lines.proofs.ServingLemmas.{either_way, is_as_before}

@@ -1,8 +1,8 @@
 use Rattle.std.proofs.Common.{◌≡◌, ◌++◌, ◌+◌, ℕ, inl, inr, List, Option, IfSome, refl, codes, ap, sym, subst}
 use Rattle.lotos_base.specs.Outside.{Texts, Gets}
-use Rattle.line_commands.specs.Request.{replay}
-use Rattle.session_answers.specs.CommandRefusal.{unread}
-use Rattle.session_answers.specs.ShelfAnswer.{trace_limit, refusal_in}
+use Rattle.line_server.specs.Request.{replay}
+use Rattle.session_reports.specs.CommandRefusal.{unread}
+use Rattle.session_reports.specs.ShelfAnswer.{trace_limit, refusal_in}
 use Rattle.history_lines.specs.LinesView.{standing_of}
 use Rattle.history_lines.specs.Serving.{moment_of, Gives, IsBeforeOrBehind}
 use Rattle.history_lines.proofs.ServingLemmas.{either_way, is_as_before, at_moment, same_moment}

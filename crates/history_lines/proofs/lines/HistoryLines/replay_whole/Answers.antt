@@ -1,6 +1,6 @@
 use Rattle.std.proofs.Common.{◌≡◌, ◌++◌, ℕ, List, [], inl, inr, refl, codes, decimal}
-use Rattle.line_commands.specs.Request.{replay}
-use Rattle.session_answers.specs.Standing.{shown_menu}
+use Rattle.line_server.specs.Request.{replay}
+use Rattle.session_reports.specs.Standing.{shown_menu}
 use Rattle.history_lines.specs.LinesView.{basis_of, reached, standing_of}
 use Rattle.history_lines.specs.RefusalView.{AddsFault}
 use Rattle.history_lines.specs.Serving.{moment_of, Gives, IsBeforeOrBehind}

@@ -1,7 +1,7 @@
 use Rattle.std.proofs.Common.{◌≡◌, ◌++◌, ◌<◌, ℕ, List, inl, inr, refl, codes, length, subst, arith}
-use Rattle.line_commands.specs.Request.{save}
-use Rattle.session_answers.specs.ShelfAnswer.{trace_limit}
-use Rattle.session_answers.specs.Standing.{shown_trace}
+use Rattle.line_server.specs.Request.{save}
+use Rattle.session_reports.specs.ShelfAnswer.{trace_limit}
+use Rattle.session_reports.specs.Standing.{shown_trace}
 use Rattle.session_log.proofs.ResultLemmas.{gave_up}
 use Rattle.history_lines.specs.LinesView.{basis_of, reached, standing_of}
 use Rattle.history_lines.specs.Serving.{moment_of, Gives, IsBeforeOrBehind}

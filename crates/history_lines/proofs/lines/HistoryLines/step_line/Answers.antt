@@ -1,9 +1,9 @@
 use Rattle.std.proofs.Common.{◌≡◌, inl, inr, [], refl, ap, ◌∙◌}
 use Rattle.behaviour_tree.specs.MoveView.{label_of}
 use Rattle.sort_terms.specs.SignatureView.{signature_of}
-use Rattle.line_commands.specs.Request.{take_step}
+use Rattle.line_server.specs.Request.{take_step}
 use Rattle.session_histories.specs.Session.{SessionBasis}
-use Rattle.session_answers.specs.Answer.{did_text}
+use Rattle.session_reports.specs.Answer.{did_text}
 use Rattle.history_lines.specs.LinesView.{basis_of, reached, standing_of}
 use Rattle.history_lines.specs.RefusalView.{AddsDecline}
 use Rattle.history_lines.specs.Serving.{moment_of, Gives, IsBeforeOrBehind}

@@ -1,6 +1,6 @@
 use Rattle.behaviour_tree.specs.BehaviourView.{terms_of}
 use Rattle.behaviour_tree.specs.MoveView.{label_of}
-use Rattle.session_answers.specs.StepAnswer.{is_taken}
+use Rattle.session_reports.specs.StepAnswer.{is_taken}
 use Rattle.session_log.proofs.ResultLemmas.{gave_up}
 use Rattle.history_lines.specs.LinesView.{basis_of, reached}
 use Rattle.history_lines.specs.declared.refusals.Decline.TheVariants.{Step}

@@ -3,7 +3,7 @@ use Rattle.behaviour_tree.specs.declared.definitions.Spec.{Spec}
 use Rattle.sort_terms.specs.EquationView.{data_of}
 use Rattle.equation_book.specs.BookCanon.{book_canon}
 use Rattle.session_log.specs.CourseView.{basis_over}
-use Rattle.line_commands.specs.Request.{undo}
+use Rattle.line_server.specs.Request.{undo}
 use Rattle.history_lines.specs.LinesView.{basis_of, reached, standing_of}
 use Rattle.history_lines.specs.Serving.{moment_of, Gives, IsBeforeOrBehind, undo_text}
 use Rattle.history_lines.proofs.ServingLemmas.{either_way, gives_undo}

@@ -5,13 +5,13 @@ use Rattle.term_algebra.specs.Signature.{Signature}
 use Rattle.behaviour_tree.specs.BehaviourView.{terms_of}
 use Rattle.event_offers.specs.OfferView.{plain_entry}
 use Rattle.event_offers.specs.declared.menus.Menu.{Menu}
-use Rattle.menu_listing.specs.Menus.{entries_in}
+use Rattle.menu_builder.specs.Menus.{entries_in}
 use Rattle.session_histories.specs.Refusal.{entry_numbered, number_refusal}
 use Rattle.session_histories.specs.Replay.{AreRead}
 use Rattle.session_log.specs.Entries.{AreGiven}
 use Rattle.session_log.specs.RefusalView.{TellsStep}
 use Rattle.session_log.proofs.ResultLemmas.{gave_up}
-use Rattle.session_answers.specs.StepAnswer.{IsFirstMisread}
+use Rattle.session_reports.specs.StepAnswer.{IsFirstMisread}
 use Rattle.history_lines.specs.LinesView.{basis_of, reached}
 use Rattle.history_lines.specs.Values.{TellsMisread}
 use Rattle.history_lines.specs.declared.refusals.Decline.TheVariants.{Terms, Step}

@@ -1,8 +1,8 @@
 use Rattle.std.proofs.Common.{length, sym, subst, arith}
-use Rattle.line_commands.specs.Request.{Request}
-use Rattle.line_commands.specs.RequestLaws.{Carries}
-use Rattle.line_commands.specs.RequestView.{wants}
-use Rattle.line_commands.proofs.RequestLemmas.{request_within}
+use Rattle.line_server.specs.Request.{Request}
+use Rattle.line_server.specs.RequestLaws.{Carries}
+use Rattle.line_server.specs.RequestView.{wants}
+use Rattle.line_server.proofs.RequestLemmas.{request_within}
 use Rattle.session_log.proofs.ResultLemmas.{gave_up}
 use Rattle.history_lines.specs.LinesView.{standing_of}
 use Rattle.history_lines.proofs.ServingLemmas.{serves_line, counts_after}

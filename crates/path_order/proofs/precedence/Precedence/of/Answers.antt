@@ -1,7 +1,7 @@
 use Rattle.std.proofs.Common.{ℕ, Vec, Global, sym, subst, map}
 use Rattle.lotos_base.specs.WrittenView.{listed_operation_of}
 use Rattle.sort_terms.specs.SignatureView.{signature_of}
-use Rattle.operation_order.specs.Listing.{AreRanksBy}
+use Rattle.path_order.specs.Listing.{AreRanksBy}
 use Rattle.path_order.proofs.precedence.Precedence.of.Goals as goal
 
 -- ranks by the items are the precedence by the items

@@ -1,4 +1,4 @@
-use Rattle.std.proofs.Common.{◌≡◌, [], sym, subst, ◌∙◌, if◌then◌else◌}
+use Rattle.std.proofs.Common.{◌≡◌, [], sym, ap, subst, ◌∙◌, if◌then◌else◌}
 use Rattle.std.specs.Prelude.{IfSome}
 use Rattle.std.proofs.lemmas.Result.{IfOk-weaker}
 use Rattle.term_algebra.specs.Signature.{Signature}
@@ -33,7 +33,9 @@ enabled_target signature shape label.Exit target b right e = same_with_values (b
 pub returns-in-Enabling : goal.returns-in-Enabling
 returns-in-Enabling c =
     IfOk-weaker c.after_enable.result _ _ (λ b e signature. subst (λ (r : Rule). IfSome
-    (taken_of signature r (shaped_of c.args.part.now)) (λ x. x.move.target ≡ without_values b)) (sym c.in-Enabling.is)
-    (enabled_target signature _ c.args.part.now.label (without_values c.args.part.now.target) (without_values b) c.in-Enabling.right.now
-    (let same : without_values c.in_ok-target.target ≡ without_values c.args.part.now.target = c.in_ok-target.ensures in cc)))
+    (taken_of signature r (shaped_of c.args.part.now)) (λ x. x.move.target ≡ without_values b.value)) (sym c.in-Enabling.is)
+    (enabled_target signature _ c.args.part.now.label (without_values c.args.part.now.target.value) (without_values b.value)
+    c.in-Enabling.right.now.value
+    (let same : without_values c.in_ok-target.target.value ≡ without_values c.args.part.now.target.value =
+    ap without_values c.in_ok-target.ensures.cases in cc)))
     c.after_enable.ensures

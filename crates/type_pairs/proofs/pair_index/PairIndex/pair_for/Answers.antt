@@ -3,7 +3,7 @@ use Rattle.std.specs.Option.{option_map}
 use Rattle.lotos_base.specs.Name.{spelling}
 use Rattle.syntax_trees.specs.TreeViews.{pair_of}
 use Rattle.syntax_trees.specs.declared.items.PairText.{PairText}
-use Rattle.name_positions.proofs.NameLemmas.{named_of}
+use Rattle.type_presentations.proofs.NameLemmas.{named_of}
 use Rattle.type_pairs.specs.PairIndexView.{pairs_in}
 use Rattle.type_pairs.specs.PairNames.{old_names}
 use Rattle.type_pairs.proofs.PairLemmas.{old_name, seen, looked_up, pair_at, no_pair}

@@ -1,6 +1,6 @@
 use Rattle.std.proofs.Common.{◌≡◌, ◌++◌, ◌∷◌, [], ℕ, List, ap, ◌∙◌, sym}
 use Rattle.std.specs.Prelude.{nat_eq}
-use Rattle.type_flatten.specs.Presentation.{with_new}
+use Rattle.type_definitions.specs.Presentation.{with_new}
 use Rattle.type_presentations.specs.MarksView.{marks_in}
 use Rattle.type_presentations.proofs.MarkLemmas.{marked}
 use Rattle.type_presentations.proofs.marks.Marks.add.Goals as goal

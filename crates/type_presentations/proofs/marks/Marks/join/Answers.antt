@@ -1,8 +1,8 @@
 use Rattle.std.proofs.Common.{◌≡◌, ◌∷◌, [], ◌+◌, ℕ, List, map, drop, ap, ◌∙◌, sym, refl}
 use Rattle.std.specs.Prelude.{nat_eq}
-use Rattle.presentation_lists.proofs.JoinedLemmas.{nothing_due}
-use Rattle.type_flatten.specs.Presentation.{with_new}
-use Rattle.type_images.specs.ProfiledImage.{number_in}
+use Rattle.type_presentations.proofs.JoinedLemmas.{nothing_due}
+use Rattle.type_definitions.specs.Presentation.{with_new}
+use Rattle.type_definitions.specs.ProfiledImage.{number_in}
 use Rattle.type_presentations.specs.MarksView.{marks_in}
 use Rattle.type_presentations.proofs.MarkLemmas.{number_next}
 use Rattle.type_presentations.proofs.marks.Marks.join.Goals as goal

@@ -1,7 +1,7 @@
 use Rattle.std.proofs.Common.{◌≡◌, map, drop}
 use Rattle.std.specs.Prelude.{nat_eq}
-use Rattle.type_flatten.specs.Presentation.{with_new}
-use Rattle.type_images.specs.ProfiledImage.{number_in}
+use Rattle.type_definitions.specs.Presentation.{with_new}
+use Rattle.type_definitions.specs.ProfiledImage.{number_in}
 use Rattle.type_presentations.specs.MarksView.{IsKnown, marks_in}
 use Rattle.type_presentations.proofs.marks.Marks.join.Given as goal
 

@@ -1,4 +1,0 @@
-pub mod PairLemmas
-pub mod TurnLemmas
-pub mod DraftLemmas
-pub mod OpenLemmas

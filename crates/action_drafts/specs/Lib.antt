@@ -1,4 +1,0 @@
-pub mod Environments
-pub mod Offered
-pub mod OpenDrafts
-pub mod OpenLaws

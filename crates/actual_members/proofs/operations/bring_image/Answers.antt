@@ -1,0 +1,48 @@
+use Rattle.std.proofs.Common.{ℕ, ap, ◌∙◌}
+use Rattle.std.specs.Option.{option_map}
+use Rattle.lotos_base.specs.WrittenView.{placed_name_of}
+use Rattle.syntax_trees.specs.TreeViews.{pair_of}
+use Rattle.sort_terms.specs.Operations.{operation_of}
+use Rattle.type_presentations.specs.OperationListView.{operations_in}
+use Rattle.actual_members.specs.Condensed.{operation_kind, place_of_pair}
+use Rattle.actual_members.specs.MakersView.{makers_in}
+use Rattle.actual_members.specs.Noting.{noted}
+use Rattle.actual_members.specs.CameView.{operations_with, are_one_member}
+use Rattle.actual_members.proofs.SettlingLemmas.{as_many, number_within}
+use Rattle.actual_members.proofs.MemberLemmas.{operations_are_lawful, operation_settles, has_image, longer}
+use Rattle.actual_members.proofs.operations.bring_image.Goals as goal
+
+pub note-requires : goal.note-requires
+note-requires c =
+    number_within (are_one_member operation_kind) operations_are_lawful.itself (operations_in c.args.list.now)
+    (operations_in c.add.new.self) (operation_of c.in_ok-image.image)
+    (makers_in c.args.came.now.makers) c.in_ok-added.added.number c.requires.makers c.in_ok-added.ensures.operations
+    c.in_ok-added.ensures.number
+
+pub returns-clause-few : goal.returns-clause-few
+returns-clause-few c =
+    longer (are_one_member operation_kind) (operations_in c.args.list.now) (operations_in c.add.new.self)
+    (operation_of c.in_ok-image.image) c.in_ok-added.ensures.operations
+
+pub returns-clause-makers : goal.returns-clause-makers
+returns-clause-makers c =
+    let maker = place_of_pair (option_map (λ p. pair_of p.now) c.in_ok-pair.pair) in
+    as_many (are_one_member operation_kind) operations_are_lawful.itself (operations_in c.args.list.now) (operations_in c.add.new.self)
+    (operation_of c.in_ok-image.image)
+    (makers_in c.args.came.now.makers) (makers_in c.note.new.self.makers) maker c.requires.makers c.in_ok-added.ensures.operations
+    (c.in_ok-note.ensures.makers
+    ∙ ap (λ (n : ℕ). noted (makers_in c.args.came.now.makers) n maker) c.in_ok-added.ensures.number)
+
+pub returns-clause-came : goal.returns-clause-came
+returns-clause-came c = λ a of.
+    let pair = option_map (λ p. pair_of p.now) c.in_ok-pair.pair in
+    let old = operations_with c.args.list.now c.args.came.now in
+    let new = operations_with c.add.new.self c.note.new.self in
+    operation_settles a c.args.source.now c.args.sorts.now (operation_of c.args.op.now)
+    (operation_of c.in_ok-image.image) pair old new of c.in_ok-pair.ensures
+    c.in_ok-image.ensures
+    (has_image operation_kind (placed_name_of c.args.source.now.mention.now)
+    (record { image = operation_of c.in_ok-image.image; pair = pair }) old new c.in_ok-added.added.number c.in_ok-added.added.clashes
+    c.is_past_limit-is_too_many.result c.in_ok-added.ensures.operations c.in_ok-added.ensures.number c.in_ok-note.ensures.numbers
+    c.in_ok-note.ensures.makers c.in_ok-added.ensures.clashes c.in_ok-note.ensures.clash c.is_past_limit-is_too_many.ensures
+    c.in_ok-note.ensures.too_many)

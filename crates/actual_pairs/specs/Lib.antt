@@ -1,2 +1,0 @@
-pub mod FormalNames
-pub mod NewNamesView

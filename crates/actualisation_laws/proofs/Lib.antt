@@ -1,3 +1,0 @@
-pub mod FormalLemmas
-pub mod MapLemmas
-pub mod DataLemmas

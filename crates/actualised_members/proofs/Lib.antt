@@ -1,3 +1,0 @@
-pub mod SettlingLemmas
-pub mod ArrivingLemmas
-pub mod MemberLemmas

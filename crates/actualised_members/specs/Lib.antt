@@ -1,4 +1,0 @@
-pub mod FaultPlaces
-pub mod CameView
-pub mod SourceView
-pub mod Brought

@@ -1,9 +1,0 @@
-pub mod SampleOperations
-pub mod SampleCanon
-pub mod SampleSignature
-pub mod TermTests
-pub mod WellFormedTests
-pub mod EquationTests
-pub mod ShownMenus
-pub mod CaseLemmas
-pub mod MenuCaseLemmas

@@ -1,4 +1,0 @@
-pub mod CallLemmas
-pub mod NestedLemmas
-pub mod ResolverLemmas
-pub mod StandingLemmas

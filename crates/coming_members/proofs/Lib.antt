@@ -1,2 +1,0 @@
-pub mod CondensedLemmas
-pub mod NotingLemmas

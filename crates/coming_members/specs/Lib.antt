@@ -1,4 +1,0 @@
-pub mod Condensed
-pub mod CondensedLaws
-pub mod Noting
-pub mod MakersView

@@ -1,0 +1,63 @@
+//! Overlaps of two rules at one place.
+
+ghost use Rattle.critical_pairs.specs.Contracted.{IsNumberedBy};
+ghost use Rattle.critical_pairs.specs.OverlapPair.{HaveOneSignature, HaveNoOverlap, IsOverOverlap, IsOverlapPair};
+ghost use Rattle.critical_pairs.specs.SidesView.{overlap_of, borrowed_sides};
+ghost use Rattle.sort_terms.specs.SortedView.{profiled_in, term_in};
+ghost use Rattle.std.specs.Prelude.{◌≡◌, IfOk, IfNone, IfSome};
+ghost use Rattle.term_algebra.specs.Signature.{Signature};
+
+use crate::contracting::contracted;
+use crate::sides::{BorrowedRule, Overlap};
+use lotos_base::NoMemory;
+use sort_terms::{Sorted, Term};
+use std::alloc::Global;
+use term_match::{apart, by_appearance, renumbered, subterm, unify};
+
+/// The critical pair of the two rules at the path in the left side of the first one, its variables
+/// numbered by first appearance in the peak; or `None` exactly where they have none there, which is
+/// where the path leads to no operation, or the part there and the left side of the second rule
+/// have no common instance, variables apart. The rules are over one signature.
+pub fn overlap(
+    alloc: Global,
+    first: &BorrowedRule<'_>,
+    second: &BorrowedRule<'_>,
+    path: &[u32],
+) -> Result<Option<Overlap>, NoMemory>
+    requires { HaveOneSignature (borrowed_sides first.now) (borrowed_sides second.now) }
+    ensures none { IfOk result (λ o. IfNone o
+        (HaveNoOverlap (borrowed_sides first.now) (borrowed_sides second.now) path.now)) }
+    ensures some { IfOk result (λ o. IfSome o (λ pair.
+        IsOverlapPair (borrowed_sides first.now) (borrowed_sides second.now) path.now
+        (overlap_of pair))) }
+    ensures is_of { IfOk result (λ o. IfSome o (λ pair. (signature : Signature)
+        → IsOverOverlap signature (borrowed_sides first.now) (borrowed_sides second.now)
+        (overlap_of pair))) }
+{
+    let Some(part) = subterm(first.left, path)? else {
+        return Ok(None);
+    };
+    if let Term::Var { .. } = part.term() {
+        return Ok(None);
+    }
+    let numbers = apart(alloc, first.left.term(), second.left.term())?;
+    let second_left = renumbered(second.left, numbers.as_slice())?;
+    let Some(subst) = unify(alloc, &part, &second_left)? else {
+        return Ok(None);
+    };
+    let second_right = renumbered(second.right, numbers.as_slice())?;
+    let pair = contracted(&subst, first, &second_right, path)?;
+    Ok(Some(numbered(alloc, &pair)?))
+}
+
+// The pair with its variables numbered by first appearance in its peak.
+fn numbered(alloc: Global, pair: &Overlap) -> Result<Overlap, NoMemory>
+    ensures { IfOk result (λ made. IsNumberedBy (overlap_of pair.now) (overlap_of made)) }
+{
+    let numbers = by_appearance(alloc, pair.peak.term())?;
+    Ok(Overlap {
+        peak: renumbered(&pair.peak, numbers.as_slice())?,
+        left: renumbered(&pair.left, numbers.as_slice())?,
+        right: renumbered(&pair.right, numbers.as_slice())?,
+    })
+}

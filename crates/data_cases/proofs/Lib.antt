@@ -1,2 +1,0 @@
-pub mod OneSortLemmas
-pub mod SortedLemmas

@@ -1,2 +1,0 @@
-pub mod OneSort
-pub mod SortedOver

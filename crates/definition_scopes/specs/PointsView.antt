@@ -1,7 +1,0 @@
--- What a resolver knows between two definitions.
-use Rattle.behaviour_scopes.specs.ResolverView.{state_in}
-use Rattle.behaviour_scopes.specs.declared.resolver.Resolver.{Resolver}
-use Rattle.definition_scopes.specs.Points.{Point, point_of}
-
-abbrev pub point_in : Resolver → Point
-point_in resolver = point_of (state_in resolver)

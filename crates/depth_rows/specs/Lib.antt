@@ -1,4 +1,0 @@
-pub mod MeaningNodes
-pub mod DepthPart
-pub mod RowDepth
-pub mod DepthRowLaws

@@ -1,5 +1,0 @@
-use Rattle.derivation_fold.proofs.Values.{closed}
-use Rattle.derivation_fold.proofs.laws.values_are_kept.Goals as goal
-
-pub returns : goal.returns
-returns g c = λ rows. closed (g.A.Actions.value_of c.args.actions.now) g.A.Actions.keeps g.A.Actions.kind rows

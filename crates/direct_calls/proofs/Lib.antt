@@ -1,0 +1,2 @@
+pub mod OneSortLemmas
+pub mod UnifierLemmas

@@ -1,5 +1,0 @@
-pub mod ListLemmas
-pub mod MetLemmas
-pub mod PartingLemmas
-pub mod RuleListLemmas
-pub mod BothListLemmas

@@ -1,2 +1,0 @@
-pub mod OccurrenceLemmas
-pub mod OverLemmas

@@ -1,2 +1,0 @@
-pub mod EquationKeyLemmas
-pub mod EquationListLemmas

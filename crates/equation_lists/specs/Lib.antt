@@ -1,2 +1,0 @@
-pub mod EquationKeys
-pub mod EquationListView

@@ -1,3 +1,0 @@
-pub mod CollectLemmas
-pub mod NumberingLemmas
-pub mod MadeLemmas

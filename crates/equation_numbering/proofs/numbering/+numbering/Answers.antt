@@ -1,8 +1,0 @@
-use Rattle.equation_numbering.proofs.NumberingLemmas.{numbered_more}
-use Rattle.equation_numbering.proofs.numbering.+numbering.Goals as goal
-
-pub renumbered_terms-loop-term-preserved : goal.renumbered_terms-loop-term-preserved
-renumbered_terms-loop-term-preserved t c =
-    numbered_more c.args.order.now.keys c.deref-term-items.result.now c.loop-term.made.items c.push.new.self.items
-    c.loop-term.term-index c.term-item.result c.in_ok-renumbered_term.field-0 c.loop-term-test.true c.term-item.is
-    c.in_ok-push.ensures.items c.loop-term.invariant c.in_ok-renumbered_term.ensures

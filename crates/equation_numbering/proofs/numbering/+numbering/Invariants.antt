@@ -1,8 +1,0 @@
-use Rattle.std.proofs.Common.{◌≡◌, take}
-use Rattle.sort_terms.specs.TermView.{all_profiled}
-use Rattle.equation_numbering.specs.ProfiledNumbering.{all_profiled_renumbered}
-use Rattle.equation_numbering.proofs.numbering.+numbering.Given as goal
-
-abbrev pub invariant-renumbered_terms-loop-term : goal.invariant-renumbered_terms-loop-term
-invariant-renumbered_terms-loop-term l =
-    all_profiled l.made.items ≡ all_profiled_renumbered l.order.keys (all_profiled (take l.term-index l.term-items))

@@ -1,4 +1,0 @@
-pub mod AskedLemmas
-pub mod SortLemmas
-pub mod SideLemmas
-pub mod PremissLemmas

@@ -1,7 +1,0 @@
-use Rattle.std.proofs.Common.{◌≡◌, ◌++◌, map, drop}
-use Rattle.sort_terms.specs.EquationView.{variable_of}
-use Rattle.equation_reading.proofs.equation_scope.copies.Given as goal
-
-abbrev pub invariant-loop-variable : goal.invariant-loop-variable
-invariant-loop-variable l =
-    map variable_of l.made.items ++ map variable_of (drop l.variable-index l.variables) ≡ map variable_of l.variables

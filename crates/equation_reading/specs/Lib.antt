@@ -1,2 +1,0 @@
-pub mod ScopeFor
-pub mod Truth

@@ -1,5 +1,0 @@
-pub mod OneTypeLemmas
-pub mod OneTypeSteps
-pub mod AllTypesLemmas
-pub mod OrderLemmas
-pub mod FlatDataLemmas

@@ -1,5 +1,0 @@
-use Rattle.flatten_types.proofs.FlatDataLemmas.{data_made}
-use Rattle.flatten_types.proofs.flat_data.data_of.Goals as goal
-
-pub returns : goal.returns
-returns c = data_made c.args.presentation _ c.in_ok-signature.ensures c.into_equations.ensures c.requires.sound

@@ -1,5 +1,0 @@
-pub mod UnionsFine
-pub mod DeclarationsFine
-pub mod EquationsFine
-pub mod ActualisationsFine
-pub mod TypesFine

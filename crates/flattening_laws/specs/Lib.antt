@@ -1,5 +1,0 @@
-pub mod Containment
-pub mod UnionBounds
-pub mod Contributions
-pub mod ImagesOfRenamings
-pub mod PartsOfActualisations

@@ -1,3 +1,0 @@
-pub mod OneOrder
-pub mod OneOutcome
-pub mod OneReading

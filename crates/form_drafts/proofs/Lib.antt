@@ -1,6 +1,0 @@
-pub mod FormLemmas
-pub mod ShadowLemmas
-pub mod ScopeLemmas
-pub mod RowLemmas
-pub mod GivenLemmas
-pub mod BelowLemmas

@@ -1,4 +1,0 @@
-pub mod ActualLemmas
-pub mod MarkedNames
-pub mod SortActuals
-pub mod SoughtLemmas

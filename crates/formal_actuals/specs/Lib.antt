@@ -1,3 +1,0 @@
-pub mod Actuals
-pub mod ProfilesView
-pub mod PartsView

@@ -1,4 +1,0 @@
-//! Texts that were read: what their trees have besides what they say.
-#![tactic(auto)]
-
-pub mod laws;

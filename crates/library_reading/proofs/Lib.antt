@@ -1,6 +1,0 @@
-pub mod ShelfLemmas
-pub mod ProgressLemmas
-pub mod NameLemmas
-pub mod TextLemmas
-pub mod WalkLemmas
-pub mod OneOutcome

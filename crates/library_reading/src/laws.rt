@@ -1,9 +1,0 @@
-//! Laws of the reading of libraries. The function carries a law as its contract and does nothing.
-
-ghost use Rattle.library_reading.specs.GatheringLaws.{OutcomesAreOne};
-
-/// The items of a text come to one outcome at most, by what is got under each name, and the same
-/// files are got for it in the same order.
-pub fn outcomes_are_one()
-    ensures { OutcomesAreOne }
-{}

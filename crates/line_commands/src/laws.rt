@@ -1,8 +1,0 @@
-//! Laws of lines. Each function carries a law as its contract and does nothing.
-
-ghost use Rattle.line_commands.specs.RequestLaws.{RequestsAreWithin};
-
-/// The texts of a request are no longer than its line.
-pub fn requests_are_within()
-    ensures { RequestsAreWithin }
-{}

@@ -1,0 +1,92 @@
+-- What a request carries is no longer than its line.
+use Rattle.std.proofs.Common.{◌≡◌, ◌≢◌, ℕ, ◌≤◌, ◌-◌, Bool, true, false, if◌then◌else◌, List, [], ◌∷◌, take, drop, length, Option, None, Some, codes, refl, ap, sym, ◌∙◌, arith, length-drop, take_all}
+use Rattle.std.specs.Str.{bytes_eq, is_utf8, IsUtf8}
+use Rattle.std.proofs.lemmas.Str.{IsUtf8-from_is_utf8, is_utf8-from_IsUtf8}
+use Rattle.line_server.specs.Line.{behind_blanks, behind_spaces, first_word, behind_word, word_length, stripped}
+use Rattle.line_server.specs.Request.{Request, show_menu, show_behaviour, show_trace, undo, leave, save, replay, only, number_in, step_by, with_name, name_of, named, asked_with, requested_by, requested_in, request_of}
+use Rattle.line_server.specs.RequestLaws.{Carries}
+use Rattle.line_server.proofs.LineLemmas.{blanks_short, end_short, word_short}
+
+unit : Unit {0}
+unit = tt
+
+either_carries : (n : ℕ) (test : Bool) (one other : Request) → Carries n one → Carries n other
+    → Carries n (if test then one else other)
+either_carries n true one other first second = first
+either_carries n false one other first second = second
+
+only_carries : (n : ℕ) (request : Request) (rest : List ℕ) → Carries n request → Carries n (only request rest)
+only_carries n asked [] within = within
+only_carries n asked (byte ∷ bytes) within = unit
+
+step_carries : (n : ℕ) (number : Option ℕ) (terms : List ℕ) → length terms ≤ n → Carries n (step_by number terms)
+step_carries n None terms within = unit
+step_carries n (Some number) terms within = within
+
+name_carries : (n : ℕ) (request : List ℕ → Request) (rest : List ℕ)
+    → ((name : List ℕ) → length name ≤ n → Carries n (request name)) → length rest ≤ n → Carries n (named request rest)
+name_carries n make [] so within = unit
+name_carries n make (byte ∷ bytes) so within = by (is_utf8 (byte ∷ bytes))
+  where
+    by : (test : Bool) → Carries n (with_name make (if test then Some (byte ∷ bytes) else None))
+    by true = so (byte ∷ bytes) within
+    by false = unit
+
+with_carries : (n : ℕ) (word rest : List ℕ) → length rest ≤ n → Carries n (asked_with word rest)
+with_carries n word rest within =
+    either_carries n (bytes_eq word (codes "step")) _ _
+    (step_carries n (number_in (first_word rest)) (behind_word rest) (omega (arith, word_short rest, within)))
+    (either_carries n (bytes_eq word (codes "save")) _ _ (name_carries n save rest (λ name short. short) within)
+    (either_carries n (bytes_eq word (codes "replay")) _ _ (name_carries n replay rest (λ name short. short) within)
+    (either_carries n (bytes_eq word (codes "normal")) _ _ within
+    (either_carries n (bytes_eq word (codes "equal")) _ _ within unit))))
+
+word_carries : (n : ℕ) (word rest : List ℕ) → length rest ≤ n → Carries n (requested_by word rest)
+word_carries n word rest within =
+    either_carries n (bytes_eq word (codes "menu")) _ _ (only_carries n show_menu rest unit)
+    (either_carries n (bytes_eq word (codes "show")) _ _ (only_carries n show_behaviour rest unit)
+    (either_carries n (bytes_eq word (codes "trace")) _ _ (only_carries n show_trace rest unit)
+    (either_carries n (bytes_eq word (codes "undo")) _ _ (only_carries n undo rest unit)
+    (either_carries n (bytes_eq word (codes "quit")) _ _ (only_carries n leave rest unit)
+    (with_carries n word rest within)))))
+
+line_carries : (n : ℕ) (line : List ℕ) → length line ≤ n → Carries n (requested_in line)
+line_carries n [] within = unit
+line_carries n (byte ∷ bytes) within =
+    word_carries n (first_word (byte ∷ bytes)) (behind_word (byte ∷ bytes)) (omega (arith, word_short (byte ∷ bytes), within))
+
+pub request_within : (line : List ℕ) → Carries (length line) (request_of line)
+request_within line =
+    line_carries (length line) (stripped line) (omega (arith, end_short (behind_blanks line), blanks_short line))
+
+-- ---- What the code reads
+
+-- the rest of a list, as a slice has it
+rest_is_whole : (count : ℕ) (xs : List ℕ) → take (length xs - count) (drop count xs) ≡ drop count xs
+rest_is_whole count xs = take_all (length xs - count) (drop count xs) (omega (arith, length-drop count xs))
+
+-- a line that is not empty, by its first word and what stands behind this
+pub asked_here : (line whole word rest : List ℕ) (count : ℕ) → whole ≡ stripped line → whole ≢ [] → count ≡ word_length whole
+    → word ≡ take count whole → rest ≡ behind_spaces (take (length whole - count) (drop count whole))
+    → requested_by word rest ≡ request_of line
+asked_here line [] word rest count is some counted first more = absurd (some refl)
+asked_here line (byte ∷ bytes) word rest count is some counted first more =
+    ap (λ (it : List ℕ). requested_by it rest) (first ∙ ap (λ (n : ℕ). take n (byte ∷ bytes)) counted)
+    ∙ (ap (requested_by (first_word (byte ∷ bytes)))
+    (more ∙ (ap behind_spaces (rest_is_whole count (byte ∷ bytes))
+    ∙ ap (λ (n : ℕ). behind_spaces (drop n (byte ∷ bytes))) counted))
+    ∙ ap requested_in is)
+
+pub name_there : (bytes name : List ℕ) → bytes ≢ [] → name ≡ bytes → IsUtf8 bytes → Some name ≡ name_of bytes
+name_there [] name some is right = absurd (some refl)
+name_there (byte ∷ bytes) name some is right =
+    ap (λ (it : List ℕ). Some it) is
+    ∙ sym (ap (λ (b : Bool). if b then Some (byte ∷ bytes) else None) (is_utf8-from_IsUtf8 (byte ∷ bytes) right))
+
+pub no_name_there : (bytes : List ℕ) → ¬ IsUtf8 bytes → None ≡ name_of bytes
+no_name_there [] wrong = refl
+no_name_there (byte ∷ bytes) wrong = by (is_utf8 (byte ∷ bytes)) refl
+  where
+    by : (b : Bool) → is_utf8 (byte ∷ bytes) ≡ b → None ≡ (if b then Some (byte ∷ bytes) else None)
+    by true right = absurd (wrong (IsUtf8-from_is_utf8 (byte ∷ bytes) right))
+    by false right = refl

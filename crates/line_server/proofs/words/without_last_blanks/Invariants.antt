@@ -1,0 +1,9 @@
+use Rattle.std.proofs.Common.{◌≡◌, length, reverse}
+use Rattle.line_server.specs.Line.{behind_blanks}
+use Rattle.line_server.proofs.words.without_last_blanks.Given as goal
+
+abbrev pub invariant-loop-rest : goal.invariant-loop-rest
+invariant-loop-rest l = behind_blanks (reverse l.rest) ≡ behind_blanks (reverse l.line)
+
+abbrev pub decreases-loop-rest : goal.decreases-loop-rest
+decreases-loop-rest l = length l.rest

@@ -1,0 +1,93 @@
+-- What each line of a session asks for: a command word in lower case, and what stands behind it.
+use Rattle.std.specs.Prelude.{ℕ, nat_eq, nat_lt, if◌then◌else◌, Bool, false, ◌&&◌, ◌||◌, not, List, [], ◌∷◌, length, Option, None, Some, codes}
+use Rattle.std.specs.Char.{is_ascii_digit}
+use Rattle.std.specs.List.{list_all}
+use Rattle.std.specs.Str.{bytes_eq, is_utf8}
+use Rattle.std.specs.Str.Parse.{digits_value}
+use Rattle.line_server.specs.Line.{stripped, first_word, behind_word}
+
+-- A line asks for nothing; for the menu, the behaviour or the trace; to undo the last step; for the end of the session; to take
+-- the step by the entry with a number and with values for its variables; to save the trace under a name, or to replay the text
+-- under it; for the normal form of a term, or whether two terms are equal; or it has none of these forms. Terms are as they are
+-- written.
+pub data Request : Type 0 where
+  skip show_menu show_behaviour show_trace undo leave no_request : Request
+  take_step : (number : ℕ) (terms : List ℕ) → Request
+  save replay : (name : List ℕ) → Request
+  show_normal compare : (terms : List ℕ) → Request
+
+-- ---- Numbers
+
+abbrev pub leads_with_zero : List ℕ → Bool
+leads_with_zero [] = false
+leads_with_zero (digit ∷ digits) = nat_eq digit 48
+
+-- one to ten decimal digits without a leading zero, or `0`
+abbrev pub has_number_form : List ℕ → Bool
+has_number_form word =
+    (nat_lt 0 (length word) && nat_lt (length word) 11) && (nat_eq (length word) 1 || not (leads_with_zero word))
+
+abbrev pub is_number : List ℕ → Bool
+is_number word = list_all is_ascii_digit word && has_number_form word
+
+-- the number that a word is, if it is one
+abbrev pub number_in : List ℕ → Option ℕ
+number_in word = if is_number word then Some (digits_value 10 word) else None
+
+-- ---- What stands behind a word
+
+-- nothing may stand there
+abbrev pub only : Request → List ℕ → Request
+only asked [] = asked
+only asked (byte ∷ bytes) = no_request
+
+-- the number of an entry, and the terms behind it and the spaces
+abbrev pub step_by : Option ℕ → List ℕ → Request
+step_by None terms = no_request
+step_by (Some number) terms = take_step number terms
+
+abbrev pub step_in : List ℕ → Request
+step_in rest = step_by (number_in (first_word rest)) (behind_word rest)
+
+-- the name that bytes are, if there are some and they are UTF-8
+abbrev pub name_of : List ℕ → Option (List ℕ)
+name_of [] = None
+name_of (byte ∷ bytes) = if is_utf8 (byte ∷ bytes) then Some (byte ∷ bytes) else None
+
+abbrev pub with_name : (List ℕ → Request) → Option (List ℕ) → Request
+with_name make None = no_request
+with_name make (Some name) = make name
+
+abbrev pub named : (List ℕ → Request) → List ℕ → Request
+named make rest = with_name make (name_of rest)
+
+-- ---- Words
+
+-- the words behind which something stands
+abbrev pub asked_with : (word rest : List ℕ) → Request
+asked_with word rest =
+    if bytes_eq word (codes "step") then step_in rest
+    else if bytes_eq word (codes "save") then named save rest
+    else if bytes_eq word (codes "replay") then named replay rest
+    else if bytes_eq word (codes "normal") then show_normal rest
+    else if bytes_eq word (codes "equal") then compare rest
+    else no_request
+
+-- and those that stand alone
+abbrev pub requested_by : (word rest : List ℕ) → Request
+requested_by word rest =
+    if bytes_eq word (codes "menu") then only show_menu rest
+    else if bytes_eq word (codes "show") then only show_behaviour rest
+    else if bytes_eq word (codes "trace") then only show_trace rest
+    else if bytes_eq word (codes "undo") then only undo rest
+    else if bytes_eq word (codes "quit") then only leave rest
+    else asked_with word rest
+
+-- what a line without blanks at its ends asks for
+abbrev pub requested_in : List ℕ → Request
+requested_in [] = skip
+requested_in (byte ∷ bytes) = requested_by (first_word (byte ∷ bytes)) (behind_word (byte ∷ bytes))
+
+-- what a line asks for
+abbrev pub request_of : List ℕ → Request
+request_of line = requested_in (stripped line)

@@ -1,2 +1,0 @@
-pub mod HigherLemmas
-pub mod NestedLemmas

@@ -1,2 +1,0 @@
-pub mod HigherLists
-pub mod EnvironmentLaws

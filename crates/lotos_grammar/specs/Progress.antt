@@ -1,0 +1,108 @@
+-- How far the reading of libraries came: what is gathered now leads to whatever becomes of the whole.
+use Rattle.std.specs.Prelude.{◌≡◌, ℕ, ◌≤◌, List, [], ◌++◌, length, map}
+use Rattle.std.specs.String.{string_bytes}
+use Rattle.lotos_base.specs.Name.{spelling}
+use Rattle.lotos_base.specs.WrittenTerm.{PlacedName}
+use Rattle.lotos_base.specs.WrittenView.{text_place_of}
+use Rattle.syntax_trees.specs.WrittenItem.{WrittenItem}
+use Rattle.lotos_grammar.specs.declared.faults.LibraryFault.{LibraryFault}
+use Rattle.lotos_grammar.specs.declared.faults.LibraryFault.TheVariants.{TooMany, Misread, Unread, NoMemory}
+use Rattle.lotos_grammar.specs.Gathering.{
+  Gathered,
+  nothing_yet,
+  with_library,
+  Waiting,
+  GotFile,
+  Outcome,
+  all_gathered,
+  faulty,
+  without_file,
+  too_many,
+  misread,
+  Step,
+  goes_on,
+  stops,
+  IsMisread,
+  Mentioned,
+  Becomes,
+}
+use Rattle.lotos_grammar.specs.ShelfUse.{ShelfState, Gives, GivesAndLacks, Keeps}
+
+-- whatever becomes of the rest from here becomes of the whole from there
+abbrev pub Leads : Gathered → List Waiting → List GotFile → Gathered → Type 0
+Leads start waiting files now =
+    (rest : List Waiting) (later : List GotFile) (outcome : Outcome) →
+    Becomes now rest later outcome → Becomes start (waiting ++ rest) (files ++ later) outcome
+
+-- the whole ends here, whatever the rest is
+abbrev pub Ends : Gathered → List Waiting → List GotFile → Outcome → Type 0
+Ends start waiting files outcome = (rest : List Waiting) → Becomes start (waiting ++ rest) files outcome
+
+-- all that waits was looked at
+pub record IsDone (before after : ShelfState) (start : Gathered) (waiting : List Waiting) (now : Gathered) : Type 0 where
+  pub files : List GotFile
+  pub given : Gives before after files
+  pub leads : Leads start waiting files now
+
+-- what waits ends with the fault, where so much was gathered
+abbrev pub EndsBy : ShelfState → ShelfState → Gathered → List Waiting → Gathered → LibraryFault → Type 0
+EndsBy before after start waiting now (TooMany place name) =
+    (files : List GotFile) × Gives before after files
+    × Ends start waiting files (faulty now.read (too_many (text_place_of place) (spelling name)))
+EndsBy before after start waiting now (Misread text fault) =
+    (files : List GotFile) × Gives before after files × Ends start waiting files (faulty now.read (misread text fault))
+EndsBy before after start waiting now (Unread file) =
+    (files : List GotFile) × GivesAndLacks before after files (string_bytes file)
+    × Ends start waiting files (without_file now.read (string_bytes file))
+EndsBy before after start waiting now NoMemory = Keeps before after
+
+-- a mention was looked at, and these items stand in its place
+pub record IsReplaced (before after : ShelfState) (start : Gathered) (at : PlacedName) (now : Gathered) (items : List WrittenItem)
+    : Type 0 where
+  pub files : List GotFile
+  pub given : Gives before after files
+  pub mentioned : Mentioned start at files (goes_on now items)
+
+-- a mention ends all with the fault
+abbrev pub StopsBy : ShelfState → ShelfState → Gathered → PlacedName → Gathered → LibraryFault → Type 0
+StopsBy before after start at now (TooMany place name) =
+    (files : List GotFile) × Gives before after files
+    × Mentioned start at files (stops (faulty now.read (too_many (text_place_of place) (spelling name))))
+StopsBy before after start at now (Misread text fault) =
+    (files : List GotFile) × Gives before after files × Mentioned start at files (stops (faulty now.read (misread text fault)))
+StopsBy before after start at now (Unread file) =
+    (files : List GotFile) × GivesAndLacks before after files (string_bytes file)
+    × Mentioned start at files (stops (without_file now.read (string_bytes file)))
+StopsBy before after start at now NoMemory = Keeps before after
+
+-- the file of the name is not got
+abbrev pub FileFails : ShelfState → ShelfState → List ℕ → LibraryFault → Type 0
+FileFails before after name (TooMany place other) = ⊥
+FileFails before after name (Misread text fault) = ⊥
+FileFails before after name (Unread file) = (string_bytes file ≡ name) × GivesAndLacks before after [] name
+FileFails before after name NoMemory = Keeps before after
+
+-- the text with the number is not read
+abbrev pub TextFails : ℕ → List ℕ → LibraryFault → Type 0
+TextFails number text (TooMany place other) = ⊥
+TextFails number text (Misread given fault) = (given ≡ number) × IsMisread number text fault
+TextFails number text (Unread file) = ⊥
+TextFails number text NoMemory = Unit {0}
+
+-- all is gathered from the items of a text
+pub record IsGathered (before after : ShelfState) (waiting : List Waiting) (now : Gathered) : Type 0 where
+  pub files : List GotFile
+  pub given : Gives before after files
+  pub becomes : Becomes nothing_yet waiting files (all_gathered now)
+
+-- the items of a text end with the fault
+abbrev pub FailsBy : ShelfState → ShelfState → List Waiting → Gathered → LibraryFault → Type 0
+FailsBy before after waiting now (TooMany place name) =
+    (files : List GotFile) × Gives before after files
+    × Becomes nothing_yet waiting files (faulty now.read (too_many (text_place_of place) (spelling name)))
+FailsBy before after waiting now (Misread text fault) =
+    (files : List GotFile) × Gives before after files × Becomes nothing_yet waiting files (faulty now.read (misread text fault))
+FailsBy before after waiting now (Unread file) =
+    (files : List GotFile) × GivesAndLacks before after files (string_bytes file)
+    × Becomes nothing_yet waiting files (without_file now.read (string_bytes file))
+FailsBy before after waiting now NoMemory = Keeps before after

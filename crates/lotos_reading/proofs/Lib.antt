@@ -1,3 +1,0 @@
-pub mod Blamed
-pub mod Outcomes
-pub mod Underived

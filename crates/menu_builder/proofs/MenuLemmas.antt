@@ -1,0 +1,85 @@
+-- The menu of a state, from the drafts of its node.
+use Rattle.std.proofs.Common.{◌≡◌, ◌≤◌, ℕ, max, List, map, sym, subst, arith}
+use Rattle.term_algebra.specs.Equation.{Data}
+use Rattle.term_algebra.specs.Signature.{IsWellFormedSignature}
+use Rattle.term_algebra.specs.Term.{Term}
+use Rattle.term_algebra.specs.Canon.{IsCanon}
+use Rattle.behaviour_semantics.specs.Draft.{above, above_processes}
+use Rattle.behaviour_semantics.specs.DraftOrder.{IsInOrder}
+use Rattle.behaviour_semantics.specs.Guardedness.{IsGuarded}
+use Rattle.behaviour_semantics.specs.Listing.{AllSolveTo}
+use Rattle.behaviour_semantics.specs.Menu.{Exact}
+use Rattle.behaviour_semantics.specs.WellFormed.{Every, IsClosedBehaviour}
+use Rattle.behaviour_tree.specs.Closed.{IsClosedNode}
+use Rattle.behaviour_tree.specs.DefinitionView.{specification_of}
+use Rattle.behaviour_tree.specs.Over.{AreTermsOf, IsSpecOver, IsStateOf}
+use Rattle.behaviour_tree.specs.StateView.{node_profiles, stands_for, state_of}
+use Rattle.behaviour_tree.specs.declared.definitions.Spec.{Spec}
+use Rattle.behaviour_tree.specs.declared.states.Node.{Node}
+use Rattle.behaviour_tree.specs.declared.states.State.{State}
+use Rattle.event_offers.specs.OfferView.{plain_entry}
+use Rattle.event_offers.specs.declared.drafts.Draft.{Draft}
+use Rattle.event_offers.specs.declared.drafts.Entry.{Entry}
+use Rattle.event_offers.specs.declared.menus.Menu.{Menu}
+use Rattle.draft_parts.specs.Lists.{plain_drafts}
+use Rattle.menu_builder.specs.Placed.{basis_of}
+use Rattle.menu_builder.specs.NodeNumbers.{above_node}
+use Rattle.menu_builder.specs.OpenMenus.{AreOpenDrafts, lowered_drafts}
+use Rattle.menu_builder.proofs.MenuNumberLemmas.{stands_below}
+use Rattle.menu_builder.proofs.OpenMenuLemmas.{open_menus}
+use Rattle.menu_builder.specs.Menus.{entries_in}
+use Rattle.menu_builder.specs.Nodes.{IsNodeOver, IsListedNode}
+
+-- what is known of the node of a state
+abbrev IsKnown : Data → Spec → Node → Type 0
+IsKnown data_ spec n =
+    IsClosedBehaviour data_.signature (specification_of spec) (stands_for n) × IsClosedNode n
+    × AreTermsOf data_.signature (node_profiles n)
+
+module _ (data_ : Data) (canon : Term → Term) (spec : Spec) (state : State) (node : Node) (is : node ≡ state.node) where
+  pub node_over : (least base : ℕ) → IsWellFormedSignature data_.signature → IsCanon data_ canon → IsSpecOver data_.signature spec
+      → IsStateOf data_.signature spec state → IsClosedNode state.node → above_processes (specification_of spec).processes ≤ least
+      → least ≤ base → above_node node ≤ base → IsNodeOver (basis_of data_ canon spec) base node
+  node_over least base signature is_canon over of_spec closed low wide high = record {
+    signature = signature;
+    is_canon = is_canon;
+    well_formed = over.well_formed;
+    closed = whole.0;
+    given = whole.1;
+    terms = whole.2;
+    apart = (let both : max (above_processes (specification_of spec).processes) (above_node node) ≤ base = omega arith in both);
+  }
+    where
+      whole : IsKnown data_ spec node
+      whole = subst (λ (n : Node). IsKnown data_ spec n) (sym is) (of_spec.closed, closed, of_spec.terms)
+
+  -- the drafts of the node are open drafts of what it stands for
+  pub open_drafts : (base : ℕ) (drafts : List Draft) → IsNodeOver (basis_of data_ canon spec) base node
+      → IsGuarded (specification_of spec).processes → IsListedNode (basis_of data_ canon spec) base node drafts
+      → AreOpenDrafts data_ canon (specification_of spec) (stands_for node) base (plain_drafts drafts)
+  open_drafts base drafts over guarded listed =
+      let low : above (stands_for node) ≤ above_node node = stands_below node in
+      let whole : max (above_processes (specification_of spec).processes) (above_node node) ≤ base = over.apart in
+      let apart : max (above_processes (specification_of spec).processes) (above (stands_for node)) ≤ base = omega arith in
+      record {
+        over = record { signature = over.signature; is_canon = over.is_canon; well_formed = over.well_formed; closed = over.closed };
+        guarded = guarded;
+        apart = apart;
+        listed = listed.drafts;
+      }
+
+  pub drafts_in_order : (base : ℕ) (drafts : List Draft)
+      → AreOpenDrafts data_ canon (specification_of spec) (stands_for node) base (plain_drafts drafts)
+      → Every (IsInOrder data_.signature) (lowered_drafts base (plain_drafts drafts))
+  drafts_in_order base drafts h =
+      open_menus.in_order data_ canon (specification_of spec) (stands_for node) base (plain_drafts drafts) h
+
+  pub menu_exact : (base : ℕ) (drafts : List Draft) (made : List Entry) (menu : Menu)
+      → AreOpenDrafts data_ canon (specification_of spec) (stands_for node) base (plain_drafts drafts)
+      → AllSolveTo canon (lowered_drafts base (plain_drafts drafts)) (map plain_entry made) → menu.entries.items ≡ made
+      → Exact data_ canon (specification_of spec).processes (state_of state) (entries_in menu)
+  menu_exact base drafts made menu h solved e =
+      subst (λ (n : Node). Exact data_ canon (specification_of spec).processes (stands_for n) (entries_in menu)) is
+      (subst (λ (entries : List Entry). Exact data_ canon (specification_of spec).processes (stands_for node) (map plain_entry entries))
+      (sym e)
+      (open_menus.exact data_ canon (specification_of spec) (stands_for node) base (plain_drafts drafts) (map plain_entry made) h solved))

@@ -1,0 +1,114 @@
+//! The menu of a state.
+
+ghost use Rattle.behaviour_semantics.specs.Draft.{draft_with, numbered_from_zero};
+ghost use Rattle.behaviour_semantics.specs.Listing.{AllSolveTo};
+ghost use Rattle.behaviour_semantics.specs.Menu.{Exact};
+ghost use Rattle.behaviour_semantics.specs.WellFormed.{Every};
+ghost use Rattle.behaviour_semantics.specs.DraftOrder.{IsInOrder};
+ghost use Rattle.behaviour_tree.specs.Closed.{IsClosedNode};
+ghost use Rattle.behaviour_tree.specs.DefinitionView.{specification_of};
+ghost use Rattle.behaviour_tree.specs.Over.{IsSpecOver, IsStateOf};
+ghost use Rattle.behaviour_tree.specs.StateView.{state_of};
+ghost use Rattle.draft_parts.specs.Lists.{plain_drafts};
+ghost use Rattle.event_offers.specs.OfferView.{plain_draft, plain_entry};
+ghost use Rattle.event_offers.specs.Offers.{IsEntryOver};
+ghost use Rattle.draft_parts.specs.DraftTerms.{HasTermsOf};
+ghost use Rattle.menu_builder.specs.OpenMenus.{lowered_drafts};
+ghost use Rattle.menu_builder.specs.Menus.{entries_in};
+ghost use Rattle.process_checks.specs.Ranks.{AreRanksOf};
+ghost use Rattle.std.specs.Prelude.{◌≡◌, ◌++◌, IfOk, map, option_to_list};
+ghost use Rattle.term_algebra.specs.Signature.{IsWellFormedSignature, Signature};
+
+use crate::nodes::node_moves;
+use crate::numbers::{above_node, above_processes};
+use behaviour_tree::{Spec, State};
+use event_offers::renaming::Renaming;
+use event_offers::{Draft, Entry, Menu, solve};
+use lotos_base::NoMemory;
+use process_checks::Ranks;
+use sort_terms::Deciding;
+use std::alloc::Global;
+
+/// The exact menu of the state, over the data and the canon of the object: for each shape that
+/// fits, in order, the solved form of its draft.
+pub fn menu<D: Deciding>(
+    alloc: Global,
+    spec: &Spec,
+    ranks: &Ranks,
+    state: &State,
+    decider: &mut D,
+) -> Result<Menu, NoMemory>
+    requires signature { IsWellFormedSignature (D.known_data decider.old).signature }
+    requires over { IsSpecOver (D.known_data decider.old).signature spec.now }
+    requires ranks { AreRanksOf spec.now ranks.now }
+    requires state { IsStateOf (D.known_data decider.old).signature spec.now state.now }
+    requires closed { IsClosedNode state.now.node }
+    ensures exact { IfOk result (λ menu. Exact (D.known_data decider.old) (D.canon decider.old)
+        (specification_of spec.now).processes (state_of state.now) (entries_in menu)) }
+    ensures over { IfOk result
+        (λ menu. Every (IsEntryOver (D.known_data decider.old).signature) menu.entries.items) }
+    ensures same_data { D.known_data decider.new ≡ D.known_data decider.old }
+    ensures same_canon { D.canon decider.new ≡ D.canon decider.old }
+{
+    let node = state.node();
+    let least = above_processes(spec, 0)?;
+    let base = above_node(node, least)?;
+    let drafts = node_moves(alloc, spec, ranks, node, base, decider)?;
+    let entries = solved(drafts, base, decider)?;
+    Ok(Menu::of(entries))
+}
+
+// The drafts with their variables numbered from 0, each solved.
+fn solved<D: Deciding>(
+    drafts: Vec<Draft>,
+    base: u64,
+    decider: &mut D,
+) -> Result<Vec<Entry>, NoMemory>
+    requires terms { Every (HasTermsOf (D.known_data decider.old).signature) drafts.items }
+    requires order { Every (IsInOrder (D.known_data decider.old).signature)
+        (lowered_drafts base (plain_drafts drafts.items)) }
+    ensures solved { IfOk result (λ made. AllSolveTo (D.canon decider.old)
+        (lowered_drafts base (plain_drafts drafts.items)) (map plain_entry made.items)) }
+    ensures over { IfOk result
+        (λ made. Every (IsEntryOver (D.known_data decider.old).signature) made.items) }
+    ensures same_data { D.known_data decider.new ≡ D.known_data decider.old }
+    ensures same_canon { D.canon decider.new ≡ D.canon decider.old }
+{
+    let mut entries = Vec::with_capacity(*drafts.allocator(), drafts.len())?;
+    let mut rest = drafts;
+    rest.reverse();
+    while let Some(draft) = rest.pop() {
+        let entry = solve(lowered(draft, base)?, decider)?;
+        push_solved(&mut entries, entry)?;
+    }
+    Ok(entries)
+}
+
+// The draft with its variables from `base` on numbered from 0.
+fn lowered(draft: Draft, base: u64) -> Result<Draft, NoMemory>
+    ensures same { IfOk result (λ made. plain_draft made
+        ≡ draft_with (numbered_from_zero base) (plain_draft draft)) }
+    ensures over { IfOk result (λ made. (signature : Signature) → HasTermsOf signature draft
+        → HasTermsOf signature made) }
+{
+    let renaming = Renaming::Lowered(base);
+    let label = renaming.label(&draft.label)?;
+    let leaves = renaming.terms(&draft.leaves)?;
+    let conditions = renaming.conditions(&draft.conditions)?;
+    Ok(Draft {
+        shape: draft.shape,
+        label,
+        leaves,
+        conditions,
+    })
+}
+
+// The entries with one more, where there is one.
+fn push_solved(entries: &mut Vec<Entry>, entry: Option<Entry>) -> Result<(), NoMemory>
+    ensures { IfOk result (λ _. entries.new.items ≡ entries.old.items ++ option_to_list entry) }
+{
+    match entry {
+        None => Ok(()),
+        Some(entry) => Ok(entries.push(entry)?),
+    }
+}

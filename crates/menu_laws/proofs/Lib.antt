@@ -1,3 +1,0 @@
-pub mod OpenMenuLemmas
-pub mod ClosedPartLemmas
-pub mod NumberLemmas

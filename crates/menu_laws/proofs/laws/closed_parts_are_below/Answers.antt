@@ -1,5 +1,0 @@
-use Rattle.menu_laws.proofs.ClosedPartLemmas.{closed_parts}
-use Rattle.menu_laws.proofs.laws.closed_parts_are_below.Goals as goal
-
-pub returns : goal.returns
-returns c = closed_parts

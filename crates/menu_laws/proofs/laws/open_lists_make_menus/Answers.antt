@@ -1,5 +1,0 @@
-use Rattle.menu_laws.proofs.OpenMenuLemmas.{open_menus}
-use Rattle.menu_laws.proofs.laws.open_lists_make_menus.Goals as goal
-
-pub returns : goal.returns
-returns c = open_menus

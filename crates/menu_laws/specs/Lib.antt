@@ -1,3 +1,0 @@
-pub mod OpenMenus
-pub mod ClosedParts
-pub mod NodeNumbers

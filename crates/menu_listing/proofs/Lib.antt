@@ -1,4 +1,0 @@
-pub mod NumberLemmas
-pub mod NodeLemmas
-pub mod SolvedLemmas
-pub mod MenuLemmas

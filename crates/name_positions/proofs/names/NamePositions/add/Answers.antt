@@ -1,7 +1,0 @@
-use Rattle.lotos_base.specs.Name.{spelling}
-use Rattle.name_positions.proofs.NameLemmas.{one_more}
-use Rattle.name_positions.proofs.names.NamePositions.add.Goals as goal
-
-pub returns : goal.returns
-returns c = λ names has many key.
-    one_more key (spelling c.args.name.now) names c.args.count _ _ (c.in_ok-add.ensures.added key) (has key) many

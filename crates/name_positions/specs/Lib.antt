@@ -1,2 +1,0 @@
-pub mod PositionOfName
-pub mod NamesView

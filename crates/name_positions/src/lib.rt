@@ -1,6 +1,0 @@
-//! Positions of names in a list, found by a map.
-#![tactic(auto)]
-
-pub mod names;
-
-pub use names::NamePositions;

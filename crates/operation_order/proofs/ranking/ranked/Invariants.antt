@@ -1,6 +1,0 @@
-use Rattle.std.proofs.Common.{◌≡◌, length}
-use Rattle.operation_order.proofs.RankLemmas.{AreRanked}
-use Rattle.operation_order.proofs.ranking.ranked.Given as goal
-
-abbrev pub invariant-loop-j : goal.invariant-loop-j
-invariant-loop-j l = AreRanked l.listing l.ranks.items l.j × (length l.ranks.items ≡ l.fn.count)

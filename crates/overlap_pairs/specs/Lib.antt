@@ -1,4 +1,0 @@
-pub mod TwoSides
-pub mod SidesView
-pub mod OverlapPair
-pub mod Contracted

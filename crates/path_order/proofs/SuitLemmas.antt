@@ -1,0 +1,81 @@
+-- Operations and the items that they suit.
+use Rattle.std.proofs.Common.{◌≡◌, ℕ, zero, suc, ◌+◌, ◌<◌, ◌≤◌, List, [], ◌∷◌, length, get_or, drop, map, refl, ap, sym, ◌∙◌, subst, arith, Bool, true, false, ltb, ltb-true, ltb-false}
+use Rattle.std.specs.Prelude.{◌↔◌, Some, slice_get, IsTrue}
+use Rattle.std.proofs.Math.ListN.{drop_of_length-le}
+use Rattle.std.proofs.Math.Seq.{drop-cons}
+use Rattle.std.proofs.lemmas.List.{length-map}
+use Rattle.std.proofs.lemmas.Option.{same_Some, slice_get_within}
+use Rattle.lotos_base.specs.Name.{spelling}
+use Rattle.lotos_base.specs.declared.names.Name.{Name}
+use Rattle.term_algebra.specs.Names.{folded, AreOneName}
+use Rattle.term_algebra.specs.Signature.{Signature, Sort}
+use Rattle.sort_terms.specs.Operations.{sort_of}
+use Rattle.sort_terms.specs.declared.operations.Sort.{Sort as CodeSort}
+use Rattle.sort_terms.proofs.ScopeLemmas.{member_mapped}
+use Rattle.sort_terms.specs.Reading.{IsSortNamed}
+use Rattle.path_order.specs.Listed.{AreSortsNamed}
+
+-- the sort at the place has the name
+abbrev pub IsNamedIn : List Sort → ℕ → List ℕ → Type 0
+IsNamedIn sorts i name = (s : Sort) × (slice_get sorts i ≡ Some s) × AreOneName s.name name
+
+-- the names of the sorts that are left
+abbrev pub AreLeftNamed : Signature → List ℕ → List Name → ℕ → Type 0
+AreLeftNamed signature sorts names i = AreSortsNamed signature (drop i sorts) (map spelling (drop i names))
+
+opened : {A : Type 0} (xs : List A) (i : ℕ) (x : A) → i < length xs → x ≡ get_or xs i x → drop i xs ≡ x ∷ drop (i + 1) xs
+opened xs i x within is =
+    let next : suc i ≡ i + 1 = omega arith in
+    drop-cons xs i x within ∙ (λ j. sym is j ∷ drop (next j) xs)
+
+pub named_now : (signature : Signature) (sorts : List ℕ) (names : List Name) (i s : ℕ) (name : Name) → i < length sorts
+    → i < length names → s ≡ get_or sorts i s → name ≡ get_or names i name
+    → AreLeftNamed signature sorts names i ↔ (IsSortNamed signature s (spelling name) × AreLeftNamed signature sorts names (i + 1))
+named_now signature sorts names i s name in_sorts in_names s_is name_is =
+    let P = λ (ss : List ℕ) (ns : List Name). AreSortsNamed signature ss (map spelling ns) in
+    let one = opened sorts i s in_sorts s_is in
+    let two = opened names i name in_names name_is in (
+      (λ h. subst (λ (ns : List Name). P (s ∷ drop (i + 1) sorts) ns) two (subst (λ (ss : List ℕ). P ss (drop i names)) one h)),
+      (λ h. subst (λ (ss : List ℕ). P ss (drop i names)) (sym one)
+          (subst (λ (ns : List Name). P (s ∷ drop (i + 1) sorts) ns) (sym two) h)),
+    )
+
+-- at the end
+pub named_all : (signature : Signature) (sorts : List ℕ) (names : List Name) (i : ℕ) → length sorts ≤ i → length names ≤ i
+    → AreLeftNamed signature sorts names i
+named_all signature sorts names i in_sorts in_names =
+    subst (λ (ss : List ℕ). AreSortsNamed signature ss (map spelling (drop i names))) (sym (drop_of_length-le sorts in_sorts))
+    (subst (λ (ns : List Name). AreSortsNamed signature [] (map spelling ns)) (sym (drop_of_length-le names in_names)) tt)
+
+pub lengths_named : (signature : Signature) (sorts : List ℕ) (names : List Name) → AreSortsNamed signature sorts (map spelling names)
+    → length sorts ≡ length names
+lengths_named signature [] [] h = refl
+lengths_named signature [] (name ∷ names) h = absurd h
+lengths_named signature (s ∷ ss) [] h = absurd h
+lengths_named signature (s ∷ ss) (name ∷ names) h = ap (λ (n : ℕ). suc n) (lengths_named signature ss names h.1)
+
+-- ---- the name of a sort
+
+pub sort_named_at : (sorts : List CodeSort) (i : ℕ) (x : CodeSort) (name : List ℕ) (b : Bool) → true ≡ ltb i (length sorts)
+    → x ≡ get_or sorts i x → (IsTrue b ↔ AreOneName (spelling x.name) name) → IsTrue b ↔ IsNamedIn (map sort_of sorts) i name
+sort_named_at sorts i x name b some is same =
+    let at : slice_get (map sort_of sorts) i ≡ Some (sort_of x) =
+    member_mapped sort_of sorts i x (sort_at sorts i x (ltb-true i (length sorts) (sym some)) is) in (
+      (λ t. (sort_of x, at, same.0 t)),
+      (λ there. same.1 (ap (λ (s : Sort). folded s.name) (same_Some (sort_of x) there.0 (sym at ∙ there.1)) ∙ there.2)),
+    )
+  where
+    sort_at : (xs : List CodeSort) (k : ℕ) (y : CodeSort) → k < length xs → y ≡ get_or xs k y → slice_get xs k ≡ Some y
+    sort_at [] k y within e = absurd (omega arith)
+    sort_at (z ∷ zs) zero y within e = ap (λ (s : CodeSort). Some s) (sym e)
+    sort_at (z ∷ zs) (suc k) y within e = sort_at zs k y (omega arith) e
+
+pub sort_named_past : (sorts : List CodeSort) (i : ℕ) (name : List ℕ) → false ≡ ltb i (length sorts)
+    → IsTrue false ↔ IsNamedIn (map sort_of sorts) i name
+sort_named_past sorts i name none = (
+  (λ t. cc),
+  (λ there.
+      let within : i < length (map sort_of sorts) = slice_get_within (map sort_of sorts) i there.0 there.1 in
+      let same : length (map sort_of sorts) ≡ length sorts = length-map sorts sort_of in
+      let past : length sorts ≤ i = ltb-false i (length sorts) (sym none) in absurd (omega (arith, within, same, past))),
+)

@@ -1,0 +1,18 @@
+-- What a fault of an order of operations says.
+use Rattle.std.specs.Prelude.{List}
+use Rattle.lotos_base.specs.Name.{spelling}
+use Rattle.lotos_base.specs.WrittenTerm.{ListedOperation}
+use Rattle.lotos_base.specs.WrittenView.{text_place_of}
+use Rattle.term_algebra.specs.Signature.{Signature}
+use Rattle.path_order.specs.Listing.{IsUnknown, IsTwice, IsFirstWrong}
+use Rattle.path_order.specs.declared.order_fault.OrderFault.{OrderFault}
+use Rattle.path_order.specs.declared.order_fault.OrderFault.TheVariants.{UnknownOperation, TwiceListed, NoMemory}
+
+-- The item with the place and name that the fault tells is the first one with something wrong. Want of memory says
+-- nothing.
+abbrev pub IsOrderFault : Signature → List ListedOperation → OrderFault → Type 0
+IsOrderFault signature items (UnknownOperation place name) =
+    IsFirstWrong signature items (λ k item. IsUnknown signature item) (text_place_of place) (spelling name)
+IsOrderFault signature items (TwiceListed place name) =
+    IsFirstWrong signature items (λ k item. IsTwice signature items k item) (text_place_of place) (spelling name)
+IsOrderFault signature items NoMemory = Unit {0}

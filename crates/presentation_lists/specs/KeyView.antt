@@ -1,7 +1,0 @@
--- The keys of a set of keys.
-use Rattle.std.specs.Prelude.{ℕ, List, map}
-use Rattle.presentation_lists.specs.declared.key_set.KeySet.{KeySet}
-
--- the keys in the order of their numbers
-abbrev pub keys_in : KeySet → List (List ℕ)
-keys_in set = map (λ key. key.items) set.keys.keys

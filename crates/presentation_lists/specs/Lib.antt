@@ -1,3 +1,0 @@
-pub mod KeyView
-pub mod SortListView
-pub mod OperationListView

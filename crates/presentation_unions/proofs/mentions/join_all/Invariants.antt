@@ -1,7 +1,0 @@
-use Rattle.std.proofs.Common.{drop}
-use Rattle.presentation_unions.specs.MentionView.{mentions_of}
-use Rattle.presentation_unions.proofs.MentionLemmas.{IsOnTheWay}
-use Rattle.presentation_unions.proofs.mentions.join_all.Given as goal
-
-abbrev pub invariant-loop-mention : goal.invariant-loop-mention
-invariant-loop-mention l = IsOnTheWay l.union (mentions_of (drop l.mention-index l.mentions)) (mentions_of l.mentions)

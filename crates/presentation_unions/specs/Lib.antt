@@ -1,3 +1,0 @@
-pub mod MentionView
-pub mod UnionMade
-pub mod JoiningView

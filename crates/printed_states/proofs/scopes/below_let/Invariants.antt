@@ -1,9 +1,0 @@
-use Rattle.std.proofs.Common.{◌≡◌, ◌++◌, map, drop}
-use Rattle.behaviour_semantics.specs.Behaviour.{let_variables}
-use Rattle.behaviour_tree.specs.BehaviourView.{let_of, variables_of}
-use Rattle.printed_states.proofs.scopes.below_let.Given as goal
-
-abbrev pub invariant-loop-binding : goal.invariant-loop-binding
-invariant-loop-binding l =
-    variables_of l.made.items ++ let_variables (map let_of (drop l.binding-index l.binding-items))
-    ≡ let_variables (map let_of l.binding-items)

@@ -1,0 +1,16 @@
+//! What is printed of states: closed behaviours on one line (ISO 8807:1989, behaviour expressions).
+#![tactic(auto)]
+
+pub mod behaviours;
+pub mod calls;
+pub mod heads;
+pub mod lists;
+pub mod members;
+pub mod nodes;
+pub mod premisses;
+pub mod scopes;
+pub mod signs;
+pub mod squares;
+
+pub use calls::state_text;
+pub use printed_texts::{label_text, menu_text, term_text};

@@ -1,4 +1,0 @@
-pub mod UnifyTests
-pub mod NumberingTests
-pub mod PairTests
-pub mod PairCaseLemmas

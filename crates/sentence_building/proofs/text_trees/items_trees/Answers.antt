@@ -1,0 +1,40 @@
+use Rattle.std.proofs.Common.{◌≡◌, ◌∙◌, map, ap, sym, subst}
+use Rattle.std.proofs.lemmas.Option.{none-some}
+use Rattle.std.specs.Prelude.{Some, option_map, option_and_then}
+use Rattle.lotos_sentences.specs.Starts.{AreItems}
+use Rattle.syntax_trees.specs.TreeViews.{item_of}
+use Rattle.tree_building.specs.MeaningView.{meaning}
+use Rattle.tree_building.specs.Parts.{items_in}
+use Rattle.sentence_building.specs.LotosGrammar.{IsLotosGrammar}
+use Rattle.sentence_building.proofs.Grammars.{of_types}
+use Rattle.sentence_building.proofs.Meanings.{items_given}
+use Rattle.sentence_building.proofs.text_trees.items_trees.Goals as goal
+
+pub derived_value-requires-clause-lotos : goal.derived_value-requires-clause-lotos
+derived_value-requires-clause-lotos c = subst IsLotosGrammar (sym c.types_grammar-grammar.ensures) of_types
+
+-- the tokens are a sentence, so they have a value
+pub unreachable-requires : goal.unreachable-requires
+unreachable-requires c =
+    let it =
+    items_given c.args.text.now c.args.tokens.now c.args.rows.items c.types_grammar-grammar.result
+    c.in_ok-value.field-0 c.types_grammar-grammar.ensures c.requires c.in_ok-value.ensures in
+    none-some _ (sym (ap (option_map meaning) c.in_default.is) ∙ it.means)
+
+-- and it is the items
+pub unreachable-requires-in_default-built_items : goal.unreachable-requires-in_default-built_items
+unreachable-requires-in_default-built_items c =
+    let it =
+    items_given c.args.text.now c.args.tokens.now c.args.rows.items c.types_grammar-grammar.result
+    c.in_ok-value.field-0 c.types_grammar-grammar.ensures c.requires c.in_ok-value.ensures in
+    none-some _ (c.in_default-built_items.ensures ∙ ap (option_and_then items_in) (ap (option_map meaning) (sym c.in-Some.is) ∙ it.means))
+
+pub returns : goal.returns
+returns c =
+    let it =
+    items_given c.args.text.now c.args.tokens.now c.args.rows.items c.types_grammar-grammar.result
+    c.in_ok-value.field-0 c.types_grammar-grammar.ensures c.requires c.in_ok-value.ensures in
+    let both : Some (map item_of c.in-Some-built_items.items.items) ≡ Some it.found =
+    c.in-Some-built_items.ensures ∙ ap (option_and_then items_in) (ap (option_map meaning) (sym c.in-Some.is) ∙ it.means) in
+    let same : it.found ≡ map item_of c.in-Some-built_items.items.items = cc in
+    subst (AreItems c.args.text.now c.args.tokens.now) same it.is

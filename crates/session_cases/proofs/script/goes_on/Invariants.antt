@@ -1,5 +1,0 @@
-use Rattle.session_cases.specs.Begun.{IsBegun}
-use Rattle.session_cases.proofs.script.goes_on.Given as goal
-
-abbrev pub invariant-loop-turn : goal.invariant-loop-turn
-invariant-loop-turn l = IsBegun l.begun

@@ -1,3 +1,0 @@
-pub mod StepOnceLemmas
-pub mod LineOnceLemmas
-pub mod ReportOnceLemmas

@@ -1,9 +1,0 @@
--- The bindings of a table.
-use Rattle.std.specs.Prelude.{List}
-use Rattle.static_scope.specs.Scope.{Binding}
-use Rattle.static_scope.specs.Bindings.{bindings_of}
-use Rattle.static_scope.specs.declared.bindings.Bindings.{Bindings}
-
--- the innermost first
-abbrev pub bindings_in : Bindings → List Binding
-bindings_in table = bindings_of table.bound.items

@@ -1,0 +1,20 @@
+-- The places that stay on a specification once its names are resolved: those of the names of definitions, of the signs and
+-- of the names of calls, definition by definition in the order of the text.
+use Rattle.std.specs.Prelude.{List, [], ◌∷◌, ◌++◌}
+use Rattle.term_algebra.specs.Equation.{Place}
+use Rattle.syntax_trees.specs.WrittenDefinition.{WrittenInner, WrittenInners, inner_item, process, no_inner, inner_then, inners_of, WrittenSpecification}
+use Rattle.static_scope.specs.Places.{places_written}
+
+abbrev mutual
+  -- of what a `where` declares
+  pub inner_places : WrittenInner → List Place
+  inner_places (inner_item item) = []
+  inner_places (process heading body inner) = (heading.place ∷ places_written body) ++ inners_places inner
+
+  pub inners_places : WrittenInners → List Place
+  inners_places no_inner = []
+  inners_places (inner_then inner others) = inner_places inner ++ inners_places others
+
+-- of a text
+abbrev pub text_places : WrittenSpecification → List Place
+text_places text = (text.heading.place ∷ places_written text.body) ++ inners_places (inners_of text.inner)

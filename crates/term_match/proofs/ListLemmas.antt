@@ -1,0 +1,21 @@
+-- Lists of terms of which one has more members.
+use Rattle.std.proofs.Common.{◌≡◌, ◌≤◌, ◌<◌, ℕ, zero, suc, List, [], ◌∷◌, length, drop, refl, arith}
+use Rattle.sort_terms.specs.TermView.{all_profiled}
+use Rattle.sort_terms.specs.declared.terms.Term.{Term}
+use Rattle.term_match.specs.Disagreement.{clashing, disagreements}
+
+pub more_on_the_left : (xs ys : List Term) (i : ℕ) → i < length xs → length ys ≤ i → i ≤ length ys
+    → disagreements (all_profiled (drop i xs)) (all_profiled (drop i ys)) ≡ clashing
+more_on_the_left [] ys i h k m = absurd (omega (arith, h))
+more_on_the_left (x ∷ xs) [] zero h k m = refl
+more_on_the_left (x ∷ xs) [] (suc i) h k m = absurd (omega (arith, m))
+more_on_the_left (x ∷ xs) (y ∷ ys) zero h k m = absurd (omega (arith, k))
+more_on_the_left (x ∷ xs) (y ∷ ys) (suc i) h k m = more_on_the_left xs ys i (omega (arith, h)) (omega (arith, k)) (omega (arith, m))
+
+pub more_on_the_right : (xs ys : List Term) (i : ℕ) → length xs ≤ i → i ≤ length xs → i < length ys
+    → disagreements (all_profiled (drop i xs)) (all_profiled (drop i ys)) ≡ clashing
+more_on_the_right xs [] i h m k = absurd (omega (arith, k))
+more_on_the_right [] (y ∷ ys) zero h m k = refl
+more_on_the_right [] (y ∷ ys) (suc i) h m k = absurd (omega (arith, m))
+more_on_the_right (x ∷ xs) (y ∷ ys) zero h m k = absurd (omega (arith, h))
+more_on_the_right (x ∷ xs) (y ∷ ys) (suc i) h m k = more_on_the_right xs ys i (omega (arith, h)) (omega (arith, m)) (omega (arith, k))

@@ -1,0 +1,10 @@
+use Rattle.std.proofs.Common.{◌≡◌, drop}
+use Rattle.rewriting_theory.specs.Numbering.{all_variable_numbers}
+use Rattle.sort_terms.specs.TermView.{terms_of}
+use Rattle.term_match.specs.Appearance.{noted}
+use Rattle.term_match.proofs.noting.+noting.Given as goal
+
+abbrev pub invariant-note_all-loop-term : goal.invariant-note_all-loop-term
+invariant-note_all-loop-term l =
+    noted l.fn.seen.items (all_variable_numbers (terms_of l.term-items))
+    ≡ noted l.seen.items (all_variable_numbers (terms_of (drop l.term-index l.term-items)))

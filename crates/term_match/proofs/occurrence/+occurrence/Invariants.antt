@@ -1,0 +1,8 @@
+use Rattle.std.proofs.Common.{◌≡◌, drop}
+use Rattle.sort_terms.specs.TermView.{all_profiled}
+use Rattle.term_match.specs.Disagreement.{have_number}
+use Rattle.term_match.proofs.occurrence.+occurrence.Given as goal
+
+abbrev pub invariant-occurs_among-loop-term : goal.invariant-occurs_among-loop-term
+invariant-occurs_among-loop-term l =
+    have_number l.number (all_profiled l.term-items) ≡ have_number l.number (all_profiled (drop l.term-index l.term-items))

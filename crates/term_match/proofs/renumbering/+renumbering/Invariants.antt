@@ -1,0 +1,10 @@
+use Rattle.std.proofs.Common.{◌≡◌, take}
+use Rattle.sort_terms.specs.TermView.{all_profiled}
+use Rattle.term_match.specs.ProfiledInstance.{profiled_instances}
+use Rattle.term_match.specs.Renumbering.{new_number, profiled_renaming}
+use Rattle.term_match.proofs.renumbering.+renumbering.Given as goal
+
+abbrev pub invariant-renumbered_terms-loop-term : goal.invariant-renumbered_terms-loop-term
+invariant-renumbered_terms-loop-term l =
+    all_profiled l.made.items ≡ profiled_instances (profiled_renaming (new_number l.numbers))
+    (all_profiled (take l.term-index l.term-items))

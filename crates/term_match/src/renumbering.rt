@@ -1,0 +1,72 @@
+//! Terms with other variable numbers.
+
+ghost use Rattle.term_match.specs.Renumbering.{new_number, profiled_renaming};
+ghost use Rattle.sort_terms.specs.SortedView.{profiled_in, term_in};
+ghost use Rattle.sort_terms.specs.TermView.{all_profiled, profiled_of};
+ghost use Rattle.std.specs.Prelude.{◌≡◌, IfOk};
+ghost use Rattle.term_algebra.specs.Substitution.{renaming, substituted};
+ghost use Rattle.term_match.specs.ProfiledInstance.{profiled_instance, profiled_instances};
+
+use lotos_base::NoMemory;
+use sort_terms::{Sorted, Term};
+
+/// The term with new numbers for its variables: a pair has an old number and its new one. A variable
+/// whose number has no pair keeps it.
+pub fn renumbered(term: &Sorted, numbers: &[(u64, u64)]) -> Result<Sorted, NoMemory>
+    ensures plain { IfOk result (λ t. term_in t
+        ≡ substituted (renaming (new_number numbers.now)) (term_in term.now)) }
+    ensures profiles { IfOk result (λ t. profiled_in t
+        ≡ profiled_instance (profiled_renaming (new_number numbers.now)) (profiled_in term.now)) }
+{
+    Ok(Sorted::of(renumbered_term(term.term(), numbers)?))
+}
+
+// The term with new numbers.
+#[cycle(renumbering)]
+fn renumbered_term(term: &Term, numbers: &[(u64, u64)]) -> Result<Term, NoMemory>
+    ensures { IfOk result (λ t. profiled_of t
+        ≡ profiled_instance (profiled_renaming (new_number numbers.now)) (profiled_of term.now)) }
+{
+    match term {
+        Term::Var { number, sort } => Ok(Term::Var {
+            number: number_for(*number, *sort, numbers),
+            sort: *sort,
+        }),
+        Term::Node {
+            op,
+            profile,
+            arguments,
+        } => Ok(Term::Node {
+            op: *op,
+            profile: profile.clone()?,
+            arguments: renumbered_terms(arguments, numbers)?,
+        }),
+    }
+}
+
+// Each term of the list with new numbers.
+#[cycle(renumbering)]
+fn renumbered_terms(terms: &Vec<Term>, numbers: &[(u64, u64)]) -> Result<Vec<Term>, NoMemory>
+    ensures { IfOk result (λ ts. all_profiled ts.items
+        ≡ profiled_instances (profiled_renaming (new_number numbers.now))
+        (all_profiled terms.now.items)) }
+{
+    let mut made = Vec::with_capacity(*terms.allocator(), terms.len())?;
+    for term in terms {
+        made.push(renumbered_term(term, numbers)?)?;
+    }
+    Ok(made)
+}
+
+// The new number of the variable with this number and sort.
+fn number_for(number: u64, sort: u32, numbers: &[(u64, u64)]) -> u64
+    ensures { result ≡ new_number numbers.now number sort }
+{
+    for (known, new) in numbers {
+        if *known == number {
+            return *new;
+        }
+    }
+    let _ = sort;
+    number
+}

@@ -1,6 +1,0 @@
-use Rattle.std.proofs.Common.{◌≡◌, drop}
-use Rattle.term_algebra.specs.Substitution.{is_listed}
-use Rattle.term_numbers.proofs.noting.listed.Given as goal
-
-abbrev pub invariant-loop-known : goal.invariant-loop-known
-invariant-loop-known l = is_listed l.numbers l.number ≡ is_listed (drop l.known-index l.numbers) l.number

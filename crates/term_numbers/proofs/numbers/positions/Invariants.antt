@@ -1,6 +1,0 @@
-use Rattle.std.proofs.Common.{◌≡◌, ◌++◌, drop}
-use Rattle.term_numbers.specs.Appearance.{counted}
-use Rattle.term_numbers.proofs.numbers.positions.Given as goal
-
-abbrev pub invariant-loop-i : goal.invariant-loop-i
-invariant-loop-i l = l.made.items ++ counted l.i (drop l.i l.seen) ≡ counted 0 l.seen

@@ -1,3 +1,0 @@
-pub mod Appearance
-pub mod Renumbering
-pub mod NewNumbers

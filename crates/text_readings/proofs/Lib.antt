@@ -1,9 +1,0 @@
-pub mod NameTokens
-pub mod CutPieces
-pub mod PartsOfText
-pub mod PrintedTerms
-pub mod TermPhrases
-pub mod DepthLemmas
-pub mod ReadBackLemmas
-pub mod PlainNames
-pub mod SampleLemmas

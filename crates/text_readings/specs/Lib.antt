@@ -1,5 +1,0 @@
-pub mod TextNames
-pub mod TermDepth
-pub mod ReadBack
-pub mod ReadBackLaws
-pub mod SampleTexts

@@ -1,4 +1,0 @@
-//! The texts of ground terms, read back.
-#![tactic(auto)]
-
-pub mod laws;

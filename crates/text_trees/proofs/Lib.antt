@@ -1,2 +1,0 @@
-pub mod Grammars
-pub mod Meanings

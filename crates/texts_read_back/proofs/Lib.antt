@@ -1,0 +1,11 @@
+pub mod NameTokens
+pub mod CutPieces
+pub mod PartsOfText
+pub mod PrintedTerms
+pub mod TermPhrases
+pub mod DepthLemmas
+pub mod ReadBackLemmas
+pub mod PlainNames
+pub mod SampleLemmas
+pub mod WrittenLemmas
+pub mod TraceLemmas

@@ -1,4 +1,0 @@
-pub mod FirstsLemmas
-pub mod ReversedLists
-pub mod TreeDepths
-pub mod Groupings

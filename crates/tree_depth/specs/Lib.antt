@@ -1,4 +1,0 @@
-pub mod Firsts
-pub mod TreeFirsts
-pub mod DepthLaws
-pub mod FirstsView

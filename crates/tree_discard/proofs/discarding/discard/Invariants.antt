@@ -1,5 +1,0 @@
-use Rattle.tree_discard.specs.Counting.{declared_in}
-use Rattle.tree_discard.proofs.discarding.discard.Given as goal
-
-abbrev pub decreases-loop-last : goal.decreases-loop-last
-decreases-loop-last l = declared_in l.left.items

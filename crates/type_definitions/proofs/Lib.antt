@@ -1,0 +1,4 @@
+pub mod WithNewLemmas
+pub mod ImageLemmas
+pub mod HoldsLemmas
+pub mod WalkLemmas

@@ -1,0 +1,11 @@
+use Rattle.std.proofs.Common.{◌≡◌, drop}
+use Rattle.std.specs.Prelude.{nat_eq}
+use Rattle.sort_terms.specs.TermView.{terms_of}
+use Rattle.type_definitions.specs.Presentation.{with_new}
+use Rattle.type_definitions.specs.DeclaredEquations.{variable_numbers_among}
+use Rattle.type_equations.proofs.collecting.+collecting.Given as goal
+
+abbrev pub invariant-collect_all-loop-term : goal.invariant-collect_all-loop-term
+invariant-collect_all-loop-term l =
+    with_new nat_eq l.order.keys (variable_numbers_among (terms_of (drop l.term-index l.term-items)))
+    ≡ with_new nat_eq l.fn.order.keys (variable_numbers_among (terms_of l.term-items))

@@ -1,2 +1,0 @@
-pub mod HoldsLemmas
-pub mod WalkLemmas

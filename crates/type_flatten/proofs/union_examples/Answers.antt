@@ -1,5 +1,0 @@
-use Rattle.std.proofs.Common.{refl}
-use Rattle.type_flatten.proofs.union_examples.Goals as goal
-
-pub returns : goal.returns
-returns c = record { union = refl; none = refl; clash = refl }

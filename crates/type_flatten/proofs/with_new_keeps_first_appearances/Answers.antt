@@ -1,5 +1,0 @@
-use Rattle.type_flatten.proofs.WithNewLemmas.{first_appearances}
-use Rattle.type_flatten.proofs.with_new_keeps_first_appearances.Goals as goal
-
-pub returns : goal.returns
-returns c = first_appearances

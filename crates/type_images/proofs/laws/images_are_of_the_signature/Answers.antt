@@ -1,5 +1,0 @@
-use Rattle.type_images.proofs.ImageLemmas.{image_of_signature}
-use Rattle.type_images.proofs.laws.images_are_of_the_signature.Goals as goal
-
-pub returns : goal.returns
-returns c = image_of_signature

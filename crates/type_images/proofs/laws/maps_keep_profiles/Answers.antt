@@ -1,5 +1,0 @@
-use Rattle.type_images.proofs.ImageLemmas.{keeps_profiles}
-use Rattle.type_images.proofs.laws.maps_keep_profiles.Goals as goal
-
-pub returns : goal.returns
-returns c = keeps_profiles

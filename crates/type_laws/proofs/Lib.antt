@@ -1,0 +1,14 @@
+pub mod ContainmentLemmas
+pub mod OneToOneLemmas
+pub mod UnionBoundLemmas
+pub mod ContributionLemmas
+pub mod RenamingLemmas
+pub mod ActualisationLemmas
+pub mod UnionsFine
+pub mod DeclarationsFine
+pub mod EquationsFine
+pub mod ActualisationsFine
+pub mod TypesFine
+pub mod OneOrder
+pub mod OneOutcome
+pub mod OneReading

@@ -1,0 +1,7 @@
+pub mod UnionSignatures
+pub mod UnionData
+pub mod UnionLemmas
+pub mod JoinLemmas
+pub mod JoinSteps
+pub mod MentionLemmas
+pub mod PresentedLemmas

@@ -1,0 +1,4 @@
+pub mod MentionView
+pub mod UnionMade
+pub mod JoiningView
+pub mod PresentedView

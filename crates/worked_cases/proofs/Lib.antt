@@ -1,0 +1,13 @@
+pub mod UnifyTests
+pub mod NumberingTests
+pub mod PairTests
+pub mod PairCaseLemmas
+pub mod SampleOperations
+pub mod SampleCanon
+pub mod SampleSignature
+pub mod TermTests
+pub mod WellFormedTests
+pub mod EquationTests
+pub mod ShownMenus
+pub mod CaseLemmas
+pub mod MenuCaseLemmas

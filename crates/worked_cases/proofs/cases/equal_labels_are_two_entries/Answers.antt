@@ -1,0 +1,10 @@
+use Rattle.std.proofs.Common.{refl}
+use Rattle.behaviour_semantics.specs.Solving.{settled}
+use Rattle.worked_cases.proofs.ShownMenus.{menu, steps}
+use Rattle.worked_cases.proofs.cases.equal_labels_are_two_entries.Goals as goal
+
+pub returns : goal.returns
+returns c = record {
+  menu = menu _ _ 9 _ refl refl refl (settled _ refl refl, (settled _ refl refl, (settled _ refl refl, tt)));
+  step = steps _ _ _ _ _ _ _ _ refl refl refl;
+}

@@ -1,0 +1,14 @@
+use Rattle.std.proofs.Common.{refl}
+use Rattle.behaviour_semantics.specs.Solving.{settled}
+use Rattle.worked_cases.proofs.ShownMenus.{menu, steps}
+use Rattle.worked_cases.proofs.value_cases.parameters_get_their_values.Goals as goal
+
+pub returns : goal.returns
+returns c = record {
+  menu = menu _ _ 9 _ refl refl refl (settled _ refl refl, tt);
+  step = steps _ _ _ _ _ _ _ _ refl refl refl;
+  next = menu _ _ 9 _ refl refl refl (settled _ refl refl, tt);
+  two_menu = menu _ _ 9 _ refl refl refl (settled _ refl refl, tt);
+  below_let_menu = menu _ _ 9 _ refl refl refl (settled _ refl refl, tt);
+  below_let = steps _ _ _ _ _ _ _ _ refl refl refl;
+}

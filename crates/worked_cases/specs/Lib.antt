@@ -1,0 +1,16 @@
+pub mod Samples
+pub mod PairCases
+pub mod BehaviourSamples
+pub mod SampleLaws
+pub mod Showing
+pub mod OfferCases
+pub mod FormCases
+pub mod OrderCases
+pub mod MenuCases
+pub mod TableCases
+pub mod ValueCases
+pub mod SolvingCases
+pub mod ComparisonCases
+pub mod WellFormedCases
+pub mod FaultCases
+pub mod DraftCases

@@ -1,0 +1,13 @@
+//! Worked cases of rewriting and of the dynamic semantics of behaviours, computed from the
+//! definitions. Nothing stands on this crate.
+#![tactic(auto)]
+
+pub mod cases;
+pub mod comparison_cases;
+pub mod draft_cases;
+pub mod fault_cases;
+pub mod pair_cases;
+pub mod solving_cases;
+pub mod table_cases;
+pub mod value_cases;
+pub mod well_formed_cases;

@@ -1,2 +1,0 @@
-pub mod WrittenAs
-pub mod WrittenLaws
