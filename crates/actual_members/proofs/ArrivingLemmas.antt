@@ -4,7 +4,7 @@ use Rattle.std.specs.Prelude.{Option, Some, None, ◌||◌, nat_lt, slice_get, s
 use Rattle.std.specs.List.{list_any}
 use Rattle.std.proofs.lemmas.List.{append-nil}
 use Rattle.std.proofs.lemmas.Option.{none-some}
-use Rattle.term_algebra.specs.Equation.{Place}
+use Rattle.lotos_base.specs.Equation.{Place}
 use Rattle.sort_terms.specs.WellFormedTest.{all_differ}
 use Rattle.type_presentations.proofs.KeptLemmas.{added_is_there, first_stays}
 use Rattle.type_definitions.specs.TypeFault.{TypeFault, first_fault, too_large}

@@ -7,7 +7,7 @@ use Rattle.std.proofs.lemmas.List.{length-map}
 use Rattle.lotos_base.specs.Name.{spelling}
 use Rattle.lotos_base.specs.WrittenTerm.{PlacedName}
 use Rattle.lotos_base.specs.WrittenView.{placed_name_of}
-use Rattle.term_algebra.specs.Signature.{Sort, Operation}
+use Rattle.lotos_base.specs.Signature.{Sort, Operation}
 use Rattle.syntax_trees.specs.WrittenItem.{WrittenPair}
 use Rattle.sort_terms.specs.ReadingOutcome.{one_name}
 use Rattle.sort_terms.specs.WellFormedTest.{all_differ}

@@ -6,7 +6,7 @@ use Rattle.std.specs.Option.{option_map}
 use Rattle.std.proofs.lemmas.List.{length-map}
 use Rattle.std.proofs.lemmas.Option.{none-some, same_Some}
 use Rattle.lotos_base.specs.WrittenTerm.{PlacedName}
-use Rattle.term_algebra.specs.Signature.{Sort, Operation}
+use Rattle.lotos_base.specs.Signature.{Sort, Operation}
 use Rattle.syntax_trees.specs.TreeViews.{pair_of}
 use Rattle.syntax_trees.specs.declared.items.PairText.{PairText}
 use Rattle.syntax_trees.specs.WrittenItem.{WrittenPair}

@@ -9,7 +9,7 @@ use Rattle.std.proofs.lemmas.Bool.{and_parts, ltb-true, ltb-false}
 use Rattle.std.proofs.lemmas.List.{append-nil, map-append}
 use Rattle.std.proofs.lemmas.List.Folds.{list_any-append}
 use Rattle.std.proofs.lemmas.Option.{none-some, same_Some}
-use Rattle.term_algebra.specs.Signature.{Operation, Form}
+use Rattle.lotos_base.specs.Signature.{Operation, Form}
 use Rattle.syntax_trees.specs.WrittenItem.{WrittenPair}
 use Rattle.sort_terms.specs.Operations.{operation_of}
 use Rattle.sort_terms.specs.declared.operations.Op.{Op as CodeOp}

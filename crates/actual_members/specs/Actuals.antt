@@ -1,7 +1,7 @@
 -- The numbers of the actual sorts and operations, by the numbers of the formal ones in the base.
 use Rattle.std.specs.Prelude.{◌≡◌, ℕ, suc, Bool, true, false, not, ◌||◌, List, [], ◌∷◌, map, Option, None, Some, if◌then◌else◌}
 use Rattle.lotos_base.specs.WrittenTerm.{PlacedName}
-use Rattle.term_algebra.specs.Signature.{Sort, Operation, Form}
+use Rattle.lotos_base.specs.Signature.{Sort, Operation, Form}
 use Rattle.syntax_trees.specs.WrittenItem.{WrittenPair, WrittenPairs}
 use Rattle.sort_terms.specs.ReadingOutcome.{is_sort_name}
 use Rattle.type_definitions.specs.TypeFault.{TypeFault, fault_if}

@@ -1,6 +1,6 @@
 -- What came in of the sorts and operations of a base.
 use Rattle.std.specs.Prelude.{◌≡◌, ℕ, true, None, map}
-use Rattle.term_algebra.specs.Signature.{Sort, Operation}
+use Rattle.lotos_base.specs.Signature.{Sort, Operation}
 use Rattle.sort_terms.specs.WellFormedTest.{all_differ, are_one_operation, are_one_sort}
 use Rattle.type_definitions.specs.TypeFault.{double_operation, double_sort, too_large}
 use Rattle.type_definitions.specs.Presentation.{is_same_operation, is_same_sort}

@@ -5,13 +5,11 @@ use Rattle.lotos_base.specs.WrittenTerm.{PlacedName}
 use Rattle.lotos_base.specs.WrittenView.{placed_name_of}
 use Rattle.lotos_base.specs.declared.names.Name.{Name}
 use Rattle.lotos_base.specs.declared.places.Place.{Place as CodePlace}
-use Rattle.term_algebra.specs.Equation.{Place}
-use Rattle.term_algebra.specs.Signature.{Sort, Operation}
+use Rattle.lotos_base.specs.Equation.{Place}
+use Rattle.lotos_base.specs.Signature.{Sort, Operation}
 use Rattle.sort_terms.specs.WellFormedTest.{all_differ}
-use Rattle.type_presentations.specs.SortListView.{sorts_in}
-use Rattle.type_presentations.specs.OperationListView.{operations_in}
-use Rattle.type_presentations.specs.declared.sort_list.SortList.{SortList}
-use Rattle.type_presentations.specs.declared.operation_list.OperationList.{OperationList}
+use Rattle.type_presentations.specs.SortListView.{SortList, sorts_in}
+use Rattle.type_presentations.specs.OperationListView.{OperationList, operations_in}
 use Rattle.type_definitions.specs.Presentation.{first_position, presentation_limit, with_new}
 use Rattle.type_definitions.specs.ActualisationFaults.{Coming}
 use Rattle.actual_members.specs.Condensed.{Kind, place_of_pair}

@@ -1,7 +1,7 @@
 -- What comes in, condensed to one member of each kind, with the pair that made it first.
 use Rattle.std.specs.Prelude.{Bool, not, ◌&&◌, ◌||◌, List, [], ◌∷◌, map, Option, None, Some, if◌then◌else◌}
-use Rattle.term_algebra.specs.Signature.{Sort, Operation}
-use Rattle.term_algebra.specs.Equation.{Place}
+use Rattle.lotos_base.specs.Signature.{Sort, Operation}
+use Rattle.lotos_base.specs.Equation.{Place}
 use Rattle.syntax_trees.specs.WrittenItem.{WrittenPair}
 use Rattle.sort_terms.specs.ReadingOutcome.{one_name}
 use Rattle.sort_terms.specs.WellFormedTest.{are_one_sort, are_one_operation}

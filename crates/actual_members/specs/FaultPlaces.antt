@@ -1,7 +1,7 @@
 -- Where the faults of members stand that come in, and which of them is kept.
 use Rattle.std.specs.Prelude.{ℕ, Bool, List, Option, None, Some, if◌then◌else◌}
 use Rattle.lotos_base.specs.WrittenTerm.{PlacedName}
-use Rattle.term_algebra.specs.Equation.{Place}
+use Rattle.lotos_base.specs.Equation.{Place}
 use Rattle.syntax_trees.specs.WrittenItem.{WrittenPair}
 use Rattle.type_definitions.specs.TypeFault.{TypeFault}
 

@@ -9,3 +9,4 @@ pub mod Condensed
 pub mod CondensedLaws
 pub mod Noting
 pub mod MakersView
+pub mod HandedOn

@@ -3,7 +3,7 @@ use Rattle.std.specs.Prelude.{List, Option, map}
 use Rattle.std.specs.Option.{option_map}
 use Rattle.lotos_base.specs.WrittenView.{text_place_of}
 use Rattle.lotos_base.specs.declared.places.Place.{Place as CodePlace}
-use Rattle.term_algebra.specs.Equation.{Place}
+use Rattle.lotos_base.specs.Equation.{Place}
 use Rattle.actual_members.specs.declared.makers.Makers.{Makers}
 
 -- the place, if there is one

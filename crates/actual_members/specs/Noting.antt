@@ -1,6 +1,6 @@
 -- The places of the pairs that made members, by the members' numbers.
 use Rattle.std.specs.Prelude.{ℕ, zero, suc, Bool, false, not, List, [], ◌∷◌, Option, None, Some}
-use Rattle.term_algebra.specs.Equation.{Place}
+use Rattle.lotos_base.specs.Equation.{Place}
 use Rattle.type_definitions.specs.Presentation.{is_same_place}
 
 -- as many members, none of which a pair made

@@ -1,7 +1,7 @@
 -- The operations that are found by name, form and profile.
 use Rattle.std.specs.Prelude.{◌≡◌, ◌<◌, ◌^◌, true, List, [], length, map}
 use Rattle.std.specs.Str.{bytes_eq}
-use Rattle.term_algebra.specs.Signature.{Operation}
+use Rattle.lotos_base.specs.Signature.{Operation}
 use Rattle.sort_terms.specs.WellFormedTest.{all_differ, are_one_operation}
 use Rattle.type_definitions.specs.Presentation.{with_new}
 use Rattle.type_presentations.specs.Keys.{profile_key}

@@ -1,6 +1,6 @@
 -- The parts of an actualisation as the code has them, for what comes in.
 use Rattle.std.specs.Prelude.{◌≡◌, ℕ, List, Option, map}
-use Rattle.term_algebra.specs.Signature.{Sort, Operation}
+use Rattle.lotos_base.specs.Signature.{Sort, Operation}
 use Rattle.lotos_base.specs.Name.{spelling}
 use Rattle.lotos_base.specs.WrittenView.{placed_name_of}
 use Rattle.type_presentations.specs.NamesView.{HasNames}

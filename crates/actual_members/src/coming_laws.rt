@@ -3,7 +3,7 @@
 
 ghost use Rattle.actual_members.specs.Condensed.{operation_kind, sort_kind};
 ghost use Rattle.actual_members.specs.CondensedLaws.{TellsClashes};
-ghost use Rattle.term_algebra.specs.Signature.{Operation, Sort};
+ghost use Rattle.lotos_base.specs.Signature.{Operation, Sort};
 
 /// Whether a sort or an operation that comes in clashes with what came before is told by one
 /// member of each kind, with the first pair that made it.

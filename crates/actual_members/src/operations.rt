@@ -27,11 +27,9 @@ ghost use Rattle.std.specs.Prelude.{
   Some,
   length,
   map,
-  nat_lt,
 };
 ghost use Rattle.syntax_trees.specs.TreeViews.{pair_of};
 ghost use Rattle.type_definitions.specs.Actualisation.{Actualising};
-ghost use Rattle.type_definitions.specs.Presentation.{presentation_limit};
 ghost use Rattle.type_definitions.specs.Renaming.{operation_under};
 ghost use Rattle.type_definitions.specs.Images.{operation_image};
 ghost use Rattle.type_definitions.specs.ProfiledImage.{number_in};
@@ -46,9 +44,6 @@ use std::rc::Rc;
 use syntax_trees::PairText;
 use type_definitions::op_image;
 use type_presentations::{OperationList, Presentation};
-
-// How many operations a presentation has at most.
-const LIMIT: usize = 65_536;
 
 /// Brings the operations of the base into those of the actual types, where the new number of each
 /// sort and the actual one of each formal operation are given: the images of the others stand
@@ -167,8 +162,9 @@ fn bring_image(
 {
     let pair = source.renamer(alloc, &op.name)?;
     let image = image_of_op(alloc, source.type_name, pair, sorts, op)?;
-    let added = list.add(alloc, image)?;
-    let is_too_many = is_past_limit(list);
+    let shared = Rc::new(alloc, image)?;
+    let added = list.add(alloc, shared)?;
+    let is_too_many = list.is_past_limit();
     came.note(
         alloc,
         added.number,
@@ -178,13 +174,6 @@ fn bring_image(
         source.mention,
     )?;
     Ok(())
-}
-
-// Whether there are more operations than a presentation has at most.
-fn is_past_limit(list: &OperationList) -> bool
-    ensures { result ≡ nat_lt presentation_limit (length (operations_in list.now)) }
-{
-    LIMIT < list.ops().len()
 }
 
 // The operation over the new sorts, under its pair, if there is one.

@@ -13,7 +13,7 @@ ghost use Rattle.std.specs.Prelude.{
   MatchOption,
   map,
 };
-ghost use Rattle.term_algebra.specs.Signature.{Operation};
+ghost use Rattle.lotos_base.specs.Signature.{Operation};
 ghost use Rattle.type_definitions.specs.Presentation.{first_position};
 
 use indexmap::IndexSet;

@@ -26,11 +26,9 @@ ghost use Rattle.std.specs.Prelude.{
   OnOk,
   length,
   map,
-  nat_lt,
 };
 ghost use Rattle.syntax_trees.specs.TreeViews.{pair_of};
 ghost use Rattle.type_definitions.specs.Actualisation.{Actualising};
-ghost use Rattle.type_definitions.specs.Presentation.{presentation_limit};
 ghost use Rattle.type_definitions.specs.Renaming.{sort_under};
 
 use crate::actuals::actual_at;
@@ -41,9 +39,6 @@ use sort_terms::Sort;
 use std::alloc::Global;
 use syntax_trees::PairText;
 use type_presentations::{Presentation, SortList};
-
-// How many sorts a presentation has at most.
-const LIMIT: usize = 65_536;
 
 /// Brings the sorts of the base into those of the actual types, where the actual one of each formal
 /// sort is given: the images of the others stand behind the actual ones, each once. The first clash
@@ -146,8 +141,8 @@ fn bring_image(
 {
     let pair = source.renamer(alloc, &sort.name)?;
     let image = image_of_sort(alloc, source.type_name, pair, sort)?;
-    let added = list.add(alloc, &image)?;
-    let is_too_many = is_past_limit(list);
+    let added = list.add(alloc, image)?;
+    let is_too_many = list.is_past_limit();
     came.note(
         alloc,
         added.number,
@@ -157,13 +152,6 @@ fn bring_image(
         source.mention,
     )?;
     Ok(())
-}
-
-// Whether there are more sorts than a presentation has at most.
-fn is_past_limit(list: &SortList) -> bool
-    ensures { result ≡ nat_lt presentation_limit (length (sorts_in list.now)) }
-{
-    LIMIT < list.sorts().len()
 }
 
 // The sort under its pair, if there is one.

@@ -2,8 +2,8 @@
 
 ghost use Rattle.std.specs.Prelude.{◌≡◌, ◌++◌, ◌∷◌, IfOk, List, Some, map, option_map, reverse};
 ghost use Rattle.lotos_base.specs.WrittenView.{placed_name_of, text_place_of};
-ghost use Rattle.lotos_sentences.specs.Behaviours.{gate_choices_among};
-ghost use Rattle.lotos_sentences.specs.Names.{variables_of_sort};
+ghost use Rattle.lotos_rows.specs.Behaviours.{gate_choices_among};
+ghost use Rattle.lotos_rows.specs.Names.{variables_of_sort};
 ghost use Rattle.syntax_trees.specs.TreeViews.{behaviour_of, gate_choice_of, variable_of};
 ghost use Rattle.syntax_trees.specs.WrittenBehaviour as plain;
 ghost use Rattle.ll_engine.specs.Run.{from_last};

@@ -2,8 +2,8 @@
 
 ghost use Rattle.std.specs.Prelude.{◌≡◌, ◌++◌, ◌∷◌, [], IfOk, OnOk, Some, map, option_map};
 ghost use Rattle.lotos_base.specs.WrittenView.{placed_name_of};
-ghost use Rattle.lotos_sentences.specs.Behaviours.{gate_choices_among};
-ghost use Rattle.lotos_sentences.specs.Names.{variables_of_sort};
+ghost use Rattle.lotos_rows.specs.Behaviours.{gate_choices_among};
+ghost use Rattle.lotos_rows.specs.Names.{variables_of_sort};
 ghost use Rattle.syntax_trees.specs.TreeViews.{gate_choice_of, offer_of, sign_of};
 ghost use Rattle.syntax_trees.specs.WrittenBehaviour.{offer_variable};
 ghost use Rattle.ll_engine.specs.Run.{from_last};

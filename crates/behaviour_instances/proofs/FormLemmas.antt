@@ -1,6 +1,6 @@
 -- The parts of an instance: what the environment has to suit in them, and what they are.
 use Rattle.std.proofs.Common.{◌≡◌, ℕ, List, ap, ◌∙◌, subst}
-use Rattle.term_algebra.specs.Substitution.{Substitution, binding, without}
+use Rattle.lotos_base.specs.Substitution.{Substitution, binding, without}
 use Rattle.behaviour_semantics.specs.Replacement.{with_values}
 use Rattle.sort_terms.specs.declared.sorted.Sorted.{Sorted}
 use Rattle.term_match.specs.ProfiledInstance.{ProfiledSubstitution, profiled_binding}

@@ -1,6 +1,6 @@
 -- What occurs in a member of a list occurs in the list.
 use Rattle.std.proofs.Common.{◌≡◌, ◌<◌, inl, inr, ℕ, List, [], ◌∷◌, map, length, get_or}
-use Rattle.term_algebra.specs.Sorting.{Occurs}
+use Rattle.lotos_base.specs.Sorting.{Occurs}
 use Rattle.behaviour_semantics.specs.Behaviour.{let_terms}
 use Rattle.sort_terms.specs.SortedView.{term_in}
 use Rattle.sort_terms.specs.declared.equations.Variable.{Variable}

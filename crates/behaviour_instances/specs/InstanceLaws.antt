@@ -1,6 +1,6 @@
 -- Laws of instances of behaviours: their terms are of a signature, and the environment of a state suits its behaviour.
 use Rattle.std.specs.Prelude.{ℕ, List, map}
-use Rattle.term_algebra.specs.Signature.{Signature}
+use Rattle.lotos_base.specs.Signature.{Signature}
 use Rattle.behaviour_semantics.specs.Behaviour.{Behaviour}
 use Rattle.sort_terms.specs.declared.sorted.Sorted.{Sorted}
 use Rattle.term_match.specs.ProfiledInstance.{profiled_binding}

@@ -1,8 +1,8 @@
 -- The terms of an instance of a behaviour, with their profiles.
 use Rattle.std.specs.Prelude.{List, [], ◌∷◌, ◌++◌, map, Option}
-use Rattle.term_algebra.specs.Term.{Term}
-use Rattle.term_algebra.specs.Equation as equation
-use Rattle.term_algebra.specs.Substitution.{Substitution, substituted}
+use Rattle.lotos_base.specs.Term.{Term}
+use Rattle.lotos_base.specs.Equation as equation
+use Rattle.lotos_base.specs.Substitution.{Substitution, substituted}
 use Rattle.behaviour_semantics.specs.Behaviour.{asked_variables, let_variables, numbers_of}
 use Rattle.sort_terms.specs.ProfiledTerm.{ProfiledTerm}
 use Rattle.sort_terms.specs.declared.equations.Variable.{Variable}

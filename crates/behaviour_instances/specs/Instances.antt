@@ -1,6 +1,6 @@
 -- What an instance of a part of a behaviour is.
 use Rattle.std.specs.Prelude.{◌≡◌, ℕ, List}
-use Rattle.term_algebra.specs.Substitution.{binding}
+use Rattle.lotos_base.specs.Substitution.{binding}
 use Rattle.behaviour_semantics.specs.Replacement.{with_values}
 use Rattle.sort_terms.specs.declared.sorted.Sorted.{Sorted}
 use Rattle.term_match.specs.ProfiledInstance.{profiled_binding}

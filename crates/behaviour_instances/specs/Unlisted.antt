@@ -1,6 +1,6 @@
 -- Environments without the variables that a binder binds.
 use Rattle.std.specs.Prelude.{ℕ, List, [], ◌∷◌, if◌then◌else◌}
-use Rattle.term_algebra.specs.Substitution.{is_listed}
+use Rattle.lotos_base.specs.Substitution.{is_listed}
 use Rattle.sort_terms.specs.ProfiledTerm.{ProfiledTerm, profiled_variable}
 use Rattle.term_match.specs.ProfiledInstance.{ProfiledSubstitution}
 

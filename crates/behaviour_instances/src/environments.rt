@@ -7,7 +7,7 @@ ghost use Rattle.behaviour_tree.specs.declared.behaviours.Offer.{Offer as OfferV
 ghost use Rattle.behaviour_tree.specs.StateView.{environment_of};
 ghost use Rattle.std.specs.Prelude.{◌≡◌, ◌++◌, ◌∷◌, [], ℕ, IfOk, List, map};
 ghost use Rattle.sort_terms.specs.ProfiledTerm.{ProfiledTerm};
-ghost use Rattle.term_algebra.specs.Substitution.{binding, is_listed, without};
+ghost use Rattle.lotos_base.specs.Substitution.{binding, is_listed, without};
 ghost use Rattle.term_match.specs.ProfiledInstance.{profiled_binding};
 ghost use Rattle.term_match.specs.SubstView.{profiled_pair, profiled_pairs};
 

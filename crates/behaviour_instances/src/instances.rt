@@ -32,7 +32,7 @@ ghost use Rattle.behaviour_tree.specs.Closed.{IsFree, OccursInOffers, OccursInTe
 ghost use Rattle.behaviour_tree.specs.StateView.{environment_of};
 ghost use Rattle.sort_terms.specs.EquationView.{variable_of};
 ghost use Rattle.std.specs.Prelude.{◌≡◌, ◌++◌, ◌∷◌, [], IfOk, map, option_map};
-ghost use Rattle.term_algebra.specs.Substitution.{binding, without};
+ghost use Rattle.lotos_base.specs.Substitution.{binding, without};
 ghost use Rattle.term_match.specs.ProfiledInstance.{profiled_binding};
 ghost use Rattle.term_match.specs.SubstView.{profiled_pairs};
 

@@ -39,8 +39,8 @@ ghost use Rattle.behaviour_tree.specs.StateView.{environment_of};
 ghost use Rattle.behaviour_instances.specs.InstanceTerms.{let_placed};
 ghost use Rattle.sort_terms.specs.SortedView.{profiled_in, term_in};
 ghost use Rattle.std.specs.Prelude.{◌≡◌, ◌∷◌, [], IfOk, map, option_map};
-ghost use Rattle.term_algebra.specs.Sorting.{Occurs};
-ghost use Rattle.term_algebra.specs.Substitution.{binding, substituted};
+ghost use Rattle.lotos_base.specs.Sorting.{Occurs};
+ghost use Rattle.lotos_base.specs.Substitution.{binding, substituted};
 ghost use Rattle.term_match.specs.ProfiledInstance.{profiled_binding, profiled_instance};
 ghost use Rattle.term_match.specs.SubstView.{profiled_pairs};
 

@@ -1,11 +1,11 @@
 -- Behaviours beside one another without leaf variables are alike.
 use Rattle.std.proofs.Common.{◌≡◌, ◌⊎◌, inl, inr, ℕ, List, Option, refl, sym, ◌∙◌}
-use Rattle.term_algebra.specs.Term.{Term}
-use Rattle.term_algebra.specs.Sorting.{IsGroundOf, Occurs}
-use Rattle.term_algebra.specs.Equation.{Data, Variable}
-use Rattle.term_algebra.specs.Substitution.{Substitution, IsGrounding}
-use Rattle.term_algebra.proofs.SubstitutionLemmas.{substituted_agree}
-use Rattle.term_algebra.proofs.EqualityLemmas.{equal_then, equal_same}
+use Rattle.lotos_base.specs.Term.{Term}
+use Rattle.lotos_base.specs.Sorting.{IsGroundOf, Occurs}
+use Rattle.lotos_base.specs.Equation.{Data, Variable}
+use Rattle.lotos_base.specs.Substitution.{Substitution, IsGrounding}
+use Rattle.lotos_base.proofs.SubstitutionLemmas.{substituted_agree}
+use Rattle.lotos_base.proofs.EqualityLemmas.{equal_then, equal_same}
 use Rattle.behaviour_semantics.specs.Behaviour.{Behaviour, Test, Offer, ExitValue, Process}
 use Rattle.behaviour_semantics.specs.Label.{Label}
 use Rattle.behaviour_semantics.specs.Alike.{AlikeTerms, AllAlike, AlikeTests, AlikeOptions, AlikeOffers, AlikeResults, AlikeLabels, Alike}

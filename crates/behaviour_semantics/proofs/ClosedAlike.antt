@@ -1,13 +1,13 @@
 -- Nothing is put into a ground term, so ground terms are alike exactly where they are equal.
 use Rattle.std.proofs.Common.{List, [], ◌∷◌, sym}
 use Rattle.std.specs.Prelude.{◌↔◌}
-use Rattle.term_algebra.specs.Term.{Term, variable}
-use Rattle.term_algebra.specs.Sorting.{IsGround}
-use Rattle.term_algebra.specs.Equation.{Data}
-use Rattle.term_algebra.specs.Equality.{Equal}
-use Rattle.term_algebra.proofs.SubstitutionLemmas.{substituted_ground}
-use Rattle.term_algebra.proofs.EqualityLemmas.{equal_then, equal_same}
-use Rattle.term_algebra.proofs.CanonLemmas.{grounding_of_ground}
+use Rattle.lotos_base.specs.Term.{Term, variable}
+use Rattle.lotos_base.specs.Sorting.{IsGround}
+use Rattle.lotos_base.specs.Equation.{Data}
+use Rattle.lotos_base.specs.Equality.{Equal}
+use Rattle.lotos_base.proofs.SubstitutionLemmas.{substituted_ground}
+use Rattle.lotos_base.proofs.EqualityLemmas.{equal_then, equal_same}
+use Rattle.lotos_base.proofs.CanonLemmas.{grounding_of_ground}
 use Rattle.behaviour_semantics.specs.Label.{Label, inner_event, gate_event, exit_event}
 use Rattle.behaviour_semantics.specs.Rule.{label_values}
 use Rattle.behaviour_semantics.specs.Menu.{EqualTerms, EqualLabels}

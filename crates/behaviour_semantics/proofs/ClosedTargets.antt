@@ -3,13 +3,14 @@
 use Rattle.std.proofs.Common.{◌≡◌, ◌<◌, ℕ, suc, ◌+◌, List, [], ◌∷◌, ◌++◌, length, map, zip, slice_get, Bool, true, false, if◌then◌else◌, Option, None, Some, option_map, option_and_then, refl, ap, sym, ◌∙◌, subst, eqb-true}
 use Rattle.std.specs.Cmp.{first_so, second_so}
 use Rattle.std.proofs.lemmas.List.{append-nil}
-use Rattle.term_algebra.specs.Signature.{Signature}
-use Rattle.term_algebra.specs.Term.{Term}
-use Rattle.term_algebra.specs.Sorting.{sort_of, IsGroundOf}
-use Rattle.term_algebra.specs.Equation.{Data, Variable}
-use Rattle.term_algebra.specs.Substitution.{Substitution, is_listed}
-use Rattle.term_algebra.proofs.SubstitutionLemmas.{no_variable_ground}
-use Rattle.term_algebra.proofs.SortLemmas.{sort_of_sorted}
+use Rattle.list_laws.proofs.Options.{mapped, chained}
+use Rattle.lotos_base.specs.Signature.{Signature}
+use Rattle.lotos_base.specs.Term.{Term}
+use Rattle.lotos_base.specs.Sorting.{sort_of, IsGroundOf}
+use Rattle.lotos_base.specs.Equation.{Data, Variable}
+use Rattle.lotos_base.specs.Substitution.{Substitution, is_listed}
+use Rattle.lotos_base.proofs.SubstitutionLemmas.{no_variable_ground}
+use Rattle.lotos_base.proofs.SortLemmas.{sort_of_sorted}
 use Rattle.behaviour_semantics.specs.Behaviour.{Behaviour, stop, exit_with, action, inner_action, guard, choice, parallel, hide, enable, disable, let_be, choose_value, choose_gate, par_gate, call, relabel, Offer, give, ask, ExitValue, exit_value, any_of, SynchronisationSet, Process, Specification, Relabelling, asked_variables, open_sorts, sorts_of, let_variables, let_terms}
 use Rattle.behaviour_semantics.specs.Label.{Label, inner_event, gate_event, exit_event, label_under, gate_under, under}
 use Rattle.behaviour_semantics.specs.Replacement.{with_values, binding_of}
@@ -18,7 +19,7 @@ use Rattle.behaviour_semantics.specs.Shape.{Shape, act, quit, inner_step, guarde
 use Rattle.behaviour_semantics.specs.Move.{Setting, Move, move_of, taken, opened, alone, together, passing, enabling, disabling, hiding, asking, relabelling, after_leaf, act_move, quit_move, inner_move, guarded_move, left_move, right_move, both_move, hidden_move, enabled_move, passed_move, let_move, value_move, gate_move, called_move, relabelled_move}
 use Rattle.behaviour_semantics.specs.Derives.{GivesMove, leaves_in}
 use Rattle.behaviour_semantics.specs.WellFormed.{Every, IsTermIn, AreTermsIn, IsOffer, IsExitValue, AreGates, IsSynchronisationSet, IsRelabelling, IsBehaviour, IsDefinition, IsSpecification, IsClosedLabel, IsClosedBehaviour}
-use Rattle.behaviour_semantics.proofs.OptionLemmas.{some_value, mapped, chained, tested, tested_not}
+use Rattle.behaviour_semantics.proofs.OptionLemmas.{some_value, tested, tested_not}
 use Rattle.behaviour_semantics.proofs.ListLemmas.{Every-at}
 use Rattle.behaviour_semantics.proofs.SupplyLemmas.{Supplied, Supplied-append, Supplied-leaves_in, AreValues-taken}
 use Rattle.behaviour_semantics.proofs.PutTerms.{closed_by}

@@ -1,7 +1,8 @@
 -- Relabellings stay well formed: composed ones, and those of calls.
 use Rattle.std.proofs.Common.{◌≡◌, ◌<◌, ◌⊎◌, inl, inr, ℕ, zero, suc, List, [], ◌∷◌, ◌++◌, map, zip, filter, length, nat_eq, slice_get, Bool, true, false, not, if◌then◌else◌, cond, Some, refl, ap, sym, subst, arith}
 use Rattle.std.proofs.lemmas.Bool.Decides.{nat_tests}
-use Rattle.term_algebra.specs.Substitution.{is_listed}
+use Rattle.list_laws.proofs.Truth.{not_both}
+use Rattle.lotos_base.specs.Substitution.{is_listed}
 use Rattle.behaviour_semantics.specs.Behaviour.{Relabelling}
 use Rattle.behaviour_semantics.specs.Label.{gate_under, formals_of, then_relabelling}
 use Rattle.behaviour_semantics.specs.Listing.{IsAmong}
@@ -102,10 +103,6 @@ among_listed (m ∷ numbers) n (inr a) = there (nat_eq m n) (among_listed number
     there : (b : Bool) → is_listed numbers n ≡ true → (if b then true else is_listed numbers n) ≡ true
     there true e = refl
     there false e = e
-
-not_both : (b : Bool) → not b ≡ true → b ≡ true → ⊥
-not_both true e h = absurd (cc e)
-not_both false e h = absurd (cc h)
 
 module _ (names : ℕ) where
   abbrev Named : ℕ × ℕ → Type 0

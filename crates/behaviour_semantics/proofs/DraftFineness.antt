@@ -1,13 +1,14 @@
 -- The draft of a shape in a closed well-formed behaviour is in order, and the leaves that meet it as such meet it.
 use Rattle.std.proofs.Common.{◌≡◌, ◌<◌, ◌≤◌, inr, ℕ, zero, suc, ◌+◌, ◌-◌, true, false, nat_eq, eq-eqb, ne_eqb, length, List, [], ◌∷◌, map, slice_get, Option, Some, option_map, refl, ap, sym, ◌∙◌, subst, arith}
-use Rattle.term_algebra.specs.Signature.{Signature, IsSort}
-use Rattle.term_algebra.specs.Term.{Term, variable}
-use Rattle.term_algebra.specs.Equation.{Data}
-use Rattle.term_algebra.specs.Sorting.{HasSort, IsGroundOf}
-use Rattle.term_algebra.specs.Equality.{Equal, same_term}
-use Rattle.term_algebra.proofs.EqualityLemmas.{equal_same, equal_back}
-use Rattle.term_algebra.specs.Substitution.{Substitution, substituted}
-use Rattle.term_algebra.proofs.SubstitutionLemmas.{substituted_sort, substituted_occurs, ComesFrom}
+use Rattle.list_laws.proofs.Options.{mapped}
+use Rattle.lotos_base.specs.Signature.{Signature, IsSort}
+use Rattle.lotos_base.specs.Term.{Term, variable}
+use Rattle.lotos_base.specs.Equation.{Data}
+use Rattle.lotos_base.specs.Sorting.{HasSort, IsGroundOf}
+use Rattle.lotos_base.specs.Equality.{Equal, same_term}
+use Rattle.lotos_base.proofs.EqualityLemmas.{equal_same, equal_back}
+use Rattle.lotos_base.specs.Substitution.{Substitution, substituted}
+use Rattle.lotos_base.proofs.SubstitutionLemmas.{substituted_sort, substituted_occurs, ComesFrom}
 use Rattle.behaviour_semantics.specs.Behaviour.{Behaviour, Test, Process, Specification}
 use Rattle.behaviour_semantics.specs.Label.{Label}
 use Rattle.behaviour_semantics.specs.Replacement.{test_with}
@@ -17,7 +18,7 @@ use Rattle.behaviour_semantics.specs.Move.{Setting, Move, move_of, taken}
 use Rattle.behaviour_semantics.specs.Derives.{leaves_in}
 use Rattle.behaviour_semantics.specs.Draft.{Draft, draft_of, draft_by, label_with, leaves_from, numbered_from_zero, above, above_processes, first_apart, variable_sorts, MeetsDraft}
 use Rattle.behaviour_semantics.specs.WellFormed.{AreOver, Every}
-use Rattle.behaviour_semantics.proofs.OptionLemmas.{mapped, some_value}
+use Rattle.behaviour_semantics.proofs.OptionLemmas.{some_value}
 use Rattle.behaviour_semantics.proofs.SupplyLemmas.{taken-supplied, Supplies-leaves_in}
 use Rattle.behaviour_semantics.proofs.RelatedTerms.{Side, occurs_sort, Related, only_leaf, canon_represents, RelatedTerms, none_related, one_related}
 use Rattle.behaviour_semantics.proofs.SameBehaviours.{low_nothing, same_beside}

@@ -1,12 +1,13 @@
 -- The draft of a shape, with ground leaves that meet it put in, is a derivation, and each derivation is one so.
 use Rattle.std.proofs.Common.{◌≡◌, ◌≤◌, inr, ℕ, suc, ◌+◌, ◌-◌, List, [], ◌∷◌, map, Some, option_map, refl, ap, sym, ◌∙◌, subst, arith}
-use Rattle.term_algebra.specs.Signature.{Signature, IsSort, IsWellFormedSignature}
-use Rattle.term_algebra.specs.Term.{Term, variable, node}
-use Rattle.term_algebra.specs.Sorting.{IsGroundOf}
-use Rattle.term_algebra.specs.Equation.{Data}
-use Rattle.term_algebra.specs.Substitution.{Substitution, substituted}
-use Rattle.term_algebra.proofs.SubstitutionLemmas.{substituted_twice, substituted_ground, ground_no_variable}
-use Rattle.term_algebra.proofs.EqualityLemmas.{equal_same}
+use Rattle.list_laws.proofs.Options.{mapped}
+use Rattle.lotos_base.specs.Signature.{Signature, IsSort, IsWellFormedSignature}
+use Rattle.lotos_base.specs.Term.{Term, variable, node}
+use Rattle.lotos_base.specs.Sorting.{IsGroundOf}
+use Rattle.lotos_base.specs.Equation.{Data}
+use Rattle.lotos_base.specs.Substitution.{Substitution, substituted}
+use Rattle.lotos_base.proofs.SubstitutionLemmas.{substituted_twice, substituted_ground, ground_no_variable}
+use Rattle.lotos_base.proofs.EqualityLemmas.{equal_same}
 use Rattle.behaviour_semantics.specs.Behaviour.{Behaviour, Test, Process, Specification}
 use Rattle.behaviour_semantics.specs.Label.{Label, inner_event, gate_event, exit_event}
 use Rattle.behaviour_semantics.specs.Replacement.{test_with}
@@ -18,7 +19,6 @@ use Rattle.behaviour_semantics.specs.Draft.{Draft, draft_of, draft_by, label_wit
 use Rattle.behaviour_semantics.specs.Menu.{EqualLabels}
 use Rattle.behaviour_semantics.specs.WellFormed.{AreOver}
 use Rattle.behaviour_semantics.specs.InstanceLaws.{Instance, DraftOf}
-use Rattle.behaviour_semantics.proofs.OptionLemmas.{mapped}
 use Rattle.behaviour_semantics.proofs.SupplyLemmas.{Supplied, Supplied-leaves_in}
 use Rattle.behaviour_semantics.proofs.RelatedTerms.{Side, with_leaves, with_leaves-leaf, Related, canon_represents, given_represents}
 use Rattle.behaviour_semantics.proofs.SameBehaviours.{low_nothing, same_beside}

@@ -1,13 +1,14 @@
 -- A change of the terms of a draft that keeps sorts and brings in no variable keeps the draft in order: tidying does so.
-use Rattle.std.proofs.Common.{◌≡◌, ◌<◌, ℕ, zero, suc, List, [], ◌∷◌, map, length, slice_get, Some, Bool, true, false, not, cond, refl, ap, sym, ◌∙◌, subst, arith}
+use Rattle.std.proofs.Common.{◌≡◌, ◌<◌, ℕ, List, [], ◌∷◌, map, length, slice_get, Some, Bool, true, false, not, cond, refl, ap, sym, ◌∙◌, subst, arith}
 use Rattle.std.proofs.lemmas.List.{length-map}
-use Rattle.term_algebra.specs.Signature.{Signature}
-use Rattle.term_algebra.specs.Term.{Term, variable}
-use Rattle.term_algebra.specs.Tests.{term_eq}
-use Rattle.term_algebra.specs.Sorting.{HasSort, Occurs}
-use Rattle.term_algebra.specs.Equation.{Data}
-use Rattle.term_algebra.specs.Substitution.{Substitution, substituted}
-use Rattle.term_algebra.specs.Canon.{IsCanon}
+pub use Rattle.list_laws.proofs.Members.{at_map, from_map}
+use Rattle.lotos_base.specs.Signature.{Signature}
+use Rattle.lotos_base.specs.Term.{Term, variable}
+use Rattle.lotos_base.specs.Tests.{term_eq}
+use Rattle.lotos_base.specs.Sorting.{HasSort, Occurs}
+use Rattle.lotos_base.specs.Equation.{Data}
+use Rattle.lotos_base.specs.Substitution.{Substitution, substituted}
+use Rattle.lotos_base.specs.Canon.{IsCanon}
 use Rattle.behaviour_semantics.specs.Behaviour.{Test}
 use Rattle.behaviour_semantics.specs.Label.{Label, inner_event, gate_event, exit_event}
 use Rattle.behaviour_semantics.specs.Rule.{label_values}
@@ -15,20 +16,7 @@ use Rattle.behaviour_semantics.specs.Draft.{Draft, label_with, draft_with}
 use Rattle.behaviour_semantics.specs.Solving.{label_in, test_in, canonical, differing, tidied}
 use Rattle.behaviour_semantics.specs.WellFormed.{Every}
 use Rattle.behaviour_semantics.specs.DraftOrder.{IsLeaf, HasLeafVariables, IsDraftTerm, IsDraftTest, IsInOrder}
-use Rattle.behaviour_semantics.proofs.OptionLemmas.{some_value}
 use Rattle.behaviour_semantics.proofs.ListLemmas.{Every-at}
-
-pub at_map : {X Y : Type 0} (f : X → Y) (xs : List X) (n : ℕ) (x : X) → slice_get xs n ≡ Some x → slice_get (map f xs) n ≡ Some (f x)
-at_map f [] n x e = absurd (cc e)
-at_map f (y ∷ ys) zero x e = ap (λ z. Some (f z)) (some_value e)
-at_map f (y ∷ ys) (suc n) x e = at_map f ys n x e
-
--- What a member of a mapped list came from.
-pub mapped_at : {X Y : Type 0} (f : X → Y) (xs : List X) (i : ℕ) (y : Y) → slice_get (map f xs) i ≡ Some y → (x : X)
-    × (slice_get xs i ≡ Some x) × (f x ≡ y)
-mapped_at f [] i y at = absurd (cc at)
-mapped_at f (x ∷ xs) zero y at = (x, refl, some_value at)
-mapped_at f (x ∷ xs) (suc i) y at = mapped_at f xs i y at
 
 pub label_values-in : (f : Term → Term) (label : Label) → label_values (label_in f label) ≡ map f (label_values label)
 label_values-in f inner_event = refl
@@ -75,7 +63,7 @@ module _ (signature : Signature) (leaves : List Term) (f : Term → Term) (chang
   -- a leaf that is a variable was a leaf before
   pub came_from : Every (IsDraftTerm signature leaves) leaves → (n r : ℕ) → IsLeaf (map f leaves) n r → IsLeaf leaves n r
   came_from sorted n r (i, at) =
-      let from : (t : Term) × (slice_get leaves i ≡ Some t) × (f t ≡ variable n r) = mapped_at f leaves i (variable n r) at in
+      let from : (t : Term) × (slice_get leaves i ≡ Some t) × (f t ≡ variable n r) = from_map f leaves i (variable n r) at in
       let term : IsDraftTerm signature leaves from.0 = Every-at (IsDraftTerm signature leaves) leaves i from.0 sorted from.1 in
       change.inside term.0 from.0 term.1 n r (subst (Occurs n r) (sym from.2) (refl, refl))
 

@@ -2,12 +2,12 @@
 use Rattle.std.proofs.Common.{◌≡◌, ◌≤◌, ◌⊎◌, inl, inr, ℕ, List, [], ◌∷◌, ◌++◌, map, nat_eq, Bool, true, false, if◌then◌else◌, Option, None, Some, refl, ap, sym, ◌∙◌, arith}
 use Rattle.std.proofs.Math.Path.{fun_ext}
 use Rattle.std.specs.Prelude.{option_map}
-use Rattle.term_algebra.specs.Signature.{Signature}
-use Rattle.term_algebra.specs.Term.{Term, variable}
-use Rattle.term_algebra.specs.Sorting.{IsGround, IsGroundOf, Occurs}
-use Rattle.term_algebra.specs.Equation.{Data, Variable}
-use Rattle.term_algebra.specs.Substitution.{Substitution, substituted, followed_by, binding, is_listed, without}
-use Rattle.term_algebra.proofs.SubstitutionLemmas.{substituted_agree, ground_no_variable, substituted_variables}
+use Rattle.lotos_base.specs.Signature.{Signature}
+use Rattle.lotos_base.specs.Term.{Term, variable}
+use Rattle.lotos_base.specs.Sorting.{IsGroundOf, Occurs}
+use Rattle.lotos_base.specs.Equation.{Data, Variable}
+use Rattle.lotos_base.specs.Substitution.{Substitution, substituted, followed_by, binding, is_listed, without}
+use Rattle.lotos_base.proofs.SubstitutionLemmas.{substituted_agree, ground_no_variable, substituted_ground}
 use Rattle.behaviour_semantics.specs.Behaviour.{Behaviour, stop, exit_with, action, inner_action, guard, choice, parallel, hide, enable, disable, let_be, choose_value, choose_gate, par_gate, call, relabel, Test, Offer, give, ask, ExitValue, exit_value, any_of, Process, asked_variables, numbers_of, sorts_of, let_variables, let_terms}
 use Rattle.behaviour_semantics.specs.Replacement.{test_with, offer_with, exit_value_with, with_values, binding_of}
 use Rattle.behaviour_semantics.specs.Rule.{AreValues}
@@ -30,9 +30,6 @@ ground_pairs_apart base (pair ∷ pairs) h n s = by (nat_eq pair.0 n) (ground_pa
     by true rest = inr (λ m r o. absurd (ground_no_variable pair.1 h.0 m r o))
     by false rest = rest
 
-ground_stays : (values : Substitution) (t : Term) → IsGround t → substituted values t ≡ t
-ground_stays values t g = substituted_agree values variable t (λ n s o. absurd (ground_no_variable t g n s o)) ∙ substituted_variables t
-
 binding_then : (first second : List (ℕ × Term)) → AreGroundPairs first → (n s : ℕ)
     → followed_by (binding first) (binding second) n s ≡ binding (first ++ second) n s
 binding_then [] second h n s = refl
@@ -41,7 +38,7 @@ binding_then (pair ∷ first) second h n s = by (nat_eq pair.0 n) (binding_then 
     by : (same : Bool) → substituted (binding second) (binding first n s) ≡ binding (first ++ second) n s
         → substituted (binding second) (if same then pair.1 else binding first n s) ≡ (if same then pair.1 else
         binding (first ++ second) n s)
-    by true rest = ground_stays (binding second) pair.1 h.0
+    by true rest = substituted_ground (binding second) pair.1 h.0
     by false rest = rest
 
 pub environments_in_turn : (first second : List (ℕ × Term)) (b : Behaviour) → AreGroundPairs first

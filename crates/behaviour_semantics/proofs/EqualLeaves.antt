@@ -1,13 +1,13 @@
 -- Derivations of one shape with equal leaves: what the one gives, in one form of values, the other gives too, in another.
 use Rattle.std.proofs.Common.{◌≡◌, ◌≤◌, ℕ, suc, List, [], ◌∷◌, Some, refl, sym, ◌∙◌, subst, arith}
-use Rattle.term_algebra.specs.Signature.{Signature}
-use Rattle.term_algebra.specs.Term.{Term}
-use Rattle.term_algebra.specs.Sorting.{IsGroundOf}
-use Rattle.term_algebra.specs.Equation.{Data}
-use Rattle.term_algebra.specs.Equality.{Equal}
-use Rattle.term_algebra.specs.Substitution.{Substitution}
-use Rattle.term_algebra.proofs.SubstitutionLemmas.{substituted_variables, substituted_ground, ground_no_variable}
-use Rattle.term_algebra.proofs.EqualityLemmas.{equal_then, equal_same}
+use Rattle.lotos_base.specs.Signature.{Signature}
+use Rattle.lotos_base.specs.Term.{Term}
+use Rattle.lotos_base.specs.Sorting.{IsGroundOf}
+use Rattle.lotos_base.specs.Equation.{Data}
+use Rattle.lotos_base.specs.Equality.{Equal}
+use Rattle.lotos_base.specs.Substitution.{Substitution}
+use Rattle.lotos_base.proofs.SubstitutionLemmas.{substituted_variables, substituted_ground, ground_no_variable}
+use Rattle.lotos_base.proofs.EqualityLemmas.{equal_then, equal_same}
 use Rattle.behaviour_semantics.specs.Behaviour.{Behaviour, Process, Specification}
 use Rattle.behaviour_semantics.specs.Label.{Label}
 use Rattle.behaviour_semantics.specs.Rule.{AreValues}
@@ -18,7 +18,7 @@ use Rattle.behaviour_semantics.specs.Draft.{above, above_processes, first_apart}
 use Rattle.behaviour_semantics.specs.Menu.{EqualTerms, EqualLabels}
 use Rattle.behaviour_semantics.specs.WellFormed.{AreOver}
 use Rattle.behaviour_semantics.specs.EqualLeavesLaws.{EqualDerivations, LikeMove}
-use Rattle.term_algebra.proofs.SortLemmas.{sort_of_sorted}
+use Rattle.lotos_base.proofs.SortLemmas.{sort_of_sorted}
 use Rattle.behaviour_semantics.proofs.OptionLemmas.{some_value}
 use Rattle.behaviour_semantics.proofs.RelatedTerms.{Side, with_leaves, Related, RelatedTerms, none_related, one_related, IsRepresenting}
 use Rattle.behaviour_semantics.proofs.RelatedBehaviours.{Beside}

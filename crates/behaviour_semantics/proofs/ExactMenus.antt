@@ -1,7 +1,7 @@
 -- A list of solved drafts, whose shapes rise and fit, is the exact menu.
 use Rattle.std.proofs.Common.{◌≡◌, List, Option, None, Some, sym, ◌∙◌, subst}
-use Rattle.term_algebra.specs.Term.{Term}
-use Rattle.term_algebra.specs.Equation.{Data}
+use Rattle.lotos_base.specs.Term.{Term}
+use Rattle.lotos_base.specs.Equation.{Data}
 use Rattle.behaviour_semantics.specs.Behaviour.{Behaviour, Specification}
 use Rattle.behaviour_semantics.specs.Label.{Label}
 use Rattle.behaviour_semantics.specs.Shape.{Shape, Derivation}

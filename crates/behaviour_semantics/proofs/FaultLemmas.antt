@@ -1,19 +1,19 @@
 -- A shape has no fault in a closed behaviour exactly where it has a move whose leaves are values and whose tests hold.
 use Rattle.std.proofs.Common.{◌≡◌, ◌≤◌, ℕ, suc, ◌+◌, List, [], ◌∷◌, length, Bool, true, false, nat_lt, if◌then◌else◌, Option, None, Some, refl, ap, sym, arith, ltb-false, le-ltb}
-use Rattle.term_algebra.specs.Signature.{Signature}
-use Rattle.term_algebra.specs.Term.{Term}
-use Rattle.term_algebra.specs.Equation.{Data}
-use Rattle.term_algebra.specs.Canon.{IsCanon}
-use Rattle.term_algebra.specs.Substitution.{Substitution}
+use Rattle.lotos_base.specs.Signature.{Signature}
+use Rattle.lotos_base.specs.Term.{Term}
+use Rattle.lotos_base.specs.Equation.{Data}
+use Rattle.lotos_base.specs.Canon.{IsCanon}
+use Rattle.lotos_base.specs.Substitution.{Substitution}
 use Rattle.behaviour_semantics.specs.Behaviour.{Behaviour, Specification}
 use Rattle.behaviour_semantics.specs.Label.{Label}
 use Rattle.behaviour_semantics.specs.Rule.{AreValues}
 use Rattle.behaviour_semantics.specs.Shape.{Shape, act, quit, inner_step, guarded, left_side, right_side, both_sides, hidden, enabled, passed, let_bound, with_value, at_gate, called, relabelled, Derivation}
 use Rattle.behaviour_semantics.specs.Move.{Move, move_of, taken, opened}
-use Rattle.behaviour_semantics.specs.Derives.{Keeps, leaves_in}
+use Rattle.behaviour_semantics.specs.Derives.{DerivesCanonically, leaves_in}
 use Rattle.behaviour_semantics.specs.WellFormed.{IsSpecification, IsClosedBehaviour, AreOver}
 use Rattle.behaviour_semantics.specs.Fault.{not_fitting, Fault, size, first_of_two, at_node, fault_from, left_over, fault_of}
-use Rattle.behaviour_semantics.specs.FaultyNode.{IsSound}
+use Rattle.behaviour_semantics.specs.FaultyNode.{IsSoundMove}
 use Rattle.behaviour_semantics.specs.FaultLaws.{kept_setting}
 use Rattle.behaviour_semantics.proofs.OptionLemmas.{some_value}
 use Rattle.behaviour_semantics.proofs.SupplyLemmas.{Supplied, Supplied-leaves_in, AreValues-taken, length-values}
@@ -139,7 +139,7 @@ module _ (data_ : Data) (canon : Term → Term) (specification : Specification) 
           (m, refl, (s, omega (arith, le, enough)))
 
   pub kept_without_fault : fault_of data_ canon specification.processes b d ≡ None → (label : Label) × (target : Behaviour)
-      × Keeps data_ canon specification.processes b d label target
+      × DerivesCanonically data_ canon specification.processes b d label target
   kept_without_fault e =
       let found : _ = kept_by side_by_side e in (
         found.0.label,
@@ -161,7 +161,7 @@ module _ (data_ : Data) (canon : Term → Term) (specification : Specification) 
       ap (λ (b' : Bool). if b' then at_node (size d.shape) (Some not_fitting) else None)
       (le-ltb (length k.sorts) (length d.leaves) (omega (arith, same, count)))
 
-  pub faultless_where_kept : (label : Label) (target : Behaviour) → Keeps data_ canon specification.processes b d label target
+  pub faultless_where_kept : (label : Label) (target : Behaviour) → DerivesCanonically data_ canon specification.processes b d label target
       → fault_of data_ canon specification.processes b d ≡ None
   faultless_where_kept label target keeps_ =
       let count : length d.leaves ≡ length keeps_.sorts = length-values data_.signature keeps_.sorts d.leaves keeps_.leaves in
@@ -185,7 +185,7 @@ module _ (data_ : Data) (canon : Term → Term) (specification : Specification) 
   beside le = same_faults data_ specification over.well_formed canon over.is_canon leaves shape node next le b over.closed
 
   sound_by : {o : Option Fault} {p : Option Move} → Same data_ leaves next o p → o ≡ None → (m : Move) × (p ≡ Some m)
-      × IsSound data_ leaves next m
+      × IsSoundMove data_ leaves next m
   sound_by (faulty f none) e = absurd (cc e)
   sound_by (sound m s) e = (
     m,
@@ -200,10 +200,10 @@ module _ (data_ : Data) (canon : Term → Term) (specification : Specification) 
 
   pub sound_without_fault : next ≤ length leaves → fault_from (kept_setting data_ canon specification.processes) leaves shape node next
       b ≡ None → (m : Move) × (move_of (kept_setting data_ canon specification.processes) (leaves_in leaves) shape next b ≡ Some m)
-      × IsSound data_ leaves next m
+      × IsSoundMove data_ leaves next m
   sound_without_fault le e = sound_by (beside le) e
 
-  faultless_by : {o : Option Fault} {p : Option Move} (m : Move) → Same data_ leaves next o p → p ≡ Some m → IsSound data_ leaves next m
+  faultless_by : {o : Option Fault} {p : Option Move} (m : Move) → Same data_ leaves next o p → p ≡ Some m → IsSoundMove data_ leaves next m
       → o ≡ None
   faultless_by m (faulty f none) at h =
       absurd (none m at (record {
@@ -214,6 +214,6 @@ module _ (data_ : Data) (canon : Term → Term) (specification : Specification) 
   faultless_by m (sound k s) at h = refl
 
   pub sound_faultless : (m : Move) → next ≤ length leaves → move_of (kept_setting data_ canon specification.processes)
-      (leaves_in leaves) shape next b ≡ Some m → IsSound data_ leaves next m
+      (leaves_in leaves) shape next b ≡ Some m → IsSoundMove data_ leaves next m
       → fault_from (kept_setting data_ canon specification.processes) leaves shape node next b ≡ None
   sound_faultless m le at h = faultless_by m (beside le) at h

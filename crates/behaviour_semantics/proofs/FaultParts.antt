@@ -2,17 +2,18 @@
 -- there is a fault, and no such move.
 use Rattle.std.proofs.Common.{◌≡◌, ◌≤◌, ◌⊎◌, inl, inr, ℕ, suc, ◌+◌, List, [], ◌∷◌, length, Bool, true, false, nat_lt, if◌then◌else◌, Option, None, Some, option_map, option_and_then, refl, ap, sym, ◌∙◌, subst, le-ltb, ltb-false, eqb-true}
 use Rattle.std.specs.Cmp.{first_so, second_so}
-use Rattle.term_algebra.specs.Signature.{Signature}
-use Rattle.term_algebra.specs.Term.{Term}
-use Rattle.term_algebra.specs.Tests.{term_eq}
-use Rattle.term_algebra.specs.Sorting.{sort_of, IsGroundOf}
-use Rattle.term_algebra.specs.Equation.{Data}
-use Rattle.term_algebra.specs.Equality.{Equal}
-use Rattle.term_algebra.specs.Canon.{IsCanon}
-use Rattle.term_algebra.specs.Substitution.{Substitution}
-use Rattle.term_algebra.proofs.TestLemmas.{Decides-term_eq}
-use Rattle.term_algebra.proofs.SortLemmas.{sort_of_sorted}
-use Rattle.term_algebra.proofs.CanonLemmas.{canon_tells}
+use Rattle.list_laws.proofs.Options.{mapped, chained}
+use Rattle.lotos_base.specs.Signature.{Signature}
+use Rattle.lotos_base.specs.Term.{Term}
+use Rattle.lotos_base.specs.Tests.{term_eq}
+use Rattle.lotos_base.specs.Sorting.{sort_of, IsGroundOf}
+use Rattle.lotos_base.specs.Equation.{Data}
+use Rattle.lotos_base.specs.Equality.{Equal}
+use Rattle.lotos_base.specs.Canon.{IsCanon}
+use Rattle.lotos_base.specs.Substitution.{Substitution}
+use Rattle.lotos_base.proofs.TestLemmas.{Decides-term_eq}
+use Rattle.lotos_base.proofs.SortLemmas.{sort_of_sorted}
+use Rattle.lotos_base.proofs.CanonLemmas.{canon_tells}
 use Rattle.behaviour_semantics.specs.Behaviour.{Test}
 use Rattle.behaviour_semantics.specs.Label.{Label}
 use Rattle.behaviour_semantics.specs.Rule.{is_same_sort, have_same_sorts, pairwise, AllHold}
@@ -21,7 +22,7 @@ use Rattle.behaviour_semantics.specs.Derives.{leaves_in}
 use Rattle.behaviour_semantics.specs.WellFormed.{Every}
 use Rattle.behaviour_semantics.specs.SortTest.{is_value}
 use Rattle.behaviour_semantics.specs.Fault.{Wrong, not_fitting, bad_value, unmet, Fault, first_of_two, at_node, first_bad, wrong_leaves, first_unmet}
-use Rattle.behaviour_semantics.proofs.OptionLemmas.{some_value, mapped, chained}
+use Rattle.behaviour_semantics.proofs.OptionLemmas.{some_value}
 use Rattle.behaviour_semantics.proofs.SupplyLemmas.{Supplied}
 use Rattle.behaviour_semantics.proofs.ClosedTargets.{IsValue}
 use Rattle.behaviour_semantics.proofs.SortTestLemmas.{Decides-is_value}

@@ -3,12 +3,13 @@ use Rattle.std.proofs.Common.{◌≡◌, ◌≤◌, ◌⊎◌, inl, inr, ℕ, su
 use Rattle.std.specs.Prelude.{◌&&◌, nat_eq}
 use Rattle.std.specs.Cmp.{second_so}
 use Rattle.std.proofs.lemmas.List.{length-append}
-use Rattle.term_algebra.specs.Term.{Term}
-use Rattle.term_algebra.specs.Sorting.{IsGroundOf}
-use Rattle.term_algebra.specs.Equation.{Data, Variable}
-use Rattle.term_algebra.specs.Canon.{IsCanon}
-use Rattle.term_algebra.specs.Substitution.{Substitution}
-use Rattle.term_algebra.proofs.CanonLemmas.{canon_ground}
+use Rattle.list_laws.proofs.Options.{mapped, chained}
+use Rattle.lotos_base.specs.Term.{Term}
+use Rattle.lotos_base.specs.Sorting.{IsGroundOf}
+use Rattle.lotos_base.specs.Equation.{Data, Variable}
+use Rattle.lotos_base.specs.Canon.{IsCanon}
+use Rattle.lotos_base.specs.Substitution.{Substitution}
+use Rattle.lotos_base.proofs.CanonLemmas.{canon_ground}
 use Rattle.behaviour_semantics.specs.Behaviour.{Behaviour, exit_with, action, inner_action, guard, choice, parallel, hide, enable, disable, let_be, choose_value, choose_gate, call, relabel, Test, SynchronisationSet, Process, Specification, asked_variables, open_sorts, sorts_of, let_variables, let_terms}
 use Rattle.behaviour_semantics.specs.Label.{Label, inner_event, gate_event, exit_event}
 use Rattle.behaviour_semantics.specs.Replacement.{test_with, with_values, binding_of}
@@ -17,8 +18,8 @@ use Rattle.behaviour_semantics.specs.Shape.{Shape, guarded, left_side, right_sid
 use Rattle.behaviour_semantics.specs.Move.{Setting, Move, taken, alone, together, passing, enabling, disabling, hiding, asking, relabelling, after_leaf, act_move, quit_move, inner_move, guarded_move, left_move, right_move, both_move, hidden_move, enabled_move, passed_move, let_move, value_move, gate_move, called_move, relabelled_move}
 use Rattle.behaviour_semantics.specs.Derives.{leaves_in}
 use Rattle.behaviour_semantics.specs.WellFormed.{Every, IsTestIn, IsTestOption, AreTermsIn, IsBehaviour, IsDefinition, IsSpecification, IsClosedLabel, IsClosedBehaviour}
-use Rattle.behaviour_semantics.specs.Fault.{Wrong, not_fitting, Fault, first_of_two, at_node, wrong_leaves, first_unmet, unless_there, unless, part_of, act_wrong, quit_wrong, inner_wrong, own_wrong, ends_with, label_wrong, match_wrong, Node, one_part, Sides, right_and_match, both_parts}
-use Rattle.behaviour_semantics.proofs.OptionLemmas.{some_value, mapped, chained, tested}
+use Rattle.behaviour_semantics.specs.Fault.{Wrong, not_fitting, Fault, first_of_two, at_node, wrong_leaves, first_unmet, unless_there, unless, part_of, act_wrong, quit_wrong, inner_wrong, own_wrong, ends_with, label_wrong, match_wrong, Node, one_part, SidesFault, right_and_match, both_parts}
+use Rattle.behaviour_semantics.proofs.OptionLemmas.{some_value, tested}
 use Rattle.behaviour_semantics.proofs.ListLemmas.{Every-at}
 use Rattle.behaviour_semantics.proofs.SupplyLemmas.{Supplied, Supplied-append, AreValues-taken, AllHold-parts, AllHold-append}
 use Rattle.behaviour_semantics.proofs.PutTerms.{put_option, inner_puts, closed_by}
@@ -483,7 +484,7 @@ module _ (data_ : Data) (specification : Specification) (well_formed : IsSpecifi
       let test : _ = tested (move_together data_.signature meet m.label from.0.label) (joined meet m from.0) from.2 in
       none from.0 from.1 (parts_of next meet m from.0 (subst (Sound data_ leaves next) (sym test.1) whole)).1.0)
 
-  both_by : (next node : ℕ) (meet : SynchronisationSet) (sides : Sides) (d : Behaviour) {o : Option Fault} {p : Option Move}
+  both_by : (next node : ℕ) (meet : SynchronisationSet) (sides : SidesFault) (d : Behaviour) {o : Option Fault} {p : Option Move}
       → Same data_ leaves next o p → ((m : Move) → p ≡ Some m → Sound data_ leaves next m
       → IsClosedLabel data_.signature specification m.label) → ((n : ℕ) → n ≤ length leaves
       → Same data_ leaves n (sides.right_faults n d) (sides.right_moves n d))
@@ -497,7 +498,7 @@ module _ (data_ : Data) (specification : Specification) (well_formed : IsSpecifi
   both_by next node meet sides d (faulty f {o = p} none) closed same closed' =
       faulty f (λ k e s. let from : _ = sides_of next meet p (λ (n : ℕ). sides.right_moves n d) k e s in none from.0 from.1 from.2.2.0)
 
-  pub both_same : (next node : ℕ) (sides : Sides) → AllSame next sides.left_faults sides.left_moves → AllClosed next sides.left_moves
+  pub both_same : (next node : ℕ) (sides : SidesFault) → AllSame next sides.left_faults sides.left_moves → AllClosed next sides.left_moves
       → ((n : ℕ) → n ≤ length leaves → AllSame n (sides.right_faults n) (sides.right_moves n))
       → ((n : ℕ) → AllClosed n (sides.right_moves n)) → AllSame next (both_parts setting node next sides)
       (both_move setting next sides.left_moves sides.right_moves)

@@ -1,18 +1,19 @@
 -- The fault of a shape is the faulty node that comes first in preorder: by induction on the shape.
 use Rattle.std.proofs.Common.{◌≡◌, ◌<◌, ◌≤◌, ◌⊎◌, inl, inr, ℕ, suc, ◌+◌, List, [], ◌∷◌, length, map, slice_get, Option, None, Some, option_and_then, refl, ap, sym, ◌∙◌, subst, arith}
-use Rattle.term_algebra.specs.Term.{Term}
-use Rattle.term_algebra.specs.Equation.{Data}
-use Rattle.term_algebra.specs.Canon.{IsCanon}
+use Rattle.list_laws.proofs.Options.{mapped}
+use Rattle.lotos_base.specs.Term.{Term}
+use Rattle.lotos_base.specs.Equation.{Data}
+use Rattle.lotos_base.specs.Canon.{IsCanon}
 use Rattle.behaviour_semantics.specs.Behaviour.{Behaviour, guard, choice, parallel, hide, enable, disable, let_be, choose_value, choose_gate, call, relabel, SynchronisationSet, Process, Specification, let_variables, let_terms}
 use Rattle.behaviour_semantics.specs.Replacement.{with_values, binding_of}
 use Rattle.behaviour_semantics.specs.Shape.{Shape, act, quit, inner_step, guarded, left_side, right_side, both_sides, hidden, enabled, passed, let_bound, with_value, at_gate, called, relabelled}
 use Rattle.behaviour_semantics.specs.Move.{Setting, Move, move_of, opened}
 use Rattle.behaviour_semantics.specs.Derives.{leaves_in}
 use Rattle.behaviour_semantics.specs.WellFormed.{AreTermsIn, IsDefinition, IsSpecification, IsClosedBehaviour, AreOver}
-use Rattle.behaviour_semantics.specs.Fault.{Wrong, not_fitting, Fault, size, first_of_two, at_node, unless_there, guarded_part, left_part, right_part, both_part, hidden_part, enable_part, let_part, value_part, gate_part, called_part, relabelled_part, part_of, value_wrong, own_wrong, label_wrong, match_wrong, node_of, one_part, Sides, right_and_match, both_parts, fault_from}
-use Rattle.behaviour_semantics.specs.FaultyNode.{Place, part_shape, part_next, wrong_by_itself, IsPart, is_first_part, is_right_part, at_root, HasSoundMove, IsSound, LabelsWrong, part_label, both_labels, IsFaulty, by_itself, by_labels}
+use Rattle.behaviour_semantics.specs.Fault.{Wrong, not_fitting, Fault, size, first_of_two, at_node, unless_there, guarded_part, left_part, right_part, both_part, hidden_part, enable_part, let_part, value_part, gate_part, called_part, relabelled_part, part_of, value_wrong, own_wrong, label_wrong, match_wrong, node_of, one_part, SidesFault, right_and_match, both_parts, fault_from}
+use Rattle.behaviour_semantics.specs.FaultyNode.{NodePlace, part_shape, part_next, wrong_by_itself, IsPart, is_first_part, is_right_part, at_root, HasSoundMove, IsSoundMove, LabelsWrong, part_label, both_labels, IsFaulty, by_itself, by_labels}
 use Rattle.behaviour_semantics.specs.FaultLaws.{kept_setting, root_of, IsFirstFault}
-use Rattle.behaviour_semantics.proofs.OptionLemmas.{some_value, mapped}
+use Rattle.behaviour_semantics.proofs.OptionLemmas.{some_value}
 use Rattle.behaviour_semantics.proofs.ListLemmas.{Every-at}
 use Rattle.behaviour_semantics.proofs.SupplyLemmas.{AreValues-taken}
 use Rattle.behaviour_semantics.proofs.PutTerms.{closed_by}
@@ -40,25 +41,25 @@ module _ (data_ : Data) (specification : Specification) (well_formed : IsSpecifi
   abbrev kept : Setting
   kept = kept_setting data_ canon specification.processes
 
-  abbrev FaultOf : Place → Fault → Type 0
+  abbrev FaultOf : NodePlace → Fault → Type 0
   FaultOf root g = IsFaulty data_ kept leaves root g
 
   -- There is no fault, or this one is the first.
-  abbrev First : Place → Option Fault → Type 0
+  abbrev First : NodePlace → Option Fault → Type 0
   First root None = (g : Fault) → IsFaulty data_ kept leaves root g → ⊥
   First root (Some f) = IsFaulty data_ kept leaves root f × ((g : Fault) → IsFaulty data_ kept leaves root g → (g ≡ f) ⊎ (f.node < g.node))
 
   abbrev Closed : Behaviour → Type 0
   Closed b = IsClosedBehaviour data_.signature specification b
 
-  to_sound : (next : ℕ) (m : Move) → IsSound data_ leaves next m → Sound data_ leaves next m
+  to_sound : (next : ℕ) (m : Move) → IsSoundMove data_ leaves next m → Sound data_ leaves next m
   to_sound next m h = record {
     supplied = supplied_taken data_.signature (leaves_in leaves) next m.sorts h.values;
     enough = h.enough;
     holds = h.holds;
   }
 
-  is_sound : (next : ℕ) (m : Move) → Sound data_ leaves next m → IsSound data_ leaves next m
+  is_sound : (next : ℕ) (m : Move) → Sound data_ leaves next m → IsSoundMove data_ leaves next m
   is_sound next m h = record {
     enough = h.enough;
     values = AreValues-taken data_.signature (leaves_in leaves) next m.sorts h.supplied;
@@ -66,7 +67,7 @@ module _ (data_ : Data) (specification : Specification) (well_formed : IsSpecifi
   }
 
   -- What is wrong at the first node by itself is its one fault.
-  own_first : (root : Place) (w : Wrong) → wrong_by_itself data_ kept leaves root ≡ Some w
+  own_first : (root : NodePlace) (w : Wrong) → wrong_by_itself data_ kept leaves root ≡ Some w
       → First root (Some (record { node = root.number; wrong = w }))
   own_first root w e = (by_itself root w at_root e, λ g i. only g (faulty_from data_ kept leaves i))
     where
@@ -76,7 +77,7 @@ module _ (data_ : Data) (specification : Specification) (well_formed : IsSpecifi
       only g (below q g' none part i) = let both : None ≡ Some w = sym none ∙ e in absurd (cc both)
 
   -- A node without parts.
-  leaf_first : (root : Place) → part_shape root.shape ≡ None → ((r t : Shape) → root.shape ≡ both_sides r t → ⊥) → (w : Option Wrong)
+  leaf_first : (root : NodePlace) → part_shape root.shape ≡ None → ((r t : Shape) → root.shape ≡ both_sides r t → ⊥) → (w : Option Wrong)
       → wrong_by_itself data_ kept leaves root ≡ w → First root (at_node root.number w)
   leaf_first root no_part not_both (Some w) e = own_first root w e
   leaf_first root no_part not_both None e = λ g i. never g (faulty_from data_ kept leaves i)
@@ -85,7 +86,7 @@ module _ (data_ : Data) (specification : Specification) (well_formed : IsSpecifi
       no_label w (part_label s b m w' e1 e2 e3 e4) = let both : None ≡ Some s = sym no_part ∙ e1 in cc both
       no_label w (both_labels s t meet b c m n w' e1 e2 e3 e4 e5) = not_both s t e1
 
-      no_parts : (q : Place) → IsPart data_ kept leaves root q → ⊥
+      no_parts : (q : NodePlace) → IsPart data_ kept leaves root q → ⊥
       no_parts q (is_first_part s b e1 e2) = let both : None ≡ Some s = sym no_part ∙ e1 in cc both
       no_parts q (is_right_part s t meet b c m e1 e2 e3) = not_both s t e1
 
@@ -95,15 +96,15 @@ module _ (data_ : Data) (specification : Specification) (well_formed : IsSpecifi
       never g (below q g' none part i) = no_parts q part
 
   -- A node with one part.
-  module _ (root : Place) (s : Shape) (part_is : part_shape root.shape ≡ Some s) (not_both : (r t : Shape) → root.shape ≡ both_sides r t
+  module _ (root : NodePlace) (s : Shape) (part_is : part_shape root.shape ≡ Some s) (not_both : (r t : Shape) → root.shape ≡ both_sides r t
       → ⊥) (faults : Behaviour → Option Fault) where
-    abbrev part_at : Behaviour → Place
+    abbrev part_at : Behaviour → NodePlace
     part_at c = record { shape = s; number = suc root.number; next = part_next root.shape root.next; behaviour = c }
 
     abbrev moves : Behaviour → Option Move
     moves c = move_of kept (leaves_in leaves) s (part_next root.shape root.next) c
 
-    the_part : (c : Behaviour) → part_of kept leaves root.shape root.next (opened root.behaviour) ≡ Some c → (q : Place)
+    the_part : (c : Behaviour) → part_of kept leaves root.shape root.next (opened root.behaviour) ≡ Some c → (q : NodePlace)
         → IsPart data_ kept leaves root q → q ≡ part_at c
     the_part c at q (is_first_part s' b' e1 e2) =
         let shapes : s' ≡ s = some_value (sym e1 ∙ part_is) in
@@ -133,7 +134,7 @@ module _ (data_ : Data) (specification : Specification) (well_formed : IsSpecifi
         no_label w (part_label s' b m w' e1 e2 e3 e4) = let both : None ≡ Some b = sym at ∙ e2 in cc both
         no_label w (both_labels s' t meet b c m n w' e1 e2 e3 e4 e5) = not_both s' t e1
 
-        no_parts : (q : Place) → IsPart data_ kept leaves root q → ⊥
+        no_parts : (q : NodePlace) → IsPart data_ kept leaves root q → ⊥
         no_parts q (is_first_part s' b e1 e2) = let both : None ≡ Some b = sym at ∙ e2 in cc both
         no_parts q (is_right_part s' t meet b c m e1 e2 e3) = not_both s' t e1
 
@@ -152,9 +153,9 @@ module _ (data_ : Data) (specification : Specification) (well_formed : IsSpecifi
         never : (h : Fault) → Faulty data_ kept leaves root h → ⊥
         never h (itself w e') = let both : None ≡ Some w = sym e ∙ e' in cc both
         never h (labels w none parts wrong) = let both : None ≡ Some w = sym lw ∙ the_label c m at mp w wrong in cc both
-        never h (below q h' none part j) = none_below h (subst (λ (p : Place). FaultOf p h) (the_part c at q part) j)
+        never h (below q h' none part j) = none_below h (subst (λ (p : NodePlace). FaultOf p h) (the_part c at q part) j)
     label_first c m e at mp s_ none_below (Some w) lw = (
-      by_labels root w at_root e (λ q part. subst (λ (p : Place). HasSoundMove data_ kept leaves p) (sym (the_part c at q part)) (
+      by_labels root w at_root e (λ q part. subst (λ (p : NodePlace). HasSoundMove data_ kept leaves p) (sym (the_part c at q part)) (
         m,
         mp,
         is_sound (part_next root.shape root.next) m s_,
@@ -166,7 +167,7 @@ module _ (data_ : Data) (specification : Specification) (well_formed : IsSpecifi
         only g (itself w' e') = let both : None ≡ Some w' = sym e ∙ e' in absurd (cc both)
         only g (labels w' none parts wrong) = inl (ap (λ (v : Wrong). record { node = root.number; wrong = v })
             (some_value (sym (the_label c m at mp w' wrong) ∙ lw)))
-        only g (below q g' none part j) = absurd (none_below g (subst (λ (p : Place). FaultOf p g) (the_part c at q part) j))
+        only g (below q g' none part j) = absurd (none_below g (subst (λ (p : NodePlace). FaultOf p g) (the_part c at q part) j))
 
     part_first : (c : Behaviour) → wrong_by_itself data_ kept leaves root ≡ None
         → part_of kept leaves root.shape root.next (opened root.behaviour) ≡ Some c → {o : Option Fault} {p : Option Move}
@@ -183,7 +184,7 @@ module _ (data_ : Data) (specification : Specification) (well_formed : IsSpecifi
         only g (labels w none_ parts wrong) =
             let has : HasSoundMove data_ kept leaves (part_at c) = parts (part_at c) (is_first_part s c part_is at) in
             absurd (none has.0 (sym mp ∙ has.1) (to_sound (part_next root.shape root.next) has.0 has.2))
-        only g (below q g' none_ part j) = first.1 g (subst (λ (r : Place). FaultOf r g) (the_part c at q part) j)
+        only g (below q g' none_ part j) = first.1 g (subst (λ (r : NodePlace). FaultOf r g) (the_part c at q part) j)
 
     one_first : (w : Option Wrong) → wrong_by_itself data_ kept leaves root ≡ w → (o : Option Behaviour)
         → part_of kept leaves root.shape root.next (opened root.behaviour) ≡ o
@@ -202,14 +203,14 @@ module _ (data_ : Data) (specification : Specification) (well_formed : IsSpecifi
 
   -- Both sides.
   module _ (s t : Shape) (node next : ℕ) (b : Behaviour) where
-    abbrev whole : Place
+    abbrev whole : NodePlace
     whole = record { shape = both_sides s t; number = node; next = next; behaviour = b }
 
     module _ (meet : SynchronisationSet) (x y : Behaviour) (at : opened b ≡ parallel meet x y) where
-      abbrev left : Place
+      abbrev left : NodePlace
       left = record { shape = s; number = suc node; next = next; behaviour = x }
 
-      abbrev right : Move → Place
+      abbrev right : Move → NodePlace
       right m = record { shape = t; number = suc (node + size s); next = next + length m.sorts; behaviour = y }
 
       abbrev lefts : Option Move
@@ -227,10 +228,10 @@ module _ (data_ : Data) (specification : Specification) (well_formed : IsSpecifi
       right_is_part : (m : Move) → lefts ≡ Some m → IsPart data_ kept leaves whole (right m)
       right_is_part m mp = is_right_part s t meet x y m refl at mp
 
-      abbrev IsRight : Place → Type 0
+      abbrev IsRight : NodePlace → Type 0
       IsRight q = (m : Move) × (lefts ≡ Some m) × (q ≡ right m)
 
-      left_or_right : (q : Place) → IsPart data_ kept leaves whole q → (q ≡ left) ⊎ IsRight q
+      left_or_right : (q : NodePlace) → IsPart data_ kept leaves whole q → (q ≡ left) ⊎ IsRight q
       left_or_right q (is_first_part s' b' e1 e2) =
           let shapes : s' ≡ s = some_value (sym e1) in
           let behaviours : b' ≡ x = some_value (sym e2 ∙ ap both_part at) in
@@ -273,7 +274,7 @@ module _ (data_ : Data) (specification : Specification) (well_formed : IsSpecifi
           (subst (λ (k : Move). match_wrong kept meet m'.label k.label ≡ Some w) same'
           (subst (λ (z : SynchronisationSet). match_wrong kept z m'.label n'.label ≡ Some w) meets e5))
 
-      the_right : (m : Move) → lefts ≡ Some m → (q : Place) → IsRight q → q ≡ right m
+      the_right : (m : Move) → lefts ≡ Some m → (q : NodePlace) → IsRight q → q ≡ right m
       the_right m mp q r = let same : r.0 ≡ m = some_value (sym r.1 ∙ mp) in r.2 ∙ ap right same
 
       -- each fault of the whole, where none is on the left
@@ -282,9 +283,9 @@ module _ (data_ : Data) (specification : Specification) (well_formed : IsSpecifi
           → (w : Option Wrong) → match_wrong kept meet m.label n.label ≡ w → First whole (at_node node w)
       match_first m n mp np s_ t_ no_left no_right None lw = λ g i. never g (faulty_from data_ kept leaves i)
         where
-          side : (h : Fault) (q : Place) → FaultOf q h → (q ≡ left) ⊎ IsRight q → ⊥
-          side h q j (inl same) = no_left h (subst (λ (p : Place). FaultOf p h) same j)
-          side h q j (inr r) = no_right h (subst (λ (p : Place). FaultOf p h) (the_right m mp q r) j)
+          side : (h : Fault) (q : NodePlace) → FaultOf q h → (q ≡ left) ⊎ IsRight q → ⊥
+          side h q j (inl same) = no_left h (subst (λ (p : NodePlace). FaultOf p h) same j)
+          side h q j (inr r) = no_right h (subst (λ (p : NodePlace). FaultOf p h) (the_right m mp q r) j)
 
           never : (h : Fault) → Faulty data_ kept leaves whole h → ⊥
           never h (itself w e') = let both : None ≡ Some w = sym nothing_wrong ∙ e' in cc both
@@ -295,17 +296,17 @@ module _ (data_ : Data) (specification : Specification) (well_formed : IsSpecifi
         λ g i. only g (faulty_from data_ kept leaves i),
       )
         where
-          has : (q : Place) → (q ≡ left) ⊎ IsRight q → HasSoundMove data_ kept leaves q
-          has q (inl same) = subst (λ (p : Place). HasSoundMove data_ kept leaves p) (sym same) (m, mp, is_sound next m s_)
-          has q (inr r) = subst (λ (p : Place). HasSoundMove data_ kept leaves p) (sym (the_right m mp q r)) (
+          has : (q : NodePlace) → (q ≡ left) ⊎ IsRight q → HasSoundMove data_ kept leaves q
+          has q (inl same) = subst (λ (p : NodePlace). HasSoundMove data_ kept leaves p) (sym same) (m, mp, is_sound next m s_)
+          has q (inr r) = subst (λ (p : NodePlace). HasSoundMove data_ kept leaves p) (sym (the_right m mp q r)) (
             n,
             np,
             is_sound (next + length m.sorts) n t_,
           )
 
-          side : (g : Fault) (q : Place) → FaultOf q g → (q ≡ left) ⊎ IsRight q → ⊥
-          side g q j (inl same) = no_left g (subst (λ (p : Place). FaultOf p g) same j)
-          side g q j (inr r) = no_right g (subst (λ (p : Place). FaultOf p g) (the_right m mp q r) j)
+          side : (g : Fault) (q : NodePlace) → FaultOf q g → (q ≡ left) ⊎ IsRight q → ⊥
+          side g q j (inl same) = no_left g (subst (λ (p : NodePlace). FaultOf p g) same j)
+          side g q j (inr r) = no_right g (subst (λ (p : NodePlace). FaultOf p g) (the_right m mp q r) j)
 
           only : (g : Fault) → Faulty data_ kept leaves whole g → (g ≡ record { node = node; wrong = w }) ⊎ (node < g.node)
           only g (itself w' e') = let both : None ≡ Some w' = sym nothing_wrong ∙ e' in absurd (cc both)
@@ -321,9 +322,9 @@ module _ (data_ : Data) (specification : Specification) (well_formed : IsSpecifi
       right_first m mp s_ no_left (faulty f {o = p} none) np first =
           (faulty_lifted data_ kept leaves nothing_wrong (right_is_part m mp) first.0, λ g i. only g (faulty_from data_ kept leaves i))
         where
-          side : (g : Fault) (q : Place) → FaultOf q g → (q ≡ left) ⊎ IsRight q → (g ≡ f) ⊎ (f.node < g.node)
-          side g q j (inl same) = absurd (no_left g (subst (λ (r : Place). FaultOf r g) same j))
-          side g q j (inr r) = first.1 g (subst (λ (z : Place). FaultOf z g) (the_right m mp q r) j)
+          side : (g : Fault) (q : NodePlace) → FaultOf q g → (q ≡ left) ⊎ IsRight q → (g ≡ f) ⊎ (f.node < g.node)
+          side g q j (inl same) = absurd (no_left g (subst (λ (r : NodePlace). FaultOf r g) same j))
+          side g q j (inr r) = first.1 g (subst (λ (z : NodePlace). FaultOf z g) (the_right m mp q r) j)
 
           only : (g : Fault) → Faulty data_ kept leaves whole g → (g ≡ f) ⊎ (f.node < g.node)
           only g (itself w e') = let both : None ≡ Some w = sym nothing_wrong ∙ e' in absurd (cc both)
@@ -339,12 +340,12 @@ module _ (data_ : Data) (specification : Specification) (well_formed : IsSpecifi
       left_first rest then_ (faulty f {o = p} none) mp first =
           (faulty_lifted data_ kept leaves nothing_wrong left_is_part first.0, λ g i. only g (faulty_from data_ kept leaves i))
         where
-          side : (g : Fault) (q : Place) → FaultOf q g → (q ≡ left) ⊎ IsRight q → (g ≡ f) ⊎ (f.node < g.node)
-          side g q j (inl same) = first.1 g (subst (λ (r : Place). FaultOf r g) same j)
+          side : (g : Fault) (q : NodePlace) → FaultOf q g → (q ≡ left) ⊎ IsRight q → (g ≡ f) ⊎ (f.node < g.node)
+          side g q j (inl same) = first.1 g (subst (λ (r : NodePlace). FaultOf r g) same j)
           side g q j (inr r) =
               let mine : (suc node ≤ f.node) × (f.node < suc node + size s) = faulty_within data_ kept leaves first.0 in
               let its : (q.number ≤ g.node) × (g.node < q.number + size q.shape) = faulty_within data_ kept leaves j in
-              let number : q.number ≡ suc (node + size s) = ap (λ (z : Place). z.number) r.2 in
+              let number : q.number ≡ suc (node + size s) = ap (λ (z : NodePlace). z.number) r.2 in
               inr (omega (arith, mine.1, its.0, number))
 
           only : (g : Fault) → Faulty data_ kept leaves whole g → (g ≡ f) ⊎ (f.node < g.node)
@@ -354,7 +355,7 @@ module _ (data_ : Data) (specification : Specification) (well_formed : IsSpecifi
               absurd (none has.0 (sym mp ∙ has.1) (to_sound next has.0 has.2))
           only g (below q g' none_ part j) = side g q j (left_or_right q part)
 
-    both_first : (sides : Sides) → ((c : Behaviour) → Closed c → First
+    both_first : (sides : SidesFault) → ((c : Behaviour) → Closed c → First
         (record { shape = s; number = suc node; next = next; behaviour = c }) (sides.left_faults c)
         × Same data_ leaves next (sides.left_faults c) (move_of kept (leaves_in leaves) s next c))
         → ((n : ℕ) → n ≤ length leaves → (c : Behaviour) → Closed c → First
@@ -479,7 +480,7 @@ module _ (data_ : Data) (specification : Specification) (well_formed : IsSpecifi
   open_first = opened_closed data_ specification well_formed canon (keeps data_ specification well_formed canon is_canon leaves)
       (leaves_in leaves)
 
-  abbrev place_of : Shape → ℕ → ℕ → Behaviour → Place
+  abbrev place_of : Shape → ℕ → ℕ → Behaviour → NodePlace
   place_of s node next b = record { shape = s; number = node; next = next; behaviour = b }
 
   abbrev faults_of : Shape → ℕ → ℕ → Behaviour → Option Fault

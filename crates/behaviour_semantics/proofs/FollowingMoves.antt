@@ -1,10 +1,10 @@
 -- Behaviours beside one another without leaf variables: what one form of values derives another one derives too, and
 -- what they reach stands beside one another again.
 use Rattle.std.proofs.Common.{◌≡◌, ◌≤◌, ℕ, suc, List, [], ◌∷◌, map, Option, ap, sym, ◌∙◌, subst}
-use Rattle.term_algebra.specs.Term.{Term, variable}
-use Rattle.term_algebra.specs.Equation.{Data, Variable}
-use Rattle.term_algebra.specs.Substitution.{Substitution, substituted}
-use Rattle.term_algebra.proofs.SubstitutionLemmas.{substituted_variables}
+use Rattle.lotos_base.specs.Term.{Term, variable}
+use Rattle.lotos_base.specs.Equation.{Data, Variable}
+use Rattle.lotos_base.specs.Substitution.{Substitution, substituted}
+use Rattle.lotos_base.proofs.SubstitutionLemmas.{substituted_variables}
 use Rattle.behaviour_semantics.specs.Behaviour.{Behaviour, Test, Offer, ExitValue, Process, Specification}
 use Rattle.behaviour_semantics.specs.Label.{Label}
 use Rattle.behaviour_semantics.specs.Replacement.{test_with}

@@ -1,8 +1,8 @@
 -- Where the recursion of the processes is guarded, the moves of each behaviour can be listed.
 use Rattle.std.proofs.Common.{◌≡◌, ◌<◌, ◌≤◌, ℕ, zero, suc, ◌+◌, max, List, [], ◌∷◌, ◌++◌, length, map, zip, filter_map, slice_get, Option, None, Some, option_map, option_and_then, refl, ap, sym, subst, arith}
-use Rattle.term_algebra.specs.Signature.{Signature}
-use Rattle.term_algebra.specs.Term.{Term}
-use Rattle.term_algebra.specs.Substitution.{Substitution, without}
+use Rattle.lotos_base.specs.Signature.{Signature}
+use Rattle.lotos_base.specs.Term.{Term}
+use Rattle.lotos_base.specs.Substitution.{Substitution, without}
 use Rattle.behaviour_semantics.specs.Behaviour.{Behaviour, stop, exit_with, action, inner_action, guard, choice, parallel, hide, enable, disable, let_be, choose_value, choose_gate, par_gate, call, relabel, SynchronisationSet, Process, Relabelling, numbers_of, let_variables, let_terms}
 use Rattle.behaviour_semantics.specs.Label.{under}
 use Rattle.behaviour_semantics.specs.Replacement.{with_values, binding_of}

@@ -1,13 +1,13 @@
 -- A side whose terms hold no leaf variables, beside another one: what related closed terms, labels and equations say.
 use Rattle.std.proofs.Common.{◌≡◌, ◌<◌, ◌≤◌, ◌⊎◌, inl, inr, ℕ, zero, suc, max, List, [], ◌∷◌, ◌++◌, map, slice_get, Some, refl, sym, ◌∙◌, arith, subst}
 use Rattle.std.proofs.lemmas.List.{append-nil}
-use Rattle.term_algebra.specs.Term.{Term, variable}
-use Rattle.term_algebra.specs.Sorting.{IsGround, IsGroundOf, Occurs}
-use Rattle.term_algebra.specs.Equation.{Data}
-use Rattle.term_algebra.specs.Equality.{Equal}
-use Rattle.term_algebra.specs.Substitution.{Substitution, substituted}
-use Rattle.term_algebra.proofs.SubstitutionLemmas.{substituted_agree, substituted_ground, no_variable_ground, ground_no_variable}
-use Rattle.term_algebra.proofs.EqualityLemmas.{equal_then, equal_back, equal_same}
+use Rattle.lotos_base.specs.Term.{Term, variable}
+use Rattle.lotos_base.specs.Sorting.{IsGround, IsGroundOf, Occurs}
+use Rattle.lotos_base.specs.Equation.{Data}
+use Rattle.lotos_base.specs.Equality.{Equal}
+use Rattle.lotos_base.specs.Substitution.{Substitution, substituted}
+use Rattle.lotos_base.proofs.SubstitutionLemmas.{substituted_agree, substituted_ground, no_variable_ground, ground_no_variable}
+use Rattle.lotos_base.proofs.EqualityLemmas.{equal_then, equal_back, equal_same}
 use Rattle.behaviour_semantics.specs.Behaviour.{Test, Process, Specification}
 use Rattle.behaviour_semantics.specs.Label.{Label}
 use Rattle.behaviour_semantics.specs.Replacement.{test_with}

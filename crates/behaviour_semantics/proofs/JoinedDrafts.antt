@@ -1,12 +1,13 @@
 -- The draft of both sides of a parallel is the join of the drafts of the two sides.
 use Rattle.std.proofs.Common.{◌≡◌, ◌≤◌, ℕ, suc, ◌+◌, ◌-◌, List, [], ◌∷◌, ◌++◌, length, map, Bool, true, false, ◌&&◌, nat_eq, if◌then◌else◌, Option, None, Some, option_map, option_and_then, refl, ap, sym, ◌∙◌, arith, le-ltb}
 use Rattle.std.proofs.lemmas.List.{map-append}
-use Rattle.term_algebra.specs.Signature.{Signature}
-use Rattle.term_algebra.specs.Term.{Term, variable, node}
-use Rattle.term_algebra.specs.Sorting.{sort_of}
-use Rattle.term_algebra.specs.Equation.{Data}
-use Rattle.term_algebra.specs.Substitution.{Substitution, substituted, followed_by, renaming}
-use Rattle.term_algebra.proofs.SubstitutionLemmas.{substituted_twice, substituted_agree}
+use Rattle.std.proofs.Math.Nat.{le_refl}
+use Rattle.lotos_base.specs.Signature.{Signature}
+use Rattle.lotos_base.specs.Term.{Term, variable, node}
+use Rattle.lotos_base.specs.Sorting.{sort_of}
+use Rattle.lotos_base.specs.Equation.{Data}
+use Rattle.lotos_base.specs.Substitution.{Substitution, substituted, followed_by, renaming}
+use Rattle.lotos_base.proofs.SubstitutionLemmas.{substituted_twice, substituted_agree}
 use Rattle.behaviour_semantics.specs.Behaviour.{Behaviour, parallel, Test, SynchronisationSet, all_gates, Specification}
 use Rattle.behaviour_semantics.specs.Label.{Label, inner_event, gate_event, exit_event}
 use Rattle.behaviour_semantics.specs.Replacement.{test_with}
@@ -22,7 +23,7 @@ use Rattle.behaviour_semantics.proofs.DraftsInOrder.{label_values-with}
 use Rattle.behaviour_semantics.proofs.SameBehaviours.{low_nothing, same_beside}
 use Rattle.behaviour_semantics.proofs.RaisedTerms.{IsFar, AreFar, pairwise-with}
 use Rattle.behaviour_semantics.proofs.RaisedMoves.{open_side, far_move}
-use Rattle.behaviour_semantics.proofs.RaisedDrafts.{le_same, later_leaf, same_drafts}
+use Rattle.behaviour_semantics.proofs.RaisedDrafts.{later_leaf, same_drafts}
 
 -- Renamed values have the sorts that they had.
 module _ (signature : Signature) where
@@ -292,9 +293,9 @@ module _ (data_ : Data) (canon : Term → Term) (specification : Specification) 
   far_right : (n : Move) → open_move data_ canon specification.processes base t 0 c ≡ Some n → AreFar base (label_values n.label)
       × Every (λ (test : Test). IsFar base test.left × IsFar base test.right) n.asked
   far_right n e =
-      far_move data_ base base 0 (le_same base) specification over.well_formed le_processes canon over.is_canon variable t 0 c c
-      (same_beside data_ base (open_side data_ base base 0 (le_same base) specification over.well_formed le_processes canon
-      over.is_canon variable) (open_side data_ base base 0 (le_same base) specification over.well_formed le_processes canon
+      far_move data_ base base 0 (le_refl base) specification over.well_formed le_processes canon over.is_canon variable t 0 c c
+      (same_beside data_ base (open_side data_ base base 0 (le_refl base) specification over.well_formed le_processes canon
+      over.is_canon variable) (open_side data_ base base 0 (le_refl base) specification over.well_formed le_processes canon
       over.is_canon variable) _ specification.processes [] c (low_nothing data_ base) le_above over.closed.2) n e
 
   by_right : (m : Move) (o : Option Move) → open_move data_ canon specification.processes base t 0 c ≡ o

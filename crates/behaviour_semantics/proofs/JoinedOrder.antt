@@ -1,12 +1,14 @@
 -- The join of drafts in order is in order.
 use Rattle.std.proofs.Common.{◌≡◌, ◌<◌, ◌+◌, ◌++◌, ◌⊎◌, inl, inr, ℕ, zero, suc, List, [], ◌∷◌, length, map, slice_get, Some, Bool, true, false, ◌&&◌, nat_eq, refl, ap, sym, ◌∙◌, subst, arith, eqb-true}
 use Rattle.std.proofs.lemmas.List.{length-map, length-append}
-use Rattle.term_algebra.specs.Signature.{Signature}
-use Rattle.term_algebra.specs.Term.{Term, variable, node}
-use Rattle.term_algebra.specs.Sorting.{HasSort, sort_of}
-use Rattle.term_algebra.specs.Substitution.{substituted}
-use Rattle.term_algebra.proofs.SortLemmas.{sort_of_sorted}
-use Rattle.term_algebra.proofs.SubstitutionLemmas.{ComesFrom, substituted_occurs, substituted_sort}
+use Rattle.std.proofs.lemmas.Bool.{and_parts}
+use Rattle.list_laws.proofs.Members.{at_front, at_map, from_map}
+use Rattle.lotos_base.specs.Signature.{Signature}
+use Rattle.lotos_base.specs.Term.{Term, variable, node}
+use Rattle.lotos_base.specs.Sorting.{HasSort, sort_of}
+use Rattle.lotos_base.specs.Substitution.{substituted}
+use Rattle.lotos_base.proofs.SortLemmas.{sort_of_sorted}
+use Rattle.lotos_base.proofs.SubstitutionLemmas.{ComesFrom, substituted_occurs, substituted_sort}
 use Rattle.behaviour_semantics.specs.Behaviour.{Test, all_gates}
 use Rattle.behaviour_semantics.specs.Label.{Label, inner_event, gate_event, exit_event}
 use Rattle.behaviour_semantics.specs.Rule.{is_same_sort, have_same_sorts, move_together, label_values, pairwise}
@@ -16,15 +18,8 @@ use Rattle.behaviour_semantics.specs.Join.{both_drafts, raised}
 use Rattle.behaviour_semantics.specs.WellFormed.{Every}
 use Rattle.behaviour_semantics.specs.DraftOrder.{IsLeaf, HasLeafVariables, IsDraftTerm, IsDraftTest, IsInOrder}
 use Rattle.behaviour_semantics.proofs.ListLemmas.{Every-append}
-use Rattle.behaviour_semantics.proofs.MoveToRule.{and_parts}
 use Rattle.behaviour_semantics.proofs.RelatedTerms.{occurs_sort}
-use Rattle.behaviour_semantics.proofs.DraftsInOrder.{at_map, mapped_at, label_values-in}
-
--- Members of two lists, one behind the other.
-front_at : {X : Type 0} (xs ys : List X) (i : ℕ) (x : X) → slice_get xs i ≡ Some x → slice_get (xs ++ ys) i ≡ Some x
-front_at [] ys i x at = absurd (cc at)
-front_at (z ∷ xs) ys zero x at = at
-front_at (z ∷ xs) ys (suc i) x at = front_at xs ys i x at
+use Rattle.behaviour_semantics.proofs.DraftsInOrder.{label_values-in}
 
 back_at : {X : Type 0} (xs ys : List X) (i : ℕ) (x : X) → slice_get ys i ≡ Some x → slice_get (xs ++ ys) (length xs + i) ≡ Some x
 back_at [] ys i x at = subst (λ (k : ℕ). slice_get ys k ≡ Some x) (let e : i ≡ 0 + i = omega arith in e) at
@@ -50,7 +45,7 @@ module _ (signature : Signature) (left right : Draft) (left_order : IsInOrder si
       → HasLeafVariables signature (left.leaves ++ map (substituted (raised (length left.leaves))) right.leaves) s t
   left_term s t h = record {
     sorted = h.sorted;
-    own = λ n r o. let leaf : IsLeaf left.leaves n r = h.own n r o in (leaf.0, front_at left.leaves rights leaf.0 (variable n r) leaf.1);
+    own = λ n r o. let leaf : IsLeaf left.leaves n r = h.own n r o in (leaf.0, at_front left.leaves rights leaf.0 (variable n r) leaf.1);
   }
 
   right_term : (s : ℕ) (t : Term) → HasLeafVariables signature right.leaves s t
@@ -143,7 +138,7 @@ module _ (signature : Signature) (left right : Draft) (left_order : IsInOrder si
       by (inl here) = inl (left_order.below n s (i, here), (i, here))
       by (inr (j, there)) =
           let from : (t : Term) × (slice_get right.leaves j ≡ Some t) × (substituted (raised (length left.leaves)) t ≡ variable n s) =
-          mapped_at (substituted (raised (length left.leaves))) right.leaves j (variable n s) there in
+          from_map (substituted (raised (length left.leaves))) right.leaves j (variable n s) there in
           let m : (m : ℕ) × (from.0 ≡ variable m s) × (n ≡ m + length left.leaves) = was from.0 from.2 in
           inr (m.0, m.2, (j, from.1 ∙ ap (λ (t : Term). Some t) m.1))
 

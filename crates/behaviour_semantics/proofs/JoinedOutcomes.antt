@@ -3,12 +3,13 @@ use Rattle.std.proofs.Common.{◌≡◌, ◌<◌, ◌≤◌, ◌+◌, ◌-◌, �
 use Rattle.std.proofs.lemmas.Bool.{cases_order, le-ltb}
 use Rattle.std.proofs.lemmas.List.{length-map, length-append}
 use Rattle.std.proofs.lemmas.Option.{slice_get_within}
-use Rattle.term_algebra.specs.Term.{Term, variable}
-use Rattle.term_algebra.specs.Sorting.{Occurs}
-use Rattle.term_algebra.specs.Equation.{Data}
-use Rattle.term_algebra.specs.Substitution.{substituted, followed_by}
-use Rattle.term_algebra.specs.Canon.{IsCanon}
-use Rattle.term_algebra.proofs.SubstitutionLemmas.{ComesFrom, substituted_occurs, substituted_twice, substituted_agree, substituted_sort}
+use Rattle.list_laws.proofs.Members.{at_map, from_map}
+use Rattle.lotos_base.specs.Term.{Term, variable}
+use Rattle.lotos_base.specs.Sorting.{Occurs}
+use Rattle.lotos_base.specs.Equation.{Data}
+use Rattle.lotos_base.specs.Substitution.{substituted, followed_by}
+use Rattle.lotos_base.specs.Canon.{IsCanon}
+use Rattle.lotos_base.proofs.SubstitutionLemmas.{ComesFrom, substituted_occurs, substituted_twice, substituted_agree, substituted_sort}
 use Rattle.behaviour_semantics.specs.Behaviour.{Test}
 use Rattle.behaviour_semantics.specs.Rule.{label_values, pairwise}
 use Rattle.behaviour_semantics.specs.Draft.{Draft, draft_with}
@@ -18,7 +19,7 @@ use Rattle.behaviour_semantics.specs.WellFormed.{Every}
 use Rattle.behaviour_semantics.specs.DraftOrder.{IsLeaf, IsDraftTerm, IsInOrder, as_draft}
 use Rattle.behaviour_semantics.proofs.ListLemmas.{Every-append, Every-at}
 use Rattle.behaviour_semantics.proofs.RelatedTerms.{occurs_sort}
-use Rattle.behaviour_semantics.proofs.DraftsInOrder.{at_map, mapped_at, label_values-in, tidied_in_order, draft_with-in}
+use Rattle.behaviour_semantics.proofs.DraftsInOrder.{label_values-in, tidied_in_order, draft_with-in}
 use Rattle.behaviour_semantics.proofs.LeftVariables.{left_rises, rising_at, left_length, placed, apart as places_apart}
 use Rattle.behaviour_semantics.proofs.SettledEntries.{renumbered}
 use Rattle.behaviour_semantics.proofs.SolvingSteps.{SameOutcomes, same_then, same_tidied}
@@ -252,7 +253,7 @@ module _ (data_ : Data) (canon : Term → Term) (is_canon : IsCanon data_ canon)
           → OfBoth n s
       of_both n s (i, at) =
           let from : (t : Term) × (slice_get (left.leaves ++ map (substituted (raised (length left.leaves))) right.leaves) i ≡ Some t)
-          × (canon t ≡ variable n s) = mapped_at canon (left.leaves ++ map
+          × (canon t ≡ variable n s) = from_map canon (left.leaves ++ map
           (substituted (raised (length left.leaves))) right.leaves) i (variable n s) at in
           let over : OverBoth from.0 = Every-at OverBoth (left.leaves ++ map (substituted (raised (length left.leaves))) right.leaves) i
           from.0 both_over.leaves from.1 in

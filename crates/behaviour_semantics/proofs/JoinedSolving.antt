@@ -1,11 +1,11 @@
 -- The sides of a join may be solved before: first the left one, then the right one, step by step.
 use Rattle.std.proofs.Common.{◌≡◌, ◌<◌, ◌≤◌, ◌+◌, ◌++◌, ℕ, List, length, map, Option, None, Some, option_map, Bool, true, false, ◌||◌, refl, ap, sym, ◌∙◌, arith, ne_eqb}
 use Rattle.std.proofs.lemmas.List.{length-map}
-use Rattle.term_algebra.specs.Term.{Term}
-use Rattle.term_algebra.specs.Sorting.{IsTermOf, Occurs}
-use Rattle.term_algebra.specs.Equation.{Data}
-use Rattle.term_algebra.specs.Substitution.{substituted}
-use Rattle.term_algebra.specs.Canon.{IsCanon}
+use Rattle.lotos_base.specs.Term.{Term}
+use Rattle.lotos_base.specs.Sorting.{IsTermOf, Occurs}
+use Rattle.lotos_base.specs.Equation.{Data}
+use Rattle.lotos_base.specs.Substitution.{substituted}
+use Rattle.lotos_base.specs.Canon.{IsCanon}
 use Rattle.behaviour_semantics.specs.Behaviour.{Test}
 use Rattle.behaviour_semantics.specs.Rule.{label_values, pairwise}
 use Rattle.behaviour_semantics.specs.Draft.{Draft}

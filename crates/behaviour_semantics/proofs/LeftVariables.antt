@@ -1,7 +1,7 @@
 -- The variables that are left in leaves in order: each stands once, with its sort, and their numbers rise.
 use Rattle.std.proofs.Common.{◌≡◌, ◌<◌, ◌≤◌, ◌⊎◌, inl, inr, ℕ, zero, suc, ◌+◌, List, [], ◌∷◌, map, length, slice_get, Option, None, Some, Bool, true, false, nat_eq, if◌then◌else◌, refl, ap, sym, ◌∙◌, arith, subst, eqb-true, eq-eqb, ne_eqb}
 use Rattle.std.proofs.lemmas.Bool.{cases_order}
-use Rattle.term_algebra.specs.Term.{Term, variable, node}
+use Rattle.lotos_base.specs.Term.{Term, variable, node}
 use Rattle.behaviour_semantics.specs.Solving.{leaf_sort, numbered, variables_left, place_of}
 use Rattle.behaviour_semantics.specs.DraftOrder.{IsLeaf}
 use Rattle.behaviour_semantics.proofs.OptionLemmas.{some_value}

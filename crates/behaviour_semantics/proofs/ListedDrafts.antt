@@ -1,14 +1,14 @@
 -- The listed drafts are those of the shapes that fit, in order.
 use Rattle.std.proofs.Common.{◌≡◌, inl, inr, ℕ, List, [], ◌∷◌, map, Some, option_map, refl, ap, sym, ◌∙◌, subst}
-use Rattle.term_algebra.specs.Term.{Term}
-use Rattle.term_algebra.specs.Equation.{Data}
+use Rattle.list_laws.proofs.Options.{mapped}
+use Rattle.lotos_base.specs.Term.{Term}
+use Rattle.lotos_base.specs.Equation.{Data}
 use Rattle.behaviour_semantics.specs.Behaviour.{Behaviour, Process}
 use Rattle.behaviour_semantics.specs.Shape.{Shape}
 use Rattle.behaviour_semantics.specs.Move.{Setting, Move, move_of}
 use Rattle.behaviour_semantics.specs.Draft.{Draft, draft_of, draft_by, first_apart, leaves_from}
 use Rattle.behaviour_semantics.specs.Listing.{ShapedMove, listed_moves, listed_drafts}
 use Rattle.behaviour_semantics.specs.Listing.{IsAmong, ShapesRise, shapes_of_moves, shapes_of_drafts}
-use Rattle.behaviour_semantics.proofs.OptionLemmas.{mapped}
 use Rattle.behaviour_semantics.proofs.ListLemmas.{EachOf, Within, Every-among}
 use Rattle.behaviour_semantics.proofs.ListingLemmas.{shaped, listed}
 use Rattle.behaviour_semantics.proofs.ListingSoundness.{are_moves}

@@ -1,7 +1,7 @@
 -- The listed drafts, solved one by one, are the exact menu; and each can be solved.
 use Rattle.std.proofs.Common.{◌≡◌, ◌<◌, inl, inr, ℕ, zero, suc, List, [], ◌∷◌, slice_get, Option, None, Some, refl, sym, subst, arith}
-use Rattle.term_algebra.specs.Term.{Term}
-use Rattle.term_algebra.specs.Equation.{Data}
+use Rattle.lotos_base.specs.Term.{Term}
+use Rattle.lotos_base.specs.Equation.{Data}
 use Rattle.behaviour_semantics.specs.Behaviour.{Behaviour, Specification}
 use Rattle.behaviour_semantics.specs.Shape.{Shape, Before}
 use Rattle.behaviour_semantics.specs.Draft.{Draft, draft_of}

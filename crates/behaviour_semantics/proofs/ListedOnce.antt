@@ -1,6 +1,6 @@
 -- Two depths give no two lists of moves.
 use Rattle.std.proofs.Common.{◌≡◌, inl, inr, ℕ, List, [], ◌∷◌, Some, refl, ap, sym, ◌∙◌, subst}
-use Rattle.term_algebra.specs.Substitution.{Substitution}
+use Rattle.lotos_base.specs.Substitution.{Substitution}
 use Rattle.behaviour_semantics.specs.Behaviour.{Behaviour}
 use Rattle.behaviour_semantics.specs.Shape.{Before}
 use Rattle.behaviour_semantics.specs.Move.{Setting, move_of}

@@ -1,8 +1,9 @@
 -- The listed moves are those of the table: each move of a shape is in the list, and each listed one is a move.
 use Rattle.std.proofs.Common.{◌≡◌, inl, inr, ℕ, zero, suc, ◌+◌, List, [], ◌∷◌, length, map, zip, slice_get, Bool, true, false, if◌then◌else◌, Option, None, Some, option_map, option_and_then, refl, ap, sym, ◌∙◌, subst, arith}
-use Rattle.term_algebra.specs.Signature.{Signature}
-use Rattle.term_algebra.specs.Term.{Term}
-use Rattle.term_algebra.specs.Substitution.{Substitution}
+use Rattle.list_laws.proofs.Options.{mapped, chained}
+use Rattle.lotos_base.specs.Signature.{Signature}
+use Rattle.lotos_base.specs.Term.{Term}
+use Rattle.lotos_base.specs.Substitution.{Substitution}
 use Rattle.behaviour_semantics.specs.Behaviour.{Behaviour, exit_with, action, inner_action, guard, choice, parallel, hide, enable, disable, let_be, choose_value, choose_gate, call, relabel, SynchronisationSet, Process, let_variables, let_terms}
 use Rattle.behaviour_semantics.specs.Replacement.{with_values, binding_of}
 use Rattle.behaviour_semantics.specs.Rule.{is_exit}
@@ -10,7 +11,7 @@ use Rattle.behaviour_semantics.specs.Shape.{Shape, act, quit, inner_step, guarde
 use Rattle.behaviour_semantics.specs.Move.{Setting, Move, move_of, opened, alone, together, passing, enabling, disabling, hiding, asking, relabelling, after_leaf, act_move, quit_move, inner_move, guarded_move, left_move, right_move, both_move, hidden_move, enabled_move, passed_move, let_move, value_move, gate_move, called_move, relabelled_move}
 use Rattle.behaviour_semantics.specs.Listing.{ShapedMove, Parts, single, below, each_below, below_enable, both_below, at_gates_below, called_below, moves_by_form, listed_moves}
 use Rattle.behaviour_semantics.specs.Listing.{IsAmong}
-use Rattle.behaviour_semantics.proofs.OptionLemmas.{some_value, mapped, chained, tested_not}
+use Rattle.behaviour_semantics.proofs.OptionLemmas.{some_value, tested_not}
 use Rattle.behaviour_semantics.proofs.ComparableLemmas.{enabling-exit}
 use Rattle.behaviour_semantics.proofs.ListLemmas.{Within, Within-filter_map, Within-first, Within-second}
 

@@ -1,10 +1,11 @@
 -- The shapes of the listed moves rise.
 use Rattle.std.proofs.Common.{◌≡◌, ◌<◌, ◌⊎◌, inl, inr, ℕ, zero, suc, ◌+◌, List, [], ◌∷◌, ◌++◌, length, map, zip, filter_map, slice_get, Bool, true, false, if◌then◌else◌, Option, None, Some, option_map, option_and_then, refl, ap, sym, subst, arith}
 use Rattle.std.specs.List.{cons_option}
-use Rattle.term_algebra.specs.Signature.{Signature}
-use Rattle.term_algebra.specs.Term.{Term}
-use Rattle.term_algebra.specs.Equation.{Variable}
-use Rattle.term_algebra.specs.Substitution.{Substitution}
+use Rattle.list_laws.proofs.Options.{mapped}
+use Rattle.lotos_base.specs.Signature.{Signature}
+use Rattle.lotos_base.specs.Term.{Term}
+use Rattle.lotos_base.specs.Equation.{Variable}
+use Rattle.lotos_base.specs.Substitution.{Substitution}
 use Rattle.behaviour_semantics.specs.Behaviour.{Behaviour, stop, exit_with, action, inner_action, guard, choice, parallel, hide, enable, disable, let_be, choose_value, choose_gate, par_gate, call, relabel, SynchronisationSet, Process, let_variables, let_terms}
 use Rattle.behaviour_semantics.specs.Replacement.{with_values, binding_of}
 use Rattle.behaviour_semantics.specs.Rule.{is_exit}
@@ -13,7 +14,6 @@ use Rattle.behaviour_semantics.specs.Move.{Setting, Move, opened, alone, togethe
 use Rattle.behaviour_semantics.specs.WellFormed.{Every}
 use Rattle.behaviour_semantics.specs.Listing.{ShapedMove, Parts, below, each_below, below_enable, one_behind, both_below, at_gates_below, called_below, moves_by_form, listed_moves}
 use Rattle.behaviour_semantics.specs.Listing.{ShapesRise, shapes_of_moves}
-use Rattle.behaviour_semantics.proofs.OptionLemmas.{mapped}
 use Rattle.behaviour_semantics.proofs.OrderLemmas.{Agree-refl}
 use Rattle.behaviour_semantics.proofs.ListLemmas.{EachOf, Every-append, Every-filter_map, EachOf-one_behind}
 use Rattle.behaviour_semantics.proofs.ListingLemmas.{shaped}

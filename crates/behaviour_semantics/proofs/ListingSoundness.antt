@@ -1,8 +1,9 @@
 -- Each listed move is a move of the table.
 use Rattle.std.proofs.Common.{◌≡◌, ℕ, zero, suc, ◌+◌, List, [], ◌∷◌, length, map, zip, slice_get, Bool, true, false, if◌then◌else◌, Option, None, Some, option_map, option_and_then, refl, ap, sym, ◌∙◌, subst, arith}
-use Rattle.term_algebra.specs.Term.{Term}
-use Rattle.term_algebra.specs.Equation.{Variable}
-use Rattle.term_algebra.specs.Substitution.{Substitution}
+use Rattle.list_laws.proofs.Options.{mapped}
+use Rattle.lotos_base.specs.Term.{Term}
+use Rattle.lotos_base.specs.Equation.{Variable}
+use Rattle.lotos_base.specs.Substitution.{Substitution}
 use Rattle.behaviour_semantics.specs.Behaviour.{Behaviour, stop, exit_with, action, inner_action, guard, choice, parallel, hide, enable, disable, let_be, choose_value, choose_gate, par_gate, call, relabel, SynchronisationSet, Process, let_variables, let_terms}
 use Rattle.behaviour_semantics.specs.Replacement.{with_values, binding_of}
 use Rattle.behaviour_semantics.specs.Rule.{is_exit, copies}
@@ -10,7 +11,6 @@ use Rattle.behaviour_semantics.specs.Shape.{Shape, guarded, left_side, right_sid
 use Rattle.behaviour_semantics.specs.Move.{Setting, Move, move_of, alone, together, passing, enabling, disabling, hiding, asking, relabelling, after_leaf}
 use Rattle.behaviour_semantics.specs.WellFormed.{Every}
 use Rattle.behaviour_semantics.specs.Listing.{ShapedMove, Parts, below, each_below, below_enable, one_behind, both_below, at_gates_below, called_below, moves_by_form, listed_moves}
-use Rattle.behaviour_semantics.proofs.OptionLemmas.{mapped}
 use Rattle.behaviour_semantics.proofs.OpenedLemmas.{move_of-copies}
 use Rattle.behaviour_semantics.proofs.ListLemmas.{EachOf, Every-weaker, EachOf-filter_map, EachOf-one_behind}
 use Rattle.behaviour_semantics.proofs.ListingLemmas.{shaped}

@@ -1,7 +1,8 @@
 -- The sorts that the leaves of a move have are sorts of the signature.
 use Rattle.std.proofs.Common.{◌≡◌, ℕ, suc, ◌+◌, List, [], ◌∷◌, ◌++◌, length, map, zip, slice_get, Option, None, Some, option_map, option_and_then, refl, ap, sym, ◌∙◌, subst}
-use Rattle.term_algebra.specs.Signature.{IsSort}
-use Rattle.term_algebra.specs.Equation.{Data, Variable}
+use Rattle.list_laws.proofs.Options.{mapped, chained}
+use Rattle.lotos_base.specs.Signature.{IsSort}
+use Rattle.lotos_base.specs.Equation.{Data, Variable}
 use Rattle.behaviour_semantics.specs.Behaviour.{Behaviour, parallel, enable, SynchronisationSet, Process, ExitValue, sorts_of, let_variables, let_terms}
 use Rattle.behaviour_semantics.specs.Label.{Label, exit_event}
 use Rattle.behaviour_semantics.specs.Replacement.{with_values, binding_of}
@@ -10,7 +11,7 @@ use Rattle.behaviour_semantics.specs.Shape.{Shape, act, quit, inner_step, guarde
 use Rattle.behaviour_semantics.specs.Move.{Move, move_of, alone, together, passing, enabling, disabling, hiding, asking, relabelling, after_leaf, act_move, quit_move, inner_move, guarded_move, left_move, right_move, both_move, hidden_move, enabled_move, passed_move, let_move, value_move, gate_move, called_move, relabelled_move}
 use Rattle.behaviour_semantics.specs.WellFormed.{Every}
 use Rattle.behaviour_semantics.proofs.ListLemmas.{Every-append}
-use Rattle.behaviour_semantics.proofs.OptionLemmas.{some_value, mapped, chained, tested, tested_not}
+use Rattle.behaviour_semantics.proofs.OptionLemmas.{some_value, tested, tested_not}
 use Rattle.behaviour_semantics.proofs.RelatedTerms.{Side, Related, IsRepresenting, represented, Puts, Binders, none_related, one_related, bindings_put}
 use Rattle.behaviour_semantics.proofs.RelatedBehaviours.{RelatedResults, no_results, both_values, both_any, Beside, both_exit_with, both_action, both_inner, both_guard, both_choice, both_parallel, both_hide, both_enable, both_disable, both_let, both_choose_value, both_choose_gate, both_call, both_relabel, put_beside, asked-left, open-left, opened_beside}
 use Rattle.behaviour_semantics.proofs.RelatedMoves.{setting_of, represented_related}

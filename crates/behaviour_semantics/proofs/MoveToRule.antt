@@ -1,8 +1,10 @@
 -- Each move of the table is a transition: by induction on the shape, and for each variant by cases on the behaviour.
 use Rattle.std.proofs.Common.{◌≡◌, ℕ, suc, ◌+◌, List, [], ◌∷◌, ◌++◌, length, map, zip, slice_get, Option, Some, option_map, option_and_then, refl, sym, subst, Bool, true, false, ◌&&◌, nat_eq, eqb-true}
-use Rattle.term_algebra.specs.Term.{Term}
-use Rattle.term_algebra.specs.Equation.{Data, Variable}
-use Rattle.term_algebra.specs.Substitution.{Substitution, is_listed}
+pub use Rattle.std.proofs.lemmas.Bool.{and_parts}
+use Rattle.list_laws.proofs.Options.{mapped, chained}
+use Rattle.lotos_base.specs.Term.{Term}
+use Rattle.lotos_base.specs.Equation.{Data, Variable}
+use Rattle.lotos_base.specs.Substitution.{Substitution, is_listed}
 use Rattle.behaviour_semantics.specs.Behaviour.{Behaviour, exit_with, action, inner_action, guard, choice, parallel, hide, enable, disable, let_be, choose_value, choose_gate, par_gate, call, relabel, SynchronisationSet, Process, asked_variables, open_sorts, sorts_of, let_variables, let_terms}
 use Rattle.behaviour_semantics.specs.Label.{Label, inner_event, gate_event, exit_event}
 use Rattle.behaviour_semantics.specs.Replacement.{with_values, binding_of}
@@ -10,13 +12,9 @@ use Rattle.behaviour_semantics.specs.Rule.{as_given, synchronises, moves_alone, 
 use Rattle.behaviour_semantics.specs.Shape.{Shape, act, quit, inner_step, guarded, left_side, right_side, both_sides, hidden, enabled, passed, let_bound, with_value, at_gate, called, relabelled}
 use Rattle.behaviour_semantics.specs.Move.{Setting, Move, move_of, taken, opened, alone, together, passing, enabling, disabling, hiding, asking, relabelling, after_leaf, act_move, quit_move, inner_move, guarded_move, left_move, right_move, both_move, hidden_move, enabled_move, passed_move, let_move, value_move, gate_move, called_move, relabelled_move}
 use Rattle.behaviour_semantics.specs.Transition.{Transition, exits, acts, acts_inside, guard_holds, chooses_left, chooses_right, left_alone, right_alone, both_act, both_exit, hides, shows, inside_hide, exit_of_hide, goes_on, enables, left_goes_on, left_ends, disables, lets, chooses_value, chooses_gate, par_copies, calls, relabels}
-use Rattle.behaviour_semantics.proofs.OptionLemmas.{some_value, mapped, chained, tested, tested_not}
+use Rattle.behaviour_semantics.proofs.OptionLemmas.{some_value, tested, tested_not}
 use Rattle.behaviour_semantics.proofs.SupplyLemmas.{Supplied, Supplied-append, AreValues-taken, AllHold-parts}
 use Rattle.behaviour_semantics.proofs.RuleToMove.{given, map-as_given}
-
-pub and_parts : (a b : Bool) → (a && b) ≡ true → (a ≡ true) × (b ≡ true)
-and_parts true b e = (refl, e)
-and_parts false b e = absurd (cc)
 
 module _ (data_ : Data) (processes : List Process) (values : Substitution) where
   -- The move is a transition, if its leaves are values and what it asks holds.

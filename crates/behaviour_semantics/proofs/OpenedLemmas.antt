@@ -1,6 +1,6 @@
 -- A gate `par` has the moves of its copies.
 use Rattle.std.proofs.Common.{◌≡◌, ℕ, suc, List, [], ◌∷◌, refl, ap}
-use Rattle.term_algebra.specs.Substitution.{Substitution}
+use Rattle.lotos_base.specs.Substitution.{Substitution}
 use Rattle.behaviour_semantics.specs.Behaviour.{Behaviour, par_gate, relabel, SynchronisationSet, Relabelling}
 use Rattle.behaviour_semantics.specs.Label.{under}
 use Rattle.behaviour_semantics.specs.Rule.{copies}

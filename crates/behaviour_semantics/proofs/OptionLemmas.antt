@@ -1,5 +1,6 @@
 -- What a computed option says of its parts.
-use Rattle.std.proofs.Common.{◌≡◌, Option, None, Some, unwrap_or, option_map, option_and_then, ap, refl, Bool, true, false, if◌then◌else◌}
+use Rattle.std.proofs.Common.{◌≡◌, Option, None, Some, unwrap_or, ap, refl, Bool, true, false, if◌then◌else◌}
+pub use Rattle.list_laws.proofs.Options.{mapped, chained}
 
 -- The value of a `Some` is the value.
 pub some_value : {X : Type 0} {x y : X} → Some x ≡ Some y → x ≡ y
@@ -9,16 +10,6 @@ some_value {x = x} e = ap (λ o. unwrap_or o x) e
 abbrev is_here : {X : Type 0} → Option X → Type 0
 is_here None = ⊥
 is_here (Some x) = Unit {0}
-
--- What a mapped option came from.
-pub mapped : {X Y : Type 0} (f : X → Y) (o : Option X) {y : Y} → option_map f o ≡ Some y → (x : X) × (o ≡ Some x) × (f x ≡ y)
-mapped f None e = absurd (cc)
-mapped f (Some x) e = (x, refl, some_value e)
-
--- What a chained option came from.
-pub chained : {X Y : Type 0} (f : X → Option Y) (o : Option X) {y : Y} → option_and_then f o ≡ Some y → (x : X) × (o ≡ Some x) × (f x ≡ Some y)
-chained f None e = absurd (cc)
-chained f (Some x) e = (x, refl, e)
 
 -- Which way a test went that gave a value.
 pub tested : {X : Type 0} (b : Bool) (x : X) {y : X} → (if b then Some x else None) ≡ Some y → (b ≡ true) × (x ≡ y)

@@ -1,17 +1,17 @@
 -- Each draft in order has an outcome, which loses no values and adds none: a replacement leaves fewer variables.
 use Rattle.std.proofs.Common.{◌≡◌, ◌<◌, ◌≤◌, ◌⊎◌, inl, inr, ℕ, zero, suc, List, [], ◌∷◌, length, map, Option, None, Some, Bool, true, false, ◌&&◌, not, cond, refl, sym, ◌∙◌, arith}
-use Rattle.std.proofs.lemmas.Bool.{or_cases}
+use Rattle.std.proofs.lemmas.Bool.{or_cases, and_parts}
 use Rattle.std.proofs.lemmas.List.{length-map}
-use Rattle.term_algebra.specs.Term.{Term}
-use Rattle.term_algebra.specs.Tests.{term_eq, is_ground}
-use Rattle.term_algebra.specs.Sorting.{IsGround}
-use Rattle.term_algebra.specs.Equation.{Data}
-use Rattle.term_algebra.specs.Equality.{Equal}
-use Rattle.term_algebra.specs.Substitution.{Substitution, substituted, followed_by}
-use Rattle.term_algebra.specs.Canon.{IsCanon}
-use Rattle.term_algebra.proofs.SubstitutionLemmas.{substituted_ground}
-use Rattle.term_algebra.proofs.EqualityLemmas.{equal_then, equal_same}
-use Rattle.term_algebra.proofs.TestLemmas.{Decides-term_eq, Decides-is_ground}
+use Rattle.lotos_base.specs.Term.{Term}
+use Rattle.lotos_base.specs.Tests.{term_eq, is_ground}
+use Rattle.lotos_base.specs.Sorting.{IsGround}
+use Rattle.lotos_base.specs.Equation.{Data}
+use Rattle.lotos_base.specs.Equality.{Equal}
+use Rattle.lotos_base.specs.Substitution.{Substitution, substituted, followed_by}
+use Rattle.lotos_base.specs.Canon.{IsCanon}
+use Rattle.lotos_base.proofs.SubstitutionLemmas.{substituted_ground}
+use Rattle.lotos_base.proofs.EqualityLemmas.{equal_then, equal_same}
+use Rattle.lotos_base.proofs.TestLemmas.{Decides-term_eq, Decides-is_ground}
 use Rattle.behaviour_semantics.specs.Behaviour.{Test}
 use Rattle.behaviour_semantics.specs.Replacement.{test_with}
 use Rattle.behaviour_semantics.specs.Rule.{AllHold}
@@ -20,7 +20,6 @@ use Rattle.behaviour_semantics.specs.Solving.{Entry, entry_of, variables_left, t
 use Rattle.behaviour_semantics.specs.Menu.{EqualTerms, EqualLabels, Meets, label_at, derivation_at}
 use Rattle.behaviour_semantics.specs.WellFormed.{Every}
 use Rattle.behaviour_semantics.specs.DraftOrder.{IsLeaf, IsDraftTest, IsInOrder}
-use Rattle.behaviour_semantics.proofs.MoveToRule.{and_parts}
 use Rattle.behaviour_semantics.proofs.DraftsInOrder.{came_from, canon_changes, tidied_in_order}
 use Rattle.behaviour_semantics.proofs.ReplacementsInOrder.{put_for, Replaces, replacement_changes, rests_on, replaced_in_order, was_leaf, gone}
 use Rattle.behaviour_semantics.proofs.LeftVariables.{fewer, less}

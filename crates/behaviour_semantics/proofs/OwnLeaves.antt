@@ -1,7 +1,7 @@
 -- Where each variable among the leaves is its own leaf, the variables that are left are the leaves that are variables.
 use Rattle.std.proofs.Common.{◌≡◌, ℕ, zero, suc, ◌+◌, List, [], ◌∷◌, slice_get, Option, None, Some, Bool, true, false, nat_eq, if◌then◌else◌, refl, ap, sym, ◌∙◌, arith, subst, eqb-true, eq-eqb}
-use Rattle.term_algebra.specs.Term.{Term, variable, node}
-use Rattle.term_algebra.specs.Sorting.{Occurs}
+use Rattle.lotos_base.specs.Term.{Term, variable, node}
+use Rattle.lotos_base.specs.Sorting.{Occurs}
 use Rattle.behaviour_semantics.specs.Solving.{leaf_sort, numbered, variables_left}
 use Rattle.behaviour_semantics.proofs.OptionLemmas.{some_value}
 

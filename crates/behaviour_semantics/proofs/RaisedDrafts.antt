@@ -1,9 +1,10 @@
 -- Drafts do not go by the number of the first leaf variable, and the draft of both sides is the join of the two drafts.
 use Rattle.std.proofs.Common.{◌≡◌, ◌<◌, ◌≤◌, ℕ, ◌+◌, ◌-◌, List, [], ◌∷◌, map, Bool, true, false, nat_lt, if◌then◌else◌, Option, None, Some, option_map, refl, ap, sym, ◌∙◌, subst, arith, ltb-true}
-use Rattle.term_algebra.specs.Term.{Term, variable}
-use Rattle.term_algebra.specs.Equation.{Data}
-use Rattle.term_algebra.specs.Substitution.{Substitution, substituted, followed_by}
-use Rattle.term_algebra.proofs.SubstitutionLemmas.{substituted_twice, substituted_agree}
+use Rattle.std.proofs.Math.Nat.{le_refl}
+use Rattle.lotos_base.specs.Term.{Term, variable}
+use Rattle.lotos_base.specs.Equation.{Data}
+use Rattle.lotos_base.specs.Substitution.{Substitution, substituted, followed_by}
+use Rattle.lotos_base.proofs.SubstitutionLemmas.{substituted_twice, substituted_agree}
 use Rattle.behaviour_semantics.specs.Behaviour.{Behaviour, Test, Specification}
 use Rattle.behaviour_semantics.specs.Label.{Label, inner_event, gate_event, exit_event}
 use Rattle.behaviour_semantics.specs.Replacement.{test_with}
@@ -19,9 +20,6 @@ use Rattle.behaviour_semantics.proofs.EnvironmentLemmas.{closed_stays}
 use Rattle.behaviour_semantics.proofs.SameBehaviours.{low_nothing, same_beside}
 use Rattle.behaviour_semantics.proofs.RaisedTerms.{raise_high}
 use Rattle.behaviour_semantics.proofs.RaisedMoves.{open_side, natural_moves}
-
-pub le_same : (n : ℕ) → n ≤ n
-le_same n = omega arith
 
 -- Labels and tests with one substitution after another.
 module _ (first second whole : Substitution) where
@@ -100,10 +98,10 @@ module _ (data_ : Data) (canon : Term → Term) (specification : Specification) 
       let le_b : above b ≤ base = omega (arith, le) in
       ap (move_of (record { signature = data_.signature; represent = canon; processes = specification.processes }) others shape next')
       (sym (closed_stays data_.signature _ specification.processes (raised_from base shift) b over.closed))
-      ∙ natural_moves data_ base base shift (le_same base) specification over.well_formed le_processes canon over.is_canon others shape
+      ∙ natural_moves data_ base base shift (le_refl base) specification over.well_formed le_processes canon over.is_canon others shape
       next next' shifted b b
-      (same_beside data_ base (open_side data_ base base shift (le_same base) specification over.well_formed le_processes canon
-      over.is_canon others) (open_side data_ base base shift (le_same base) specification over.well_formed le_processes canon
+      (same_beside data_ base (open_side data_ base base shift (le_refl base) specification over.well_formed le_processes canon
+      over.is_canon others) (open_side data_ base base shift (le_refl base) specification over.well_formed le_processes canon
       over.is_canon others) _ specification.processes [] b (low_nothing data_ base) le_b over.closed)
 
   pub later_variable : (b : Behaviour) → AreOver data_ canon specification b → (base shift : ℕ) (shape : Shape) (next : ℕ)
@@ -112,7 +110,7 @@ module _ (data_ : Data) (canon : Term → Term) (specification : Specification) 
   later_variable b over base shift shape next le =
       raised_move b over base shift (leaves_from (base + shift)) shape next next le (λ k s.
       ap (λ (n : ℕ). variable n s) (let e : base + shift + (next + k) ≡ base + (next + k) + shift = omega arith in e)
-      ∙ sym (raise_high base base shift (le_same base) (base + (next + k)) s (omega arith)))
+      ∙ sym (raise_high base base shift (le_refl base) (base + (next + k)) s (omega arith)))
 
   pub later_leaf : (b : Behaviour) → AreOver data_ canon specification b → (base shift : ℕ) (shape : Shape) (next : ℕ)
       → first_apart specification.processes b ≤ base → open_move data_ canon specification.processes base shape (next + shift) b
@@ -120,7 +118,7 @@ module _ (data_ : Data) (canon : Term → Term) (specification : Specification) 
   later_leaf b over base shift shape next le =
       raised_move b over base shift (leaves_from base) shape next (next + shift) le (λ k s.
       ap (λ (n : ℕ). variable n s) (let e : base + (next + shift + k) ≡ base + (next + k) + shift = omega arith in e)
-      ∙ sym (raise_high base base shift (le_same base) (base + (next + k)) s (omega arith)))
+      ∙ sym (raise_high base base shift (le_refl base) (base + (next + k)) s (omega arith)))
 
   pub same_drafts : (b : Behaviour) → AreOver data_ canon specification b → (base : ℕ) (shape : Shape)
       → first_apart specification.processes b ≤ base → draft_of data_ canon specification.processes shape b ≡ option_map

@@ -1,12 +1,12 @@
 -- Higher numbers for the leaves of a behaviour whose variables in scope have got terms over earlier leaves.
 use Rattle.std.proofs.Common.{◌≡◌, ◌<◌, ◌≤◌, inr, ℕ, ◌+◌, List, [], ◌∷◌, ◌++◌, length, map, option_map, refl, ap, sym, ◌∙◌, subst, arith}
 use Rattle.std.proofs.lemmas.List.{append-nil}
-use Rattle.term_algebra.specs.Term.{Term, variable}
-use Rattle.term_algebra.specs.Equation.{Data, Variable}
-use Rattle.term_algebra.specs.Equality.{same_term}
-use Rattle.term_algebra.specs.Canon.{IsCanon}
-use Rattle.term_algebra.specs.Substitution.{Substitution, substituted}
-use Rattle.term_algebra.proofs.SubstitutionLemmas.{substituted_agree, substituted_variables}
+use Rattle.lotos_base.specs.Term.{Term, variable}
+use Rattle.lotos_base.specs.Equation.{Data, Variable}
+use Rattle.lotos_base.specs.Equality.{same_term}
+use Rattle.lotos_base.specs.Canon.{IsCanon}
+use Rattle.lotos_base.specs.Substitution.{Substitution, substituted}
+use Rattle.lotos_base.proofs.SubstitutionLemmas.{substituted_agree, substituted_variables}
 use Rattle.behaviour_semantics.specs.Behaviour.{Behaviour, Specification, sorts_of}
 use Rattle.behaviour_semantics.specs.Replacement.{with_values, binding_of}
 use Rattle.behaviour_semantics.specs.Shape.{Shape}

@@ -2,13 +2,13 @@
 -- for each variant by cases on the behaviour.
 use Rattle.std.proofs.Common.{◌≡◌, ◌<◌, ◌≤◌, inr, ℕ, suc, ◌+◌, max, List, [], ◌∷◌, ◌++◌, length, map, zip, slice_get, Bool, true, false, nat_eq, if◌then◌else◌, Option, None, Some, option_map, option_and_then, refl, ap, sym, ◌∙◌, subst, arith, eqb-true}
 use Rattle.std.proofs.lemmas.List.{map-append}
-use Rattle.term_algebra.specs.Signature.{IsSort}
-use Rattle.term_algebra.specs.Term.{Term, variable}
-use Rattle.term_algebra.specs.Sorting.{IsTermOf}
-use Rattle.term_algebra.specs.Equation.{Data, Variable}
-use Rattle.term_algebra.specs.Equality.{same_term}
-use Rattle.term_algebra.specs.Canon.{IsCanon}
-use Rattle.term_algebra.specs.Substitution.{Substitution, substituted, without}
+use Rattle.lotos_base.specs.Signature.{IsSort}
+use Rattle.lotos_base.specs.Term.{Term, variable}
+use Rattle.lotos_base.specs.Sorting.{IsTermOf}
+use Rattle.lotos_base.specs.Equation.{Data, Variable}
+use Rattle.lotos_base.specs.Equality.{same_term}
+use Rattle.lotos_base.specs.Canon.{IsCanon}
+use Rattle.lotos_base.specs.Substitution.{Substitution, substituted, without}
 use Rattle.behaviour_semantics.specs.Behaviour.{Behaviour, stop, parallel, Test, Offer, ExitValue, exit_value, any_of, SynchronisationSet, Process, Specification, asked_variables, open_sorts, numbers_of, sorts_of, let_variables, let_terms}
 use Rattle.behaviour_semantics.specs.Label.{Label, inner_event, gate_event, exit_event}
 use Rattle.behaviour_semantics.specs.Replacement.{test_with, offer_with, exit_value_with, with_values, binding_of}

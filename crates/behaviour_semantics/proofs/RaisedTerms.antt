@@ -2,13 +2,13 @@
 use Rattle.std.proofs.Common.{◌≡◌, ◌<◌, ◌≤◌, ◌⊎◌, inl, inr, ℕ, ◌+◌, List, [], ◌∷◌, map, Bool, true, false, ◌&&◌, nat_eq, nat_lt, if◌then◌else◌, Option, Some, refl, ap, sym, ◌∙◌, subst, arith, eqb-true, lt-ltb, le-ltb, ltb-true, ltb-false}
 use Rattle.std.proofs.Math.Path.{fun_ext}
 use Rattle.std.proofs.lemmas.Bool.{ne_eqb}
-use Rattle.term_algebra.specs.Signature.{Signature}
-use Rattle.term_algebra.specs.Term.{Term, variable, node}
-use Rattle.term_algebra.specs.Sorting.{sort_of, IsTermOf, Occurs}
-use Rattle.term_algebra.specs.Equation.{Data, Variable}
-use Rattle.term_algebra.specs.Canon.{IsCanon, KeepsApart}
-use Rattle.term_algebra.specs.Substitution.{Substitution, substituted, followed_by, is_listed, without}
-use Rattle.term_algebra.proofs.SubstitutionLemmas.{substituted_twice}
+use Rattle.lotos_base.specs.Signature.{Signature}
+use Rattle.lotos_base.specs.Term.{Term, variable, node}
+use Rattle.lotos_base.specs.Sorting.{sort_of, IsTermOf, Occurs}
+use Rattle.lotos_base.specs.Equation.{Data, Variable}
+use Rattle.lotos_base.specs.Canon.{IsCanon, KeepsApart}
+use Rattle.lotos_base.specs.Substitution.{Substitution, substituted, followed_by, is_listed, without}
+use Rattle.lotos_base.proofs.SubstitutionLemmas.{substituted_twice}
 use Rattle.behaviour_semantics.specs.Behaviour.{Behaviour, Test, SynchronisationSet, numbers_of}
 use Rattle.behaviour_semantics.specs.Label.{Label, inner_event, gate_event, exit_event}
 use Rattle.behaviour_semantics.specs.Replacement.{test_with, with_values, binding_of}

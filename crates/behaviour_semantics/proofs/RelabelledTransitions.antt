@@ -1,8 +1,8 @@
 -- Transitions of relabelled behaviours.
 use Rattle.std.proofs.Common.{◌≡◌, ◌↔◌, arith, ℕ, suc, List, [], ◌∷◌, length, map, zip, slice_get, Some, Bool, true, false, nat_eq, refl, ap, sym, ◌∙◌, subst}
-use Rattle.term_algebra.specs.Term.{Term}
-use Rattle.term_algebra.specs.Equation.{Data}
-use Rattle.term_algebra.specs.Substitution.{is_listed}
+use Rattle.lotos_base.specs.Term.{Term}
+use Rattle.lotos_base.specs.Equation.{Data}
+use Rattle.lotos_base.specs.Substitution.{is_listed}
 use Rattle.behaviour_semantics.specs.Behaviour.{Behaviour, stop, call, relabel, Process, Relabelling}
 use Rattle.behaviour_semantics.specs.Label.{Label, inner_event, gate_event, exit_event, gate_under, label_under, then_relabelling, under}
 use Rattle.behaviour_semantics.specs.Replacement.{with_values, binding_of}

@@ -1,6 +1,6 @@
 -- Gates and labels under composed relabellings.
 use Rattle.std.proofs.Common.{◌≡◌, ℕ, [], ◌∷◌, ◌++◌, map, filter, not, nat_eq, Bool, true, false, refl, ap, sym, ◌∙◌, eqb-true, subst}
-use Rattle.term_algebra.specs.Substitution.{is_listed}
+use Rattle.lotos_base.specs.Substitution.{is_listed}
 use Rattle.behaviour_semantics.specs.Behaviour.{Relabelling}
 use Rattle.behaviour_semantics.specs.Label.{Label, inner_event, gate_event, exit_event, gate_under, label_under, formals_of, then_relabelling}
 

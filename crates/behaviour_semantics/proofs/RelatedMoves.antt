@@ -1,17 +1,18 @@
 -- Behaviours that stand beside one another have moves with related labels, beside one another, for each shape.
 use Rattle.std.proofs.Common.{◌≡◌, ℕ, suc, ◌+◌, List, [], ◌∷◌, ◌++◌, length, map, zip, slice_get, Option, None, Some, option_map, option_and_then, Bool, true, false, ◌&&◌, nat_eq, refl, ap, sym, ◌∙◌, arith, subst, eqb-true}
-use Rattle.term_algebra.specs.Term.{Term}
-use Rattle.term_algebra.specs.Equation.{Data, Variable}
-use Rattle.term_algebra.specs.Substitution.{Substitution, is_listed}
-use Rattle.term_algebra.proofs.SortLemmas.{sort_of_sorted}
+use Rattle.std.proofs.lemmas.Bool.{and_parts}
+use Rattle.list_laws.proofs.Options.{mapped, chained}
+use Rattle.lotos_base.specs.Term.{Term}
+use Rattle.lotos_base.specs.Equation.{Data, Variable}
+use Rattle.lotos_base.specs.Substitution.{Substitution, is_listed}
+use Rattle.lotos_base.proofs.SortLemmas.{sort_of_sorted}
 use Rattle.behaviour_semantics.specs.Behaviour.{Behaviour, stop, parallel, enable, Test, Offer, ExitValue, SynchronisationSet, Process, Relabelling, sorts_of, let_variables, let_terms}
 use Rattle.behaviour_semantics.specs.Label.{Label, inner_event, gate_event, exit_event, label_under}
 use Rattle.behaviour_semantics.specs.Replacement.{with_values, binding_of}
 use Rattle.behaviour_semantics.specs.Rule.{offered, results_of, tests_of, synchronises, moves_alone, have_sorts, have_same_sorts, move_together, label_values, pairwise, hidden_label, is_exit, still_disabled}
 use Rattle.behaviour_semantics.specs.Shape.{Shape, act, quit, inner_step, guarded, left_side, right_side, both_sides, hidden, enabled, passed, let_bound, with_value, at_gate, called, relabelled}
 use Rattle.behaviour_semantics.specs.Move.{Setting, Move, move_of, taken, alone, together, passing, enabling, disabling, hiding, asking, relabelling, after_leaf, act_move, quit_move, inner_move, guarded_move, left_move, right_move, both_move, hidden_move, enabled_move, passed_move, let_move, value_move, gate_move, called_move, relabelled_move}
-use Rattle.behaviour_semantics.proofs.OptionLemmas.{some_value, mapped, chained, tested, tested_not}
-use Rattle.behaviour_semantics.proofs.MoveToRule.{and_parts}
+use Rattle.behaviour_semantics.proofs.OptionLemmas.{some_value, tested, tested_not}
 use Rattle.behaviour_semantics.proofs.RelatedTerms.{Side, Related, IsRepresenting, represented, Puts, Binders, RelatedTerms, none_related, one_related, bindings_put}
 use Rattle.behaviour_semantics.proofs.RelatedBehaviours.{RelatedTests, RelatedOptions, no_tests, some_tests, RelatedOffers, no_offers, both_give, both_ask, RelatedResults, no_results, both_values, both_any, Beside, both_stop, both_exit_with, both_action, both_inner, both_guard, both_choice, both_parallel, both_hide, both_enable, both_disable, both_let, both_choose_value, both_choose_gate, both_call, both_relabel, put_beside, put_tests, asked-left, asked-right, open-left, open-right, under_beside, opened_beside}
 

@@ -3,15 +3,15 @@
 -- related in a scope if they have one sort and are equal by the data whatever ground values the scope's variables
 -- have, where each side's leaf variables have that side's values.
 use Rattle.std.proofs.Common.{◌≡◌, ◌<◌, ◌≤◌, ◌⊎◌, inl, inr, ℕ, List, [], ◌∷◌, ◌++◌, Some, Bool, true, false, nat_eq, nat_lt, if◌then◌else◌, refl, ap, sym, ◌∙◌, arith, subst, eqb-true, lt-ltb, le-ltb}
-use Rattle.term_algebra.specs.Signature.{Signature, IsSort}
-use Rattle.term_algebra.specs.Term.{Term, variable, node, Terms, no_terms, term_then}
-use Rattle.term_algebra.specs.Sorting.{HasSort, HaveSorts, IsGroundOf, IsTermOf, Occurs, OccursAmong}
-use Rattle.term_algebra.specs.Equation.{Data, Variable}
-use Rattle.term_algebra.specs.Equality.{Equal, same_term}
-use Rattle.term_algebra.specs.Substitution.{Substitution, substituted, followed_by, without, is_listed, IsGrounding}
-use Rattle.term_algebra.specs.Canon.{IsCanon}
-use Rattle.term_algebra.proofs.SubstitutionLemmas.{substituted_twice, substituted_agree, substituted_sort, instance_ground, substituted_occurs, ComesFrom, occurs_substituted}
-use Rattle.term_algebra.proofs.EqualityLemmas.{equal_then, equal_back, equal_same, equal_values}
+use Rattle.lotos_base.specs.Signature.{Signature, IsSort}
+use Rattle.lotos_base.specs.Term.{Term, variable, node, Terms, no_terms, term_then}
+use Rattle.lotos_base.specs.Sorting.{HasSort, HaveSorts, IsGroundOf, IsTermOf, Occurs, OccursAmong}
+use Rattle.lotos_base.specs.Equation.{Data, Variable}
+use Rattle.lotos_base.specs.Equality.{Equal, same_term}
+use Rattle.lotos_base.specs.Substitution.{Substitution, substituted, followed_by, without, is_listed, IsGrounding}
+use Rattle.lotos_base.specs.Canon.{IsCanon}
+use Rattle.lotos_base.proofs.SubstitutionLemmas.{substituted_twice, substituted_agree, substituted_sort, instance_ground, substituted_occurs, ComesFrom, occurs_substituted}
+use Rattle.lotos_base.proofs.EqualityLemmas.{equal_then, equal_back, equal_same, equal_values}
 use Rattle.behaviour_semantics.specs.Behaviour.{numbers_of, sorts_of}
 use Rattle.behaviour_semantics.specs.Replacement.{binding_of}
 use Rattle.behaviour_semantics.specs.WellFormed.{sort_in, Every}

@@ -2,14 +2,16 @@
 use Rattle.std.proofs.Common.{◌≡◌, ◌<◌, ◌≤◌, ◌⊎◌, inl, inr, ℕ, zero, suc, List, [], ◌∷◌, length, map, slice_get, Option, None, Some, option_map, Bool, true, false, ◌&&◌, ◌||◌, not, cond, nat_eq, nat_lt, if◌then◌else◌, refl, ap, sym, ◌∙◌, subst, arith, eqb-true, eq-eqb, lt-ltb}
 use Rattle.std.proofs.lemmas.Bool.{cases_order, le-ltb}
 use Rattle.std.proofs.lemmas.List.{length-map}
-use Rattle.term_algebra.specs.Term.{Term, variable, node, Terms, no_terms, term_then}
-use Rattle.term_algebra.specs.Tests.{term_eq, is_ground, are_ground, occurs}
-use Rattle.term_algebra.specs.Sorting.{IsTermOf, Occurs}
-use Rattle.term_algebra.specs.Equation.{Data}
-use Rattle.term_algebra.specs.Substitution.{Substitution, substituted, all_substituted, followed_by, renaming}
-use Rattle.term_algebra.specs.Canon.{IsCanon}
-use Rattle.term_algebra.proofs.SubstitutionLemmas.{ComesFrom, substituted_occurs, occurs_substituted, substituted_twice, substituted_agree, renamed_same}
-use Rattle.term_algebra.proofs.TestLemmas.{Decides-term_eq, Decides-occurs}
+use Rattle.list_laws.proofs.Truth.{same_truth}
+use Rattle.list_laws.proofs.Members.{at_map, from_map}
+use Rattle.lotos_base.specs.Term.{Term, variable, node, Terms, no_terms, term_then}
+use Rattle.lotos_base.specs.Tests.{term_eq, is_ground, are_ground, occurs}
+use Rattle.lotos_base.specs.Sorting.{IsTermOf, Occurs}
+use Rattle.lotos_base.specs.Equation.{Data}
+use Rattle.lotos_base.specs.Substitution.{Substitution, substituted, all_substituted, followed_by, renaming}
+use Rattle.lotos_base.specs.Canon.{IsCanon}
+use Rattle.lotos_base.proofs.SubstitutionLemmas.{ComesFrom, substituted_occurs, occurs_substituted, substituted_twice, substituted_agree, renamed_same}
+use Rattle.lotos_base.proofs.TestLemmas.{Decides-term_eq, Decides-occurs}
 use Rattle.behaviour_semantics.specs.Behaviour.{Test}
 use Rattle.behaviour_semantics.specs.Rule.{label_values}
 use Rattle.behaviour_semantics.specs.Draft.{Draft, draft_with}
@@ -17,7 +19,7 @@ use Rattle.behaviour_semantics.specs.Solving.{Entry, variables_left, place_of, e
 use Rattle.behaviour_semantics.specs.WellFormed.{Every}
 use Rattle.behaviour_semantics.specs.DraftOrder.{IsLeaf, IsDraftTerm, IsDraftTest, IsInOrder}
 use Rattle.behaviour_semantics.proofs.OptionLemmas.{some_value}
-use Rattle.behaviour_semantics.proofs.DraftsInOrder.{at_map, mapped_at, came_from, canon_changes, tidied_in_order, draft_with-in}
+use Rattle.behaviour_semantics.proofs.DraftsInOrder.{came_from, canon_changes, tidied_in_order, draft_with-in}
 use Rattle.behaviour_semantics.proofs.LeftVariables.{RisesFrom, left_rises, placed, is_leaf, one_place}
 use Rattle.behaviour_semantics.proofs.ReplacementsInOrder.{put_for, replacement_changes, rests_on, replaced_in_order, was_leaf}
 use Rattle.behaviour_semantics.proofs.SettledEntries.{renumbered}
@@ -45,11 +47,6 @@ closed_renamed number [] = refl
 closed_renamed number (test ∷ tests) = λ i. (ground_renamed number test.left i && ground_renamed number test.right i) || closed_renamed
     number tests i
 
-same_bool : (a b : Bool) → (a ≡ true → b ≡ true) → (b ≡ true → a ≡ true) → a ≡ b
-same_bool true b f g = sym (f refl)
-same_bool false true f g = g refl
-same_bool false false f g = refl
-
 -- A set of variables on which the numbers keep their order.
 module _ (V : ℕ → ℕ → Type 0) (number : ℕ → ℕ) (rises : (n m r s : ℕ) → V n r → V m s → n < m → number n < number m) where
   pub apart : (n m r s : ℕ) → V n r → V m s → number n ≡ number m → n ≡ m
@@ -61,7 +58,7 @@ module _ (V : ℕ → ℕ → Type 0) (number : ℕ → ℕ) (rises : (n m r s :
       by (inr (inr lt)) = let less : number m < number n = rises m n s r w v lt in absurd (omega arith)
 
   number_eq : (n m r s : ℕ) → V n r → V m s → nat_eq (number n) (number m) ≡ nat_eq n m
-  number_eq n m r s v w = same_bool (nat_eq (number n) (number m)) (nat_eq n m)
+  number_eq n m r s v w = same_truth (nat_eq (number n) (number m)) (nat_eq n m)
       (λ e. eq-eqb n m (apart n m r s v w (eqb-true (number n) (number m) e)))
       (λ e. eq-eqb (number n) (number m) (ap number (eqb-true n m e)))
 
@@ -83,7 +80,7 @@ module _ (V : ℕ → ℕ → Type 0) (number : ℕ → ℕ) (rises : (n m r s :
 
   term_eq_renamed : (t u : Term) → Over t → Over u → term_eq (substituted (by_number number) t) (substituted (by_number number) u)
       ≡ term_eq t u
-  term_eq_renamed t u v w = same_bool (term_eq (substituted (by_number number) t) (substituted (by_number number) u)) (term_eq t u)
+  term_eq_renamed t u v w = same_truth (term_eq (substituted (by_number number) t) (substituted (by_number number) u)) (term_eq t u)
       (λ e. (Decides-term_eq t u).1 (renamed_same (λ n s. number n) t u (λ n m s o p same. apart n m s s (v n s o) (w m s p) same)
       ((Decides-term_eq (substituted (by_number number) t) (substituted (by_number number) u)).0 e)))
       (λ e. (Decides-term_eq (substituted (by_number number) t) (substituted (by_number number) u)).1
@@ -108,7 +105,7 @@ module _ (V : ℕ → ℕ → Type 0) (number : ℕ → ℕ) (rises : (n m r s :
       by false = refl
 
   occurs_renamed : (n s : ℕ) (t : Term) → V n s → Over t → occurs (number n) s (substituted (by_number number) t) ≡ occurs n s t
-  occurs_renamed n s t v w = same_bool (occurs (number n) s (substituted (by_number number) t)) (occurs n s t)
+  occurs_renamed n s t v w = same_truth (occurs (number n) s (substituted (by_number number) t)) (occurs n s t)
       (λ e. (Decides-occurs n s t).1 (back (substituted_occurs (number n) s (by_number number) t
       ((Decides-occurs (number n) s (substituted (by_number number) t)).0 e))))
       (λ e. (Decides-occurs (number n) s (substituted (by_number number) t)).1
@@ -281,7 +278,7 @@ module _ (number : ℕ → ℕ) (leaves : List Term) (below : (n s : ℕ) → Is
   was_leaf_of : (k s : ℕ) → IsLeaf (map (substituted (by_number number)) leaves) k s → (n : ℕ) × IsLeaf leaves n s × (number n ≡ k)
   was_leaf_of k s (i, at) =
       let from : (t : Term) × (slice_get leaves i ≡ Some t) × (substituted (by_number number) t ≡ variable k s) =
-      mapped_at (substituted (by_number number)) leaves i (variable k s) at in
+      from_map (substituted (by_number number)) leaves i (variable k s) at in
       let was : (n : ℕ) × (from.0 ≡ variable n s) × (number n ≡ k) = was_variable k s from.0 from.2 in
       (was.0, (i, from.1 ∙ ap (λ (t : Term). Some t) was.1), was.2)
 
@@ -338,7 +335,7 @@ module _ (number : ℕ → ℕ) (leaves : List Term) (below : (n s : ℕ) → Is
       ))
       (λ i v at.
       let from : (w : ℕ × ℕ) × (slice_get (variables_left 0 leaves leaves) i ≡ Some w) × ((number w.0, w.1) ≡ v) =
-      mapped_at (λ (w : ℕ × ℕ). (number w.0, w.1)) (variables_left 0 leaves leaves) i v at in
+      from_map (λ (w : ℕ × ℕ). (number w.0, w.1)) (variables_left 0 leaves leaves) i v at in
       let leaf : IsLeaf (map (substituted (by_number number)) leaves) (number from.0.0) from.0.1 =
       is_leaf_of from.0.0 from.0.1 (is_leaf leaves below one_sort i from.0 from.1) in (
         place_of 0 (variables_left 0 (map (substituted (by_number number)) leaves) (map (substituted (by_number number)) leaves))

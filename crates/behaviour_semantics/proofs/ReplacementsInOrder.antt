@@ -1,15 +1,16 @@
 -- The replacement that a condition gives: the draft stays in order, and the variable is gone.
 use Rattle.std.proofs.Common.{◌≡◌, ◌<◌, ◌≤◌, ◌⊎◌, inl, inr, ℕ, List, [], ◌∷◌, map, slice_get, Option, None, Some, Bool, true, false, nat_eq, nat_lt, if◌then◌else◌, refl, ap, sym, ◌∙◌, arith, subst, eqb-true, eq-eqb, lt-ltb, le-ltb}
 use Rattle.std.proofs.lemmas.Bool.{cases_order}
-use Rattle.term_algebra.specs.Term.{Term, variable, node}
-use Rattle.term_algebra.specs.Tests.{occurs}
-use Rattle.term_algebra.specs.Sorting.{HasSort, Occurs}
-use Rattle.term_algebra.specs.Equation.{Data}
-use Rattle.term_algebra.specs.Equality.{Equal}
-use Rattle.term_algebra.specs.Substitution.{Substitution, substituted, followed_by, binding}
-use Rattle.term_algebra.proofs.SubstitutionLemmas.{substituted_twice, substituted_sort, substituted_occurs, ComesFrom}
-use Rattle.term_algebra.proofs.EqualityLemmas.{equal_then, equal_back, equal_same, equal_values}
-use Rattle.term_algebra.proofs.TestLemmas.{Decides-occurs}
+use Rattle.list_laws.proofs.Members.{at_map, from_map}
+use Rattle.lotos_base.specs.Term.{Term, variable, node}
+use Rattle.lotos_base.specs.Tests.{occurs}
+use Rattle.lotos_base.specs.Sorting.{HasSort, Occurs}
+use Rattle.lotos_base.specs.Equation.{Data}
+use Rattle.lotos_base.specs.Equality.{Equal}
+use Rattle.lotos_base.specs.Substitution.{Substitution, substituted, followed_by, binding}
+use Rattle.lotos_base.proofs.SubstitutionLemmas.{substituted_twice, substituted_sort, substituted_occurs, ComesFrom}
+use Rattle.lotos_base.proofs.EqualityLemmas.{equal_then, equal_back, equal_same, equal_values}
+use Rattle.lotos_base.proofs.TestLemmas.{Decides-occurs}
 use Rattle.behaviour_semantics.specs.Behaviour.{Test}
 use Rattle.behaviour_semantics.specs.Replacement.{test_with}
 use Rattle.behaviour_semantics.specs.Rule.{AllHold}
@@ -20,7 +21,7 @@ use Rattle.behaviour_semantics.specs.DraftOrder.{IsLeaf, HasLeafVariables, IsDra
 use Rattle.behaviour_semantics.proofs.OptionLemmas.{some_value}
 use Rattle.behaviour_semantics.proofs.ListLemmas.{Every-at}
 use Rattle.behaviour_semantics.proofs.RelatedTerms.{occurs_sort}
-use Rattle.behaviour_semantics.proofs.DraftsInOrder.{at_map, mapped_at, IsChange, changed_in_order, draft_with-in}
+use Rattle.behaviour_semantics.proofs.DraftsInOrder.{IsChange, changed_in_order, draft_with-in}
 
 -- The substitution that puts one term for one variable.
 abbrev pub put_for : (ℕ × Term) → Substitution
@@ -248,7 +249,7 @@ pub gone : (data_ : Data) (draft : Draft) (found : ℕ × Term) (order : IsInOrd
     → first_replacement draft.conditions ≡ Some found → (q : ℕ) → IsLeaf (map (substituted (put_for found)) draft.leaves) found.0 q → ⊥
 gone data_ draft found order gives q (i, at) =
     let from : (t : Term) × (slice_get draft.leaves i ≡ Some t) × (substituted (put_for found) t ≡ variable found.0 q) =
-    mapped_at (substituted (put_for found)) draft.leaves i (variable found.0 q) at in
+    from_map (substituted (put_for found)) draft.leaves i (variable found.0 q) at in
     let term : IsDraftTerm data_.signature draft.leaves from.0 = Every-at
     (IsDraftTerm data_.signature draft.leaves) draft.leaves i from.0 order.leaves from.1 in
     let here : IsLeaf draft.leaves found.0 q × (nat_eq found.0 found.0 ≡ false) =

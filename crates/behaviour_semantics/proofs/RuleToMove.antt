@@ -1,8 +1,8 @@
 -- Each transition has a derivation: by induction on the rules.
-use Rattle.std.proofs.Common.{◌≡◌, ℕ, suc, ◌+◌, List, [], ◌∷◌, ◌++◌, length, map, zip, Some, option_map, option_and_then, refl, ap, sym, ◌∙◌, subst, true, nat_eq, eq-eqb}
-use Rattle.term_algebra.specs.Term.{Term}
-use Rattle.term_algebra.specs.Equation.{Data}
-use Rattle.term_algebra.specs.Substitution.{Substitution}
+use Rattle.std.proofs.Common.{◌≡◌, ℕ, suc, ◌+◌, List, [], ◌∷◌, ◌++◌, length, map, zip, Some, option_map, option_and_then, refl, ap, sym, ◌∙◌, subst, true, eq-eqb}
+use Rattle.lotos_base.specs.Term.{Term}
+use Rattle.lotos_base.specs.Equation.{Data}
+use Rattle.lotos_base.specs.Substitution.{Substitution}
 use Rattle.behaviour_semantics.specs.Behaviour.{Behaviour, parallel, Test, SynchronisationSet, Process, asked_variables, open_sorts, sorts_of, let_terms}
 use Rattle.behaviour_semantics.specs.Label.{Label}
 use Rattle.behaviour_semantics.specs.Replacement.{binding_of}
@@ -29,9 +29,6 @@ pub record Found (data_ : Data) (processes : List Process) (b : Behaviour) (labe
 pub map-as_given : (ts : List Term) → map as_given ts ≡ ts
 map-as_given [] = refl
 map-as_given (t ∷ ts) = ap (λ us. t ∷ us) (map-as_given ts)
-
-nat_eq-same : (n : ℕ) → nat_eq n n ≡ true
-nat_eq-same n = eq-eqb n n refl
 
 -- Both sides of a parallel move together.
 both_found : (data_ : Data) (processes : List Process) (meet : SynchronisationSet) {b c left right : Behaviour} {label other : Label}
@@ -105,7 +102,8 @@ module _ (data_ : Data) (processes : List Process) where
     sorted = f.sorted;
     holds = f.holds;
   }
-  found (both_act {meet = meet} {g = g} t u met same holds) = both_found data_ processes meet (found t) (found u) (rw (nat_eq-same g) (rw met same)) holds
+  found (both_act {meet = meet} {g = g} t u met same holds) = both_found data_ processes meet (found t) (found u)
+      (rw (eq-eqb g g refl) (rw met same)) holds
   found (both_exit {meet = meet} t u same holds) = both_found data_ processes meet (found t) (found u) same holds
   found (hides {gates = gates} t listed) = let f = found t in record {
     shape = hidden f.shape;

@@ -1,10 +1,10 @@
 -- A well-formed behaviour stands beside itself, and sides can be turned.
 use Rattle.std.proofs.Common.{◌≡◌, ◌<◌, ◌≤◌, inl, ℕ, List, [], ◌∷◌, ◌++◌, Option, None, Some, Bool, true, false, nat_eq, refl, sym, ◌∙◌, arith, eqb-true}
-use Rattle.term_algebra.specs.Signature.{IsSort}
-use Rattle.term_algebra.specs.Term.{Term}
-use Rattle.term_algebra.specs.Equation.{Data, Variable}
-use Rattle.term_algebra.proofs.SubstitutionLemmas.{substituted_agree}
-use Rattle.term_algebra.proofs.EqualityLemmas.{equal_same}
+use Rattle.lotos_base.specs.Signature.{IsSort}
+use Rattle.lotos_base.specs.Term.{Term}
+use Rattle.lotos_base.specs.Equation.{Data, Variable}
+use Rattle.lotos_base.proofs.SubstitutionLemmas.{substituted_agree}
+use Rattle.lotos_base.proofs.EqualityLemmas.{equal_same}
 use Rattle.behaviour_semantics.specs.Behaviour.{Behaviour, stop, exit_with, action, inner_action, guard, choice, parallel, hide, enable, disable, let_be, choose_value, choose_gate, par_gate, call, relabel, Test, Offer, give, ask, ExitValue, exit_value, any_of, Process, asked_variables, open_sorts, sorts_of, let_variables, let_terms}
 use Rattle.behaviour_semantics.specs.WellFormed.{sort_in, Every, IsTermIn, IsTestIn, AreTermsIn, IsTestOption, IsOffer, IsExitValue, IsBehaviour}
 use Rattle.behaviour_semantics.specs.Draft.{above_variables, above}

@@ -1,11 +1,12 @@
 -- The entry of a draft on which nothing is left to do stands for the same values as the draft.
 use Rattle.std.proofs.Common.{◌≡◌, ℕ, zero, suc, List, [], ◌∷◌, map, slice_get, Some, refl, ap, sym, ◌∙◌, subst}
-use Rattle.term_algebra.specs.Signature.{Signature}
-use Rattle.term_algebra.specs.Term.{Term, variable}
-use Rattle.term_algebra.specs.Sorting.{IsGroundOf}
-use Rattle.term_algebra.specs.Equation.{Data}
-use Rattle.term_algebra.specs.Substitution.{Substitution, substituted, followed_by}
-use Rattle.term_algebra.proofs.SubstitutionLemmas.{substituted_twice, substituted_agree, ground_instance}
+use Rattle.list_laws.proofs.Members.{at_map}
+use Rattle.lotos_base.specs.Signature.{Signature}
+use Rattle.lotos_base.specs.Term.{Term, variable}
+use Rattle.lotos_base.specs.Sorting.{IsGroundOf}
+use Rattle.lotos_base.specs.Equation.{Data}
+use Rattle.lotos_base.specs.Substitution.{Substitution, substituted, followed_by}
+use Rattle.lotos_base.proofs.SubstitutionLemmas.{substituted_twice, substituted_agree, ground_instance}
 use Rattle.behaviour_semantics.specs.Behaviour.{Test}
 use Rattle.behaviour_semantics.specs.Label.{Label, inner_event, gate_event, exit_event}
 use Rattle.behaviour_semantics.specs.Replacement.{test_with}
@@ -17,7 +18,6 @@ use Rattle.behaviour_semantics.specs.Menu.{EqualTerms, EqualLabels, Meets, label
 use Rattle.behaviour_semantics.specs.WellFormed.{Every}
 use Rattle.behaviour_semantics.specs.DraftOrder.{IsLeaf, HasLeafVariables, IsDraftTerm, IsDraftTest, IsInOrder, AreGroundLeaves}
 use Rattle.behaviour_semantics.proofs.OptionLemmas.{some_value}
-use Rattle.behaviour_semantics.proofs.DraftsInOrder.{at_map}
 use Rattle.behaviour_semantics.proofs.LeftVariables.{placed, is_leaf}
 use Rattle.behaviour_semantics.proofs.SolvedValues.{equal_terms_then, equal_terms_same, equal_labels_same, GroundsLeaves, SolvedBy}
 

@@ -1,9 +1,10 @@
 -- The entry of a shape's draft: its variables stand at leaves of their own, in order.
 use Rattle.std.proofs.Common.{◌≡◌, ℕ, List, map, slice_get, Some, sym, ◌∙◌, subst}
-use Rattle.term_algebra.specs.Term.{Term, variable}
-use Rattle.term_algebra.specs.Equation.{Data}
-use Rattle.term_algebra.specs.Equality.{Equal}
-use Rattle.term_algebra.specs.Substitution.{substituted}
+use Rattle.list_laws.proofs.Members.{at_map}
+use Rattle.lotos_base.specs.Term.{Term, variable}
+use Rattle.lotos_base.specs.Equation.{Data}
+use Rattle.lotos_base.specs.Equality.{Equal}
+use Rattle.lotos_base.specs.Substitution.{substituted}
 use Rattle.behaviour_semantics.specs.Derives.{leaves_in}
 use Rattle.behaviour_semantics.specs.Draft.{Draft}
 use Rattle.behaviour_semantics.specs.Solving.{Entry}
@@ -12,7 +13,6 @@ use Rattle.behaviour_semantics.specs.Menu.{EqualTerms, derivation_at}
 use Rattle.behaviour_semantics.specs.DraftOrder.{IsLeaf}
 use Rattle.behaviour_semantics.specs.DraftOrderLaws.{StandWhereTheyStood, IsSolvedFrom}
 use Rattle.behaviour_semantics.proofs.OptionLemmas.{some_value}
-use Rattle.behaviour_semantics.proofs.DraftsInOrder.{at_map}
 use Rattle.behaviour_semantics.proofs.DraftFineness.{FineDraft, own_number}
 use Rattle.behaviour_semantics.proofs.MeetingLeaves.{equal_at}
 

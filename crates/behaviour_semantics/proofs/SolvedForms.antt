@@ -2,16 +2,17 @@
 use Rattle.std.proofs.Common.{◌≡◌, ◌<◌, ◌≤◌, ◌⊎◌, inl, inr, ℕ, zero, suc, List, [], ◌∷◌, length, map, slice_get, Option, None, Some, Bool, true, false, ◌&&◌, ◌||◌, not, cond, nat_eq, if◌then◌else◌, refl, ap, sym, ◌∙◌, subst, arith, eqb-true, lt-ltb}
 use Rattle.std.proofs.lemmas.Bool.{cases_order, le-ltb}
 use Rattle.std.proofs.lemmas.List.{length-map}
-use Rattle.term_algebra.specs.Signature.{IsSort}
-use Rattle.term_algebra.specs.Term.{Term, variable, node}
-use Rattle.term_algebra.specs.Tests.{term_eq, is_ground, occurs}
-use Rattle.term_algebra.specs.Sorting.{IsGround, Occurs}
-use Rattle.term_algebra.specs.Equation.{Data}
-use Rattle.term_algebra.specs.Substitution.{substituted}
-use Rattle.term_algebra.specs.Canon.{IsCanon}
-use Rattle.term_algebra.proofs.TestLemmas.{Decides-term_eq, Decides-is_ground, Decides-occurs}
-use Rattle.term_algebra.proofs.SubstitutionLemmas.{ComesFrom, substituted_occurs, occurs_substituted, no_variable_ground, ground_no_variable, renamed_same, substituted_sort}
-use Rattle.term_algebra.proofs.CanonLemmas.{canon_renamed}
+use Rattle.list_laws.proofs.Members.{at_map, from_map}
+use Rattle.lotos_base.specs.Signature.{IsSort}
+use Rattle.lotos_base.specs.Term.{Term, variable, node}
+use Rattle.lotos_base.specs.Tests.{term_eq, is_ground, occurs}
+use Rattle.lotos_base.specs.Sorting.{IsGround, Occurs}
+use Rattle.lotos_base.specs.Equation.{Data}
+use Rattle.lotos_base.specs.Substitution.{substituted}
+use Rattle.lotos_base.specs.Canon.{IsCanon}
+use Rattle.lotos_base.proofs.TestLemmas.{Decides-term_eq, Decides-is_ground, Decides-occurs}
+use Rattle.lotos_base.proofs.SubstitutionLemmas.{ComesFrom, substituted_occurs, occurs_substituted, no_variable_ground, ground_no_variable, renamed_same, substituted_sort}
+use Rattle.lotos_base.proofs.CanonLemmas.{canon_renamed}
 use Rattle.behaviour_semantics.specs.Behaviour.{Test}
 use Rattle.behaviour_semantics.specs.Replacement.{test_with}
 use Rattle.behaviour_semantics.specs.Rule.{label_values}
@@ -24,7 +25,7 @@ use Rattle.behaviour_semantics.specs.DraftOrderLaws.{StandWhereTheyStood, IsSolv
 use Rattle.behaviour_semantics.proofs.OptionLemmas.{some_value}
 use Rattle.behaviour_semantics.proofs.ListLemmas.{Every-at}
 use Rattle.behaviour_semantics.proofs.RelatedTerms.{occurs_sort}
-use Rattle.behaviour_semantics.proofs.DraftsInOrder.{at_map, mapped_at, label_values-in, label_values-with, came_from, canon_changes, tidied_in_order}
+use Rattle.behaviour_semantics.proofs.DraftsInOrder.{label_values-in, label_values-with, came_from, canon_changes, tidied_in_order}
 use Rattle.behaviour_semantics.proofs.LeftVariables.{left_rises, rising_at, one_place, left_length, placed, is_leaf, apart}
 use Rattle.behaviour_semantics.proofs.ReplacementsInOrder.{put_for, replacement_changes, rests_on, replaced_in_order, stays, gone}
 use Rattle.behaviour_semantics.proofs.SettledEntries.{renumbered}
@@ -233,7 +234,7 @@ module _ (data_ : Data) (canon : Term → Term) (is_canon : IsCanon data_ canon)
       × (slice_get (variables_left 0 leaves leaves) k ≡ Some (n, s))
   renumbered_leaf k s (i, at) =
       let from : (t : Term) × (slice_get leaves i ≡ Some t) × (substituted (renumbered leaves) t ≡ variable k s) =
-      mapped_at (substituted (renumbered leaves)) leaves i (variable k s) at in
+      from_map (substituted (renumbered leaves)) leaves i (variable k s) at in
       let was : (n : ℕ) × (from.0 ≡ variable n s) × (number n s ≡ k) = was_variable k s from.0 from.2 in
       let leaf : IsLeaf leaves was.0 s = (i, from.1 ∙ ap (λ (t : Term). Some t) was.1) in
       (was.0, leaf, subst (λ (j : ℕ). slice_get (variables_left 0 leaves leaves) j ≡ Some (was.0, s)) was.2 (is_placed was.0 s leaf))
@@ -275,7 +276,7 @@ module _ (data_ : Data) (canon : Term → Term) (is_canon : IsCanon data_ canon)
     rising = λ j k m n lt at at'. rising_at 0 (variables_left 0 leaves leaves) (left_rises 0 leaves leaves) j k m n lt at at';
     number = λ k s at.
         let v : (v : ℕ × ℕ) × (slice_get (variables_left 0 leaves leaves) k ≡ Some v) × (v.1 ≡ s) =
-        mapped_at (λ (v : ℕ × ℕ). v.1) (variables_left 0 leaves leaves) k s at in (
+        from_map (λ (v : ℕ × ℕ). v.1) (variables_left 0 leaves leaves) k s at in (
           v.0.0,
           at_map (λ (w : ℕ × ℕ). w.0) (variables_left 0 leaves leaves) k v.0 v.1,
           subst (IsLeaf leaves v.0.0) v.2 (is_leaf leaves below one_sort k v.0 v.1),

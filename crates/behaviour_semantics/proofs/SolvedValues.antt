@@ -1,17 +1,18 @@
 -- Values that solve a draft: tidying and replacing neither lose nor add any.
 use Rattle.std.proofs.Common.{◌≡◌, ℕ, List, [], ◌∷◌, map, Some, Bool, true, false, not, cond, nat_eq, refl, ap, sym, ◌∙◌, subst, eqb-true}
-use Rattle.term_algebra.specs.Signature.{Signature}
-use Rattle.term_algebra.specs.Term.{Term, variable}
-use Rattle.term_algebra.specs.Tests.{term_eq}
-use Rattle.term_algebra.specs.Sorting.{IsGroundOf, Occurs}
-use Rattle.term_algebra.specs.Equation.{Data}
-use Rattle.term_algebra.specs.Equality.{Equal, same_term}
-use Rattle.term_algebra.specs.Substitution.{Substitution, substituted, followed_by}
-use Rattle.term_algebra.specs.Canon.{IsCanon}
-use Rattle.term_algebra.proofs.SubstitutionLemmas.{substituted_twice, ground_instance}
-use Rattle.term_algebra.proofs.EqualityLemmas.{equal_then, equal_back, equal_same}
-use Rattle.term_algebra.proofs.SortLemmas.{one_sort}
-use Rattle.term_algebra.proofs.TestLemmas.{Decides-term_eq}
+use Rattle.list_laws.proofs.Members.{at_map}
+use Rattle.lotos_base.specs.Signature.{Signature}
+use Rattle.lotos_base.specs.Term.{Term, variable}
+use Rattle.lotos_base.specs.Tests.{term_eq}
+use Rattle.lotos_base.specs.Sorting.{IsGroundOf, Occurs}
+use Rattle.lotos_base.specs.Equation.{Data}
+use Rattle.lotos_base.specs.Equality.{Equal, same_term}
+use Rattle.lotos_base.specs.Substitution.{Substitution, substituted, followed_by}
+use Rattle.lotos_base.specs.Canon.{IsCanon}
+use Rattle.lotos_base.proofs.SubstitutionLemmas.{substituted_twice, ground_instance}
+use Rattle.lotos_base.proofs.EqualityLemmas.{equal_then, equal_back, equal_same}
+use Rattle.lotos_base.proofs.SortLemmas.{one_sort}
+use Rattle.lotos_base.proofs.TestLemmas.{Decides-term_eq}
 use Rattle.behaviour_semantics.specs.Behaviour.{Test}
 use Rattle.behaviour_semantics.specs.Label.{Label, inner_event, gate_event, exit_event}
 use Rattle.behaviour_semantics.specs.Replacement.{test_with}
@@ -21,7 +22,7 @@ use Rattle.behaviour_semantics.specs.Solving.{label_in, test_in, differing, tidi
 use Rattle.behaviour_semantics.specs.Menu.{EqualTerms, EqualLabels}
 use Rattle.behaviour_semantics.specs.WellFormed.{Every}
 use Rattle.behaviour_semantics.specs.DraftOrder.{IsLeaf, HasLeafVariables, IsDraftTerm, IsDraftTest, IsInOrder, AreGroundLeaves}
-use Rattle.behaviour_semantics.proofs.DraftsInOrder.{at_map, IsChange, came_from, canon_changes}
+use Rattle.behaviour_semantics.proofs.DraftsInOrder.{IsChange, came_from, canon_changes}
 use Rattle.behaviour_semantics.proofs.ReplacementsInOrder.{put_for, put_for-same, put_for-other, Replaces, replacement_changes, replaced_equal, rests_on, stays}
 
 -- Equal lists of terms.

@@ -1,16 +1,16 @@
 -- What solving obeys on any draft in order.
 use Rattle.std.proofs.Common.{List, map, Option, Some}
-use Rattle.term_algebra.specs.Term.{Term, variable}
-use Rattle.term_algebra.specs.Equation.{Data}
-use Rattle.term_algebra.specs.Substitution.{Substitution, substituted}
-use Rattle.term_algebra.specs.Canon.{IsCanon}
+use Rattle.list_laws.proofs.Members.{at_map}
+use Rattle.lotos_base.specs.Term.{Term, variable}
+use Rattle.lotos_base.specs.Equation.{Data}
+use Rattle.lotos_base.specs.Substitution.{Substitution, substituted}
+use Rattle.lotos_base.specs.Canon.{IsCanon}
 use Rattle.behaviour_semantics.specs.Derives.{leaves_in}
 use Rattle.behaviour_semantics.specs.Draft.{Draft, label_with}
 use Rattle.behaviour_semantics.specs.Solving.{Entry, SolvesTo}
 use Rattle.behaviour_semantics.specs.Menu.{EqualTerms, EqualLabels, Meets, label_at, derivation_at}
 use Rattle.behaviour_semantics.specs.DraftOrder.{IsInOrder, LeavesMeet, values_from, label_from}
 use Rattle.behaviour_semantics.specs.DraftOrderLaws.{ValuesFor, SolvingNamesNoBehaviour, AnyValuesWillDo}
-use Rattle.behaviour_semantics.proofs.DraftsInOrder.{at_map}
 use Rattle.behaviour_semantics.proofs.SolvedValues.{equal_labels_then, SolvedBy}
 use Rattle.behaviour_semantics.proofs.SettledEntries.{EntryOf}
 use Rattle.behaviour_semantics.proofs.Outcomes.{outcome_of, has_outcome}

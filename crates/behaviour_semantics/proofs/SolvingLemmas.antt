@@ -1,6 +1,6 @@
 -- A draft has one outcome at most.
 use Rattle.std.proofs.Common.{◌≡◌, ℕ, Option, refl, sym, ◌∙◌, subst}
-use Rattle.term_algebra.specs.Term.{Term}
+use Rattle.lotos_base.specs.Term.{Term}
 use Rattle.behaviour_semantics.specs.Draft.{Draft}
 use Rattle.behaviour_semantics.specs.Solving.{Entry, SolvesTo, unsolvable, settled, replacing, tidied, replaced}
 use Rattle.behaviour_semantics.proofs.OptionLemmas.{some_value}

@@ -1,13 +1,14 @@
 -- Drafts with the same outcomes: alike once tidied, or one a step of solving behind the other.
 use Rattle.std.proofs.Common.{◌≡◌, ◌++◌, ℕ, List, [], ◌∷◌, map, Option, None, Some, Bool, true, false, ◌&&◌, ◌||◌, not, cond, refl, ap, sym, ◌∙◌, subst}
 use Rattle.std.specs.Prelude.{◌↔◌}
-use Rattle.term_algebra.specs.Term.{Term}
-use Rattle.term_algebra.specs.Tests.{term_eq, is_ground}
-use Rattle.term_algebra.specs.Equation.{Data}
-use Rattle.term_algebra.specs.Substitution.{Substitution, substituted}
-use Rattle.term_algebra.specs.Canon.{IsCanon}
-use Rattle.term_algebra.proofs.SubstitutionLemmas.{substituted_ground}
-use Rattle.term_algebra.proofs.TestLemmas.{Decides-term_eq, Decides-is_ground}
+use Rattle.std.proofs.lemmas.Bool.{and_parts}
+use Rattle.lotos_base.specs.Term.{Term}
+use Rattle.lotos_base.specs.Tests.{term_eq, is_ground}
+use Rattle.lotos_base.specs.Equation.{Data}
+use Rattle.lotos_base.specs.Substitution.{Substitution, substituted}
+use Rattle.lotos_base.specs.Canon.{IsCanon}
+use Rattle.lotos_base.proofs.SubstitutionLemmas.{substituted_ground}
+use Rattle.lotos_base.proofs.TestLemmas.{Decides-term_eq, Decides-is_ground}
 use Rattle.behaviour_semantics.specs.Behaviour.{Test}
 use Rattle.behaviour_semantics.specs.Replacement.{test_with}
 use Rattle.behaviour_semantics.specs.Draft.{Draft}
@@ -16,7 +17,6 @@ use Rattle.behaviour_semantics.specs.SolvingLaws.{IsCanonical}
 use Rattle.behaviour_semantics.specs.WellFormed.{Every}
 use Rattle.behaviour_semantics.specs.DraftOrder.{IsInOrder}
 use Rattle.behaviour_semantics.proofs.OptionLemmas.{some_value}
-use Rattle.behaviour_semantics.proofs.MoveToRule.{and_parts}
 use Rattle.behaviour_semantics.proofs.SolvingLemmas.{determined}
 use Rattle.behaviour_semantics.proofs.SolvedForms.{Tidy, tidy_tests}
 use Rattle.behaviour_semantics.proofs.ReplacementsInOrder.{put_for}

@@ -3,11 +3,11 @@ use Rattle.std.proofs.Common.{◌≡◌, ℕ, List, [], ◌∷◌, nat_eq, nat_l
 use Rattle.std.specs.Prelude.{◌&&◌}
 use Rattle.std.specs.Bool.{Decides}
 use Rattle.std.proofs.lemmas.Bool.Decides.{Decides-and, Decides-eqb, Decides-ltb}
-use Rattle.term_algebra.specs.Signature.{Signature, Operation, IsOperation}
-use Rattle.term_algebra.specs.Term.{Term, variable, node, Terms, no_terms, term_then}
-use Rattle.term_algebra.specs.Sorting.{HasSort, HaveSorts, IsGround, IsGroundOf}
-use Rattle.term_algebra.specs.Tests.{is_ground}
-use Rattle.term_algebra.proofs.TestLemmas.{Decides-is_ground}
+use Rattle.lotos_base.specs.Signature.{Signature, Operation, IsOperation}
+use Rattle.lotos_base.specs.Term.{Term, variable, node, Terms, no_terms, term_then}
+use Rattle.lotos_base.specs.Sorting.{HasSort, HaveSorts, IsGround, IsGroundOf}
+use Rattle.lotos_base.specs.Tests.{is_ground}
+use Rattle.lotos_base.proofs.TestLemmas.{Decides-is_ground}
 use Rattle.behaviour_semantics.specs.SortTest.{has_profile, is_of_sort, are_of_sorts, is_value}
 use Rattle.behaviour_semantics.proofs.OptionLemmas.{some_value}
 

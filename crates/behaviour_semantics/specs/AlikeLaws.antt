@@ -1,9 +1,9 @@
 -- What the comparison of terms and labels up to equality obeys: on ground terms, alike and equal are the same.
 use Rattle.std.specs.Prelude.{◌↔◌, List}
-use Rattle.term_algebra.specs.Term.{Term}
-use Rattle.term_algebra.specs.Sorting.{IsGround}
-use Rattle.term_algebra.specs.Equation.{Data}
-use Rattle.term_algebra.specs.Equality.{Equal}
+use Rattle.lotos_base.specs.Term.{Term}
+use Rattle.lotos_base.specs.Sorting.{IsGround}
+use Rattle.lotos_base.specs.Equation.{Data}
+use Rattle.lotos_base.specs.Equality.{Equal}
 use Rattle.behaviour_semantics.specs.Label.{Label}
 use Rattle.behaviour_semantics.specs.Rule.{label_values}
 use Rattle.behaviour_semantics.specs.Menu.{EqualTerms, EqualLabels}

@@ -2,8 +2,8 @@
 -- numbers: gates and variables by their declaration, sorts by their place in the signature, processes by their
 -- place in the specification.
 use Rattle.std.specs.Prelude.{ℕ, List, [], ◌∷◌, Option, map}
-use Rattle.term_algebra.specs.Term.{Term}
-use Rattle.term_algebra.specs.Equation.{Variable}
+use Rattle.lotos_base.specs.Term.{Term}
+use Rattle.lotos_base.specs.Equation.{Variable}
 
 -- A premiss: the equation that has to hold. A premiss of one term has the right side `true`.
 pub record Test : Type 0 where

@@ -1,11 +1,11 @@
 -- What ground values put for the variables of a scope make of a behaviour. An environment is a list of variable
 -- numbers with ground terms; the first pair with a number counts.
 use Rattle.std.specs.Prelude.{◌≡◌, ℕ, List, [], ◌++◌, Some}
-use Rattle.term_algebra.specs.Signature.{Signature}
-use Rattle.term_algebra.specs.Term.{Term}
-use Rattle.term_algebra.specs.Sorting.{IsGround, IsGroundOf}
-use Rattle.term_algebra.specs.Equation.{Variable}
-use Rattle.term_algebra.specs.Substitution.{Substitution, binding}
+use Rattle.lotos_base.specs.Signature.{Signature}
+use Rattle.lotos_base.specs.Term.{Term}
+use Rattle.lotos_base.specs.Sorting.{IsGround, IsGroundOf}
+use Rattle.lotos_base.specs.Equation.{Variable}
+use Rattle.lotos_base.specs.Substitution.{Substitution, binding}
 use Rattle.behaviour_semantics.specs.Behaviour.{Behaviour, Process, sorts_of}
 use Rattle.behaviour_semantics.specs.Replacement.{with_values, binding_of}
 use Rattle.behaviour_semantics.specs.Rule.{AreValues}

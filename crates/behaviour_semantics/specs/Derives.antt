@@ -1,8 +1,8 @@
 -- Derivations of moves: which label and target a derivation gives a behaviour.
 use Rattle.std.specs.Prelude.{◌≡◌, ℕ, zero, suc, List, [], ◌∷◌, Some}
-use Rattle.term_algebra.specs.Term.{Term, variable}
-use Rattle.term_algebra.specs.Equation.{Data}
-use Rattle.term_algebra.specs.Substitution.{Substitution}
+use Rattle.lotos_base.specs.Term.{Term, variable}
+use Rattle.lotos_base.specs.Equation.{Data}
+use Rattle.lotos_base.specs.Substitution.{Substitution}
 use Rattle.behaviour_semantics.specs.Behaviour.{Behaviour, Test, Process}
 use Rattle.behaviour_semantics.specs.Label.{Label}
 use Rattle.behaviour_semantics.specs.Rule.{as_given, AllHold, AreValues}
@@ -32,5 +32,5 @@ abbrev pub Derives : Data → List Process → Behaviour → Derivation → Labe
 Derives data_ processes b d label target = GivesMove data_ as_given processes b d label target
 
 -- The same with every value that is bound to a variable and every value of the label in canonical form.
-abbrev pub Keeps : Data → (Term → Term) → List Process → Behaviour → Derivation → Label → Behaviour → Type 0
-Keeps data_ canon processes b d label target = GivesMove data_ canon processes b d label target
+abbrev pub DerivesCanonically : Data → (Term → Term) → List Process → Behaviour → Derivation → Label → Behaviour → Type 0
+DerivesCanonically data_ canon processes b d label target = GivesMove data_ canon processes b d label target

@@ -1,12 +1,12 @@
 -- What derivations of one shape with equal leaves obey.
 use Rattle.std.specs.Prelude.{◌≡◌, ℕ, List}
-use Rattle.term_algebra.specs.Term.{Term}
-use Rattle.term_algebra.specs.Equation.{Data}
+use Rattle.lotos_base.specs.Term.{Term}
+use Rattle.lotos_base.specs.Equation.{Data}
 use Rattle.behaviour_semantics.specs.Behaviour.{Behaviour, Specification, Process}
 use Rattle.behaviour_semantics.specs.Label.{Label}
 use Rattle.behaviour_semantics.specs.Rule.{as_given, AreValues}
 use Rattle.behaviour_semantics.specs.Shape.{Derivation}
-use Rattle.behaviour_semantics.specs.Derives.{GivesMove, Derives, Keeps}
+use Rattle.behaviour_semantics.specs.Derives.{GivesMove, Derives, DerivesCanonically}
 use Rattle.behaviour_semantics.specs.Menu.{EqualTerms, EqualLabels}
 use Rattle.behaviour_semantics.specs.Alike.{Alike}
 use Rattle.behaviour_semantics.specs.WellFormed.{AreOver}
@@ -43,7 +43,7 @@ pub record EqualLeavesGiveLikeMoves : Type 0 where
       AreOver data_ canon specification b →
       (d e : Derivation) (label : Label) (target : Behaviour) →
       EqualDerivations data_ d e →
-      Keeps data_ canon specification.processes b d label target →
+      DerivesCanonically data_ canon specification.processes b d label target →
       LikeMove data_ as_given specification.processes b e label target
   pub derived :
       (data_ : Data) (canon : Term → Term) (specification : Specification) (b : Behaviour) →
@@ -57,5 +57,5 @@ pub record EqualLeavesGiveLikeMoves : Type 0 where
       AreOver data_ canon specification b →
       (d e : Derivation) (label : Label) (target : Behaviour) →
       EqualDerivations data_ d e →
-      Keeps data_ canon specification.processes b d label target →
+      DerivesCanonically data_ canon specification.processes b d label target →
       LikeMove data_ canon specification.processes b e label target

@@ -3,11 +3,11 @@
 -- bad leaf, or has a test of its own that fails; what a node asks of the labels below it is looked at only where no
 -- node below it has a fault. Nodes and leaves are numbered from 0 in preorder.
 use Rattle.std.specs.Prelude.{ℕ, suc, ◌+◌, List, [], ◌∷◌, Bool, not, nat_lt, length, map, slice_get, Option, None, Some, option_map, option_and_then, if◌then◌else◌}
-use Rattle.term_algebra.specs.Signature.{Signature}
-use Rattle.term_algebra.specs.Term.{Term}
-use Rattle.term_algebra.specs.Tests.{term_eq}
-use Rattle.term_algebra.specs.Equation.{Data, Variable}
-use Rattle.term_algebra.specs.Substitution.{Substitution}
+use Rattle.lotos_base.specs.Signature.{Signature}
+use Rattle.lotos_base.specs.Term.{Term}
+use Rattle.lotos_base.specs.Tests.{term_eq}
+use Rattle.lotos_base.specs.Equation.{Data, Variable}
+use Rattle.lotos_base.specs.Substitution.{Substitution}
 use Rattle.behaviour_semantics.specs.Behaviour.{Behaviour, exit_with, action, inner_action, guard, choice, parallel, hide, enable, disable, let_be, choose_value, choose_gate, call, relabel, Test, SynchronisationSet, Process, asked_variables, open_sorts, sorts_of, let_variables, let_terms}
 use Rattle.behaviour_semantics.specs.Label.{Label, exit_event}
 use Rattle.behaviour_semantics.specs.Replacement.{with_values, binding_of}
@@ -242,18 +242,18 @@ one_part node faults moves =
 
 -- The first fault of both sides: the node does not suit, or else the first fault of the left side, or else that of the
 -- right side, whose first leaf comes after those of the left side, or else the labels do not match.
-pub record Sides : Type 0 where
+pub record SidesFault : Type 0 where
   pub left_faults : Behaviour → Option Fault
   pub left_moves : Behaviour → Option Move
   pub right_faults : ℕ → Behaviour → Option Fault
   pub right_moves : ℕ → Behaviour → Option Move
 
-abbrev pub right_and_match : Setting → ℕ → ℕ → Sides → SynchronisationSet → Behaviour → Move → Option Fault
+abbrev pub right_and_match : Setting → ℕ → ℕ → SidesFault → SynchronisationSet → Behaviour → Move → Option Fault
 right_and_match setting node next sides meet c m =
     first_of_two (sides.right_faults (next + length m.sorts) c)
     (at_node node (option_and_then (λ (n : Move). match_wrong setting meet m.label n.label) (sides.right_moves (next + length m.sorts) c)))
 
-abbrev pub both_parts : Setting → ℕ → ℕ → Sides → Behaviour → Option Fault
+abbrev pub both_parts : Setting → ℕ → ℕ → SidesFault → Behaviour → Option Fault
 both_parts setting node next sides (parallel meet b c) =
     first_of_two (sides.left_faults b) (option_and_then (right_and_match setting node next sides meet c) (sides.left_moves b))
 both_parts setting node next sides _ = at_node node (Some not_fitting)

@@ -1,12 +1,12 @@
 -- What drafts and canonical forms obey, over data with a canon and well-formed behaviours.
 use Rattle.std.specs.Prelude.{◌≡◌, List, Some}
-use Rattle.term_algebra.specs.Term.{Term, variable}
-use Rattle.term_algebra.specs.Equation.{Data}
+use Rattle.lotos_base.specs.Term.{Term, variable}
+use Rattle.lotos_base.specs.Equation.{Data}
 use Rattle.behaviour_semantics.specs.Behaviour.{Behaviour, Specification, Process}
 use Rattle.behaviour_semantics.specs.Label.{Label}
 use Rattle.behaviour_semantics.specs.Shape.{Shape, Derivation}
 use Rattle.behaviour_semantics.specs.Move.{taken}
-use Rattle.behaviour_semantics.specs.Derives.{Derives, Keeps, leaves_in}
+use Rattle.behaviour_semantics.specs.Derives.{Derives, DerivesCanonically, leaves_in}
 use Rattle.behaviour_semantics.specs.Draft.{Draft, draft_of, label_with, variable_sorts, MeetsDraft}
 use Rattle.behaviour_semantics.specs.Menu.{EqualLabels}
 use Rattle.behaviour_semantics.specs.Alike.{Alike, AlikeLabels}
@@ -48,14 +48,14 @@ pub record DraftsAreDerivations : Type 0 where
       DraftOf data_ canon specification.processes b d label
 
 -- A derivation's move with canonical values, alike one with values as they are given.
-pub record Kept (data_ : Data) (canon : Term → Term) (processes : List Process) (b : Behaviour) (d : Derivation) (label : Label) (target : Behaviour) : Type 0 where
+pub record CanonicalForDerived (data_ : Data) (canon : Term → Term) (processes : List Process) (b : Behaviour) (d : Derivation) (label : Label) (target : Behaviour) : Type 0 where
   pub kept_label : Label
   pub kept_target : Behaviour
-  pub keeps : Keeps data_ canon processes b d kept_label kept_target
+  pub keeps : DerivesCanonically data_ canon processes b d kept_label kept_target
   pub labels : AlikeLabels data_ kept_label label
   pub targets : Alike data_ kept_target target
 
-pub record Derived (data_ : Data) (canon : Term → Term) (processes : List Process) (b : Behaviour) (d : Derivation) (label : Label) (target : Behaviour) : Type 0 where
+pub record DerivedForCanonical (data_ : Data) (canon : Term → Term) (processes : List Process) (b : Behaviour) (d : Derivation) (label : Label) (target : Behaviour) : Type 0 where
   pub derived_label : Label
   pub derived_target : Behaviour
   pub derives : Derives data_ processes b d derived_label derived_target
@@ -69,10 +69,10 @@ pub record KeepsWhereDerives : Type 0 where
       AreOver data_ canon specification b →
       (d : Derivation) (label : Label) (target : Behaviour) →
       Derives data_ specification.processes b d label target →
-      Kept data_ canon specification.processes b d label target
+      CanonicalForDerived data_ canon specification.processes b d label target
   pub derives :
       (data_ : Data) (canon : Term → Term) (specification : Specification) (b : Behaviour) →
       AreOver data_ canon specification b →
       (d : Derivation) (label : Label) (target : Behaviour) →
-      Keeps data_ canon specification.processes b d label target →
-      Derived data_ canon specification.processes b d label target
+      DerivesCanonically data_ canon specification.processes b d label target →
+      DerivedForCanonical data_ canon specification.processes b d label target

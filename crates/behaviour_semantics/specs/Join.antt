@@ -1,7 +1,7 @@
 -- Moves with terms put in, leaf variables with higher numbers, and what two drafts make together.
 use Rattle.std.specs.Prelude.{ℕ, ◌+◌, ◌++◌, length, map, Bool, nat_lt, if◌then◌else◌, Option, None, Some}
-use Rattle.term_algebra.specs.Signature.{Signature}
-use Rattle.term_algebra.specs.Substitution.{Substitution, renaming}
+use Rattle.lotos_base.specs.Signature.{Signature}
+use Rattle.lotos_base.specs.Substitution.{Substitution, renaming}
 use Rattle.behaviour_semantics.specs.Behaviour.{SynchronisationSet, all_gates}
 use Rattle.behaviour_semantics.specs.Label.{Label, inner_event, gate_event, exit_event}
 use Rattle.behaviour_semantics.specs.Replacement.{test_with, with_values}

@@ -1,8 +1,8 @@
 -- What joins of drafts obey: a join is in order, and its sides may be solved before.
 use Rattle.std.specs.Prelude.{◌≡◌, ◌↔◌, Option, None, Some}
-use Rattle.term_algebra.specs.Term.{Term}
-use Rattle.term_algebra.specs.Equation.{Data}
-use Rattle.term_algebra.specs.Canon.{IsCanon}
+use Rattle.lotos_base.specs.Term.{Term}
+use Rattle.lotos_base.specs.Equation.{Data}
+use Rattle.lotos_base.specs.Canon.{IsCanon}
 use Rattle.behaviour_semantics.specs.Draft.{Draft}
 use Rattle.behaviour_semantics.specs.Solving.{Entry, SolvesTo}
 use Rattle.behaviour_semantics.specs.DraftOrder.{IsInOrder, as_draft}

@@ -1,8 +1,8 @@
 -- Labels of moves, and what relabelling does to labels and behaviours (ISO 8807, dynamic semantics of behaviour
 -- expressions).
 use Rattle.std.specs.Prelude.{ℕ, List, [], ◌∷◌, ◌++◌, map, filter, not, nat_eq, if◌then◌else◌}
-use Rattle.term_algebra.specs.Term.{Term}
-use Rattle.term_algebra.specs.Substitution.{is_listed}
+use Rattle.lotos_base.specs.Term.{Term}
+use Rattle.lotos_base.specs.Substitution.{is_listed}
 use Rattle.behaviour_semantics.specs.Behaviour.{Behaviour, stop, call, relabel, Relabelling}
 
 -- A label: the inner event, an event at a gate with its values, or successful termination with its values.

@@ -1,8 +1,8 @@
 -- What the lists of moves and of drafts obey.
 use Rattle.std.specs.Prelude.{◌≡◌, ℕ, List, Some}
-use Rattle.term_algebra.specs.Term.{Term}
-use Rattle.term_algebra.specs.Equation.{Data}
-use Rattle.term_algebra.specs.Substitution.{Substitution}
+use Rattle.lotos_base.specs.Term.{Term}
+use Rattle.lotos_base.specs.Equation.{Data}
+use Rattle.lotos_base.specs.Substitution.{Substitution}
 use Rattle.behaviour_semantics.specs.Behaviour.{Behaviour, Process, Specification}
 use Rattle.behaviour_semantics.specs.Shape.{Shape}
 use Rattle.behaviour_semantics.specs.Move.{Setting, move_of}

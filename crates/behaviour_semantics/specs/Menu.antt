@@ -1,9 +1,9 @@
 -- The exact menu of a behaviour.
 use Rattle.std.specs.Prelude.{◌≡◌, ◌<◌, ℕ, List, [], ◌∷◌, map, slice_get, Some}
-use Rattle.term_algebra.specs.Term.{Term}
-use Rattle.term_algebra.specs.Equation.{Data}
-use Rattle.term_algebra.specs.Equality.{Equal}
-use Rattle.term_algebra.specs.Substitution.{substituted}
+use Rattle.lotos_base.specs.Term.{Term}
+use Rattle.lotos_base.specs.Equation.{Data}
+use Rattle.lotos_base.specs.Equality.{Equal}
+use Rattle.lotos_base.specs.Substitution.{substituted}
 use Rattle.behaviour_semantics.specs.Behaviour.{Behaviour, Process}
 use Rattle.behaviour_semantics.specs.Label.{Label, inner_event, gate_event, exit_event}
 use Rattle.behaviour_semantics.specs.Replacement.{test_with}

@@ -2,10 +2,10 @@
 -- It goes by the shape. For each variant one small function goes by cases on the behaviour and gets the moves of
 -- the parts as an argument; a behaviour that the variant does not suit has no move.
 use Rattle.std.specs.Prelude.{ℕ, suc, ◌+◌, List, [], ◌∷◌, ◌++◌, length, map, zip, slice_get, Option, None, Some, option_map, option_and_then, if◌then◌else◌}
-use Rattle.term_algebra.specs.Signature.{Signature}
-use Rattle.term_algebra.specs.Term.{Term}
-use Rattle.term_algebra.specs.Equation.{Variable}
-use Rattle.term_algebra.specs.Substitution.{Substitution}
+use Rattle.lotos_base.specs.Signature.{Signature}
+use Rattle.lotos_base.specs.Term.{Term}
+use Rattle.lotos_base.specs.Equation.{Variable}
+use Rattle.lotos_base.specs.Substitution.{Substitution}
 use Rattle.behaviour_semantics.specs.Behaviour.{Behaviour, stop, exit_with, action, inner_action, guard, choice, parallel, hide, enable, disable, let_be, choose_value, choose_gate, par_gate, call, relabel, Test, SynchronisationSet, Process, Relabelling, asked_variables, open_sorts, sorts_of, let_variables, let_terms}
 use Rattle.behaviour_semantics.specs.Label.{Label, inner_event, gate_event, exit_event, label_under, under}
 use Rattle.behaviour_semantics.specs.Replacement.{with_values, binding_of}

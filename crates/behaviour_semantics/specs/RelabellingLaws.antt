@@ -1,8 +1,8 @@
 -- What composed relabellings obey.
 use Rattle.std.specs.Prelude.{◌≡◌, ◌↔◌, ℕ, List, length, slice_get, Some, Bool}
-use Rattle.term_algebra.specs.Term.{Term}
-use Rattle.term_algebra.specs.Equation.{Data}
-use Rattle.term_algebra.specs.Substitution.{is_listed}
+use Rattle.lotos_base.specs.Term.{Term}
+use Rattle.lotos_base.specs.Equation.{Data}
+use Rattle.lotos_base.specs.Substitution.{is_listed}
 use Rattle.behaviour_semantics.specs.Behaviour.{Behaviour, call, relabel, Process, Relabelling}
 use Rattle.behaviour_semantics.specs.Label.{Label, inner_event, gate_event, exit_event, gate_under, label_under, then_relabelling, under}
 use Rattle.behaviour_semantics.specs.Replacement.{with_values, binding_of}

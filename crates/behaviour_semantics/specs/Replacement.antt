@@ -2,9 +2,9 @@
 -- behaviour after the action and not in its offers, `accept` on the right side, `let` and `choice x` in their body.
 -- No binder is renamed: the terms are closed, or their variables have other numbers than the binders of the behaviour.
 use Rattle.std.specs.Prelude.{List, [], ◌∷◌, map, zip, option_map}
-use Rattle.term_algebra.specs.Term.{Term}
-use Rattle.term_algebra.specs.Equation.{Variable}
-use Rattle.term_algebra.specs.Substitution.{Substitution, substituted, binding, without}
+use Rattle.lotos_base.specs.Term.{Term}
+use Rattle.lotos_base.specs.Equation.{Variable}
+use Rattle.lotos_base.specs.Substitution.{Substitution, substituted, binding, without}
 use Rattle.behaviour_semantics.specs.Behaviour.{Behaviour, stop, exit_with, action, inner_action, guard, choice, parallel, hide, enable, disable, let_be, choose_value, choose_gate, par_gate, call, relabel, Test, Offer, give, ask, ExitValue, exit_value, any_of, asked_variables, numbers_of, let_variables}
 
 -- The test with the terms put in.

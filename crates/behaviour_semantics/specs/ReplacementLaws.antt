@@ -1,8 +1,8 @@
 -- What putting terms into behaviours obeys.
 use Rattle.std.specs.Prelude.{◌≡◌, ◌≤◌, ◌⊎◌, ℕ}
-use Rattle.term_algebra.specs.Term.{variable}
-use Rattle.term_algebra.specs.Sorting.{Occurs}
-use Rattle.term_algebra.specs.Substitution.{Substitution, followed_by}
+use Rattle.lotos_base.specs.Term.{variable}
+use Rattle.lotos_base.specs.Sorting.{Occurs}
+use Rattle.lotos_base.specs.Substitution.{Substitution, followed_by}
 use Rattle.behaviour_semantics.specs.Behaviour.{Behaviour}
 use Rattle.behaviour_semantics.specs.Replacement.{with_values}
 use Rattle.behaviour_semantics.specs.Draft.{above}

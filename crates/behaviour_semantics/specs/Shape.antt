@@ -1,7 +1,7 @@
 -- Shapes of derivations, and their order. A shape says which rules a derivation uses and where, and leaves out the
 -- values that are chosen; a derivation is a shape with these values, its leaves, in preorder.
 use Rattle.std.specs.Prelude.{◌<◌, ℕ, List}
-use Rattle.term_algebra.specs.Term.{Term}
+use Rattle.lotos_base.specs.Term.{Term}
 
 -- One variant for each rule: an action; an `exit`; `i`; a guard that holds; the left, the right or both sides of a
 -- binary behaviour; a move under `hide`; a left side of `>>` that ended, and one that goes on; under `let`; a

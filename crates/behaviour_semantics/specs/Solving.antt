@@ -1,8 +1,8 @@
 -- Solving a draft: conditions that fix a variable are used up, and the rest is an entry of a menu.
 use Rattle.std.specs.Prelude.{◌≡◌, ℕ, suc, List, [], ◌∷◌, Bool, ◌&&◌, ◌||◌, not, nat_eq, nat_lt, if◌then◌else◌, map, filter, Option, None, Some}
-use Rattle.term_algebra.specs.Term.{Term, variable, node}
-use Rattle.term_algebra.specs.Tests.{term_eq, is_ground, occurs}
-use Rattle.term_algebra.specs.Substitution.{Substitution, substituted, binding}
+use Rattle.lotos_base.specs.Term.{Term, variable, node}
+use Rattle.lotos_base.specs.Tests.{term_eq, is_ground, occurs}
+use Rattle.lotos_base.specs.Substitution.{Substitution, substituted, binding}
 use Rattle.behaviour_semantics.specs.Behaviour.{Test}
 use Rattle.behaviour_semantics.specs.Label.{Label, inner_event, gate_event, exit_event}
 use Rattle.behaviour_semantics.specs.Replacement.{test_with}

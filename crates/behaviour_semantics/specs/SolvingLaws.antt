@@ -1,9 +1,9 @@
 -- What solving obeys.
 use Rattle.std.specs.Prelude.{◌≡◌, ◌≢◌, ◌<◌, ℕ, List, slice_get, Option, Some}
-use Rattle.term_algebra.specs.Term.{Term, variable}
-use Rattle.term_algebra.specs.Sorting.{IsGround, Occurs}
-use Rattle.term_algebra.specs.Equation.{Data}
-use Rattle.term_algebra.specs.Equality.{Equal}
+use Rattle.lotos_base.specs.Term.{Term, variable}
+use Rattle.lotos_base.specs.Sorting.{IsGround, Occurs}
+use Rattle.lotos_base.specs.Equation.{Data}
+use Rattle.lotos_base.specs.Equality.{Equal}
 use Rattle.behaviour_semantics.specs.Behaviour.{Behaviour, Test, Specification}
 use Rattle.behaviour_semantics.specs.Rule.{label_values}
 use Rattle.behaviour_semantics.specs.Shape.{Shape}

@@ -1,8 +1,8 @@
 -- A test whether a term is a ground term of a sort, which computes.
 use Rattle.std.specs.Prelude.{ℕ, List, [], ◌∷◌, Bool, true, false, nat_eq, nat_lt, ◌&&◌, length, slice_get, Option, None, Some}
-use Rattle.term_algebra.specs.Signature.{Signature, Operation}
-use Rattle.term_algebra.specs.Term.{Term, variable, node, Terms, no_terms, term_then}
-use Rattle.term_algebra.specs.Tests.{is_ground}
+use Rattle.lotos_base.specs.Signature.{Signature, Operation}
+use Rattle.lotos_base.specs.Term.{Term, variable, node, Terms, no_terms, term_then}
+use Rattle.lotos_base.specs.Tests.{is_ground}
 
 -- Whether there is an operation, its result has the sort, and its arguments pass the test.
 abbrev pub has_profile : Option Operation → (List ℕ → Bool) → ℕ → Bool

@@ -1,12 +1,12 @@
 -- Where moves lead.
 use Rattle.std.specs.Prelude.{List}
-use Rattle.term_algebra.specs.Term.{Term}
-use Rattle.term_algebra.specs.Equation.{Data}
+use Rattle.lotos_base.specs.Term.{Term}
+use Rattle.lotos_base.specs.Equation.{Data}
 use Rattle.behaviour_semantics.specs.Behaviour.{Behaviour, Specification}
 use Rattle.behaviour_semantics.specs.Label.{Label}
 use Rattle.behaviour_semantics.specs.Rule.{as_given}
 use Rattle.behaviour_semantics.specs.Shape.{Derivation}
-use Rattle.behaviour_semantics.specs.Derives.{Derives, Keeps}
+use Rattle.behaviour_semantics.specs.Derives.{Derives, DerivesCanonically}
 use Rattle.behaviour_semantics.specs.WellFormed.{IsClosedBehaviour, IsClosedLabel, AreOver}
 use Rattle.behaviour_semantics.specs.Run.{Reaches}
 
@@ -24,7 +24,7 @@ pub record TargetsAreWellFormed : Type 0 where
       (data_ : Data) (canon : Term → Term) (specification : Specification) (b : Behaviour) →
       AreOver data_ canon specification b →
       (d : Derivation) (label : Label) (target : Behaviour) →
-      Keeps data_ canon specification.processes b d label target →
+      DerivesCanonically data_ canon specification.processes b d label target →
       IsClosedLabel data_.signature specification label × IsClosedBehaviour data_.signature specification target
   pub reached_as_given :
       (data_ : Data) (canon : Term → Term) (specification : Specification) (b : Behaviour) →

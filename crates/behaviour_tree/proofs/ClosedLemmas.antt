@@ -1,9 +1,9 @@
 -- What closes a node closes each copy of it.
 use Rattle.std.proofs.Common.{◌≡◌, ℕ, zero, suc, List, [], ◌∷◌, map, slice_get, Some, ap, sym, ◌∙◌, subst}
 use Rattle.std.proofs.lemmas.Option.{same_Some, none-some}
-use Rattle.term_algebra.specs.Term.{Term}
-use Rattle.term_algebra.specs.Equation.{Variable}
-use Rattle.term_algebra.specs.Sorting.{IsGround}
+use Rattle.lotos_base.specs.Term.{Term}
+use Rattle.lotos_base.specs.Equation.{Variable}
+use Rattle.lotos_base.specs.Sorting.{IsGround}
 use Rattle.behaviour_semantics.specs.Behaviour.{Behaviour}
 use Rattle.behaviour_semantics.specs.Label.{formals_of}
 use Rattle.behaviour_semantics.specs.WellFormed.{Every, AreDistinct}

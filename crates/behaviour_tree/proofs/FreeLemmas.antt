@@ -1,8 +1,8 @@
 -- A variable that is free in a well-formed behaviour is in scope.
 use Rattle.std.proofs.Common.{◌≡◌, ◌⊎◌, inl, inr, ℕ, List, [], ◌∷◌, ◌++◌, Option, None, Some, sym, ◌∙◌}
-use Rattle.term_algebra.specs.Signature.{Signature}
-use Rattle.term_algebra.specs.Term.{Term}
-use Rattle.term_algebra.specs.Equation.{Variable}
+use Rattle.lotos_base.specs.Signature.{Signature}
+use Rattle.lotos_base.specs.Term.{Term}
+use Rattle.lotos_base.specs.Equation.{Variable}
 use Rattle.behaviour_semantics.specs.Behaviour.{Behaviour, stop, exit_with, action, inner_action, guard, choice, parallel, hide, enable, disable, let_be, choose_value, choose_gate, par_gate, call, relabel, Test, Offer, give, ask, ExitValue, exit_value, any_of, Process, asked_variables, let_variables, let_terms}
 use Rattle.behaviour_semantics.specs.WellFormed.{Every, sort_in, IsTestIn, IsTestOption, IsOffer, IsExitValue, AreTermsIn, IsBehaviour}
 use Rattle.behaviour_semantics.proofs.RelatedTerms.{sort_in-unlisted}

@@ -2,9 +2,9 @@
 use Rattle.std.proofs.Common.{◌≡◌, ℕ, zero, suc, List, [], ◌∷◌, map, slice_get, nat_eq, Bool, true, false, if◌then◌else◌, Some, refl, ap, sym, ◌∙◌, eqb-true, length, subst}
 use Rattle.std.specs.Prelude.{zip}
 use Rattle.std.proofs.lemmas.Option.{same_Some, none-some}
-use Rattle.term_algebra.specs.Signature.{Signature, Operation}
-use Rattle.term_algebra.specs.Term.{Term}
-use Rattle.term_algebra.specs.Sorting.{HasSort}
+use Rattle.lotos_base.specs.Signature.{Signature, Operation}
+use Rattle.lotos_base.specs.Term.{Term}
+use Rattle.lotos_base.specs.Sorting.{HasSort}
 use Rattle.behaviour_semantics.specs.Behaviour.{Behaviour, numbers_of, sorts_of}
 use Rattle.behaviour_semantics.specs.Rule.{AreValues}
 use Rattle.behaviour_semantics.specs.WellFormed.{AreDistinct, sort_in}

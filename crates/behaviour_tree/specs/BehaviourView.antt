@@ -2,8 +2,8 @@
 use Rattle.std.specs.Prelude.{List, map, option_map}
 use Rattle.behaviour_semantics.specs.Behaviour as plain
 use Rattle.behaviour_semantics.specs.Behaviour.{Behaviour}
-use Rattle.term_algebra.specs.Equation as equation
-use Rattle.term_algebra.specs.Term as term
+use Rattle.lotos_base.specs.Equation as equation
+use Rattle.lotos_base.specs.Term as term
 use Rattle.sort_terms.specs.EquationView.{variable_of}
 use Rattle.sort_terms.specs.SortedView.{term_in}
 use Rattle.sort_terms.specs.declared.equations.Variable.{Variable}

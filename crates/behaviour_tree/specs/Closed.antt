@@ -1,9 +1,9 @@
 -- What a node has to be so that it is a state: each free variable has one value of its sort.
 use Rattle.std.specs.Prelude.{◌≡◌, ℕ, List, [], ◌∷◌, ◌⊎◌, false, Option, None, Some, slice_get}
-use Rattle.term_algebra.specs.Term.{Term}
-use Rattle.term_algebra.specs.Sorting.{IsGround, Occurs}
-use Rattle.term_algebra.specs.Equation.{Variable}
-use Rattle.term_algebra.specs.Substitution.{is_listed}
+use Rattle.lotos_base.specs.Term.{Term}
+use Rattle.lotos_base.specs.Sorting.{IsGround, Occurs}
+use Rattle.lotos_base.specs.Equation.{Variable}
+use Rattle.lotos_base.specs.Substitution.{is_listed}
 use Rattle.behaviour_semantics.specs.Behaviour.{Behaviour, stop, exit_with, action, inner_action, guard, choice, parallel, hide, enable, disable, let_be, choose_value, choose_gate, par_gate, call, relabel, Test, Offer, give, ask, ExitValue, exit_value, any_of, asked_variables, numbers_of, let_variables, let_terms}
 use Rattle.behaviour_semantics.specs.Label.{formals_of}
 use Rattle.behaviour_semantics.specs.WellFormed.{Every, AreDistinct}

@@ -1,7 +1,7 @@
 -- Specifications and states over a signature: the plain values are well formed, and each operation in a term has the
 -- profile that the signature gives it.
 use Rattle.std.specs.Prelude.{List}
-use Rattle.term_algebra.specs.Signature.{Signature}
+use Rattle.lotos_base.specs.Signature.{Signature}
 use Rattle.behaviour_semantics.specs.Behaviour.{sorts_of}
 use Rattle.behaviour_semantics.specs.Rule.{AreValues}
 use Rattle.behaviour_semantics.specs.WellFormed.{Every, IsSpecification, IsClosedBehaviour}

@@ -121,8 +121,8 @@ fn environment(
     Ok(made)
 }
 
-// The pairs with one more, where there is a value.
-fn add_pair(
+/// The pairs with one more, where there is a value.
+pub fn add_pair(
     pairs: &mut Vec<(u64, Sorted)>,
     number: u64,
     value: Option<Sorted>,

@@ -3,17 +3,17 @@ use Rattle.std.proofs.Common.{◌≡◌, ◌+◌, ℕ, zero, suc, List, [], ◌�
 use Rattle.std.specs.Prelude.{◌&&◌, Some, None, slice_get, if◌then◌else◌}
 use Rattle.std.proofs.lemmas.List.{map-append}
 use Rattle.std.proofs.lemmas.Option.{same_Some}
-use Rattle.term_algebra.specs.Signature.{Signature}
+use Rattle.lotos_base.specs.Signature.{Signature}
 use Rattle.rewriting_theory.specs.Rule.{Rule as PlainRule}
 use Rattle.rewriting_theory.specs.CriticalPair.{CriticalPair}
 use Rattle.rewriting_theory.specs.PairList.{PairPlace}
 use Rattle.rewriting_theory.specs.Places.{places_at, places_with, places_from, places, node_paths, is_root, IsApartAt, IsPairOf, no_place, no_pair, one_pair}
 use Rattle.rewriting_theory.proofs.PlaceListLemmas.{pairs_append, pairs_are_all}
-use Rattle.termination_theory.specs.Orientation.{NumberedRule, rules_of}
+use Rattle.path_order.specs.HandedOn.{NumberedRule, rules_of}
 use Rattle.critical_pairs.specs.OverlapPair.{ArePairTermsOf}
 use Rattle.path_order.specs.RulesView.{rules_in, plain_rules_in, signature_in}
 use Rattle.path_order.specs.declared.rules.Rules.{Rules}
-use Rattle.critical_pairs.specs.Listing.{named_by, ListsAll, AddsPairs, AreOver}
+use Rattle.critical_pairs.specs.Listing.{named_by, ListsAll, AddsPairs, ArePairsOver}
 use Rattle.critical_pairs.specs.Extended.{AddsPairsOf}
 use Rattle.critical_pairs.specs.PairView.{pair_of, pairs_in, terms_in}
 use Rattle.critical_pairs.specs.declared.pair.Pair.{Pair}
@@ -65,9 +65,9 @@ extended_apart rules place before apart = record {
       over;
 }
 
-pub over_more : (signature : Signature) (before : List Pair) (pair : Pair) → AreOver signature before
+pub over_more : (signature : Signature) (before : List Pair) (pair : Pair) → ArePairsOver signature before
     → ArePairTermsOf signature (terms_in pair)
-    → AreOver signature (before ++ pair ∷ [])
+    → ArePairsOver signature (before ++ pair ∷ [])
 over_more signature [] pair over is zero one e =
     subst (λ (p : Pair). ArePairTermsOf signature (terms_in p)) (same_Some pair one e) is
 over_more signature [] pair over is (suc k) one e = let none : None ≡ Some one = e in cc
@@ -151,5 +151,5 @@ extended_all rules found is = record {
   named = is.listed.named;
 }
 
-pub nothing_over : (signature : Signature) → AreOver signature []
+pub nothing_over : (signature : Signature) → ArePairsOver signature []
 nothing_over signature k pair e = let none : None ≡ Some pair = e in cc

@@ -2,9 +2,9 @@
 use Rattle.std.proofs.Common.{◌≡◌, ◌<◌, ℕ, zero, suc, List, [], ◌∷◌, map, length, get_or, refl, ap, sym, ◌∙◌, subst, arith}
 use Rattle.std.specs.Prelude.{Some, None, slice_get}
 use Rattle.std.proofs.lemmas.Option.{same_Some}
-use Rattle.term_algebra.specs.Signature.{Signature}
-use Rattle.term_algebra.specs.Term.{Term}
-use Rattle.term_algebra.specs.Sorting.{IsTermOf}
+use Rattle.lotos_base.specs.Signature.{Signature}
+use Rattle.lotos_base.specs.Term.{Term}
+use Rattle.lotos_base.specs.Sorting.{IsTermOf}
 use Rattle.rewriting_theory.specs.Rule.{Rule}
 use Rattle.rewriting_theory.specs.Rewriting.{AreConfluent}
 use Rattle.rewriting_theory.specs.ChosenForm.{Chosen}
@@ -12,7 +12,7 @@ use Rattle.rewriting_theory.specs.CriticalPair.{CriticalPair}
 use Rattle.rewriting_theory.specs.PairList.{IsUnjoined}
 use Rattle.rewriting_theory.specs.PairListLaws.{RewritesToTwo}
 use Rattle.rewriting_theory.proofs.PairListLemmas.{agreeing_joined, none_unjoined_confluent, unjoined_not_confluent, unjoined_two}
-use Rattle.termination_theory.specs.Orientation.{NumberedRule}
+use Rattle.path_order.specs.HandedOn.{NumberedRule}
 use Rattle.sort_terms.specs.ProfiledTerm.{head_sort}
 use Rattle.sort_terms.specs.SortedView.{profiled_in, term_in}
 use Rattle.sort_terms.proofs.ProfiledTermLemmas.{fitting_has_sort}
@@ -20,7 +20,7 @@ use Rattle.critical_pairs.specs.OverlapPair.{ArePairTermsOf}
 use Rattle.path_order.specs.RulesView.{rules_in, plain_rules_in}
 use Rattle.path_order.specs.declared.rules.Rules.{Rules}
 use Rattle.path_order.proofs.RulesLemmas.{rules_well_formed, rules_end}
-use Rattle.critical_pairs.specs.Listing.{named_by, ListsAll, AreOver}
+use Rattle.critical_pairs.specs.Listing.{named_by, ListsAll, ArePairsOver}
 use Rattle.critical_pairs.specs.Joining.{ArePeaksOf, AreUnjoinedBy, NoneUnjoinedAmong, AnswersFirst}
 use Rattle.critical_pairs.specs.PairView.{pair_of, pairs_in, terms_in}
 use Rattle.critical_pairs.specs.declared.pair.Pair.{Pair}
@@ -93,7 +93,7 @@ peak_of signature pair is =
 
 -- so it is with all pairs that were listed
 peaks_of : (signature : Signature) (rules : List NumberedRule) (found : List Pair) (listed : ListsAll rules (pairs_in found))
-    → AreOver signature found → ArePeaksOf signature listed.plain
+    → ArePairsOver signature found → ArePeaksOf signature listed.plain
 peaks_of signature rules found listed over k pair is =
     let seen = seen_back found k (named_by rules pair)
     (ap (λ (ps : List CriticalPair). slice_get ps k) (sym listed.named) ∙ named_there rules listed.plain k pair is) in
@@ -101,7 +101,7 @@ peaks_of signature rules found listed over k pair is =
 
 -- where one is, they are not
 pub unjoined_rules : (signature : Signature) (rules : Rules) (found : List Pair) (answer : Unjoined)
-    → ListsAll (rules_in rules) (pairs_in found) → AreOver signature found → AnswersFirst (plain_rules_in rules) (pairs_in found) answer
+    → ListsAll (rules_in rules) (pairs_in found) → ArePairsOver signature found → AnswersFirst (plain_rules_in rules) (pairs_in found) answer
     → AreUnjoinedBy signature (rules_in rules) answer.first answer.second (term_in answer.peak) (term_in answer.left)
     (term_in answer.right)
 unjoined_rules signature rules found answer listed over first =

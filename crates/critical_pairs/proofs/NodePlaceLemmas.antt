@@ -4,8 +4,8 @@ use Rattle.std.specs.Prelude.{◌⊎◌, Some}
 use Rattle.std.specs.Option.{option_and_then}
 use Rattle.std.proofs.lemmas.List.{map-append}
 use Rattle.std.proofs.lemmas.Option.{same_Some}
-use Rattle.term_algebra.specs.Term.{Term, variable, node, Terms, no_terms, term_then}
-use Rattle.term_algebra.specs.Path.{argument_at, subterm}
+use Rattle.lotos_base.specs.Term.{Term, variable, node, Terms, no_terms, term_then}
+use Rattle.lotos_base.specs.Path.{argument_at, subterm}
 use Rattle.rewriting_theory.specs.Places.{node_paths, argument_paths}
 use Rattle.rewriting_theory.proofs.PlaceListLemmas.{IsIn, in_either}
 use Rattle.sort_terms.specs.TermView.{term_of, terms_of}

@@ -2,12 +2,12 @@
 use Rattle.std.proofs.Common.{◌≡◌, ℕ, List, [], Bool, true, false, refl, ap, sym, ◌∙◌, subst, inl, inr}
 use Rattle.std.specs.Prelude.{◌⊎◌, Some}
 use Rattle.std.specs.Option.{option_map}
-use Rattle.term_algebra.specs.Signature.{Signature}
-use Rattle.term_algebra.specs.Term.{Term}
-use Rattle.term_algebra.specs.Sorting.{Occurs}
-use Rattle.term_algebra.specs.Path.{put_at}
-use Rattle.term_algebra.specs.Substitution.{substituted, renaming, binding}
-use Rattle.term_algebra.proofs.SubstitutionLemmas.{substituted_occurs}
+use Rattle.lotos_base.specs.Signature.{Signature}
+use Rattle.lotos_base.specs.Term.{Term}
+use Rattle.lotos_base.specs.Sorting.{Occurs}
+use Rattle.lotos_base.specs.Path.{put_at}
+use Rattle.lotos_base.specs.Substitution.{substituted, renaming, binding}
+use Rattle.lotos_base.proofs.SubstitutionLemmas.{substituted_occurs}
 use Rattle.rewriting_theory.specs.Rule.{Rule, IsRuleAt, IsNode}
 use Rattle.rewriting_theory.specs.Unification.{IsMostGeneral, OccursInEither}
 use Rattle.rewriting_theory.specs.CriticalPair.{CriticalPair, IsCriticalPair}
@@ -15,7 +15,7 @@ use Rattle.rewriting_theory.specs.Numbering.{IsNumbered}
 use Rattle.rewriting_theory.proofs.UnifyLemmas.{general_elsewhere}
 use Rattle.rewriting_theory.proofs.RenumberLemmas.{renamed_critical}
 use Rattle.sort_terms.specs.ProfiledTerm.{ProfiledTerm, bare, IsOf}
-use Rattle.term_match.specs.Matched.{HasOneSortPerNumber, IsPair}
+use Rattle.term_match.specs.Matched.{TermHasOneSortPerNumber, IsPair}
 use Rattle.term_match.specs.ProfiledInstance.{profiled_instance, profiled_binding, bare_pairs}
 use Rattle.term_match.specs.ProfiledPath.{profiled_put_at}
 use Rattle.term_match.proofs.PathLemmas.{put_bare, put_of, subterm_of}
@@ -26,13 +26,14 @@ use Rattle.term_match.specs.Disagreement.{has_number}
 use Rattle.term_match.specs.Unified.{IsUnifiedBy}
 use Rattle.term_match.proofs.AgreeLemmas.{has_number_true, has_number_occurs}
 use Rattle.term_match.proofs.StateLemmas.{Pairs, pairs_instance_of}
-use Rattle.critical_pairs.specs.TwoSides.{RuleSides, bare_rule, PairTerms, pair_with}
+use Rattle.path_order.specs.RuleSides.{Sides}
+use Rattle.critical_pairs.specs.TwoSides.{bare_rule, PairTerms, pair_with}
 use Rattle.critical_pairs.specs.OverlapPair.{IsOverlapPair, ArePairTermsOf}
 use Rattle.critical_pairs.specs.Contracted.{IsNumberedBy}
 use Rattle.critical_pairs.proofs.PlaceLemmas.{moved, IsPlace, moved_occurs, part_bare, part_occurs, one_sort_both, wider, moved_of}
 
 -- what the unifier makes of the two rules
-pub record IsContracted (first second : RuleSides) (path : List ℕ) (number : ℕ → ℕ → ℕ) (pairs : Pairs) (terms : PairTerms)
+pub record IsContracted (first second : Sides) (path : List ℕ) (number : ℕ → ℕ → ℕ) (pairs : Pairs) (terms : PairTerms)
     : Type 0 where
   pub peak : terms.peak ≡ profiled_instance (profiled_binding pairs) first.left
   pub left : terms.left ≡ profiled_instance (profiled_binding pairs) first.right
@@ -41,7 +42,7 @@ pub record IsContracted (first second : RuleSides) (path : List ℕ) (number : �
 
 -- ---- The unifier is most general for both left sides
 
-elsewhere : {signature : Signature} {first second : RuleSides} {path : List ℕ} {part : ProfiledTerm} {number : ℕ → ℕ → ℕ}
+elsewhere : {signature : Signature} {first second : Sides} {path : List ℕ} {part : ProfiledTerm} {number : ℕ → ℕ → ℕ}
     → IsPlace signature first second path part number → (n r : ℕ)
     → OccursInEither (bare first.left) (bare (moved number second.left)) n r
     → OccursInEither (bare part) (bare (moved number second.left)) n r
@@ -65,7 +66,7 @@ elsewhere {first = first} {second = second} {part = part} {number = number} is n
             let from = moved_occurs number second.left n q p in
             is.clear.clear from.before q r from.occurs (subst (λ (k : ℕ). Occurs k r (bare first.left)) (sym from.is_number) o)
 
-general_both : {signature : Signature} {first second : RuleSides} {path : List ℕ} {part : ProfiledTerm} {number : ℕ → ℕ → ℕ}
+general_both : {signature : Signature} {first second : Sides} {path : List ℕ} {part : ProfiledTerm} {number : ℕ → ℕ → ℕ}
     → IsPlace signature first second path part number → (pairs : Pairs) → IsUnifiedBy part (moved number second.left) pairs
     → IsMostGeneral (OccursInEither (bare first.left) (substituted (renaming number) (bare second.left))) (bare part)
     (substituted (renaming number) (bare second.left)) (binding (bare_pairs pairs))
@@ -77,7 +78,7 @@ general_both {first = first} {second = second} {part = part} {number = number} i
 
 -- ---- The pair before its variables are numbered
 
-contracted_critical : {signature : Signature} {first second : RuleSides} {path : List ℕ} {part : ProfiledTerm} {number : ℕ → ℕ → ℕ}
+contracted_critical : {signature : Signature} {first second : Sides} {path : List ℕ} {part : ProfiledTerm} {number : ℕ → ℕ → ℕ}
     → IsPlace signature first second path part number → IsNode (bare part) → (pairs : Pairs)
     → IsUnifiedBy part (moved number second.left) pairs → (terms : PairTerms) → IsContracted first second path number pairs terms
     → (rules : List Rule) (i j : ℕ) → IsRuleAt rules i (bare_rule first) → IsRuleAt rules j (bare_rule second)
@@ -116,9 +117,9 @@ contracted_critical {first = first} {second = second} {path = path} {part = part
     }
 
 -- in the peak a number has one sort
-peak_single : {signature : Signature} {first second : RuleSides} {path : List ℕ} {part : ProfiledTerm} {number : ℕ → ℕ → ℕ}
+peak_single : {signature : Signature} {first second : Sides} {path : List ℕ} {part : ProfiledTerm} {number : ℕ → ℕ → ℕ}
     → IsPlace signature first second path part number → (pairs : Pairs) → IsUnifiedBy part (moved number second.left) pairs
-    → (terms : PairTerms) → IsContracted first second path number pairs terms → HasOneSortPerNumber (bare terms.peak)
+    → (terms : PairTerms) → IsContracted first second path number pairs terms → TermHasOneSortPerNumber (bare terms.peak)
 peak_single {first = first} {second = second} {part = part} {number = number} is pairs unified terms made n r q o p =
     one_sort_both is n r q (from n r o) (from n q p)
   where
@@ -139,7 +140,7 @@ peak_single {first = first} {second = second} {part = part} {number = number} is
 
 -- ---- The pair
 
-pub makes_pair : {signature : Signature} {first second : RuleSides} {path : List ℕ} {part : ProfiledTerm} {number : ℕ → ℕ → ℕ}
+pub makes_pair : {signature : Signature} {first second : Sides} {path : List ℕ} {part : ProfiledTerm} {number : ℕ → ℕ → ℕ}
     → IsPlace signature first second path part number → IsNode (bare part) → (pairs : Pairs)
     → IsUnifiedBy part (moved number second.left) pairs → (before after : PairTerms) → IsContracted first second path number pairs before
     → IsNumberedBy before after → IsOverlapPair first second path after
@@ -170,7 +171,7 @@ makes_pair {first = first} {second = second} {path = path} is is_node pairs unif
     }
 
 -- the terms are of the signature
-pub pair_of_signature : (signature : Signature) {first second : RuleSides} {path : List ℕ} {part : ProfiledTerm} {number : ℕ → ℕ → ℕ}
+pub pair_of_signature : (signature : Signature) {first second : Sides} {path : List ℕ} {part : ProfiledTerm} {number : ℕ → ℕ → ℕ}
     → IsPlace signature first second path part number → (pairs : Pairs)
     → IsUnifiedBy part (moved number second.left) pairs → (before after : PairTerms) → IsContracted first second path number pairs before
     → IsNumberedBy before after → ArePairTermsOf signature after

@@ -3,13 +3,13 @@ use Rattle.std.proofs.Common.{◌≡◌, ℕ, zero, suc, List, [], ◌∷◌, re
 use Rattle.std.specs.Prelude.{◌⊎◌, Some, None, Option, slice_get}
 use Rattle.std.specs.Option.{option_map, option_and_then}
 use Rattle.std.proofs.lemmas.Option.{same_Some}
-use Rattle.term_algebra.specs.Signature.{Signature, Operation}
-use Rattle.term_algebra.specs.Term.{Term}
-use Rattle.term_algebra.specs.Sorting.{Occurs}
-use Rattle.term_algebra.specs.Path.{subterm}
-use Rattle.term_algebra.specs.Substitution.{Substitution, substituted, renaming}
-use Rattle.term_algebra.proofs.PathLemmas.{put_at_possible}
-use Rattle.term_algebra.proofs.SubstitutionLemmas.{substituted_occurs, occurs_substituted}
+use Rattle.lotos_base.specs.Signature.{Signature, Operation}
+use Rattle.lotos_base.specs.Term.{Term}
+use Rattle.lotos_base.specs.Sorting.{Occurs}
+use Rattle.lotos_base.specs.Path.{subterm}
+use Rattle.lotos_base.specs.Substitution.{Substitution, substituted, renaming}
+use Rattle.lotos_base.proofs.PathLemmas.{put_at_possible}
+use Rattle.lotos_base.proofs.SubstitutionLemmas.{substituted_occurs, occurs_substituted}
 use Rattle.rewriting_theory.specs.Rule.{Rule, IsRuleAt, IsNode}
 use Rattle.rewriting_theory.specs.Unification.{IsUnifier, OccursInEither, AreApart}
 use Rattle.rewriting_theory.specs.Places.{IsApartAt}
@@ -25,17 +25,18 @@ use Rattle.term_match.specs.NewNumbers.{KeepsClear}
 use Rattle.term_match.proofs.NumberLemmas.{renumbered_plain}
 use Rattle.term_match.specs.Unified.{HaveOneSortPerNumber, HasUnifier, IsUnifiedBy}
 use Rattle.term_match.proofs.StateLemmas.{Pairs, binding_either, instance_head, occurs_sort_of}
-use Rattle.critical_pairs.specs.TwoSides.{RuleSides, bare_rule, IsRuleOver}
+use Rattle.path_order.specs.RuleSides.{Sides}
+use Rattle.critical_pairs.specs.TwoSides.{bare_rule, IsFormedRuleOver}
 
 -- the term with its variables renamed
 abbrev pub moved : (ℕ → ℕ → ℕ) → ProfiledTerm → ProfiledTerm
 moved number t = profiled_instance (profiled_renaming number) t
 
 -- What the call has found before it unifies.
-pub record IsPlace (signature : Signature) (first second : RuleSides) (path : List ℕ) (part : ProfiledTerm) (number : ℕ → ℕ → ℕ)
+pub record IsPlace (signature : Signature) (first second : Sides) (path : List ℕ) (part : ProfiledTerm) (number : ℕ → ℕ → ℕ)
     : Type 0 where
-  pub first_over : IsRuleOver signature first
-  pub second_over : IsRuleOver signature second
+  pub first_over : IsFormedRuleOver signature first
+  pub second_over : IsFormedRuleOver signature second
   pub is_part : profiled_subterm path first.left ≡ Some part
   pub clear : KeepsClear number (bare first.left) (bare second.left)
 
@@ -65,13 +66,13 @@ occurs_moved number t n s o =
 pub part_bare : (path : List ℕ) (t part : ProfiledTerm) → profiled_subterm path t ≡ Some part → subterm path (bare t) ≡ Some (bare part)
 part_bare path t part e = sym (subterm_bare path t) ∙ ap (option_map bare) e
 
-pub part_occurs : {signature : Signature} {first second : RuleSides} {path : List ℕ} {part : ProfiledTerm} {number : ℕ → ℕ → ℕ}
+pub part_occurs : {signature : Signature} {first second : Sides} {path : List ℕ} {part : ProfiledTerm} {number : ℕ → ℕ → ℕ}
     → IsPlace signature first second path part number → (n s : ℕ) → Occurs n s (bare part) → Occurs n s (bare first.left)
 part_occurs {first = first} {path = path} {part = part} is n s o =
     subterm_occurs path (bare first.left) (bare part) n s (part_bare path first.left part is.is_part) o
 
 -- over the first left side and the moved second one a number has one sort
-pub one_sort_both : {signature : Signature} {first second : RuleSides} {path : List ℕ} {part : ProfiledTerm} {number : ℕ → ℕ → ℕ}
+pub one_sort_both : {signature : Signature} {first second : Sides} {path : List ℕ} {part : ProfiledTerm} {number : ℕ → ℕ → ℕ}
     → IsPlace signature first second path part number
     → HaveOneSortPerNumber (bare first.left) (bare (moved number second.left))
 one_sort_both {first = first} {second = second} {number = number} is n r q one two = go one two
@@ -93,19 +94,19 @@ one_sort_both {first = first} {second = second} {number = number} is n r q one t
         is.clear.tells_apart one.before r two.before q one.occurs two.occurs (one.is_number ∙ sym two.is_number) in
         is.second_over.numbers two.before r q (subst (λ (k : ℕ). Occurs k r (bare second.left)) same one.occurs) two.occurs
 
-pub wider : {signature : Signature} {first second : RuleSides} {path : List ℕ} {part : ProfiledTerm} {number : ℕ → ℕ → ℕ}
+pub wider : {signature : Signature} {first second : Sides} {path : List ℕ} {part : ProfiledTerm} {number : ℕ → ℕ → ℕ}
     → IsPlace signature first second path part number → (n s : ℕ)
     → OccursInEither (bare part) (bare (moved number second.left)) n s
     → OccursInEither (bare first.left) (bare (moved number second.left)) n s
 wider is n s (inl o) = inl (part_occurs is n s o)
 wider is n s (inr o) = inr o
 
-pub one_sort_unified : {signature : Signature} {first second : RuleSides} {path : List ℕ} {part : ProfiledTerm} {number : ℕ → ℕ → ℕ}
+pub one_sort_unified : {signature : Signature} {first second : Sides} {path : List ℕ} {part : ProfiledTerm} {number : ℕ → ℕ → ℕ}
     → IsPlace signature first second path part number → HaveOneSortPerNumber (bare part) (bare (moved number second.left))
 one_sort_unified is n r q o p = one_sort_both is n r q (wider is n r o) (wider is n q p)
 
 -- what unifies puts terms of a variable's sort
-pub put_sorted : {signature : Signature} {first second : RuleSides} {path : List ℕ} {part : ProfiledTerm} {number : ℕ → ℕ → ℕ}
+pub put_sorted : {signature : Signature} {first second : Sides} {path : List ℕ} {part : ProfiledTerm} {number : ℕ → ℕ → ℕ}
     → IsPlace signature first second path part number → (pairs : Pairs) → IsUnifiedBy part (moved number second.left) pairs → (n s : ℕ)
     → OccursInEither (bare first.left) (bare (moved number second.left)) n s → head_sort (profiled_binding pairs n s) ≡ s
 put_sorted {first = first} {second = second} {part = part} {number = number} is pairs unified n s o = go (binding_either pairs n s)
@@ -116,12 +117,12 @@ put_sorted {first = first} {second = second} {part = part} {number = number} is 
         ap head_sort value ∙ one_sort_both is n (head_sort u) s (wider is n (head_sort u) (unified.sorts n u at)) o
     go (inr value) = ap head_sort value
 
-pub put_sorted_right : {signature : Signature} {first second : RuleSides} {path : List ℕ} {part : ProfiledTerm} {number : ℕ → ℕ → ℕ}
+pub put_sorted_right : {signature : Signature} {first second : Sides} {path : List ℕ} {part : ProfiledTerm} {number : ℕ → ℕ → ℕ}
     → IsPlace signature first second path part number → (pairs : Pairs) → IsUnifiedBy part (moved number second.left) pairs → (n s : ℕ)
     → Occurs n s (bare first.right) → head_sort (profiled_binding pairs n s) ≡ s
 put_sorted_right is pairs unified n s o = put_sorted is pairs unified n s (inl (is.first_over.well_formed.occurring n s o))
 
-pub moved_right_occurs : {signature : Signature} {first second : RuleSides} {path : List ℕ} {part : ProfiledTerm} {number : ℕ → ℕ → ℕ}
+pub moved_right_occurs : {signature : Signature} {first second : Sides} {path : List ℕ} {part : ProfiledTerm} {number : ℕ → ℕ → ℕ}
     → IsPlace signature first second path part number → (n s : ℕ) → Occurs n s (bare (moved number second.right))
     → Occurs n s (bare (moved number second.left))
 moved_right_occurs {second = second} {number = number} is n s o =
@@ -129,7 +130,7 @@ moved_right_occurs {second = second} {number = number} is n s o =
     subst (λ (k : ℕ). Occurs k s (bare (moved number second.left))) from.is_number
     (occurs_moved number second.left from.before s (is.second_over.well_formed.occurring from.before s from.occurs))
 
-pub put_sorted_second : {signature : Signature} {first second : RuleSides} {path : List ℕ} {part : ProfiledTerm} {number : ℕ → ℕ → ℕ}
+pub put_sorted_second : {signature : Signature} {first second : Sides} {path : List ℕ} {part : ProfiledTerm} {number : ℕ → ℕ → ℕ}
     → IsPlace signature first second path part number → (pairs : Pairs) → IsUnifiedBy part (moved number second.left) pairs → (n s : ℕ)
     → Occurs n s (bare (moved number second.right)) → head_sort (profiled_binding pairs n s) ≡ s
 put_sorted_second is pairs unified n s o = put_sorted is pairs unified n s (inr (moved_right_occurs is n s o))
@@ -161,7 +162,7 @@ subterm_instance (k ∷ path) values (profiled_node f operation ts) part e =
     go (Some w) h rest = rest w h
 
 -- the part of the peak has the sort of the second rule's right side there
-pub part_replaced : {signature : Signature} {first second : RuleSides} {path : List ℕ} {part : ProfiledTerm} {number : ℕ → ℕ → ℕ}
+pub part_replaced : {signature : Signature} {first second : Sides} {path : List ℕ} {part : ProfiledTerm} {number : ℕ → ℕ → ℕ}
     → IsPlace signature first second path part number → (pairs : Pairs) → IsUnifiedBy part (moved number second.left) pairs
     → (old : ProfiledTerm) × (profiled_subterm path (profiled_instance (profiled_binding pairs) first.left) ≡ Some old)
     × (head_sort old ≡ head_sort (moved number second.right))
@@ -194,7 +195,7 @@ moved_of signature number t h =
     instance_of signature (profiled_renaming number) t h
     (λ n s o. occurs_sort_of signature t n s h o)
 
-pub nothing_unifies : {signature : Signature} {first second : RuleSides} {path : List ℕ} {part : ProfiledTerm} {number : ℕ → ℕ → ℕ}
+pub nothing_unifies : {signature : Signature} {first second : Sides} {path : List ℕ} {part : ProfiledTerm} {number : ℕ → ℕ → ℕ}
     → IsPlace signature first second path part number → IsNode (bare part)
     → (HasUnifier part (moved number second.left) → ⊥) → (rules : List Rule) (i j : ℕ)
     → IsRuleAt rules i (bare_rule first) → IsRuleAt rules j (bare_rule second)

@@ -8,8 +8,8 @@ use Rattle.rewriting_theory.specs.Rule.{Rule as PlainRule, IsRuleAt}
 use Rattle.rewriting_theory.specs.PairList.{PairPlace}
 use Rattle.rewriting_theory.specs.Places.{places_at, places_with, node_paths, is_root}
 use Rattle.rewriting_theory.proofs.PlaceListLemmas.{IsIn}
-use Rattle.term_algebra.specs.Term.{Term}
-use Rattle.critical_pairs.specs.TwoSides.{pair_with, IsRuleOver}
+use Rattle.lotos_base.specs.Term.{Term}
+use Rattle.critical_pairs.specs.TwoSides.{pair_with, IsFormedRuleOver}
 use Rattle.critical_pairs.specs.OverlapPair.{HaveOneSignature, HaveNoOverlap}
 use Rattle.path_order.specs.RuleView.{rule_of, numbered_rules, plain_rules}
 use Rattle.path_order.specs.RulesView.{rules_in, plain_rules_in, signature_in}
@@ -21,7 +21,7 @@ use Rattle.critical_pairs.specs.Listing.{equation_at}
 use Rattle.critical_pairs.specs.Candidates.{all_least}
 use Rattle.critical_pairs.specs.Extended.{AddsPairsOf, IsHeadIn, IsPairAt, paths_in, listed_option}
 use Rattle.critical_pairs.specs.NodePlaces.{PlaceOfNode, node_places, IsHeadAt}
-use Rattle.critical_pairs.specs.PairView.{pair_of, terms_in, rule_sides, node_place_of}
+use Rattle.critical_pairs.specs.PairView.{pair_of, terms_in, node_place_of}
 use Rattle.critical_pairs.specs.declared.pair.Pair.{Pair}
 use Rattle.critical_pairs.specs.declared.places.NodePlace.{NodePlace}
 use Rattle.critical_pairs.proofs.ExtendLemmas.{extended_nothing, extended_apart, extended_one, extended_then, extended_along, places_at-append, places_with_more}
@@ -63,7 +63,7 @@ take_all (x ∷ xs) = ap (λ ys. x ∷ ys) (take_all xs)
 
 -- a rule is over the signature of the rules
 pub rule_over : (rules : Rules) (k : ℕ) (x : Rule) → k < length rules.rules.items → x ≡ get_or rules.rules.items k x
-    → IsRuleOver (signature_in rules) (rule_sides x)
+    → IsFormedRuleOver (signature_in rules) (sides_of x)
 rule_over rules k x less e =
     let there = rule_there rules.rules.items k x less e in
     let over : AreSidesOver (signature_in rules) (sides_of x) = rules.over k (sides_of x) there.sides in
@@ -77,7 +77,7 @@ rule_over rules k x less e =
 
 pub one_signature : (rules : Rules) (i j : ℕ) (one two : Rule) → i < length rules.rules.items → j < length rules.rules.items
     → one ≡ get_or rules.rules.items i one → two ≡ get_or rules.rules.items j two
-    → HaveOneSignature (rule_sides one) (rule_sides two)
+    → HaveOneSignature (sides_of one) (sides_of two)
 one_signature rules i j one two first second d e =
     (signature_in rules, rule_over rules i one first d, rule_over rules j two second e)
 
@@ -103,7 +103,7 @@ pub pair_added : (rules : Rules) (i j : ℕ) (one two : Rule) (path : List ℕ) 
     → i < length rules.rules.items → j < length rules.rules.items
     → one ≡ get_or rules.rules.items i one → two ≡ get_or rules.rules.items j two
     → (nat_eq i j && is_root path) ≡ false
-    → IfNone o (HaveNoOverlap (rule_sides one) (rule_sides two) path) → IfSome o (λ pair. IsPairAt one two path pair)
+    → IfNone o (HaveNoOverlap (sides_of one) (sides_of two) path) → IfSome o (λ pair. IsPairAt one two path pair)
     → more ≡ found ++ listed_option o → AddsPairsOf rules (places_at i j (path ∷ [])) found more
 pair_added rules i j one two path found more o first second d e other none some is =
     subst (λ (ps : List Pair). AddsPairsOf rules (places_at i j (path ∷ [])) found ps) (sym is)
@@ -125,7 +125,7 @@ pair_added rules i j one two path found more o first second d e other none some 
         let clash : true ≡ false = sym yes ∙ other in
         cc
 
-    added : (p : Option Pair) → IfNone p (HaveNoOverlap (rule_sides one) (rule_sides two) path)
+    added : (p : Option Pair) → IfNone p (HaveNoOverlap (sides_of one) (sides_of two) path)
         → IfSome p (λ pair. IsPairAt one two path pair)
         → AddsPairsOf rules (record { first = i; second = j; path = path } ∷ []) found (found ++ listed_option p)
     added None apart pair =

@@ -3,9 +3,9 @@ use Rattle.std.proofs.Common.{◌≡◌, ◌≤◌, ◌<◌, ◌+◌, ℕ, zero,
 use Rattle.std.specs.Prelude.{◌&&◌, Some, None, if◌then◌else◌}
 use Rattle.std.proofs.lemmas.Option.{same_Some}
 use Rattle.std.proofs.lemmas.Bool.Decides.{Decides-eqb}
-use Rattle.term_algebra.specs.Term.{Term, variable, node, Terms}
-use Rattle.term_algebra.specs.Path.{subterm}
-use Rattle.term_algebra.specs.Substitution.{Substitution, substituted}
+use Rattle.lotos_base.specs.Term.{Term, variable, node, Terms}
+use Rattle.lotos_base.specs.Path.{subterm}
+use Rattle.lotos_base.specs.Substitution.{Substitution, substituted}
 use Rattle.rewriting_theory.specs.Rule.{Rule as PlainRule, IsRuleAt, IsNode, AreWellFormedRules}
 use Rattle.rewriting_theory.specs.Places.{places_at, places_with, is_root, IsApartAt}
 use Rattle.rewriting_theory.proofs.PlaceListLemmas.{IsIn}

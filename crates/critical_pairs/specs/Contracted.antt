@@ -8,8 +8,8 @@ use Rattle.term_match.specs.NewNumbers.{IsByFirstAppearance}
 use Rattle.critical_pairs.specs.TwoSides.{PairTerms}
 
 -- The path leads to a subterm of the instance of the term, and that has the sort of the part.
-abbrev pub IsReplaced : List ℕ → ProfiledSubstitution → ProfiledTerm → ProfiledTerm → Type 0
-IsReplaced path values part t =
+abbrev pub IsReplacedAt : List ℕ → ProfiledSubstitution → ProfiledTerm → ProfiledTerm → Type 0
+IsReplacedAt path values part t =
     (old : ProfiledTerm) × (profiled_subterm path (profiled_instance values t) ≡ Some old) × (head_sort old ≡ head_sort part)
 
 -- The terms with their variables numbered by first appearance in the peak.

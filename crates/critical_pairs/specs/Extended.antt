@@ -1,15 +1,16 @@
 -- Lists of pairs of the code with the pairs of some places added.
 use Rattle.std.specs.Prelude.{◌≡◌, ℕ, List, [], ◌∷◌, Option, None, Some, map}
-use Rattle.term_algebra.specs.Signature.{Signature}
+use Rattle.lotos_base.specs.Signature.{Signature}
 use Rattle.rewriting_theory.specs.Rule.{Rule as PlainRule, IsRuleAt}
 use Rattle.rewriting_theory.specs.PairList.{PairPlace}
 use Rattle.critical_pairs.specs.OverlapPair.{IsOverlapPair, IsOverOverlap}
 use Rattle.path_order.specs.RulesView.{rules_in, signature_in}
 use Rattle.path_order.specs.declared.rule.Rule.{Rule}
 use Rattle.path_order.specs.declared.rules.Rules.{Rules}
-use Rattle.critical_pairs.specs.Listing.{AddsPairs, AreOver}
+use Rattle.path_order.specs.RuleSides.{sides_of}
+use Rattle.critical_pairs.specs.Listing.{AddsPairs, ArePairsOver}
 use Rattle.critical_pairs.specs.NodePlaces.{PlaceOfNode, IsHeadAt}
-use Rattle.critical_pairs.specs.PairView.{pairs_in, terms_in, rule_sides}
+use Rattle.critical_pairs.specs.PairView.{pairs_in, terms_in}
 use Rattle.critical_pairs.specs.declared.pair.Pair.{Pair}
 use Rattle.critical_pairs.specs.declared.places.NodePlace.{NodePlace}
 
@@ -17,7 +18,7 @@ use Rattle.critical_pairs.specs.declared.places.NodePlace.{NodePlace}
 -- if those of the first one are.
 pub record AddsPairsOf (rules : Rules) (places : List PairPlace) (before after : List Pair) : Type 0 where
   pub listed : AddsPairs (rules_in rules) places (pairs_in before) (pairs_in after)
-  pub over : AreOver (signature_in rules) before → AreOver (signature_in rules) after
+  pub over : ArePairsOver (signature_in rules) before → ArePairsOver (signature_in rules) after
 
 -- The operation of the place stands there in the left side of the rule with this number.
 abbrev pub IsHeadIn : List PlainRule → ℕ → PlaceOfNode → Type 0
@@ -34,8 +35,8 @@ listed_option (Some pair) = pair ∷ []
 
 -- The pair is that of the two rules at the path, with the numbers of their equations.
 pub record IsPairAt (first second : Rule) (path : List ℕ) (pair : Pair) : Type 0 where
-  pub terms : IsOverlapPair (rule_sides first) (rule_sides second) path (terms_in pair)
+  pub terms : IsOverlapPair (sides_of first) (sides_of second) path (terms_in pair)
   pub first_number : pair.first ≡ first.equation
   pub second_number : pair.second ≡ second.equation
   pub is_path : pair.path.items ≡ path
-  pub over : (signature : Signature) → IsOverOverlap signature (rule_sides first) (rule_sides second) (terms_in pair)
+  pub over : (signature : Signature) → IsOverOverlap signature (sides_of first) (sides_of second) (terms_in pair)

@@ -1,14 +1,14 @@
 -- Whether the sides of each critical pair have one chosen form, and the first pair whose sides have two.
 use Rattle.std.specs.Prelude.{◌≡◌, ◌<◌, ℕ, List, Some, slice_get}
-use Rattle.term_algebra.specs.Signature.{Signature}
-use Rattle.term_algebra.specs.Term.{Term}
-use Rattle.term_algebra.specs.Sorting.{IsTermOf}
+use Rattle.lotos_base.specs.Signature.{Signature}
+use Rattle.lotos_base.specs.Term.{Term}
+use Rattle.lotos_base.specs.Sorting.{IsTermOf}
 use Rattle.rewriting_theory.specs.Rule.{Rule}
 use Rattle.rewriting_theory.specs.Rewriting.{AreConfluent}
 use Rattle.rewriting_theory.specs.CriticalPair.{CriticalPair}
 use Rattle.rewriting_theory.specs.PairList.{AreCriticalPairs, IsUnjoined, IsFirstUnjoined}
 use Rattle.rewriting_theory.specs.PairListLaws.{RewritesToTwo}
-use Rattle.termination_theory.specs.Orientation.{NumberedRule, rules_of}
+use Rattle.path_order.specs.HandedOn.{NumberedRule, rules_of}
 use Rattle.sort_terms.specs.SortedView.{term_in}
 use Rattle.critical_pairs.specs.Listing.{equation_at}
 use Rattle.critical_pairs.specs.declared.joining.Unjoined.{Unjoined}
@@ -39,10 +39,10 @@ pub record AreUnjoinedBy (signature : Signature) (rules : List NumberedRule) (fi
   pub not_confluent : ¬ AreConfluent (rules_of rules)
 
 -- What a fault says of rules over a signature.
-abbrev pub HoldsOfFault : Signature → List NumberedRule → PairFault → Type 0
-HoldsOfFault signature rules (UnjoinedFault first second peak left right) =
+abbrev pub HoldsOfPairFault : Signature → List NumberedRule → PairFault → Type 0
+HoldsOfPairFault signature rules (UnjoinedFault first second peak left right) =
     AreUnjoinedBy signature rules first second (term_in peak) (term_in left) (term_in right)
-HoldsOfFault signature rules NoMemory = Unit {0}
+HoldsOfPairFault signature rules NoMemory = Unit {0}
 
 -- None of the pairs has sides with different chosen forms.
 abbrev pub NoneUnjoinedAmong : List Rule → List CriticalPair → Type 0

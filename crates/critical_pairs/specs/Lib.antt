@@ -5,6 +5,5 @@ pub mod Listing
 pub mod Extended
 pub mod Joining
 pub mod TwoSides
-pub mod SidesView
 pub mod OverlapPair
 pub mod Contracted

@@ -1,10 +1,10 @@
 -- Lists of critical pairs that name the equations of their rules.
 use Rattle.std.specs.Prelude.{◌≡◌, ℕ, zero, suc, List, [], ◌∷◌, ◌++◌, Some, map, slice_get}
-use Rattle.term_algebra.specs.Signature.{Signature}
+use Rattle.lotos_base.specs.Signature.{Signature}
 use Rattle.rewriting_theory.specs.CriticalPair.{CriticalPair}
 use Rattle.rewriting_theory.specs.PairList.{PairPlace, AreCriticalPairs}
 use Rattle.rewriting_theory.specs.Places.{PairsOf}
-use Rattle.termination_theory.specs.Orientation.{NumberedRule, rules_of}
+use Rattle.path_order.specs.HandedOn.{NumberedRule, rules_of}
 use Rattle.critical_pairs.specs.OverlapPair.{ArePairTermsOf}
 use Rattle.critical_pairs.specs.PairView.{terms_in}
 use Rattle.critical_pairs.specs.declared.pair.Pair.{Pair}
@@ -39,5 +39,5 @@ pub record AddsPairs (rules : List NumberedRule) (places : List PairPlace) (befo
   pub named : before ++ map (named_by rules) plain ≡ after
 
 -- The terms of each of the pairs are of the signature.
-abbrev pub AreOver : Signature → List Pair → Type 0
-AreOver signature pairs = (k : ℕ) (pair : Pair) → slice_get pairs k ≡ Some pair → ArePairTermsOf signature (terms_in pair)
+abbrev pub ArePairsOver : Signature → List Pair → Type 0
+ArePairsOver signature pairs = (k : ℕ) (pair : Pair) → slice_get pairs k ≡ Some pair → ArePairTermsOf signature (terms_in pair)

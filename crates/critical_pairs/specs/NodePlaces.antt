@@ -1,7 +1,7 @@
 -- The places of a term at which an operation stands, with the number of the operation.
 use Rattle.std.specs.Prelude.{◌≡◌, ℕ, zero, suc, List, [], ◌∷◌, ◌++◌, Some}
-use Rattle.term_algebra.specs.Term.{Term, variable, node, Terms, no_terms, term_then}
-use Rattle.term_algebra.specs.Path.{subterm}
+use Rattle.lotos_base.specs.Term.{Term, variable, node, Terms, no_terms, term_then}
+use Rattle.lotos_base.specs.Path.{subterm}
 
 -- a place: its path, and the number of the operation there
 pub record PlaceOfNode : Type 0 where

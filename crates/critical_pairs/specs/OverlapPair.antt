@@ -1,22 +1,23 @@
 -- Whether two rules have a critical pair at a path, and which one, wherever the two rules stand among others.
 use Rattle.std.specs.Prelude.{◌≡◌, ℕ, List, []}
-use Rattle.term_algebra.specs.Signature.{Signature}
+use Rattle.lotos_base.specs.Signature.{Signature}
 use Rattle.rewriting_theory.specs.Rule.{Rule, IsRuleAt}
 use Rattle.rewriting_theory.specs.Places.{IsPairOf, IsApartAt}
 use Rattle.sort_terms.specs.ProfiledTerm.{IsOf}
-use Rattle.critical_pairs.specs.TwoSides.{RuleSides, bare_rule, PairTerms, pair_with, IsRuleOver}
+use Rattle.path_order.specs.RuleSides.{Sides}
+use Rattle.critical_pairs.specs.TwoSides.{bare_rule, PairTerms, pair_with, IsFormedRuleOver}
 
 -- Both rules are over some signature.
-abbrev pub HaveOneSignature : RuleSides → RuleSides → Type 0
-HaveOneSignature first second = (signature : Signature) × IsRuleOver signature first × IsRuleOver signature second
+abbrev pub HaveOneSignature : Sides → Sides → Type 0
+HaveOneSignature first second = (signature : Signature) × IsFormedRuleOver signature first × IsFormedRuleOver signature second
 
 -- The left sides do not overlap there, whatever the rules' numbers are.
-abbrev pub HaveNoOverlap : RuleSides → RuleSides → List ℕ → Type 0
+abbrev pub HaveNoOverlap : Sides → Sides → List ℕ → Type 0
 HaveNoOverlap first second path = (rules : List Rule) (i j : ℕ) → IsRuleAt rules i (bare_rule first) → IsRuleAt rules j (bare_rule second)
     → IsApartAt rules (record { first = i; second = j; path = path })
 
 -- These are the terms of the pair there, whatever the rules' numbers are, but for a rule with itself at the root.
-abbrev pub IsOverlapPair : RuleSides → RuleSides → List ℕ → PairTerms → Type 0
+abbrev pub IsOverlapPair : Sides → Sides → List ℕ → PairTerms → Type 0
 IsOverlapPair first second path terms = (rules : List Rule) (i j : ℕ) → IsRuleAt rules i (bare_rule first)
     → IsRuleAt rules j (bare_rule second) → (i ≡ j → ¬ (path ≡ []))
     → IsPairOf rules (record { first = i; second = j; path = path }) (pair_with i j path terms)
@@ -28,5 +29,6 @@ pub record ArePairTermsOf (signature : Signature) (terms : PairTerms) : Type 0 w
   pub right : IsOf signature terms.right
 
 -- They are where the two rules are over it.
-abbrev pub IsOverOverlap : Signature → RuleSides → RuleSides → PairTerms → Type 0
-IsOverOverlap signature first second terms = IsRuleOver signature first → IsRuleOver signature second → ArePairTermsOf signature terms
+abbrev pub IsOverOverlap : Signature → Sides → Sides → PairTerms → Type 0
+IsOverOverlap signature first second terms = IsFormedRuleOver signature first → IsFormedRuleOver signature second
+    → ArePairTermsOf signature terms

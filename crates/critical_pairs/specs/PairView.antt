@@ -2,9 +2,9 @@
 use Rattle.std.specs.Prelude.{List, map}
 use Rattle.rewriting_theory.specs.CriticalPair.{CriticalPair}
 use Rattle.sort_terms.specs.SortedView.{profiled_in, term_in}
-use Rattle.critical_pairs.specs.TwoSides.{RuleSides, PairTerms}
-use Rattle.path_order.specs.declared.rule.Rule.{Rule}
+use Rattle.critical_pairs.specs.TwoSides.{PairTerms}
 use Rattle.critical_pairs.specs.NodePlaces.{PlaceOfNode}
+use Rattle.critical_pairs.specs.declared.overlaps.Overlap.{Overlap}
 use Rattle.critical_pairs.specs.declared.pair.Pair.{Pair}
 use Rattle.critical_pairs.specs.declared.places.NodePlace.{NodePlace}
 
@@ -31,6 +31,6 @@ terms_in pair = record { peak = profiled_in pair.peak; left = profiled_in pair.l
 abbrev pub node_place_of : NodePlace → PlaceOfNode
 node_place_of place = record { path = place.path.items; head = place.head }
 
--- the sides of the rule
-abbrev pub rule_sides : Rule → RuleSides
-rule_sides rule = record { left = profiled_in rule.left; right = profiled_in rule.right }
+-- the terms that two rules make of an overlap
+abbrev pub overlap_of : Overlap → PairTerms
+overlap_of pair = record { peak = profiled_in pair.peak; left = profiled_in pair.left; right = profiled_in pair.right }

@@ -1,8 +1,8 @@
 //! Whether the two sides of each critical pair can be joined.
 
-ghost use Rattle.critical_pairs.specs.Joining.{AnswersFirst, AnswersPair, HoldsOfFault};
+ghost use Rattle.critical_pairs.specs.Joining.{AnswersFirst, AnswersPair, HoldsOfPairFault};
 ghost use Rattle.critical_pairs.specs.Joining.{NoneUnjoinedAmong, StaysJoined};
-ghost use Rattle.critical_pairs.specs.Listing.{AreOver};
+ghost use Rattle.critical_pairs.specs.Listing.{ArePairsOver};
 ghost use Rattle.critical_pairs.specs.PairView.{pair_of, pairs_in, terms_in};
 ghost use Rattle.critical_pairs.specs.OverlapPair.{ArePairTermsOf};
 ghost use Rattle.path_order.specs.RulesView.{plain_rules_in, rules_in, signature_in};
@@ -40,7 +40,7 @@ pub fn all_join(alloc: Global, rules: Rules) -> Result<Joined, PairFault>
     ensures joined { IfOk result (λ joined. joined.rules ≡ rules) }
     ensures confluent { IfOk result (λ joined. StaysJoined (plain_rules_in joined.rules)) }
     ensures unjoined { IfErr result
-        (λ fault. HoldsOfFault (signature_in rules) (rules_in rules) fault) }
+        (λ fault. HoldsOfPairFault (signature_in rules) (rules_in rules) fault) }
 {
     let found = pairs(alloc, &rules)?;
     match first_unjoined(alloc, &rules, found.as_slice())? {
@@ -61,7 +61,7 @@ fn first_unjoined(
     rules: &Rules,
     pairs: &[Pair],
 ) -> Result<Option<Unjoined>, NoMemory>
-    requires { AreOver (signature_in rules.now) pairs.now }
+    requires { ArePairsOver (signature_in rules.now) pairs.now }
     ensures none { IfOk result (λ o. IfNone o
         (NoneUnjoinedAmong (plain_rules_in rules.now) (pairs_in pairs.now))) }
     ensures some { IfOk result (λ o. IfSome o (λ answer.

@@ -7,15 +7,16 @@ pub mod joined;
 pub mod joining;
 pub mod listing;
 pub mod overlapping;
+pub mod overlaps;
 pub mod pair;
 pub mod pair_fault;
 pub mod places;
-pub mod sides;
 
 pub use joined::Joined;
 pub use joining::all_join;
 pub use listing::pairs;
 pub use overlapping::overlap;
+pub use overlaps::Overlap;
 pub use pair::Pair;
 pub use pair_fault::PairFault;
-pub use sides::{BorrowedRule, Overlap};
+pub use term_rewriter::normalise;

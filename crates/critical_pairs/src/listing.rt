@@ -2,11 +2,11 @@
 
 ghost use Rattle.critical_pairs.specs.Extended.{AddsPairsOf, IsHeadIn, IsPairAt};
 ghost use Rattle.critical_pairs.specs.Extended.{paths_in, listed_option};
-ghost use Rattle.critical_pairs.specs.Listing.{AreOver, ListsAll};
+ghost use Rattle.critical_pairs.specs.Listing.{ArePairsOver, ListsAll};
 ghost use Rattle.critical_pairs.specs.NodePlaces.{IsHeadAt};
-ghost use Rattle.critical_pairs.specs.PairView.{node_place_of, pairs_in, rule_sides};
+ghost use Rattle.critical_pairs.specs.PairView.{node_place_of, pairs_in};
 ghost use Rattle.critical_pairs.specs.OverlapPair.{HaveOneSignature, HaveNoOverlap};
-ghost use Rattle.critical_pairs.specs.SidesView.{borrowed_sides};
+ghost use Rattle.path_order.specs.RuleSides.{sides_of};
 ghost use Rattle.path_order.specs.RuleHead.{has_head};
 ghost use Rattle.path_order.specs.RulesView.{plain_rules_in, rules_in, signature_in};
 ghost use Rattle.rewriting_theory.specs.Places.{is_root, places_at, places_with};
@@ -18,9 +18,9 @@ ghost use Rattle.std.specs.Prelude.{length, nat_eq, slice_get};
 ghost use Rattle.critical_pairs.specs.declared.places.NodePlace.{NodePlace};
 
 use crate::candidates::next_candidate;
+use crate::overlap;
 use crate::pair::Pair;
 use crate::places::{NodePlace, places_of};
-use crate::{BorrowedRule, overlap};
 use lotos_base::NoMemory;
 use path_order::{Rule, Rules};
 use sort_terms::Term;
@@ -30,7 +30,7 @@ use std::alloc::Global;
 /// in the left side of the first rule in preorder. A rule with itself at the root is no place.
 pub fn pairs(alloc: Global, rules: &Rules) -> Result<Vec<Pair>, NoMemory>
     ensures listed { IfOk result (λ found. ListsAll (rules_in rules.now) (pairs_in found.items)) }
-    ensures is_of { IfOk result (λ found. AreOver (signature_in rules.now) found.items) }
+    ensures is_of { IfOk result (λ found. ArePairsOver (signature_in rules.now) found.items) }
 {
     let mut found = Vec::new(alloc);
     for first in 0..rules.list().len() {
@@ -132,19 +132,17 @@ fn pair_at(
     second: &Rule,
     place: &NodePlace,
 ) -> Result<Option<Pair>, NoMemory>
-    requires rules { HaveOneSignature (rule_sides first.now) (rule_sides second.now) }
+    requires rules { HaveOneSignature (sides_of first.now) (sides_of second.now) }
     requires headed { IsHeadAt (term_in first.now.left) (node_place_of place.now) }
     ensures none { IfOk result (λ o. IfNone o
-        (HaveNoOverlap (rule_sides first.now) (rule_sides second.now) place.now.path.items)) }
+        (HaveNoOverlap (sides_of first.now) (sides_of second.now) place.now.path.items)) }
     ensures some { IfOk result (λ o. IfSome o (λ pair. IsPairAt first.now second.now
         place.now.path.items pair)) }
 {
     if !is_headed(second.left.term(), place.head) {
         return Ok(None);
     }
-    let one = sides(first);
-    let two = sides(second);
-    match overlap(alloc, &one, &two, place.path.as_slice())? {
+    match overlap(alloc, first, second, place.path.as_slice())? {
         None => Ok(None),
         Some(terms) => Ok(Some(Pair {
             first: first.equation,
@@ -164,15 +162,5 @@ fn is_headed(term: &Term, head: u32) -> bool
     match term {
         Term::Var { .. } => false,
         Term::Node { op, .. } => *op == head,
-    }
-}
-
-// The sides of the rule.
-fn sides(rule: &Rule) -> BorrowedRule<'_>
-    ensures { borrowed_sides result ≡ rule_sides rule.now }
-{
-    BorrowedRule {
-        left: &rule.left,
-        right: &rule.right,
     }
 }

@@ -2,14 +2,16 @@
 
 ghost use Rattle.critical_pairs.specs.Contracted.{IsNumberedBy};
 ghost use Rattle.critical_pairs.specs.OverlapPair.{HaveOneSignature, HaveNoOverlap, IsOverOverlap, IsOverlapPair};
-ghost use Rattle.critical_pairs.specs.SidesView.{overlap_of, borrowed_sides};
+ghost use Rattle.critical_pairs.specs.PairView.{overlap_of};
+ghost use Rattle.path_order.specs.RuleSides.{sides_of};
 ghost use Rattle.sort_terms.specs.SortedView.{profiled_in, term_in};
 ghost use Rattle.std.specs.Prelude.{◌≡◌, IfOk, IfNone, IfSome};
-ghost use Rattle.term_algebra.specs.Signature.{Signature};
+ghost use Rattle.lotos_base.specs.Signature.{Signature};
 
 use crate::contracting::contracted;
-use crate::sides::{BorrowedRule, Overlap};
+use crate::overlaps::Overlap;
 use lotos_base::NoMemory;
+use path_order::Rule;
 use sort_terms::{Sorted, Term};
 use std::alloc::Global;
 use term_match::{apart, by_appearance, renumbered, subterm, unify};
@@ -20,32 +22,32 @@ use term_match::{apart, by_appearance, renumbered, subterm, unify};
 /// have no common instance, variables apart. The rules are over one signature.
 pub fn overlap(
     alloc: Global,
-    first: &BorrowedRule<'_>,
-    second: &BorrowedRule<'_>,
+    first: &Rule,
+    second: &Rule,
     path: &[u32],
 ) -> Result<Option<Overlap>, NoMemory>
-    requires { HaveOneSignature (borrowed_sides first.now) (borrowed_sides second.now) }
+    requires { HaveOneSignature (sides_of first.now) (sides_of second.now) }
     ensures none { IfOk result (λ o. IfNone o
-        (HaveNoOverlap (borrowed_sides first.now) (borrowed_sides second.now) path.now)) }
+        (HaveNoOverlap (sides_of first.now) (sides_of second.now) path.now)) }
     ensures some { IfOk result (λ o. IfSome o (λ pair.
-        IsOverlapPair (borrowed_sides first.now) (borrowed_sides second.now) path.now
+        IsOverlapPair (sides_of first.now) (sides_of second.now) path.now
         (overlap_of pair))) }
     ensures is_of { IfOk result (λ o. IfSome o (λ pair. (signature : Signature)
-        → IsOverOverlap signature (borrowed_sides first.now) (borrowed_sides second.now)
+        → IsOverOverlap signature (sides_of first.now) (sides_of second.now)
         (overlap_of pair))) }
 {
-    let Some(part) = subterm(first.left, path)? else {
+    let Some(part) = subterm(&first.left, path)? else {
         return Ok(None);
     };
     if let Term::Var { .. } = part.term() {
         return Ok(None);
     }
     let numbers = apart(alloc, first.left.term(), second.left.term())?;
-    let second_left = renumbered(second.left, numbers.as_slice())?;
+    let second_left = renumbered(&second.left, numbers.as_slice())?;
     let Some(subst) = unify(alloc, &part, &second_left)? else {
         return Ok(None);
     };
-    let second_right = renumbered(second.right, numbers.as_slice())?;
+    let second_right = renumbered(&second.right, numbers.as_slice())?;
     let pair = contracted(&subst, first, &second_right, path)?;
     Ok(Some(numbered(alloc, &pair)?))
 }

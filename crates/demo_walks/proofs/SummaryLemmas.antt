@@ -1,7 +1,7 @@
 -- The summary, part by part.
 use Rattle.std.proofs.Common.{◌≡◌, ℕ, List, [], ◌++◌, length, map, codes, decimal, Option, option_map, sym, ap, ◌∙◌, subst, append_assoc}
-use Rattle.term_algebra.specs.Equation.{Data}
-use Rattle.term_algebra.specs.Term.{Term}
+use Rattle.lotos_base.specs.Equation.{Data}
+use Rattle.lotos_base.specs.Term.{Term}
 use Rattle.lotos_base.specs.Name.{spelling}
 use Rattle.sort_terms.specs.EquationView.{data_of}
 use Rattle.sort_terms.specs.SignatureView.{signature_of}

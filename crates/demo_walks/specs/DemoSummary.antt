@@ -1,7 +1,7 @@
 -- The summary of the walk: what its session has come to.
 use Rattle.std.specs.Prelude.{◌≡◌, ℕ, ◌+◌, List, [], ◌∷◌, ◌++◌, length, Option, None, Some, codes, decimal}
-use Rattle.term_algebra.specs.Equation.{Data}
-use Rattle.term_algebra.specs.Signature.{Signature}
+use Rattle.lotos_base.specs.Equation.{Data}
+use Rattle.lotos_base.specs.Signature.{Signature}
 use Rattle.behaviour_semantics.specs.Label.{Label}
 use Rattle.printed_texts.specs.MenuText.{label_text}
 use Rattle.session_histories.specs.Session.{SessionBasis, PastStep, Situation, Progress}

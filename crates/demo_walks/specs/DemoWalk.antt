@@ -1,10 +1,10 @@
 -- The walk through the specification that is made from a number of cells.
 use Rattle.std.specs.Prelude.{◌≡◌, ℕ, zero, suc, ◌+◌, List, [], ◌∷◌, ◌++◌, Option, None, Some, option_map, codes}
 use Rattle.lotos_base.specs.WrittenTerm.{WrittenTerm, WrittenTerms, written, no_written, written_then}
-use Rattle.sort_terms.specs.ReadingOutcome.{Refusal, ReadingIs, answered, refused}
-use Rattle.term_algebra.specs.Equation.{Place}
-use Rattle.term_algebra.specs.Signature.{Signature, prefix_form}
-use Rattle.term_algebra.specs.Term.{Term}
+use Rattle.sort_terms.specs.ReadingOutcome.{ReadingRefusal, ReadingIs, answered, refused}
+use Rattle.lotos_base.specs.Equation.{Place}
+use Rattle.lotos_base.specs.Signature.{Signature, prefix_form}
+use Rattle.lotos_base.specs.Term.{Term}
 use Rattle.behaviour_semantics.specs.Label.{Label}
 use Rattle.session_histories.specs.Session.{SessionBasis, Situation, Progress, opened}
 use Rattle.session_histories.specs.Refusal.{StepRefusal, step_refusal}
@@ -28,7 +28,7 @@ written_one = before_arguments (codes "Succ") (written_then written_nought no_wr
 -- The value that a written term stands for over the signature: the term of its one reading, and none where it has not one.
 abbrev pub IsValueOf : Signature → WrittenTerm → Option Term → Type 0
 IsValueOf signature term (Some value) = (sort : ℕ) × ReadingIs signature [] term None (answered (record { term = value; sort = sort }))
-IsValueOf signature term None = (refusal : Refusal) × ReadingIs signature [] term None (refused refusal)
+IsValueOf signature term None = (refusal : ReadingRefusal) × ReadingIs signature [] term None (refused refusal)
 
 -- the values that are put: by the first cell, and by each other one
 pub record WalkValues : Type 0 where

@@ -1,6 +1,6 @@
 -- Worked cases: the steps of small walks, and the summaries of small sessions.
 use Rattle.std.specs.Prelude.{◌≡◌, ℕ, List, [], ◌∷◌, None, Some, codes}
-use Rattle.term_algebra.specs.Term.{Term}
+use Rattle.lotos_base.specs.Term.{Term}
 use Rattle.behaviour_semantics.specs.Behaviour.{stop}
 use Rattle.behaviour_semantics.specs.Label.{gate_event, inner_event}
 use Rattle.session_histories.specs.Session.{Situation, PastStep, Progress}

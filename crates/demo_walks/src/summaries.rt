@@ -17,10 +17,9 @@ use crate::walking::walk;
 use behaviour_tree::{Label, Spec};
 use equation_book::Book;
 use lotos_base::NoMemory;
-use menu_builder::MenuMaker;
 use printed_texts::brackets::{push_number, push_text};
 use printed_texts::label_text;
-use session_log::Session;
+use session_log::{MenuMaker, Session};
 use sort_terms::{Flat, Signature};
 use std::alloc::Global;
 

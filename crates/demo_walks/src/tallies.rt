@@ -2,12 +2,11 @@
 
 ghost use Rattle.behaviour_tree.specs.MoveView.{label_of};
 ghost use Rattle.std.specs.Prelude.{◌≡◌, ◌+◌, ◌*◌, ◌≤◌, [], Some, length, option_map};
-ghost use Rattle.term_algebra.specs.Equation.{Data};
-ghost use Rattle.term_algebra.specs.Term.{Term};
+ghost use Rattle.lotos_base.specs.Equation.{Data};
+ghost use Rattle.lotos_base.specs.Term.{Term};
 
 use behaviour_tree::Label;
-use menu_builder::MenuMaker;
-use session_log::Session;
+use session_log::{MenuMaker, Session};
 
 /// What is seen on a walk through a session.
 #[derive(Debug, Drop)]

@@ -22,7 +22,7 @@ ghost use Rattle.session_log.specs.Entries.{AreGiven};
 ghost use Rattle.sort_terms.specs.SignatureView.{signature_of};
 ghost use Rattle.sort_terms.specs.SortedView.{term_in};
 ghost use Rattle.std.specs.Prelude.{◌≡◌, ◌∷◌, [], IfOk, IfSome, option_map};
-ghost use Rattle.term_algebra.specs.Signature.{Signature as PlainSignature};
+ghost use Rattle.lotos_base.specs.Signature.{Signature as PlainSignature};
 
 use lotos_base::{Form, Name, NoMemory, Place, Written};
 use sort_terms::{Signature, SortFault, Sorted, read_in};

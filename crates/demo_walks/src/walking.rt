@@ -10,6 +10,7 @@ ghost use Rattle.demo_walks.specs.DemoWalk.{
   walk_steps,
 };
 ghost use Rattle.demo_walks.specs.WalkView.{AreGivenValues, IsOnWalk, reached, values_of};
+ghost use Rattle.event_offers.specs.Keeping.{KeepsData};
 ghost use Rattle.session_histories.specs.Refusal.{StepRefusal as PlainRefusal};
 ghost use Rattle.session_log.specs.CourseView.{basis_over};
 ghost use Rattle.session_log.specs.Entries.{AreGiven};
@@ -19,8 +20,7 @@ ghost use Rattle.std.specs.Prelude.{◌≡◌, OnOk, Option, Some};
 use crate::tallies::Tally;
 use crate::values::CellValues;
 use lotos_base::NoMemory;
-use menu_builder::MenuMaker;
-use session_log::{Session, StepRefusal};
+use session_log::{MenuMaker, Session, StepRefusal};
 use sort_terms::{Deciding, Sorted};
 use std::alloc::Global;
 
@@ -43,8 +43,7 @@ pub fn walk<M: MenuMaker, D: Deciding>(
     ensures on_walk_after { OnOk result (IsOnWalk M.suits (D.known_data data.old)
         (D.canon data.old) session.new tally.new) }
     ensures same_spec { session.new.spec ≡ session.old.spec }
-    ensures same_data { D.known_data data.new ≡ D.known_data data.old }
-    ensures same_canon { D.canon data.new ≡ D.canon data.old }
+    ensures same_known { KeepsData D.known_data D.canon data.old data.new }
 {
     rounds(alloc, values, cells, session, tally, data)?;
     step(1, Vec::new(alloc), session, tally, data)
@@ -68,8 +67,7 @@ fn rounds<M: MenuMaker, D: Deciding>(
     ensures on_walk_after { OnOk result (IsOnWalk M.suits (D.known_data data.old)
         (D.canon data.old) session.new tally.new) }
     ensures same_spec { session.new.spec ≡ session.old.spec }
-    ensures same_data { D.known_data data.new ≡ D.known_data data.old }
-    ensures same_canon { D.canon data.new ≡ D.canon data.old }
+    ensures same_known { KeepsData D.known_data D.canon data.old data.new }
 {
     for turn in 0..4u8 {
         let _ = turn;
@@ -96,8 +94,7 @@ fn round<M: MenuMaker, D: Deciding>(
     ensures on_walk_after { OnOk result (IsOnWalk M.suits (D.known_data data.old)
         (D.canon data.old) session.new tally.new) }
     ensures same_spec { session.new.spec ≡ session.old.spec }
-    ensures same_data { D.known_data data.new ≡ D.known_data data.old }
-    ensures same_canon { D.canon data.new ≡ D.canon data.old }
+    ensures same_known { KeepsData D.known_data D.canon data.old data.new }
 {
     for cell in 0..cells {
         visit(alloc, values, cell, session, tally, data)?;
@@ -123,8 +120,7 @@ fn visit<M: MenuMaker, D: Deciding>(
     ensures on_walk_after { OnOk result (IsOnWalk M.suits (D.known_data data.old)
         (D.canon data.old) session.new tally.new) }
     ensures same_spec { session.new.spec ≡ session.old.spec }
-    ensures same_data { D.known_data data.new ≡ D.known_data data.old }
-    ensures same_canon { D.canon data.new ≡ D.canon data.old }
+    ensures same_known { KeepsData D.known_data D.canon data.old data.new }
 {
     match values.put_by(alloc, cell)? {
         None => Ok(()),
@@ -149,8 +145,7 @@ fn step<M: MenuMaker, D: Deciding>(
     ensures on_walk_after { OnOk result (IsOnWalk M.suits (D.known_data data.old)
         (D.canon data.old) session.new tally.new) }
     ensures same_spec { session.new.spec ≡ session.old.spec }
-    ensures same_data { D.known_data data.new ≡ D.known_data data.old }
-    ensures same_canon { D.canon data.new ≡ D.canon data.old }
+    ensures same_known { KeepsData D.known_data D.canon data.old data.new }
 {
     match session.step(number, values, data) {
         Ok(label) => {

@@ -1,6 +1,6 @@
 -- What is beside `stop` is as closed and well formed as it is alone.
 use Rattle.std.proofs.Common.{◌≡◌, List, sym, subst}
-use Rattle.term_algebra.specs.Signature.{Signature}
+use Rattle.lotos_base.specs.Signature.{Signature}
 use Rattle.behaviour_semantics.specs.Behaviour.{Behaviour, no_gates, parallel, stop}
 use Rattle.behaviour_semantics.specs.WellFormed.{IsClosedBehaviour}
 use Rattle.sort_terms.specs.ProfiledTerm.{ProfiledTerm}

@@ -2,7 +2,7 @@
 use Rattle.std.proofs.Common.{◌≡◌, zero, suc, List, [], ◌∷◌, ◌++◌, sym, ◌∙◌, ap, subst}
 use Rattle.std.specs.Prelude.{map}
 use Rattle.std.proofs.lemmas.Option.{none-some, same_Some}
-use Rattle.term_algebra.specs.Signature.{Signature, IsSort}
+use Rattle.lotos_base.specs.Signature.{Signature, IsSort}
 use Rattle.sort_terms.specs.EquationView.{variable_of}
 use Rattle.sort_terms.specs.Reading.{IsScopeOver}
 use Rattle.sort_terms.specs.declared.equations.Variable.{Variable}

@@ -1,7 +1,7 @@
 //! What a text of one file is accepted as.
 
 ghost use Rattle.spec_acceptance.specs.Acceptance.{Acceptance};
-ghost use Rattle.spec_acceptance.specs.AcceptedView.{Holds};
+ghost use Rattle.spec_acceptance.specs.AcceptedView.{HoldsAccepted};
 ghost use Rattle.std.specs.Prelude.{IfOk};
 
 use lotos_base::MemShelf;
@@ -11,7 +11,7 @@ use std::test::Fail;
 
 /// What the text is accepted as, which has no parameters and mentions the shipped libraries alone.
 pub fn accept(alloc: Global, text: &str) -> Result<Accepted, Fail>
-    ensures { IfOk result (λ it. (acceptance : Acceptance) × Holds acceptance it) }
+    ensures { IfOk result (λ it. (acceptance : Acceptance) × HoldsAccepted acceptance it) }
 {
     let mut files = Vec::new(alloc);
     files.push((

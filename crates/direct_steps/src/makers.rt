@@ -9,9 +9,9 @@ ghost use Rattle.behaviour_tree.specs.declared.definitions.Spec.{Spec as WholeSp
 ghost use Rattle.equation_book.specs.BookCanon.{book_canon, book_is_canon};
 ghost use Rattle.process_checks.specs.Ranks.{AreRanksOf};
 ghost use Rattle.sort_terms.specs.EquationView.{data_of};
-ghost use Rattle.spec_acceptance.specs.AcceptedView.{Holds};
+ghost use Rattle.spec_acceptance.specs.AcceptedView.{HoldsAccepted};
 ghost use Rattle.std.specs.Prelude.{◌≡◌, IfOk};
-ghost use Rattle.term_algebra.specs.Signature.{IsWellFormedSignature, Signature};
+ghost use Rattle.lotos_base.specs.Signature.{IsWellFormedSignature, Signature};
 
 use crate::accepted::accept;
 use behaviour_tree::boxes::shared;
@@ -75,7 +75,7 @@ behaviour g !a; stop [] g !f(a) ?x:N; stop endspec";
 
 // How many entries there are with so many answers; none where there is no menu.
 fn with_answers(alloc: Global, accepted: Accepted, answers: u32) -> Option<usize>
-    requires known { (acceptance : Acceptance) × Holds acceptance accepted }
+    requires known { (acceptance : Acceptance) × HoldsAccepted acceptance accepted }
 {
     let Accepted {
         spec,
@@ -127,7 +127,7 @@ fn beside_stop(alloc: Global, node: Node) -> Result<Node, NoMemory>
 
 // How many entries the first menu has below so many levels.
 fn below(alloc: Global, accepted: Accepted, levels: u32) -> Result<usize, NoMemory>
-    requires known { (acceptance : Acceptance) × Holds acceptance accepted }
+    requires known { (acceptance : Acceptance) × HoldsAccepted acceptance accepted }
 {
     let Accepted {
         spec,

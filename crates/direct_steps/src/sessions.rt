@@ -6,7 +6,7 @@ ghost use Rattle.session_log.specs.Entries.{AreGiven};
 ghost use Rattle.session_log.specs.Kept.{IsLawfulSession};
 ghost use Rattle.sort_terms.specs.EquationView.{data_of};
 ghost use Rattle.sort_terms.specs.SignatureView.{signature_of};
-ghost use Rattle.spec_acceptance.specs.AcceptedView.{Holds};
+ghost use Rattle.spec_acceptance.specs.AcceptedView.{HoldsAccepted};
 ghost use Rattle.std.specs.Prelude.{IfOk};
 
 use crate::accepted::accept;
@@ -49,7 +49,7 @@ fn is_refused_at_first(
     accepted: Accepted,
     values: Vec<Sorted>,
 ) -> Result<bool, NoMemory>
-    requires known { (acceptance : Acceptance) × Holds acceptance accepted }
+    requires known { (acceptance : Acceptance) × HoldsAccepted acceptance accepted }
     requires given { AreGiven (signature_of accepted.book.flat.signature) values.items }
 {
     let Accepted {

@@ -9,9 +9,9 @@ ghost use Rattle.sort_terms.specs.ProfiledTerm.{IsOf};
 ghost use Rattle.sort_terms.specs.Reading.{IsScopeOver};
 ghost use Rattle.sort_terms.specs.SignatureView.{signature_of};
 ghost use Rattle.sort_terms.specs.SortedView.{profiled_in};
-ghost use Rattle.spec_acceptance.specs.AcceptedView.{Holds};
+ghost use Rattle.spec_acceptance.specs.AcceptedView.{HoldsAccepted};
 ghost use Rattle.std.specs.Prelude.{IfOk, map};
-ghost use Rattle.term_algebra.specs.Signature.{IsSort};
+ghost use Rattle.lotos_base.specs.Signature.{IsSort};
 
 use crate::accepted::accept;
 use crate::shapes::shape;
@@ -247,7 +247,7 @@ fn step_in(
     letters: &str,
     terms: &[Written],
 ) -> Result<String, Fail>
-    requires known { (acceptance : Acceptance) × Holds acceptance accepted }
+    requires known { (acceptance : Acceptance) × HoldsAccepted acceptance accepted }
 {
     let Accepted {
         spec,

@@ -1,10 +1,10 @@
 -- What is below an environment, part by part, and the drafts of binders there.
 use Rattle.std.proofs.Common.{◌≡◌, ◌≤◌, ◌+◌, ℕ, zero, suc, max, List, [], ◌∷◌, ◌++◌, map, filter_map, length, zip, slice_get, Some, refl, ap, sym, ◌∙◌, subst, arith}
 use Rattle.std.proofs.lemmas.List.{append-nil, length-map}
-use Rattle.term_algebra.specs.Signature.{IsSort}
-use Rattle.term_algebra.specs.Term.{Term, variable}
-use Rattle.term_algebra.specs.Equation.{Data, Variable}
-use Rattle.term_algebra.specs.Substitution.{substituted, binding, without}
+use Rattle.lotos_base.specs.Signature.{IsSort}
+use Rattle.lotos_base.specs.Term.{Term, variable}
+use Rattle.lotos_base.specs.Equation.{Data, Variable}
+use Rattle.lotos_base.specs.Substitution.{substituted, binding, without}
 use Rattle.behaviour_semantics.specs.Behaviour.{Behaviour, let_be, choose_value, call, Process, Specification, numbers_of, let_variables, let_terms}
 use Rattle.behaviour_semantics.specs.Draft.{Draft, above, above_variables, above_processes}
 use Rattle.behaviour_semantics.specs.Replacement.{with_values, binding_of}
@@ -17,7 +17,7 @@ use Rattle.draft_parts.proofs.NestedLemmas.{nested}
 use Rattle.draft_parts.specs.EnvironmentRaises.{GivesScope}
 use Rattle.draft_parts.specs.DraftRules.{valued_draft}
 use Rattle.draft_parts.specs.HasDrafts.{HasDrafts, all_within}
-use Rattle.draft_parts.specs.RowLaws.{IsBelow, setting_over}
+use Rattle.draft_parts.specs.RowLaws.{IsWellFormedBelow, setting_over}
 use Rattle.draft_parts.specs.BelowLaws.{binder_pairs, PartsAreBelow, BindersHaveTheirDrafts, BelowEnvironments}
 use Rattle.draft_parts.proofs.FormLemmas.{forms}
 use Rattle.draft_parts.proofs.GivenLemmas.{from_base, with_leaf, widened, puts_over, same_count}
@@ -48,7 +48,7 @@ above_called (p ∷ processes) (suc k) process e =
 module _ (data_ : Data) (canon : Term → Term) (specification : Specification) (scope : List Variable) (pairs : List (ℕ × Term))
     (base next : ℕ) where
   abbrev Below : Behaviour → Type 0
-  Below b = IsBelow data_ canon specification scope pairs base next b
+  Below b = IsWellFormedBelow data_ canon specification scope pairs base next b
 
   -- a part binds no more than the whole
   part : (b c : Behaviour) → Below b → above c ≤ above b
@@ -67,7 +67,7 @@ module _ (data_ : Data) (canon : Term → Term) (specification : Specification) 
       puts_over data_ canon h.is_canon base (base + next) scope pairs h.gives outer others g variables terms sorts sorted
 
   let_below : (bindings : List (Variable × Term)) (b : Behaviour) → Below (let_be bindings b)
-      → IsBelow data_ canon specification (let_variables bindings ++ scope)
+      → IsWellFormedBelow data_ canon specification (let_variables bindings ++ scope)
       (binder_pairs canon (let_variables bindings) (let_terms bindings) pairs ++ pairs) base next b
   let_below bindings b h =
       let whole : max (above_processes specification.processes) (max (above_variables (let_variables bindings)) (above b)) ≤ base = h.apart in
@@ -83,7 +83,7 @@ module _ (data_ : Data) (canon : Term → Term) (specification : Specification) 
       }
 
   value_below : (x : Variable) (b : Behaviour) → Below (choose_value x b)
-      → IsBelow data_ canon specification (x ∷ scope) ((x.number, variable (base + next) x.sort) ∷ pairs) base (suc next) b
+      → IsWellFormedBelow data_ canon specification (x ∷ scope) ((x.number, variable (base + next) x.sort) ∷ pairs) base (suc next) b
   value_below x b h =
       let whole : max (above_processes specification.processes) (max (suc x.number) (above b)) ≤ base = h.apart in
       let here : suc x.number ≤ base = omega (arith, whole) in
@@ -107,7 +107,7 @@ module _ (data_ : Data) (canon : Term → Term) (specification : Specification) 
 
   call_below : (number : ℕ) (gates : List ℕ) (arguments : List Term) (process : Process) → Below (call number gates arguments)
       → slice_get specification.processes number ≡ Some process
-      → IsBelow data_ canon specification process.parameters (binder_pairs canon process.parameters arguments pairs) base next process.body
+      → IsWellFormedBelow data_ canon specification process.parameters (binder_pairs canon process.parameters arguments pairs) base next process.body
   call_below number gates arguments process h is =
       let defined : Defined process = Every-at Defined specification.processes number process h.well_formed.each is in
       let fits : AreTermsIn data_.signature scope process.parameters arguments =

@@ -2,10 +2,10 @@
 use Rattle.std.proofs.Common.{◌≡◌, ◌≤◌, ◌++◌, ℕ, suc, ◌+◌, List, [], ◌∷◌, map, filter_map, length, Option, None, Some, Bool, ◌&&◌, nat_eq, if◌then◌else◌, refl, ap, sym, ◌∙◌, arith, le-ltb}
 use Rattle.std.specs.List.{cons_option}
 use Rattle.std.proofs.lemmas.List.{map-append}
-use Rattle.term_algebra.specs.Signature.{Signature}
-use Rattle.term_algebra.specs.Term.{Term, variable, node}
-use Rattle.term_algebra.specs.Sorting.{sort_of}
-use Rattle.term_algebra.specs.Substitution.{Substitution, substituted, renaming}
+use Rattle.lotos_base.specs.Signature.{Signature}
+use Rattle.lotos_base.specs.Term.{Term, variable, node}
+use Rattle.lotos_base.specs.Sorting.{sort_of}
+use Rattle.lotos_base.specs.Substitution.{Substitution, substituted, renaming}
 use Rattle.behaviour_semantics.specs.Behaviour.{SynchronisationSet}
 use Rattle.behaviour_semantics.specs.Draft.{Draft, draft_with, label_with, leaves_from}
 use Rattle.behaviour_semantics.specs.Join.{both_drafts, raised_from}

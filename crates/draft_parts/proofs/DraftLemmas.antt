@@ -1,8 +1,8 @@
 -- The drafts of actions and of `exit` put together of what their parts stand for.
 use Rattle.std.proofs.Common.{◌≡◌, ◌++◌, ℕ, suc, List, [], ◌∷◌, map, Option, option_map, refl, ap, sym, ◌∙◌, subst}
-use Rattle.term_algebra.specs.Signature.{Signature}
-use Rattle.term_algebra.specs.Term.{Term}
-use Rattle.term_algebra.specs.Substitution.{binding}
+use Rattle.lotos_base.specs.Signature.{Signature}
+use Rattle.lotos_base.specs.Term.{Term}
+use Rattle.lotos_base.specs.Substitution.{binding}
 use Rattle.behaviour_semantics.specs.Behaviour as plain
 use Rattle.behaviour_semantics.specs.Label.{gate_event, exit_event}
 use Rattle.behaviour_semantics.specs.Rule.{tests_of}

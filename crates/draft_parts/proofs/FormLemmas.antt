@@ -1,7 +1,7 @@
 -- The drafts of a behaviour of each form are made of those of its parts.
 use Rattle.std.proofs.Common.{◌≡◌, ℕ, zero, suc, ◌+◌, List, [], ◌∷◌, ◌++◌, map, zip, filter_map, slice_get, Option, None, Some, option_and_then, refl, ap, sym, ◌∙◌, append_assoc}
 use Rattle.std.proofs.lemmas.List.{map-append}
-use Rattle.term_algebra.specs.Term.{Term, variable}
+use Rattle.lotos_base.specs.Term.{Term, variable}
 use Rattle.behaviour_semantics.specs.Behaviour.{Behaviour, stop, exit_with, action, inner_action, guard, choice, parallel, hide, enable, disable, let_be, choose_value, choose_gate, par_gate, call, relabel, SynchronisationSet, Process, let_variables, let_terms}
 use Rattle.behaviour_semantics.specs.Draft.{Draft, leaves_from}
 use Rattle.behaviour_semantics.specs.Listing.{ShapedMove, Parts, single, each_below, one_behind, both_below, at_gates_below, called_below, moves_by_form, listed_moves}

@@ -1,13 +1,13 @@
 -- Terms in a scope whose variables have got terms over leaves.
 use Rattle.std.proofs.Common.{◌≡◌, ◌<◌, ◌≤◌, ℕ, suc, List, [], ◌∷◌, ◌++◌, map, length, Bool, true, false, nat_eq, if◌then◌else◌, Some, refl, ap, sym, ◌∙◌, subst, arith}
 use Rattle.std.specs.Prelude.{zip}
-use Rattle.term_algebra.specs.Signature.{Signature, IsSort}
-use Rattle.term_algebra.specs.Term.{Term, variable}
-use Rattle.term_algebra.specs.Sorting.{HasSort}
-use Rattle.term_algebra.specs.Equation.{Data, Variable}
-use Rattle.term_algebra.specs.Canon.{IsCanon}
-use Rattle.term_algebra.specs.Substitution.{substituted, binding}
-use Rattle.term_algebra.proofs.SubstitutionLemmas.{substituted_sort, substituted_occurs}
+use Rattle.lotos_base.specs.Signature.{Signature, IsSort}
+use Rattle.lotos_base.specs.Term.{Term, variable}
+use Rattle.lotos_base.specs.Sorting.{HasSort}
+use Rattle.lotos_base.specs.Equation.{Data, Variable}
+use Rattle.lotos_base.specs.Canon.{IsCanon}
+use Rattle.lotos_base.specs.Substitution.{substituted, binding}
+use Rattle.lotos_base.proofs.SubstitutionLemmas.{substituted_sort, substituted_occurs}
 use Rattle.behaviour_semantics.specs.NumberingLaws.{IsOverLeaves}
 use Rattle.behaviour_semantics.specs.WellFormed.{Every, sort_in, IsTermIn, AreTermsIn}
 use Rattle.behaviour_semantics.proofs.OptionLemmas.{some_value}

@@ -2,8 +2,8 @@
 use Rattle.std.proofs.Common.{length, arith, subst, ◌≡◌, ℕ, List, [], ◌∷◌, Option, None, Some, Bool, true, false, ◌&&◌, nat_eq, if◌then◌else◌, refl, ap, sym, ◌∙◌}
 use Rattle.std.specs.Prelude.{Vec}
 use Rattle.std.specs.declared.alloc.Global.{Global}
-use Rattle.term_algebra.specs.Signature.{Signature}
-use Rattle.term_algebra.specs.Sorting.{sort_of}
+use Rattle.lotos_base.specs.Signature.{Signature}
+use Rattle.lotos_base.specs.Sorting.{sort_of}
 use Rattle.behaviour_semantics.specs.Behaviour.{SynchronisationSet, sorts_of}
 use Rattle.behaviour_semantics.specs.Draft.{Draft}
 use Rattle.behaviour_semantics.specs.Rule.{synchronises, is_same_sort, have_sorts, have_same_sorts, move_together}

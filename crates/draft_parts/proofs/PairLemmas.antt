@@ -3,9 +3,9 @@ use Rattle.std.proofs.Common.{◌≡◌, ◌++◌, ℕ, List, [], ◌∷◌, Boo
 use Rattle.std.proofs.Math.Path.{fun_ext}
 use Rattle.std.proofs.lemmas.List.{map-append}
 use Rattle.behaviour_semantics.proofs.ListLemmas.{Every-append}
-use Rattle.term_algebra.specs.Signature.{Signature, IsSort}
-use Rattle.term_algebra.specs.Term.{Term}
-use Rattle.term_algebra.specs.Substitution.{Substitution, substituted, binding}
+use Rattle.lotos_base.specs.Signature.{Signature, IsSort}
+use Rattle.lotos_base.specs.Term.{Term}
+use Rattle.lotos_base.specs.Substitution.{Substitution, substituted, binding}
 use Rattle.sort_terms.specs.ProfiledTerm.{ProfiledTerm, bare, IsOf}
 use Rattle.sort_terms.specs.SortedView.{profiled_in, term_in}
 use Rattle.sort_terms.specs.declared.sorted.Sorted.{Sorted}
@@ -16,7 +16,7 @@ use Rattle.behaviour_tree.specs.BehaviourTerms.{profiles_of}
 use Rattle.behaviour_tree.specs.Over.{AreTermsOf}
 use Rattle.behaviour_tree.specs.StateView.{environment_of}
 use Rattle.event_offers.proofs.RenamingLemmas.{occurring_sort}
-use Rattle.draft_parts.specs.Environments.{ArePairsOf, IsReady}
+use Rattle.draft_parts.specs.Environments.{ArePairsOf, IsReadyForPairs}
 
 pairs_give : (signature : Signature) (pairs : List (ℕ × ProfiledTerm)) → ArePairsOf signature pairs → (n s : ℕ) → IsSort signature s
     → IsOf signature (profiled_binding pairs n s)
@@ -27,7 +27,7 @@ pairs_give signature (pair ∷ pairs) h n s sort = by (nat_eq pair.0 n) (pairs_g
     by true rest = h.0
     by false rest = rest
 
-pub ready_of : (signature : Signature) (pairs : List (ℕ × ProfiledTerm)) (t : ProfiledTerm) → IsReady signature pairs t
+pub ready_of : (signature : Signature) (pairs : List (ℕ × ProfiledTerm)) (t : ProfiledTerm) → IsReadyForPairs signature pairs t
     → IsOf signature (profiled_instance (profiled_binding pairs) t)
 ready_of signature pairs t r =
     instance_of signature (profiled_binding pairs) t r.term

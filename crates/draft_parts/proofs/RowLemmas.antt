@@ -1,9 +1,9 @@
 -- The drafts of a gate `par` are those of the row of its copies.
 use Rattle.std.proofs.Common.{◌≡◌, ◌≤◌, ◌<◌, ◌+◌, ℕ, suc, max, List, [], ◌∷◌, map, length, refl, ap, sym, ◌∙◌, subst, arith}
-use Rattle.term_algebra.specs.Signature.{Signature}
-use Rattle.term_algebra.specs.Term.{Term}
-use Rattle.term_algebra.specs.Equation.{Data, Variable}
-use Rattle.term_algebra.specs.Substitution.{binding, substituted}
+use Rattle.lotos_base.specs.Signature.{Signature}
+use Rattle.lotos_base.specs.Term.{Term}
+use Rattle.lotos_base.specs.Equation.{Data, Variable}
+use Rattle.lotos_base.specs.Substitution.{binding, substituted}
 use Rattle.behaviour_semantics.specs.Behaviour.{Behaviour, stop, exit_with, action, inner_action, guard, choice, parallel, hide, enable, disable, let_be, choose_value, choose_gate, par_gate, call, relabel, Process, Specification, SynchronisationSet, Relabelling}
 use Rattle.behaviour_semantics.specs.Draft.{Draft, above, above_processes, first_apart}
 use Rattle.behaviour_semantics.specs.Label.{gate_under, under}
@@ -15,7 +15,7 @@ use Rattle.behaviour_semantics.proofs.DistinctGates.{gates_named, composed, of_g
 use Rattle.behaviour_semantics.proofs.PutMoves.{under-with, copies-with}
 use Rattle.draft_parts.specs.HasDrafts.{HasDrafts, Raises, all_relabelled, row_drafts}
 use Rattle.draft_parts.specs.Rows.{call_pairs}
-use Rattle.draft_parts.specs.RowLaws.{IsBelow, setting_over, RowsHaveTheirDrafts}
+use Rattle.draft_parts.specs.RowLaws.{IsWellFormedBelow, setting_over, RowsHaveTheirDrafts}
 use Rattle.draft_parts.proofs.FormLemmas.{forms}
 use Rattle.draft_parts.proofs.ShadowLemmas.{raises}
 
@@ -85,7 +85,7 @@ module _ (data_ : Data) (canon : Term → Term) (specification : Specification) 
   abbrev put : Behaviour
   put = with_values (binding pairs) b
 
-  module _ (whole : List ℕ) (h : IsBelow data_ canon specification scope pairs base next (par_gate g whole meet b)) where
+  module _ (whole : List ℕ) (h : IsWellFormedBelow data_ canon specification scope pairs base next (par_gate g whole meet b)) where
     rest_raises : (gates : List ℕ) → AreGates (length specification.gate_names) gates
         → Raises (setting_over data_ canon specification) base next (copies g gates meet put)
     rest_raises gates named =

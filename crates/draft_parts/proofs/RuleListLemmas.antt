@@ -1,6 +1,6 @@
 -- What a rule makes of the drafts of moves are the drafts of what it makes of the moves.
 use Rattle.std.proofs.Common.{◌≡◌, suc, ◌+◌, List, [], ◌∷◌, map, filter_map, Option, None, Some, option_map, refl, ap, sym, ◌∙◌}
-use Rattle.term_algebra.specs.Term.{variable}
+use Rattle.lotos_base.specs.Term.{variable}
 use Rattle.behaviour_semantics.specs.Behaviour.{sorts_of}
 use Rattle.behaviour_semantics.specs.Draft.{Draft}
 use Rattle.behaviour_semantics.specs.Shape.{guarded, hidden, with_value}

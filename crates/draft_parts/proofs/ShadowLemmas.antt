@@ -1,10 +1,10 @@
 -- Variables that a later one of the same number shadows may be left out of an environment.
 use Rattle.std.proofs.Common.{◌≡◌, ◌≤◌, ◌+◌, inl, ℕ, zero, suc, List, [], ◌∷◌, length, slice_get, Bool, true, false, nat_eq, if◌then◌else◌, Option, Some, refl, ap, sym, ◌∙◌, subst, arith, eqb-true, eq-eqb}
 use Rattle.std.proofs.Math.Path.{fun_ext}
-use Rattle.term_algebra.specs.Signature.{Signature, IsSort}
-use Rattle.term_algebra.specs.Term.{Term, variable}
-use Rattle.term_algebra.specs.Equation.{Data, Variable}
-use Rattle.term_algebra.specs.Substitution.{Substitution, binding, is_listed}
+use Rattle.lotos_base.specs.Signature.{Signature, IsSort}
+use Rattle.lotos_base.specs.Term.{Term, variable}
+use Rattle.lotos_base.specs.Equation.{Data, Variable}
+use Rattle.lotos_base.specs.Substitution.{Substitution, binding, is_listed}
 use Rattle.behaviour_semantics.specs.Behaviour.{Behaviour, Specification, numbers_of, let_variables, let_terms}
 use Rattle.behaviour_semantics.specs.Draft.{above_variables, leaves_from}
 use Rattle.behaviour_semantics.specs.Listing.{listed_moves}

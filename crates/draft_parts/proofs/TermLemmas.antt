@@ -1,7 +1,7 @@
 -- Drafts that the rules make have terms of the signature.
 use Rattle.std.proofs.Common.{◌≡◌, ◌++◌, List, [], ◌∷◌, map, sym, subst}
 use Rattle.std.specs.Prelude.{zip}
-use Rattle.term_algebra.specs.Signature.{Signature}
+use Rattle.lotos_base.specs.Signature.{Signature}
 use Rattle.behaviour_semantics.proofs.ListLemmas.{Every-append}
 use Rattle.sort_terms.specs.ProfiledTerm.{ProfiledTerm, IsOf}
 use Rattle.term_match.specs.ProfiledInstance.{profiled_instance}

@@ -1,8 +1,8 @@
 -- The rules on drafts are those of the list of moves.
 use Rattle.std.specs.Prelude.{◌≡◌, ℕ, suc, ◌+◌, ◌∷◌, [], List, map, filter_map, length, Some}
-use Rattle.term_algebra.specs.Signature.{Signature}
-use Rattle.term_algebra.specs.Term.{variable}
-use Rattle.term_algebra.specs.Equation.{Variable}
+use Rattle.lotos_base.specs.Signature.{Signature}
+use Rattle.lotos_base.specs.Term.{variable}
+use Rattle.lotos_base.specs.Equation.{Variable}
 use Rattle.behaviour_semantics.specs.Behaviour.{Behaviour, Test, SynchronisationSet, Relabelling, sorts_of}
 use Rattle.behaviour_semantics.specs.Shape.{Shape, guarded, both_sides, hidden, with_value}
 use Rattle.behaviour_semantics.specs.Move.{Move, asking, alone, together, hiding, disabling, relabelling, after_leaf}

@@ -1,7 +1,7 @@
 -- What each rule of the dynamic semantics makes of the draft of a part, without its target.
 use Rattle.std.specs.Prelude.{ℕ, List, ◌∷◌, Option, None, Some, if◌then◌else◌}
-use Rattle.term_algebra.specs.Signature.{Signature}
-use Rattle.term_algebra.specs.Term.{Term}
+use Rattle.lotos_base.specs.Signature.{Signature}
+use Rattle.lotos_base.specs.Term.{Term}
 use Rattle.behaviour_semantics.specs.Behaviour.{Test, SynchronisationSet, Relabelling}
 use Rattle.behaviour_semantics.specs.Label.{Label, inner_event, gate_event, exit_event, label_under}
 use Rattle.behaviour_semantics.specs.Rule.{moves_alone, have_sorts, move_together, hidden_label}

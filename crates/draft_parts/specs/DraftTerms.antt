@@ -1,5 +1,5 @@
 -- Drafts whose terms are of a signature.
-use Rattle.term_algebra.specs.Signature.{Signature}
+use Rattle.lotos_base.specs.Signature.{Signature}
 use Rattle.behaviour_tree.specs.BehaviourTerms.{profiles_of}
 use Rattle.behaviour_tree.specs.Over.{AreTermsOf}
 use Rattle.event_offers.specs.OfferView.{condition_profiles, label_profiles}

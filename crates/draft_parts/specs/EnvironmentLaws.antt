@@ -1,9 +1,9 @@
 -- Environments under binders.
 use Rattle.std.specs.Prelude.{◌≡◌, ◌≤◌, ◌++◌, ℕ, List, length, zip}
-use Rattle.term_algebra.specs.Term.{Term}
-use Rattle.term_algebra.specs.Sorting.{Occurs}
-use Rattle.term_algebra.specs.Equation.{Variable}
-use Rattle.term_algebra.specs.Substitution.{substituted, binding, without}
+use Rattle.lotos_base.specs.Term.{Term}
+use Rattle.lotos_base.specs.Sorting.{Occurs}
+use Rattle.lotos_base.specs.Equation.{Variable}
+use Rattle.lotos_base.specs.Substitution.{substituted, binding, without}
 use Rattle.behaviour_semantics.specs.Behaviour.{Behaviour, numbers_of}
 use Rattle.behaviour_semantics.specs.Draft.{above, above_variables}
 use Rattle.behaviour_semantics.specs.Replacement.{with_values, binding_of}

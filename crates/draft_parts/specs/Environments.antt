@@ -1,7 +1,7 @@
 -- Terms that are ready to have those of an environment put in.
 use Rattle.std.specs.Prelude.{◌≡◌, ℕ, List, Option, None, Some}
-use Rattle.term_algebra.specs.Signature.{Signature, IsSort}
-use Rattle.term_algebra.specs.Sorting.{Occurs}
+use Rattle.lotos_base.specs.Signature.{Signature, IsSort}
+use Rattle.lotos_base.specs.Sorting.{Occurs}
 use Rattle.behaviour_semantics.specs.WellFormed.{Every}
 use Rattle.sort_terms.specs.ProfiledTerm.{ProfiledTerm, bare, head_sort, IsOf}
 use Rattle.sort_terms.specs.SortedView.{profiled_in}
@@ -21,7 +21,7 @@ abbrev pub ArePairsOf : Signature → List (ℕ × ProfiledTerm) → Type 0
 ArePairsOf signature pairs = Every (λ (pair : ℕ × ProfiledTerm). IsOf signature pair.1) pairs
 
 -- The term and those of the pairs are of the signature, and what is put for a variable has its sort.
-pub record IsReady (signature : Signature) (pairs : List (ℕ × ProfiledTerm)) (t : ProfiledTerm) : Type 0 where
+pub record IsReadyForPairs (signature : Signature) (pairs : List (ℕ × ProfiledTerm)) (t : ProfiledTerm) : Type 0 where
   pub term : IsOf signature t
   pub values : ArePairsOf signature pairs
   pub sorts : Suits pairs t
@@ -33,14 +33,14 @@ SuitsTest pairs (Some test) = Suits pairs (profiled_in test.left) × Suits pairs
 
 -- Offers and values of `exit` are ready.
 abbrev pub IsOfferReady : Signature → List (ℕ × ProfiledTerm) → Offer → Type 0
-IsOfferReady signature pairs (Give t) = IsReady signature pairs (profiled_in t)
+IsOfferReady signature pairs (Give t) = IsReadyForPairs signature pairs (profiled_in t)
 IsOfferReady signature pairs (Ask x) = IsSort signature x.sort
 
 abbrev pub AreOffersReady : Signature → List (ℕ × ProfiledTerm) → List Offer → Type 0
 AreOffersReady signature pairs offers = Every (IsOfferReady signature pairs) offers
 
 abbrev pub IsResultReady : Signature → List (ℕ × ProfiledTerm) → ExitValue → Type 0
-IsResultReady signature pairs (exit_value.Give t) = IsReady signature pairs (profiled_in t)
+IsResultReady signature pairs (exit_value.Give t) = IsReadyForPairs signature pairs (profiled_in t)
 IsResultReady signature pairs (exit_value.Any s) = IsSort signature s
 
 abbrev pub AreResultsReady : Signature → List (ℕ × ProfiledTerm) → List ExitValue → Type 0

@@ -6,7 +6,7 @@ use Rattle.behaviour_semantics.specs.Draft.{leaves_from}
 use Rattle.behaviour_semantics.specs.Listing.{ShapedMove, listed_moves}
 use Rattle.behaviour_semantics.specs.Move.{Setting}
 use Rattle.behaviour_semantics.specs.Shape.{Shape, left_side, right_side, at_gate}
-use Rattle.term_algebra.specs.Signature.{Signature}
+use Rattle.lotos_base.specs.Signature.{Signature}
 use Rattle.draft_parts.specs.HigherLists.{raised_move}
 use Rattle.draft_parts.specs.DraftRules.{draft_within, alone_draft, relabelled_draft}
 use Rattle.draft_parts.specs.Lists.{both_lists}

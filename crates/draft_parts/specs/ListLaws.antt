@@ -1,8 +1,8 @@
 -- The lists of drafts are those of the lists of moves.
 use Rattle.std.specs.Prelude.{◌≡◌, ℕ, suc, ◌+◌, List, map, filter_map, Option, Some}
-use Rattle.term_algebra.specs.Signature.{Signature}
-use Rattle.term_algebra.specs.Term.{variable}
-use Rattle.term_algebra.specs.Equation.{Variable}
+use Rattle.lotos_base.specs.Signature.{Signature}
+use Rattle.lotos_base.specs.Term.{variable}
+use Rattle.lotos_base.specs.Equation.{Variable}
 use Rattle.behaviour_semantics.specs.Behaviour.{Behaviour, Test, SynchronisationSet, Relabelling, sorts_of}
 use Rattle.behaviour_semantics.specs.Draft as plain
 use Rattle.behaviour_semantics.specs.Shape.{Shape, guarded, hidden, with_value}

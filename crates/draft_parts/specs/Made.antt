@@ -1,6 +1,6 @@
 -- Lists of drafts of the code that stand for given drafts, with terms of a signature.
 use Rattle.std.specs.Prelude.{◌≡◌, List, []}
-use Rattle.term_algebra.specs.Signature.{Signature}
+use Rattle.lotos_base.specs.Signature.{Signature}
 use Rattle.behaviour_semantics.specs.Draft as plain
 use Rattle.behaviour_semantics.specs.Label.{inner_event}
 use Rattle.behaviour_semantics.specs.Shape.{inner_step}

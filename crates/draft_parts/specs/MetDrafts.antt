@@ -1,6 +1,6 @@
 -- The drafts of a list that a label meets, and when other drafts may stand for them.
 use Rattle.std.specs.Prelude.{◌≡◌, List, [], ◌∷◌, Bool, false, ◌||◌, if◌then◌else◌}
-use Rattle.term_algebra.specs.Substitution.{Substitution}
+use Rattle.lotos_base.specs.Substitution.{Substitution}
 use Rattle.behaviour_semantics.specs.Behaviour.{SynchronisationSet}
 use Rattle.behaviour_semantics.specs.Draft as plain
 use Rattle.behaviour_semantics.specs.Draft.{draft_with}

@@ -1,7 +1,7 @@
 -- The leaves that offers ask for, and the values of offers, by the numbers of the leaves.
 use Rattle.std.specs.Prelude.{ℕ, suc, List, [], ◌∷◌}
-use Rattle.term_algebra.specs.Term.{Term, variable}
-use Rattle.term_algebra.specs.Substitution.{Substitution, substituted}
+use Rattle.lotos_base.specs.Term.{Term, variable}
+use Rattle.lotos_base.specs.Substitution.{Substitution, substituted}
 use Rattle.sort_terms.specs.ProfiledTerm.{ProfiledTerm, profiled_variable}
 use Rattle.sort_terms.specs.SortedView.{term_in}
 use Rattle.behaviour_tree.specs.declared.behaviours.Offer.{Offer}

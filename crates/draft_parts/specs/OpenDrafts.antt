@@ -1,8 +1,8 @@
 -- The drafts of an action and of an `exit` under an environment.
 use Rattle.std.specs.Prelude.{ℕ, List, [], map, ◌++◌, Option, None, Some, option_map}
-use Rattle.term_algebra.specs.Signature.{Signature}
-use Rattle.term_algebra.specs.Term.{Term}
-use Rattle.term_algebra.specs.Substitution.{binding}
+use Rattle.lotos_base.specs.Signature.{Signature}
+use Rattle.lotos_base.specs.Term.{Term}
+use Rattle.lotos_base.specs.Substitution.{binding}
 use Rattle.behaviour_semantics.specs.Draft as plain
 use Rattle.behaviour_semantics.specs.Label.{gate_event, exit_event}
 use Rattle.behaviour_semantics.specs.Rule.{tests_of}

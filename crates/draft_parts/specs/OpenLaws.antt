@@ -1,8 +1,8 @@
 -- The drafts of actions and of `exit` under an environment are those of their moves.
 use Rattle.std.specs.Prelude.{◌≡◌, ◌≤◌, ◌+◌, ℕ, List, map, Option, Some, option_map}
-use Rattle.term_algebra.specs.Signature.{Signature}
-use Rattle.term_algebra.specs.Term.{Term, variable}
-use Rattle.term_algebra.specs.Substitution.{binding}
+use Rattle.lotos_base.specs.Signature.{Signature}
+use Rattle.lotos_base.specs.Term.{Term, variable}
+use Rattle.lotos_base.specs.Substitution.{binding}
 use Rattle.behaviour_semantics.specs.Behaviour.{Behaviour, action, exit_with, Process, asked_variables}
 use Rattle.behaviour_semantics.specs.Draft.{leaves_from, above_variables}
 use Rattle.behaviour_semantics.specs.Move.{Move, act_move, quit_move}

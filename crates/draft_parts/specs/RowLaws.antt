@@ -1,9 +1,9 @@
 -- The drafts of a gate `par` below an environment are made of those of its part.
 use Rattle.std.specs.Prelude.{◌≡◌, ◌≤◌, ◌+◌, ℕ, List, [], ◌∷◌, length, map, slice_get, None, Some}
-use Rattle.term_algebra.specs.Term.{Term}
-use Rattle.term_algebra.specs.Equation.{Data, Variable}
-use Rattle.term_algebra.specs.Canon.{IsCanon}
-use Rattle.term_algebra.specs.Substitution.{substituted, binding}
+use Rattle.lotos_base.specs.Term.{Term}
+use Rattle.lotos_base.specs.Equation.{Data, Variable}
+use Rattle.lotos_base.specs.Canon.{IsCanon}
+use Rattle.lotos_base.specs.Substitution.{substituted, binding}
 use Rattle.behaviour_semantics.specs.Behaviour.{Behaviour, stop, par_gate, call, relabel, Process, Specification, SynchronisationSet, Relabelling}
 use Rattle.behaviour_semantics.specs.Draft as plain
 use Rattle.behaviour_semantics.specs.Draft.{first_apart, above_variables}
@@ -16,7 +16,7 @@ use Rattle.draft_parts.specs.HasDrafts.{HasDrafts, row_drafts}
 use Rattle.draft_parts.specs.Rows.{copied, calls_copied}
 
 -- A behaviour is well formed in a scope, and the pairs give its variables terms over leaves before the next ones.
-pub record IsBelow (data_ : Data) (canon : Term → Term) (specification : Specification) (scope : List Variable)
+pub record IsWellFormedBelow (data_ : Data) (canon : Term → Term) (specification : Specification) (scope : List Variable)
     (pairs : List (ℕ × Term)) (base next : ℕ) (b : Behaviour) : Type 0 where
   pub is_canon : IsCanon data_ canon
   pub well_formed : IsSpecification data_.signature specification
@@ -37,7 +37,7 @@ pub record RowsHaveTheirDrafts : Type 0 where
   pub of_copies :
       (data_ : Data) (canon : Term → Term) (specification : Specification) (scope : List Variable) (pairs : List (ℕ × Term))
       (base next g : ℕ) (gates : List ℕ) (meet : SynchronisationSet) (b : Behaviour) (made : ℕ → List plain.Draft) →
-      IsBelow data_ canon specification scope pairs base next (par_gate g gates meet b) →
+      IsWellFormedBelow data_ canon specification scope pairs base next (par_gate g gates meet b) →
       ((a : ℕ) → HasDrafts (setting_over data_ canon specification) base next (under (with_values (binding pairs) b) ((g, a) ∷ []))
       (made a)) →
       HasDrafts (setting_over data_ canon specification) base next (with_values (binding pairs) (par_gate g gates meet b))
@@ -46,7 +46,7 @@ pub record RowsHaveTheirDrafts : Type 0 where
   pub of_part :
       (data_ : Data) (canon : Term → Term) (specification : Specification) (scope : List Variable) (pairs : List (ℕ × Term))
       (base next g : ℕ) (gates : List ℕ) (meet : SynchronisationSet) (b : Behaviour) (drafts : List plain.Draft) →
-      IsBelow data_ canon specification scope pairs base next (par_gate g gates meet b) →
+      IsWellFormedBelow data_ canon specification scope pairs base next (par_gate g gates meet b) →
       ((renamed : Relabelling) → under b renamed ≡ relabel renamed b) →
       HasDrafts (setting_over data_ canon specification) base next (with_values (binding pairs) b) drafts →
       HasDrafts (setting_over data_ canon specification) base next (with_values (binding pairs) (par_gate g gates meet b))
@@ -55,7 +55,7 @@ pub record RowsHaveTheirDrafts : Type 0 where
       (data_ : Data) (canon : Term → Term) (specification : Specification) (scope : List Variable) (pairs : List (ℕ × Term))
       (base next g : ℕ) (gates : List ℕ) (meet : SynchronisationSet) (number : ℕ) (actuals : List ℕ) (arguments : List Term)
       (process : Process) (drafts : List plain.Draft) →
-      IsBelow data_ canon specification scope pairs base next (par_gate g gates meet (call number actuals arguments)) →
+      IsWellFormedBelow data_ canon specification scope pairs base next (par_gate g gates meet (call number actuals arguments)) →
       slice_get specification.processes number ≡ Some process →
       HasDrafts (setting_over data_ canon specification) base next
       (with_values (binding_of process.parameters (map canon (map (substituted (binding pairs)) arguments))) process.body) drafts →
@@ -66,12 +66,12 @@ pub record RowsHaveTheirDrafts : Type 0 where
   pub of_stop :
       (data_ : Data) (canon : Term → Term) (specification : Specification) (scope : List Variable) (pairs : List (ℕ × Term))
       (base next g : ℕ) (gates : List ℕ) (meet : SynchronisationSet) →
-      IsBelow data_ canon specification scope pairs base next (par_gate g gates meet stop) →
+      IsWellFormedBelow data_ canon specification scope pairs base next (par_gate g gates meet stop) →
       HasDrafts (setting_over data_ canon specification) base next (with_values (binding pairs) (par_gate g gates meet stop)) []
   pub of_no_call :
       (data_ : Data) (canon : Term → Term) (specification : Specification) (scope : List Variable) (pairs : List (ℕ × Term))
       (base next g : ℕ) (gates : List ℕ) (meet : SynchronisationSet) (number : ℕ) (actuals : List ℕ) (arguments : List Term) →
-      IsBelow data_ canon specification scope pairs base next (par_gate g gates meet (call number actuals arguments)) →
+      IsWellFormedBelow data_ canon specification scope pairs base next (par_gate g gates meet (call number actuals arguments)) →
       slice_get specification.processes number ≡ None →
       HasDrafts (setting_over data_ canon specification) base next
       (with_values (binding pairs) (par_gate g gates meet (call number actuals arguments))) []

@@ -1,6 +1,6 @@
 -- What a rule of the code makes of a draft.
 use Rattle.std.specs.Prelude.{Option, Some}
-use Rattle.term_algebra.specs.Signature.{Signature}
+use Rattle.lotos_base.specs.Signature.{Signature}
 use Rattle.behaviour_semantics.specs.Behaviour.{sorts_of}
 use Rattle.behaviour_semantics.specs.Draft as plain
 use Rattle.sort_terms.specs.ProfiledTerm.{IsOf}
@@ -23,11 +23,11 @@ made_by signature (Valued leaf) d = Some (valued_draft (term_in leaf.now) d)
 made_by signature (Enabled variables) d = enable_draft signature (sorts_of (variables_of variables.now.items)) d
 
 -- The terms that the rule puts into drafts are of the signature.
-abbrev pub IsRuleOver : Signature → Rule → Type 0
-IsRuleOver signature (Below variant) = Unit {0}
-IsRuleOver signature (Alone meet variant) = Unit {0}
-IsRuleOver signature (Hidden gates) = Unit {0}
-IsRuleOver signature (Relabelled pairs variant) = Unit {0}
-IsRuleOver signature (Guarded left right) = IsOf signature (profiled_in left.now) × IsOf signature (profiled_in right.now)
-IsRuleOver signature (Valued leaf) = IsOf signature (profiled_in leaf.now)
-IsRuleOver signature (Enabled variables) = Unit {0}
+abbrev pub IsDraftRuleOver : Signature → Rule → Type 0
+IsDraftRuleOver signature (Below variant) = Unit {0}
+IsDraftRuleOver signature (Alone meet variant) = Unit {0}
+IsDraftRuleOver signature (Hidden gates) = Unit {0}
+IsDraftRuleOver signature (Relabelled pairs variant) = Unit {0}
+IsDraftRuleOver signature (Guarded left right) = IsOf signature (profiled_in left.now) × IsOf signature (profiled_in right.now)
+IsDraftRuleOver signature (Valued leaf) = IsOf signature (profiled_in leaf.now)
+IsDraftRuleOver signature (Enabled variables) = Unit {0}

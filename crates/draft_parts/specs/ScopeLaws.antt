@@ -1,10 +1,10 @@
 -- A behaviour that is well formed once terms are put in is well formed in the scope of the variables that got them.
 use Rattle.std.specs.Prelude.{◌≡◌, ◌⊎◌, ℕ, List, Some}
-use Rattle.term_algebra.specs.Signature.{Signature, IsSort}
-use Rattle.term_algebra.specs.Sorting.{HasSort}
-use Rattle.term_algebra.specs.Term.{variable}
-use Rattle.term_algebra.specs.Equation.{Variable}
-use Rattle.term_algebra.specs.Substitution.{Substitution}
+use Rattle.lotos_base.specs.Signature.{Signature, IsSort}
+use Rattle.lotos_base.specs.Sorting.{HasSort}
+use Rattle.lotos_base.specs.Term.{variable}
+use Rattle.lotos_base.specs.Equation.{Variable}
+use Rattle.lotos_base.specs.Substitution.{Substitution}
 use Rattle.behaviour_semantics.specs.Behaviour.{Behaviour, Process}
 use Rattle.behaviour_semantics.specs.Replacement.{with_values}
 use Rattle.behaviour_semantics.specs.WellFormed.{sort_in, IsBehaviour}

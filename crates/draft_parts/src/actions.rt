@@ -6,13 +6,14 @@ ghost use Rattle.draft_parts.specs.OpenDrafts.{acted, HasTests};
 ghost use Rattle.behaviour_semantics.specs.Rule.{tests_of};
 ghost use Rattle.behaviour_tree.specs.BehaviourView.{test_of};
 ghost use Rattle.behaviour_tree.specs.StateView.{environment_of};
+ghost use Rattle.event_offers.specs.Keeping.{KeepsData};
 ghost use Rattle.event_offers.specs.OfferView.{condition_profiles, conditions_of, plain_draft};
 ghost use Rattle.event_offers.specs.Offers.{AreConditionsOf};
 ghost use Rattle.draft_parts.specs.DraftTerms.{HasTermsOf};
 ghost use Rattle.std.specs.Option.{option_map};
 ghost use Rattle.std.specs.Prelude.{◌≡◌, ◌++◌, IfOk};
-ghost use Rattle.term_algebra.specs.Signature.{Signature};
-ghost use Rattle.term_algebra.specs.Substitution.{binding};
+ghost use Rattle.lotos_base.specs.Signature.{Signature};
+ghost use Rattle.lotos_base.specs.Substitution.{binding};
 ghost use Rattle.term_match.specs.SubstView.{profiled_pairs};
 
 use crate::environments::{extended, paired_terms, placed};
@@ -43,8 +44,7 @@ pub fn action_draft<D: Deciding>(
         ++ profiled_pairs environment.now.items)
         → HasTests (D.known_data decider.old).signature test.now
         → HasTermsOf (D.known_data decider.old).signature made) }
-    ensures same_data { D.known_data decider.new ≡ D.known_data decider.old }
-    ensures same_canon { D.canon decider.new ≡ D.canon decider.old }
+    ensures same_known { KeepsData D.known_data D.canon decider.old decider.new }
 {
     let bound = asked(*environment.allocator(), offers, first)?;
     let leaves = paired_terms(&bound)?;

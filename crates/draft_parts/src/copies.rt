@@ -3,7 +3,7 @@
 ghost use Rattle.event_offers.specs.OfferView.{plain_draft};
 ghost use Rattle.draft_parts.specs.DraftTerms.{HasTermsOf};
 ghost use Rattle.std.specs.Prelude.{◌≡◌, IfOk};
-ghost use Rattle.term_algebra.specs.Signature.{Signature};
+ghost use Rattle.lotos_base.specs.Signature.{Signature};
 
 use event_offers::Draft;
 use event_offers::copies::draft_copy;

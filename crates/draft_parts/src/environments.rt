@@ -1,14 +1,15 @@
 //! Terms under environments.
 
-ghost use Rattle.draft_parts.specs.Environments.{IsReady, Suits};
+ghost use Rattle.draft_parts.specs.Environments.{IsReadyForPairs, Suits};
 ghost use Rattle.behaviour_semantics.specs.WellFormed.{Every};
 ghost use Rattle.behaviour_tree.specs.BehaviourTerms.{profiles_of};
 ghost use Rattle.behaviour_tree.specs.StateView.{environment_of, pair_profile};
+ghost use Rattle.event_offers.specs.Keeping.{KeepsData};
 ghost use Rattle.sort_terms.specs.ProfiledTerm.{IsOf, profiled_variable};
 ghost use Rattle.sort_terms.specs.SortedView.{profiled_in, term_in};
 ghost use Rattle.std.specs.Prelude.{◌≡◌, ◌++◌, suc, IfOk, map};
-ghost use Rattle.term_algebra.specs.Signature.{Signature};
-ghost use Rattle.term_algebra.specs.Substitution.{binding, substituted};
+ghost use Rattle.lotos_base.specs.Signature.{Signature};
+ghost use Rattle.lotos_base.specs.Substitution.{binding, substituted};
 ghost use Rattle.term_match.specs.SubstView.{profiled_pairs};
 
 use event_offers::valued::Values;
@@ -21,7 +22,7 @@ pub fn placed(environment: &Vec<(u64, Sorted)>, term: &Sorted) -> Result<Sorted,
     ensures same { IfOk result (λ t. term_in t
         ≡ substituted (binding (environment_of environment.now.items)) (term_in term.now)) }
     ensures over { IfOk result (λ t. (signature : Signature)
-        → IsReady signature (profiled_pairs environment.now.items) (profiled_in term.now)
+        → IsReadyForPairs signature (profiled_pairs environment.now.items) (profiled_in term.now)
         → IsOf signature (profiled_in t)) }
 {
     Values::Paired(environment.as_slice()).put_into(term)
@@ -33,13 +34,12 @@ pub fn canonical<D: Deciding>(
     term: &Sorted,
     decider: &mut D,
 ) -> Result<Sorted, NoMemory>
-    requires { IsReady (D.known_data decider.old).signature
+    requires { IsReadyForPairs (D.known_data decider.old).signature
         (profiled_pairs environment.now.items) (profiled_in term.now) }
     ensures same { IfOk result (λ t. term_in t ≡ D.canon decider.old
         (substituted (binding (environment_of environment.now.items)) (term_in term.now))) }
     ensures is_of { IfOk result (λ t. IsOf (D.known_data decider.old).signature (profiled_in t)) }
-    ensures same_data { D.known_data decider.new ≡ D.known_data decider.old }
-    ensures same_canon { D.canon decider.new ≡ D.canon decider.old }
+    ensures same_known { KeepsData D.known_data D.canon decider.old decider.new }
 {
     let made = placed(environment, term)?;
     decider.normal(&made)

@@ -8,10 +8,11 @@ ghost use Rattle.behaviour_tree.specs.BehaviourView.{terms_of};
 ghost use Rattle.behaviour_tree.specs.Over.{AreTermsOf};
 ghost use Rattle.behaviour_tree.specs.StateView.{environment_of};
 ghost use Rattle.behaviour_tree.specs.declared.behaviours.ExitValue.{ExitValue as ExitResult};
+ghost use Rattle.event_offers.specs.Keeping.{KeepsData};
 ghost use Rattle.event_offers.specs.OfferView.{plain_draft};
 ghost use Rattle.draft_parts.specs.DraftTerms.{HasTermsOf};
 ghost use Rattle.std.specs.Prelude.{◌≡◌, ◌++◌, ◌∷◌, IfOk, List};
-ghost use Rattle.term_algebra.specs.Substitution.{binding};
+ghost use Rattle.lotos_base.specs.Substitution.{binding};
 ghost use Rattle.term_match.specs.SubstView.{profiled_pairs};
 
 use crate::environments::{canonical, following, leaf};
@@ -34,8 +35,7 @@ pub fn exit_draft<D: Deciding>(
     ensures same { IfOk result (λ made. plain_draft made ≡ ended_with (D.canon decider.old)
         results.now.items (profiled_pairs environment.now.items) first) }
     ensures over { IfOk result (λ made. HasTermsOf (D.known_data decider.old).signature made) }
-    ensures same_data { D.known_data decider.new ≡ D.known_data decider.old }
-    ensures same_canon { D.canon decider.new ≡ D.canon decider.old }
+    ensures same_known { KeepsData D.known_data D.canon decider.old decider.new }
 {
     let alloc = *environment.allocator();
     let leaves = left_open(alloc, results, first)?;
@@ -89,8 +89,7 @@ fn resulting<D: Deciding>(
         (binding (environment_of environment.now.items)) first results.now.items) }
     ensures is_of { IfOk result
         (λ made. AreTermsOf (D.known_data decider.old).signature (profiles_of made.items)) }
-    ensures same_data { D.known_data decider.new ≡ D.known_data decider.old }
-    ensures same_canon { D.canon decider.new ≡ D.canon decider.old }
+    ensures same_known { KeepsData D.known_data D.canon decider.old decider.new }
 {
     let mut made = Vec::with_capacity(*environment.allocator(), results.len())?;
     let mut number = first;
@@ -117,8 +116,7 @@ fn push_result<D: Deciding>(
     ensures is_of { IfOk result
         (λ _. AreTermsOf (D.known_data decider.old).signature (profiles_of values.old.items)
         → AreTermsOf (D.known_data decider.old).signature (profiles_of values.new.items)) }
-    ensures same_data { D.known_data decider.new ≡ D.known_data decider.old }
-    ensures same_canon { D.canon decider.new ≡ D.canon decider.old }
+    ensures same_known { KeepsData D.known_data D.canon decider.old decider.new }
 {
     match value {
         ExitValue::Give(term) => {

@@ -8,7 +8,7 @@ ghost use Rattle.draft_parts.specs.DraftTerms.{HasTermsOf};
 ghost use Rattle.draft_parts.specs.Made.{AreThese};
 ghost use Rattle.draft_parts.specs.Rows.{call_pairs, calls_copied, copied};
 ghost use Rattle.std.specs.Prelude.{◌≡◌, if◌then◌else◌, IfOk};
-ghost use Rattle.term_algebra.specs.Signature.{Signature};
+ghost use Rattle.lotos_base.specs.Signature.{Signature};
 
 use crate::parts::{beside, draft_copies};
 use crate::rules::gate_under;

@@ -5,12 +5,12 @@
 pub mod action_laws;
 pub mod actions;
 pub mod copies;
+pub mod draft_list_laws;
 pub mod environments;
 pub mod exits;
 pub mod form_laws;
 pub mod gates;
 pub mod laws;
-pub mod list_laws;
 pub mod listing_laws;
 pub mod meeting;
 pub mod offers;

@@ -15,7 +15,7 @@ ghost use Rattle.draft_parts.specs.DraftTerms.{HasTermsOf};
 ghost use Rattle.draft_parts.specs.Meeting.{may_be_met, meet_told, sorts_told};
 ghost use Rattle.std.specs.Option.{option_map};
 ghost use Rattle.std.specs.Prelude.{◌≡◌, IfOk, IfSome};
-ghost use Rattle.term_algebra.specs.Signature.{Signature};
+ghost use Rattle.lotos_base.specs.Signature.{Signature};
 
 use crate::rules::{below, meet_at};
 use crate::variants::Variant;
@@ -98,8 +98,8 @@ fn ended(draft: Draft) -> Result<Draft, NoMemory>
     })
 }
 
-// Whether the values have the sorts of the variables, one by one.
-fn have_sorts(values: &Vec<Sorted>, variables: &Vec<Variable>) -> bool
+/// Whether the values have the sorts of the variables, one by one, told by the profiles that they carry.
+pub fn have_sorts(values: &Vec<Sorted>, variables: &Vec<Variable>) -> bool
     ensures { result ≡ sorts_told (profiles_of values.now.items)
         (sorts_of (variables_of variables.now.items)) }
 {

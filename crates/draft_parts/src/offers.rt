@@ -7,8 +7,9 @@ ghost use Rattle.behaviour_tree.specs.BehaviourView.{terms_of};
 ghost use Rattle.behaviour_tree.specs.Over.{AreTermsOf};
 ghost use Rattle.behaviour_tree.specs.StateView.{environment_of};
 ghost use Rattle.behaviour_tree.specs.declared.behaviours.Offer.{Offer as OfferValue};
+ghost use Rattle.event_offers.specs.Keeping.{KeepsData};
 ghost use Rattle.std.specs.Prelude.{◌≡◌, ◌++◌, ◌∷◌, IfOk, List};
-ghost use Rattle.term_algebra.specs.Substitution.{binding};
+ghost use Rattle.lotos_base.specs.Substitution.{binding};
 ghost use Rattle.term_match.specs.SubstView.{profiled_pairs};
 
 use crate::environments::{canonical, following, leaf};
@@ -59,8 +60,7 @@ pub fn offered<D: Deciding>(
         (binding (environment_of environment.now.items)) first offers.now.items) }
     ensures is_of { IfOk result
         (λ made. AreTermsOf (D.known_data decider.old).signature (profiles_of made.items)) }
-    ensures same_data { D.known_data decider.new ≡ D.known_data decider.old }
-    ensures same_canon { D.canon decider.new ≡ D.canon decider.old }
+    ensures same_known { KeepsData D.known_data D.canon decider.old decider.new }
 {
     let mut made = Vec::with_capacity(*environment.allocator(), offers.len())?;
     let mut number = first;
@@ -87,8 +87,7 @@ fn push_offered<D: Deciding>(
     ensures is_of { IfOk result
         (λ _. AreTermsOf (D.known_data decider.old).signature (profiles_of values.old.items)
         → AreTermsOf (D.known_data decider.old).signature (profiles_of values.new.items)) }
-    ensures same_data { D.known_data decider.new ≡ D.known_data decider.old }
-    ensures same_canon { D.canon decider.new ≡ D.canon decider.old }
+    ensures same_known { KeepsData D.known_data D.canon decider.old decider.new }
 {
     match offer {
         Offer::Give(term) => {

@@ -5,7 +5,7 @@ ghost use Rattle.behaviour_tree.specs.BehaviourView.{meet_of};
 ghost use Rattle.draft_parts.specs.Parting.{alone_among, meeting_among};
 ghost use Rattle.draft_parts.specs.DraftTerms.{HasTermsOf};
 ghost use Rattle.std.specs.Prelude.{◌≡◌, IfOk};
-ghost use Rattle.term_algebra.specs.Signature.{Signature};
+ghost use Rattle.lotos_base.specs.Signature.{Signature};
 
 use crate::rules::may_move_alone;
 use behaviour_tree::Meet;

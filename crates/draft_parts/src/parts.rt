@@ -8,7 +8,7 @@ ghost use Rattle.draft_parts.specs.HasDrafts.{beside_drafts, either_drafts};
 ghost use Rattle.draft_parts.specs.DraftTerms.{HasTermsOf};
 ghost use Rattle.draft_parts.specs.Made.{AreThese, inner_of};
 ghost use Rattle.std.specs.Prelude.{◌≡◌, ◌∷◌, [], IfOk};
-ghost use Rattle.term_algebra.specs.Signature.{Signature};
+ghost use Rattle.lotos_base.specs.Signature.{Signature};
 
 use crate::copies::copied;
 use crate::{Rule, Variant, both_sides, parted};

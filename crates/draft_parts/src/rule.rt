@@ -2,12 +2,12 @@
 
 ghost use Rattle.behaviour_semantics.specs.WellFormed.{Every};
 ghost use Rattle.draft_parts.specs.Lists.{AreMadeBy};
-ghost use Rattle.draft_parts.specs.RuleView.{IsRuleOver, made_by};
+ghost use Rattle.draft_parts.specs.RuleView.{IsDraftRuleOver, made_by};
 ghost use Rattle.event_offers.specs.OfferView.{plain_draft};
 ghost use Rattle.draft_parts.specs.DraftTerms.{HasTermsOf};
 ghost use Rattle.std.specs.Option.{option_map};
 ghost use Rattle.std.specs.Prelude.{◌≡◌, ◌++◌, IfOk, IfSome, option_to_list};
-ghost use Rattle.term_algebra.specs.Signature.{Signature};
+ghost use Rattle.lotos_base.specs.Signature.{Signature};
 
 use crate::Variant;
 use crate::meeting::enabled;
@@ -42,7 +42,7 @@ impl Rule<'_> {
         ensures same { IfOk result (λ o. (signature : Signature) → HasTermsOf signature draft
             → option_map plain_draft o ≡ made_by signature self.now (plain_draft draft)) }
         ensures over { IfOk result (λ o. IfSome o (λ made. (signature : Signature)
-            → IsRuleOver signature self.now → HasTermsOf signature draft
+            → IsDraftRuleOver signature self.now → HasTermsOf signature draft
             → HasTermsOf signature made)) }
     {
         match self {
@@ -58,7 +58,7 @@ impl Rule<'_> {
 
     /// What the rule makes of each of the drafts, in order.
     pub fn apply_to_all(&self, drafts: Vec<Draft>) -> Result<Vec<Draft>, NoMemory>
-        ensures { IfOk result (λ made. (signature : Signature) → IsRuleOver signature self.now
+        ensures { IfOk result (λ made. (signature : Signature) → IsDraftRuleOver signature self.now
             → Every (HasTermsOf signature) drafts.items
             → AreMadeBy signature (made_by signature self.now) drafts.items made.items) }
     {

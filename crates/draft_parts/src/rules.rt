@@ -20,8 +20,8 @@ ghost use Rattle.std.specs.Option.{option_map};
 ghost use Rattle.std.specs.Prelude.{◌≡◌, IfOk, IfSome};
 ghost use Rattle.behaviour_semantics.specs.Rule.{hidden_label, moves_alone, synchronises};
 ghost use Rattle.behaviour_semantics.specs.Label.{gate_under as gate_made, label_under};
-ghost use Rattle.term_algebra.specs.Signature.{Signature};
-ghost use Rattle.term_algebra.specs.Substitution.{is_listed};
+ghost use Rattle.lotos_base.specs.Signature.{Signature};
+ghost use Rattle.lotos_base.specs.Substitution.{is_listed};
 
 use crate::variants::Variant;
 use behaviour_tree::{Label, Meet};
@@ -108,8 +108,8 @@ pub fn hidden(draft: Draft, gates: &[u32]) -> Result<Draft, NoMemory>
     })
 }
 
-// The label under `hide`.
-fn hide_label(label: Label, gates: &[u32]) -> Label
+/// The label under `hide`.
+pub fn hide_label(label: Label, gates: &[u32]) -> Label
     ensures same { label_of result ≡ hidden_label gates.now (label_of label) }
     ensures over { (signature : Signature) → AreTermsOf signature (label_profiles label)
         → AreTermsOf signature (label_profiles result) }
@@ -142,8 +142,8 @@ pub fn relabelled(draft: Draft, pairs: &[(u32, u32)], variant: Variant) -> Resul
     })
 }
 
-// The label with its gate relabelled.
-fn relabel(label: Label, pairs: &[(u32, u32)]) -> Label
+/// The label with its gate relabelled.
+pub fn relabel(label: Label, pairs: &[(u32, u32)]) -> Label
     ensures same { label_of result ≡ label_under pairs.now (label_of label) }
     ensures profiles { label_profiles result ≡ label_profiles label }
 {

@@ -8,7 +8,7 @@ ghost use Rattle.event_offers.specs.OfferView.{plain_draft};
 ghost use Rattle.event_offers.specs.Renaming.{renaming_of};
 ghost use Rattle.draft_parts.specs.DraftTerms.{HasTermsOf};
 ghost use Rattle.std.specs.Prelude.{◌≡◌, ◌∷◌, [], ◌++◌, false, IfOk, map, OnOk};
-ghost use Rattle.term_algebra.specs.Signature.{Signature};
+ghost use Rattle.lotos_base.specs.Signature.{Signature};
 
 use crate::copies::copied;
 use crate::meeting::{may_meet, together};

@@ -3,11 +3,11 @@ use Rattle.std.proofs.Common.{refl, ◌≡◌, ℕ, zero, suc, List, [], ◌∷�
 use Rattle.std.specs.Prelude.{◌↔◌, Some, None, slice_get}
 use Rattle.std.proofs.lemmas.Option.{same_Some}
 use Rattle.std.proofs.Math.Logic.{∥∥₁_elim}
-use Rattle.term_algebra.specs.Signature.{Signature}
-use Rattle.term_algebra.specs.Term.{Term}
-use Rattle.term_algebra.specs.Sorting.{HasSort, IsGround}
-use Rattle.term_algebra.specs.Equality.{Equal}
-use Rattle.term_algebra.specs.Equation.{Data}
+use Rattle.lotos_base.specs.Signature.{Signature}
+use Rattle.lotos_base.specs.Term.{Term}
+use Rattle.lotos_base.specs.Sorting.{HasSort, IsGround}
+use Rattle.lotos_base.specs.Equality.{Equal}
+use Rattle.lotos_base.specs.Equation.{Data}
 use Rattle.rewriting_theory.specs.ChosenForm.{Chosen}
 use Rattle.rewriting_theory.proofs.ChosenLemmas.{chosen_one}
 use Rattle.termination_theory.proofs.ChosenCanonLemmas.{chosen_decide}
@@ -26,7 +26,7 @@ use Rattle.critical_pairs.proofs.JoinedLemmas.{joined_confluent}
 use Rattle.path_order.specs.OrientFaultView.{IsOrientFault}
 use Rattle.path_order.specs.declared.orient_fault.OrientFault.{OrientFault}
 use Rattle.path_order.specs.declared.orient_fault.OrientFault.TheVariants.{Unorientable, NoMemory as OrientNoMemory}
-use Rattle.critical_pairs.specs.Joining.{AreUnjoinedBy, HoldsOfFault}
+use Rattle.critical_pairs.specs.Joining.{AreUnjoinedBy, HoldsOfPairFault}
 use Rattle.critical_pairs.specs.declared.pair_fault.PairFault.{PairFault}
 use Rattle.critical_pairs.specs.declared.pair_fault.PairFault.TheVariants.{Unjoined, NoMemory as PairNoMemory}
 use Rattle.termination_theory.specs.Precedence.{Precedence}
@@ -112,7 +112,7 @@ orientation_says p data_ OrientNoMemory is = tt
 
 -- what a fault of a critical pair says of them
 pub pair_says : (p : Precedence) (data_ : Data) (signature : Signature) (rules : List NumberedRule) (fault : PairFault)
-    → signature ≡ data_.signature → IsOrientation p data_ rules → HoldsOfFault signature rules fault
+    → signature ≡ data_.signature → IsOrientation p data_ rules → HoldsOfPairFault signature rules fault
     → SaysOfData p data_ (book_fault_of_pair fault)
 pair_says p data_ signature rules (Unjoined first second peak left right) same oriented is = (
   rules,

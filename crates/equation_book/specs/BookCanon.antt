@@ -1,6 +1,6 @@
 -- The canon of a book: the chosen form of a term by the rules.
-use Rattle.term_algebra.specs.Term.{Term}
-use Rattle.term_algebra.specs.Canon.{IsCanon}
+use Rattle.lotos_base.specs.Term.{Term}
+use Rattle.lotos_base.specs.Canon.{IsCanon}
 use Rattle.rewriting_theory.specs.ChosenForm.{Chooses}
 use Rattle.termination_theory.specs.Orientation.{IsOrientation}
 use Rattle.termination_theory.proofs.ChosenCanonLemmas.{chosen_canon}

@@ -1,3 +1,4 @@
 pub mod SortedSides
 pub mod BookCanon
 pub mod Refusal
+pub mod HandedOn

@@ -1,7 +1,7 @@
 -- What a refusal of data says of them.
 use Rattle.std.specs.Prelude.{◌≡◌, ℕ, List}
-use Rattle.term_algebra.specs.Equation.{Data}
-use Rattle.term_algebra.specs.Signature.{Signature}
+use Rattle.lotos_base.specs.Equation.{Data}
+use Rattle.lotos_base.specs.Signature.{Signature}
 use Rattle.rewriting_theory.specs.Rewriting.{AreConfluent}
 use Rattle.termination_theory.specs.Precedence.{Precedence, from_left}
 use Rattle.termination_theory.specs.Orientation.{NumberedRule, rules_of, IsOrientation, IsFirstUnorientable}

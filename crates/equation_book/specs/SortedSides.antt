@@ -3,9 +3,9 @@ use Rattle.std.specs.Prelude.{◌≡◌, ℕ, Some, slice_get, List, [], ◌∷�
 use Rattle.std.proofs.Props.{props}
 use Rattle.std.proofs.Common.{sym, subst}
 use Rattle.std.proofs.lemmas.Option.{none-some, same_Some}
-use Rattle.term_algebra.specs.Equation.{Equation as PlainEquation, HasSortedSides, HasOneSort}
-use Rattle.term_algebra.specs.Signature.{Signature}
-use Rattle.term_algebra.specs.Sorting.{HasSort}
+use Rattle.lotos_base.specs.Equation.{Equation as PlainEquation, HasSortedSides, HasOneSort}
+use Rattle.lotos_base.specs.Signature.{Signature}
+use Rattle.lotos_base.specs.Sorting.{HasSort}
 use Rattle.sort_terms.specs.EquationView.{data_of, equation_of}
 use Rattle.sort_terms.specs.ProfiledTerm.{IsOf, head_sort, bare}
 use Rattle.sort_terms.specs.SignatureView.{signature_of}

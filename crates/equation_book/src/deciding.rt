@@ -6,13 +6,13 @@ ghost use Rattle.sort_terms.specs.ProfiledTerm.{IsOf};
 ghost use Rattle.sort_terms.specs.SignatureView.{signature_of};
 ghost use Rattle.sort_terms.specs.SortedView.{profiled_in, term_in};
 ghost use Rattle.std.specs.Prelude.{◌≡◌, ◌↔◌, IfOk, IsTrue};
-ghost use Rattle.term_algebra.specs.Equality.{Equal};
-ghost use Rattle.term_algebra.specs.Sorting.{IsGround};
+ghost use Rattle.lotos_base.specs.Equality.{Equal};
+ghost use Rattle.lotos_base.specs.Sorting.{IsGround};
 
 use crate::book::Book;
+use critical_pairs::normalise;
 use lotos_base::NoMemory;
 use sort_terms::{Deciding, Sorted};
-use term_rewriter::normalise;
 
 impl Deciding for Book {
     ghost known_data = { λ it. data_of it.flat };

@@ -1,9 +1,9 @@
 -- Terms whose numbers are changed as they are taken: those without variables stay, and so do all where no number changes.
 use Rattle.std.proofs.Common.{◌≡◌, ℕ, List, [], ◌∷◌, map, refl, ap, sym, ◌∙◌}
-use Rattle.term_algebra.specs.Sorting.{IsGround, AreGround}
-use Rattle.term_algebra.specs.Substitution.{Substitution, substituted}
-use Rattle.term_algebra.specs.Term.{Term, variable}
-use Rattle.term_algebra.proofs.SubstitutionLemmas.{substituted_variables}
+use Rattle.lotos_base.specs.Sorting.{IsGround, AreGround}
+use Rattle.lotos_base.specs.Substitution.{Substitution, substituted}
+use Rattle.lotos_base.specs.Term.{Term, variable}
+use Rattle.lotos_base.proofs.SubstitutionLemmas.{substituted_variables}
 use Rattle.behaviour_semantics.specs.Behaviour.{Test}
 use Rattle.behaviour_semantics.specs.Replacement.{test_with}
 use Rattle.sort_terms.specs.ProfiledTerm.{ProfiledTerm, ProfiledTerms, profiled_variable, profiled_node, no_profiled_terms, profiled_term_then, bare, all_bare}

@@ -1,10 +1,10 @@
 -- Drafts changed term by term, and what is ready to be changed.
 use Rattle.std.proofs.Common.{◌≡◌, ◌++◌, ℕ, List, [], ◌∷◌, map, Option, None, Some, Bool, true, false, not, cond, refl, ap, sym, ◌∙◌, subst}
-use Rattle.term_algebra.specs.Term.{Term}
-use Rattle.term_algebra.specs.Tests.{term_eq}
-use Rattle.term_algebra.specs.Signature.{Signature}
-use Rattle.term_algebra.specs.Substitution.{Substitution, substituted, binding}
-use Rattle.term_algebra.proofs.TestLemmas.{Decides-term_eq}
+use Rattle.lotos_base.specs.Term.{Term}
+use Rattle.lotos_base.specs.Tests.{term_eq}
+use Rattle.lotos_base.specs.Signature.{Signature}
+use Rattle.lotos_base.specs.Substitution.{Substitution, substituted, binding}
+use Rattle.lotos_base.proofs.TestLemmas.{Decides-term_eq}
 use Rattle.behaviour_semantics.specs.Behaviour.{Test}
 use Rattle.behaviour_semantics.specs.Label.{Label, inner_event, gate_event, exit_event}
 use Rattle.behaviour_semantics.specs.Replacement.{test_with}

@@ -1,10 +1,10 @@
 -- The test of groundness of the code is the one that computes.
 use Rattle.std.proofs.Common.{◌≡◌, Bool, true, false, IsTrue, refl, sym}
 use Rattle.std.specs.Prelude.{◌↔◌}
-use Rattle.term_algebra.specs.Term.{Term}
-use Rattle.term_algebra.specs.Sorting.{IsGround}
-use Rattle.term_algebra.specs.Tests.{is_ground}
-use Rattle.term_algebra.proofs.TestLemmas.{Decides-is_ground}
+use Rattle.lotos_base.specs.Term.{Term}
+use Rattle.lotos_base.specs.Sorting.{IsGround}
+use Rattle.lotos_base.specs.Tests.{is_ground}
+use Rattle.lotos_base.proofs.TestLemmas.{Decides-is_ground}
 
 pub ground_told : (b : Bool) (t : Term) → IsTrue b ↔ IsGround t → b ≡ is_ground t
 ground_told true t h = sym ((Decides-is_ground t).1 (h.0 refl))

@@ -12,3 +12,4 @@ pub mod SolvingWay
 pub mod EntryLemmas
 pub mod InstanceLemmas
 pub mod SampleDrafts
+pub mod KeepingLemmas

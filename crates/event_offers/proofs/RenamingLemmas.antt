@@ -1,8 +1,8 @@
 -- Renamed terms: they fit, stay of their signature, and are the instances by the renaming.
 use Rattle.std.proofs.Common.{◌≡◌, ℕ, List, [], ◌∷◌, map, refl, inl, inr, subst}
-use Rattle.term_algebra.specs.Signature.{Signature, IsSort}
-use Rattle.term_algebra.specs.Sorting.{Occurs, OccursAmong}
-use Rattle.term_algebra.specs.Substitution.{substituted}
+use Rattle.lotos_base.specs.Signature.{Signature, IsSort}
+use Rattle.lotos_base.specs.Sorting.{Occurs, OccursAmong}
+use Rattle.lotos_base.specs.Substitution.{substituted}
 use Rattle.behaviour_semantics.specs.WellFormed.{Every}
 use Rattle.sort_terms.specs.ProfiledTerm.{ProfiledTerm, ProfiledTerms, profiled_variable, profiled_node, no_profiled_terms, profiled_term_then, bare, all_bare, FitsProfiles, IsOf, AreOf}
 use Rattle.sort_terms.specs.SortedView.{profiled_in}

@@ -1,9 +1,9 @@
 -- A draft in order: an action that asks for one value.
 use Rattle.std.proofs.Common.{◌≡◌, ◌<◌, ℕ, zero, suc, List, [], ◌∷◌, Option, Some, map, refl, ap, sym, ◌∙◌, subst, arith}
 use Rattle.std.specs.Prelude.{IfSome}
-use Rattle.term_algebra.specs.Signature.{Signature, IsSort}
-use Rattle.term_algebra.specs.Term.{Term, variable}
-use Rattle.term_algebra.specs.Sorting.{Occurs}
+use Rattle.lotos_base.specs.Signature.{Signature, IsSort}
+use Rattle.lotos_base.specs.Term.{Term, variable}
+use Rattle.lotos_base.specs.Sorting.{Occurs}
 use Rattle.behaviour_semantics.specs.Label as plain_label
 use Rattle.behaviour_semantics.specs.Shape.{Shape}
 use Rattle.behaviour_semantics.specs.Draft as plain

@@ -1,12 +1,12 @@
 -- The way from a draft to its outcome: each draft on it is what tidying makes of a draft in order.
 use Rattle.std.proofs.Common.{◌≡◌, ◌<◌, ◌≤◌, ◌++◌, ℕ, List, [], ◌∷◌, map, length, Option, None, Some, Bool, true, false, refl, ap, sym, ◌∙◌, subst, arith}
 use Rattle.std.proofs.lemmas.List.{length-map}
-use Rattle.term_algebra.specs.Signature.{Signature, Operation, IsOperation}
-use Rattle.term_algebra.specs.Term.{Term, variable}
-use Rattle.term_algebra.specs.Sorting.{HasSort, Occurs}
-use Rattle.term_algebra.specs.Equation.{Data}
-use Rattle.term_algebra.specs.Substitution.{substituted}
-use Rattle.term_algebra.specs.Canon.{IsCanon}
+use Rattle.lotos_base.specs.Signature.{Signature, Operation, IsOperation}
+use Rattle.lotos_base.specs.Term.{Term, variable}
+use Rattle.lotos_base.specs.Sorting.{HasSort, Occurs}
+use Rattle.lotos_base.specs.Equation.{Data}
+use Rattle.lotos_base.specs.Substitution.{substituted}
+use Rattle.lotos_base.specs.Canon.{IsCanon}
 use Rattle.behaviour_semantics.specs.Behaviour.{Test}
 use Rattle.behaviour_semantics.specs.Label.{Label as PlainLabel}
 use Rattle.behaviour_semantics.specs.Draft as plain
@@ -32,7 +32,7 @@ use Rattle.behaviour_tree.specs.MoveView.{label_of, shape_of}
 use Rattle.behaviour_tree.specs.Over.{AreTermsOf}
 use Rattle.behaviour_tree.specs.declared.moves.Label.{Label}
 use Rattle.behaviour_tree.specs.declared.moves.Label.TheVariants.{Inner, Gate, Exit}
-use Rattle.event_offers.specs.Changing.{found_of, put_of, changed_by, PutsSort, PutsWell, IsReady, AreReady, IsReadyPair, AreReadyPairs}
+use Rattle.event_offers.specs.Changing.{found_of, put_of, changed_by, PutsSort, PutsWell, IsReadyForChange, AreReady, IsReadyPair, AreReadyPairs}
 use Rattle.event_offers.specs.OfferView.{condition_of, conditions_of, condition_profiles, label_profiles, plain_draft, plain_entry}
 use Rattle.event_offers.specs.Offers.{IsConditionOf, AreConditionsOf, IsDraftOver, IsOrderedEntry, IsEntryOver}
 use Rattle.event_offers.specs.declared.drafts.Draft.{Draft}
@@ -242,19 +242,6 @@ module _ (data_ : Data) (canon : Term → Term) (is_canon : IsCanon data_ canon)
       }
 
 -- what is ready, by data and a canon that are the same
-pub ready_moved : (data_ other : Data) (canon more : Term → Term) (put : Option (ℕ × Sorted)) (ts : List ProfiledTerm) → other ≡ data_
-    → more ≡ canon → AreReady data_.signature canon put ts → AreReady other.signature more put ts
-ready_moved data_ other canon more put ts d e h =
-    subst (λ (x : Data). AreReady x.signature more put ts) (sym d) (subst (λ (k : Term → Term). AreReady data_.signature k put ts) (sym e)
-    h)
-
-pub ready_pairs_moved : (data_ other : Data) (canon more : Term → Term) (put : Option (ℕ × Sorted)) (pairs : List (ProfiledTerm ×
-    ProfiledTerm))
-    → other ≡ data_ → more ≡ canon → AreReadyPairs data_.signature canon put pairs → AreReadyPairs other.signature more put pairs
-ready_pairs_moved data_ other canon more put pairs d e h =
-    subst (λ (x : Data). AreReadyPairs x.signature more put pairs) (sym d)
-    (subst (λ (k : Term → Term). AreReadyPairs data_.signature k put pairs) (sym e) h)
-
 pub has_terms_moved : (data_ other : Data) (draft : Draft) → other ≡ data_ → AreTermsOf other.signature (label_profiles draft.label)
     → AreTermsOf other.signature (profiles_of draft.leaves.items) → AreConditionsOf other.signature (condition_profiles
     draft.conditions.items)

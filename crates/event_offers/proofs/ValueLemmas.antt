@@ -1,8 +1,8 @@
 -- Terms with other terms put for their variables: they fit, and stay of their signature.
 use Rattle.std.proofs.Common.{rules, ◌≡◌, ◌<◌, ◌≤◌, ◌-◌, length, get_or, ap, arith, ℕ, zero, suc, List, [], ◌∷◌, Bool, true, false, nat_eq, slice_get, if◌then◌else◌, refl, sym, ◌∙◌, subst, eqb-true}
-use Rattle.term_algebra.specs.Signature.{Signature, IsSort}
-use Rattle.term_algebra.specs.Sorting.{Occurs}
-use Rattle.term_algebra.specs.Substitution.{substituted, binding}
+use Rattle.lotos_base.specs.Signature.{Signature, IsSort}
+use Rattle.lotos_base.specs.Sorting.{Occurs}
+use Rattle.lotos_base.specs.Substitution.{substituted, binding}
 use Rattle.behaviour_semantics.specs.Derives.{leaves_in}
 use Rattle.sort_terms.specs.ProfiledTerm.{ProfiledTerm, profiled_variable, bare, head_sort, FitsProfiles, IsOf}
 use Rattle.sort_terms.specs.SortedView.{profiled_in, term_in}

@@ -1,9 +1,9 @@
 -- A step of solving on a term, and what it asks of the term.
 use Rattle.std.specs.Prelude.{◌≡◌, ℕ, List, [], ◌∷◌, Option, None, Some}
-use Rattle.term_algebra.specs.Signature.{Signature}
-use Rattle.term_algebra.specs.Sorting.{Occurs}
-use Rattle.term_algebra.specs.Term.{Term}
-use Rattle.term_algebra.specs.Substitution.{Substitution, substituted, binding}
+use Rattle.lotos_base.specs.Signature.{Signature}
+use Rattle.lotos_base.specs.Sorting.{Occurs}
+use Rattle.lotos_base.specs.Term.{Term}
+use Rattle.lotos_base.specs.Substitution.{Substitution, substituted, binding}
 use Rattle.behaviour_semantics.specs.WellFormed.{Every}
 use Rattle.sort_terms.specs.ProfiledTerm.{ProfiledTerm, bare, head_sort, IsOf}
 use Rattle.sort_terms.specs.SortedView.{profiled_in, term_in}
@@ -31,14 +31,14 @@ PutsWell signature canon None t = Unit {0}
 PutsWell signature canon (Some found) t = (canon (bare t) ≡ bare t) × IsOf signature (profiled_in found.1) × PutsSort found t
 
 -- The term is of the signature, and what is put into it suits it.
-abbrev pub IsReady : Signature → (Term → Term) → Option (ℕ × Sorted) → ProfiledTerm → Type 0
-IsReady signature canon put t = IsOf signature t × PutsWell signature canon put t
+abbrev pub IsReadyForChange : Signature → (Term → Term) → Option (ℕ × Sorted) → ProfiledTerm → Type 0
+IsReadyForChange signature canon put t = IsOf signature t × PutsWell signature canon put t
 
 abbrev pub AreReady : Signature → (Term → Term) → Option (ℕ × Sorted) → List ProfiledTerm → Type 0
-AreReady signature canon put ts = Every (IsReady signature canon put) ts
+AreReady signature canon put ts = Every (IsReadyForChange signature canon put) ts
 
 abbrev pub IsReadyPair : Signature → (Term → Term) → Option (ℕ × Sorted) → ProfiledTerm × ProfiledTerm → Type 0
-IsReadyPair signature canon put pair = IsReady signature canon put pair.0 × IsReady signature canon put pair.1
+IsReadyPair signature canon put pair = IsReadyForChange signature canon put pair.0 × IsReadyForChange signature canon put pair.1
 
 abbrev pub AreReadyPairs : Signature → (Term → Term) → Option (ℕ × Sorted) → List (ProfiledTerm × ProfiledTerm) → Type 0
 AreReadyPairs signature canon put pairs = Every (IsReadyPair signature canon put) pairs

@@ -1,7 +1,7 @@
 -- What solving puts for a variable, as the code keeps it by reference.
 use Rattle.std.specs.Prelude.{ℕ}
 use Rattle.std.proofs.Common.{Bor}
-use Rattle.term_algebra.specs.Term.{Term}
+use Rattle.lotos_base.specs.Term.{Term}
 use Rattle.sort_terms.specs.SortedView.{term_in}
 use Rattle.sort_terms.specs.declared.sorted.Sorted.{Sorted}
 

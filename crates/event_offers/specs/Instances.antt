@@ -1,10 +1,10 @@
 -- What values for the variables of an entry make of its conditions and of its derivation.
 use Rattle.std.specs.Prelude.{◌≡◌, ℕ, List, [], ◌∷◌, map, Option, None, Some, if◌then◌else◌}
-use Rattle.term_algebra.specs.Signature.{Signature}
-use Rattle.term_algebra.specs.Sorting.{Occurs}
-use Rattle.term_algebra.specs.Term.{Term}
-use Rattle.term_algebra.specs.Tests.{term_eq}
-use Rattle.term_algebra.specs.Substitution.{Substitution, substituted}
+use Rattle.lotos_base.specs.Signature.{Signature}
+use Rattle.lotos_base.specs.Sorting.{Occurs}
+use Rattle.lotos_base.specs.Term.{Term}
+use Rattle.lotos_base.specs.Tests.{term_eq}
+use Rattle.lotos_base.specs.Substitution.{Substitution, substituted}
 use Rattle.behaviour_semantics.specs.Behaviour.{Test}
 use Rattle.behaviour_semantics.specs.Derives.{leaves_in}
 use Rattle.behaviour_semantics.specs.Replacement.{test_with}

@@ -1,6 +1,6 @@
 -- Terms in which no variable with a number occurs, whatever its sort.
 use Rattle.std.specs.Prelude.{ℕ, Bool, true, ◌&&◌, not, nat_eq}
-use Rattle.term_algebra.specs.Term.{Term, variable, node, Terms, no_terms, term_then}
+use Rattle.lotos_base.specs.Term.{Term, variable, node, Terms, no_terms, term_then}
 
 abbrev mutual
   -- Whether no variable with the number occurs in the term.

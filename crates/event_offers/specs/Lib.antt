@@ -3,8 +3,10 @@ pub mod Renaming
 pub mod Offers
 pub mod Joining
 pub mod Values
+pub mod Keeping
 pub mod Changing
 pub mod Finding
 pub mod Variables
 pub mod Instances
 pub mod Lacking
+pub mod HandedOn

@@ -1,7 +1,7 @@
 -- What calls ask of drafts and entries over a signature: their plain values are in order, and their terms carry the
 -- profiles of the signature.
 use Rattle.std.specs.Prelude.{List}
-use Rattle.term_algebra.specs.Signature.{Signature, IsSort}
+use Rattle.lotos_base.specs.Signature.{Signature, IsSort}
 use Rattle.behaviour_semantics.specs.Behaviour.{Test}
 use Rattle.behaviour_semantics.specs.Rule.{label_values}
 use Rattle.behaviour_semantics.specs.Solving as solving

@@ -1,6 +1,6 @@
 -- What renamings of the code do to the numbers of variables.
 use Rattle.std.specs.Prelude.{ℕ, ◌+◌, ◌-◌, nat_lt, if◌then◌else◌, slice_get, unwrap_or}
-use Rattle.term_algebra.specs.Substitution.{Substitution, renaming}
+use Rattle.lotos_base.specs.Substitution.{Substitution, renaming}
 use Rattle.sort_terms.specs.ProfiledTerm.{ProfiledTerm, profiled_variable}
 use Rattle.term_match.specs.ProfiledInstance.{ProfiledSubstitution, profiled_instance}
 use Rattle.event_offers.specs.declared.renaming.Renaming.{Renaming}

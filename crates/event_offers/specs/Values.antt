@@ -1,7 +1,7 @@
 -- Terms that the code puts for variables.
 use Rattle.std.specs.Prelude.{◌≡◌, ℕ, zero, suc, List, [], ◌∷◌}
-use Rattle.term_algebra.specs.Sorting.{Occurs}
-use Rattle.term_algebra.specs.Substitution.{Substitution}
+use Rattle.lotos_base.specs.Sorting.{Occurs}
+use Rattle.lotos_base.specs.Substitution.{Substitution}
 use Rattle.sort_terms.specs.ProfiledTerm.{ProfiledTerm, profiled_variable, bare, head_sort}
 use Rattle.sort_terms.specs.SortedView.{profiled_in}
 use Rattle.term_match.specs.ProfiledInstance.{ProfiledSubstitution, profiled_binding}

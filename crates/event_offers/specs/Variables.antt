@@ -1,6 +1,6 @@
 -- The variables that are left, as the code finds them: a table of sorts by number, and what it says.
 use Rattle.std.specs.Prelude.{ℕ, suc, ◌+◌, List, [], ◌∷◌, Option, None, Some, slice_set}
-use Rattle.term_algebra.specs.Term.{Term, variable, node}
+use Rattle.lotos_base.specs.Term.{Term, variable, node}
 use Rattle.behaviour_semantics.specs.Solving.{leaf_sort}
 
 -- the sort of each number from a first one on, as many as the first list is long, in the leaves of the second

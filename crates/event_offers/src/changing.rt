@@ -10,10 +10,11 @@ ghost use Rattle.event_offers.specs.Changing.{
   AreReady,
   AreReadyPairs,
   changed_by,
-  IsReady,
+  IsReadyForChange,
   put_of,
   PutsSort,
 };
+ghost use Rattle.event_offers.specs.Keeping.{KeepsData};
 ghost use Rattle.event_offers.specs.OfferView.{
   condition_of,
   condition_profiles,
@@ -25,8 +26,8 @@ ghost use Rattle.event_offers.specs.Offers.{AreConditionsOf};
 ghost use Rattle.sort_terms.specs.ProfiledTerm.{IsOf};
 ghost use Rattle.sort_terms.specs.SortedView.{profiled_in, term_in};
 ghost use Rattle.std.specs.Prelude.{◌≡◌, ◌∷◌, ◌++◌, [], IfOk, OnOk, Some, map};
-ghost use Rattle.term_algebra.specs.Signature.{Signature};
-ghost use Rattle.term_algebra.specs.Substitution.{substituted};
+ghost use Rattle.lotos_base.specs.Signature.{Signature};
+ghost use Rattle.lotos_base.specs.Substitution.{substituted};
 
 use crate::drafts::Draft;
 use crate::occurrences::lacks;
@@ -43,13 +44,12 @@ pub fn changed<D: Deciding>(
     put: &Option<(u64, Sorted)>,
     decider: &mut D,
 ) -> Result<Sorted, NoMemory>
-    requires { IsReady (D.known_data decider.old).signature (D.canon decider.old) put.now
+    requires { IsReadyForChange (D.known_data decider.old).signature (D.canon decider.old) put.now
         (profiled_in term.now) }
     ensures same { IfOk result
         (λ t. term_in t ≡ changed_by (D.canon decider.old) put.now (term_in term.now)) }
     ensures is_of { IfOk result (λ t. IsOf (D.known_data decider.old).signature (profiled_in t)) }
-    ensures same_data { D.known_data decider.new ≡ D.known_data decider.old }
-    ensures same_canon { D.canon decider.new ≡ D.canon decider.old }
+    ensures same_known { KeepsData D.known_data D.canon decider.old decider.new }
 {
     match put {
         None => decider.normal(term),
@@ -63,14 +63,13 @@ fn settled<D: Deciding>(
     found: &(u64, Sorted),
     decider: &mut D,
 ) -> Result<Sorted, NoMemory>
-    requires { IsReady (D.known_data decider.old).signature (D.canon decider.old)
+    requires { IsReadyForChange (D.known_data decider.old).signature (D.canon decider.old)
         (Some found.now) (profiled_in term.now) }
     ensures same { IfOk result (λ t. term_in t
         ≡ changed_by (D.canon decider.old) (Some found.now) (term_in term.now)) }
     ensures is_of { IfOk result
         (λ t. IsOf (D.known_data decider.old).signature (profiled_in t)) }
-    ensures same_data { D.known_data decider.new ≡ D.known_data decider.old }
-    ensures same_canon { D.canon decider.new ≡ D.canon decider.old }
+    ensures same_known { KeepsData D.known_data D.canon decider.old decider.new }
 {
     if lacks(term.term(), found.0) {
         return term.copy();
@@ -103,8 +102,7 @@ pub fn changed_terms<D: Deciding>(
         ≡ map (changed_by (D.canon decider.old) put.now) (terms_of terms.now.items)) }
     ensures is_of { IfOk result
         (λ made. AreTermsOf (D.known_data decider.old).signature (profiles_of made.items)) }
-    ensures same_data { D.known_data decider.new ≡ D.known_data decider.old }
-    ensures same_canon { D.canon decider.new ≡ D.canon decider.old }
+    ensures same_known { KeepsData D.known_data D.canon decider.old decider.new }
 {
     let mut made = Vec::with_capacity(*terms.allocator(), terms.len())?;
     for term in terms {
@@ -125,8 +123,7 @@ pub fn changed_label<D: Deciding>(
         ≡ label_in (changed_by (D.canon decider.old) put.now) (label_of label.now)) }
     ensures is_of { IfOk result
         (λ made. AreTermsOf (D.known_data decider.old).signature (label_profiles made)) }
-    ensures same_data { D.known_data decider.new ≡ D.known_data decider.old }
-    ensures same_canon { D.canon decider.new ≡ D.canon decider.old }
+    ensures same_known { KeepsData D.known_data D.canon decider.old decider.new }
 {
     match label {
         Label::Inner => Ok(Label::Inner),
@@ -148,8 +145,7 @@ pub fn changed_conditions<D: Deciding>(
         (conditions_of conditions.now.items))) }
     ensures is_of { IfOk result (λ made. AreConditionsOf (D.known_data decider.old).signature
         (condition_profiles made.items)) }
-    ensures same_data { D.known_data decider.new ≡ D.known_data decider.old }
-    ensures same_canon { D.canon decider.new ≡ D.canon decider.old }
+    ensures same_known { KeepsData D.known_data D.canon decider.old decider.new }
 {
     let mut made = Vec::with_capacity(*conditions.allocator(), conditions.len())?;
     for condition in conditions {
@@ -201,8 +197,7 @@ pub fn changed_draft<D: Deciding>(
         (λ made. AreTermsOf (D.known_data decider.old).signature (profiles_of made.leaves.items)) }
     ensures conditions { IfOk result (λ made. AreConditionsOf (D.known_data decider.old).signature
         (condition_profiles made.conditions.items)) }
-    ensures same_data { D.known_data decider.new ≡ D.known_data decider.old }
-    ensures same_canon { D.canon decider.new ≡ D.canon decider.old }
+    ensures same_known { KeepsData D.known_data D.canon decider.old decider.new }
 {
     let label = changed_label(&draft.label, put, decider)?;
     let leaves = changed_terms(&draft.leaves, put, decider)?;

@@ -16,6 +16,7 @@ ghost use Rattle.event_offers.specs.Instances.{
   IsValuedPair,
   unmet_among,
 };
+ghost use Rattle.event_offers.specs.Keeping.{KeepsData};
 ghost use Rattle.event_offers.specs.OfferView.{
   condition_of,
   condition_profiles,
@@ -27,7 +28,7 @@ ghost use Rattle.sort_terms.specs.ProfiledTerm.{IsOf};
 ghost use Rattle.sort_terms.specs.SortedView.{profiled_in, term_in};
 ghost use Rattle.std.specs.Option.{option_map};
 ghost use Rattle.std.specs.Prelude.{◌≡◌, ◌↔◌, IfOk, None, map};
-ghost use Rattle.term_algebra.specs.Substitution.{substituted};
+ghost use Rattle.lotos_base.specs.Substitution.{substituted};
 
 use crate::drafts::Entry;
 use crate::shapes::shape_copy;
@@ -53,8 +54,7 @@ impl Entry {
         ensures met { IfOk result (λ o. (o ≡ None) ↔ AllHold (D.known_data decider.old)
             (map (test_with (leaves_in (terms_of values.now)))
             (conditions_of self.now.conditions.items))) }
-        ensures same_data { D.known_data decider.new ≡ D.known_data decider.old }
-        ensures same_canon { D.canon decider.new ≡ D.canon decider.old }
+        ensures same_known { KeepsData D.known_data D.canon decider.old decider.new }
     {
         first_unmet(&self.conditions, values, decider)
     }
@@ -73,8 +73,7 @@ impl Entry {
             (terms_of values.now)) }
         ensures is_of { IfOk result
             (λ d. AreTermsOf (D.known_data decider.old).signature (profiles_of d.leaves.items)) }
-        ensures same_data { D.known_data decider.new ≡ D.known_data decider.old }
-        ensures same_canon { D.canon decider.new ≡ D.canon decider.old }
+        ensures same_known { KeepsData D.known_data D.canon decider.old decider.new }
     {
         let shape = shape_copy(*self.leaves.allocator(), &self.shape)?;
         let leaves = instances(&self.leaves, values, decider)?;
@@ -92,8 +91,7 @@ fn instance<D: Deciding>(
     ensures same { IfOk result (λ t. term_in t
         ≡ D.canon decider.old (substituted (leaves_in (terms_of values.now)) (term_in term.now))) }
     ensures is_of { IfOk result (λ t. IsOf (D.known_data decider.old).signature (profiled_in t)) }
-    ensures same_data { D.known_data decider.new ≡ D.known_data decider.old }
-    ensures same_canon { D.canon decider.new ≡ D.canon decider.old }
+    ensures same_known { KeepsData D.known_data D.canon decider.old decider.new }
 {
     let made = Values::Listed(values).put_into(term)?;
     decider.normal(&made)
@@ -112,8 +110,7 @@ fn instances<D: Deciding>(
         (terms_of terms.now.items)) }
     ensures is_of { IfOk result
         (λ made. AreTermsOf (D.known_data decider.old).signature (profiles_of made.items)) }
-    ensures same_data { D.known_data decider.new ≡ D.known_data decider.old }
-    ensures same_canon { D.canon decider.new ≡ D.canon decider.old }
+    ensures same_known { KeepsData D.known_data D.canon decider.old decider.new }
 {
     let mut made = Vec::with_capacity(*terms.allocator(), terms.len())?;
     for term in terms {
@@ -133,8 +130,7 @@ fn first_unmet<D: Deciding>(
     ensures first { IfOk result (λ o. option_map condition_of o
         ≡ unmet_among (D.canon decider.old) (leaves_in (terms_of values.now))
         (conditions_of conditions.now.items)) }
-    ensures same_data { D.known_data decider.new ≡ D.known_data decider.old }
-    ensures same_canon { D.canon decider.new ≡ D.canon decider.old }
+    ensures same_known { KeepsData D.known_data D.canon decider.old decider.new }
 {
     for condition in conditions {
         let left = instance(&condition.0, values, decider)?;

@@ -24,8 +24,8 @@ ghost use Rattle.event_offers.specs.Renaming.{
 };
 ghost use Rattle.std.specs.Option.{option_map};
 ghost use Rattle.std.specs.Prelude.{◌≡◌, ◌++◌, IfOk, IfSome, map, zip};
-ghost use Rattle.term_algebra.specs.Signature.{Signature};
-ghost use Rattle.term_algebra.specs.Substitution.{substituted};
+ghost use Rattle.lotos_base.specs.Signature.{Signature};
+ghost use Rattle.lotos_base.specs.Substitution.{substituted};
 ghost use Rattle.term_match.specs.ProfiledInstance.{profiled_instance};
 
 use crate::copies::draft_copy;

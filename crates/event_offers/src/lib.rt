@@ -18,6 +18,7 @@ pub mod solving;
 pub mod valued;
 pub mod variables;
 
+pub use behaviour_tree::{Label, Spec};
 pub use drafts::{Draft, Entry};
 pub use joining::join_offers;
 pub use menus::Menu;

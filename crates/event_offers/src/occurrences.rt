@@ -3,7 +3,7 @@
 ghost use Rattle.event_offers.specs.Lacking.{all_lack_number, lacks_number};
 ghost use Rattle.sort_terms.specs.TermView.{term_of, terms_of};
 ghost use Rattle.std.specs.Prelude.{◌≡◌};
-ghost use Rattle.term_algebra.specs.Tests.{occurs, occurs_among};
+ghost use Rattle.lotos_base.specs.Tests.{occurs, occurs_among};
 
 use sort_terms::Term;
 

@@ -30,7 +30,7 @@ ghost use Rattle.std.specs.Prelude.{
   slice_get,
   unwrap_or,
 };
-ghost use Rattle.term_algebra.specs.Substitution.{substituted};
+ghost use Rattle.lotos_base.specs.Substitution.{substituted};
 ghost use Rattle.term_match.specs.ProfiledInstance.{profiled_instance, profiled_instances};
 
 use behaviour_tree::Label;

@@ -14,8 +14,8 @@ ghost use Rattle.sort_terms.specs.ProfiledTerm.{IsOf};
 ghost use Rattle.sort_terms.specs.SortedView.{profiled_in, term_in};
 ghost use Rattle.std.specs.Option.{option_map};
 ghost use Rattle.std.specs.Prelude.{◌≡◌, ◌&&◌, IfOk, IfSome, nat_lt, None, Some, if◌then◌else◌};
-ghost use Rattle.term_algebra.specs.Signature.{Signature};
-ghost use Rattle.term_algebra.specs.Tests.{is_ground};
+ghost use Rattle.lotos_base.specs.Signature.{Signature};
+ghost use Rattle.lotos_base.specs.Tests.{is_ground};
 
 use crate::occurrences::has_variable;
 use lotos_base::NoMemory;

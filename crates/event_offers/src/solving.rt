@@ -5,6 +5,7 @@ ghost use Rattle.behaviour_semantics.specs.Solving.{entry_of as left_entry, Solv
 ghost use Rattle.behaviour_tree.specs.Over.{AreTermsOf};
 ghost use Rattle.behaviour_tree.specs.BehaviourTerms.{profiles_of};
 ghost use Rattle.event_offers.specs.Changing.{AreReady, AreReadyPairs, changed_by};
+ghost use Rattle.event_offers.specs.Keeping.{KeepsData};
 ghost use Rattle.event_offers.specs.OfferView.{
   condition_profiles,
   label_profiles,
@@ -14,8 +15,8 @@ ghost use Rattle.event_offers.specs.OfferView.{
 ghost use Rattle.event_offers.specs.Offers.{AreConditionsOf, IsDraftOver, IsEntryOver};
 ghost use Rattle.std.specs.Option.{option_map};
 ghost use Rattle.std.specs.Prelude.{◌≡◌, List, IfNone, IfOk, IfSome, Some};
-ghost use Rattle.term_algebra.specs.Signature.{Signature};
-ghost use Rattle.term_algebra.specs.Term.{Term};
+ghost use Rattle.lotos_base.specs.Signature.{Signature};
+ghost use Rattle.lotos_base.specs.Term.{Term};
 
 use crate::changing::changed_draft;
 use crate::drafts::{Draft, Entry};
@@ -39,8 +40,7 @@ pub fn solve<D: Deciding>(draft: Draft, decider: &mut D) -> Result<Option<Entry>
         → LeavesMeet (D.known_data decider.old) (plain_draft draft) leaves → ⊥)) }
     ensures over { IfOk result (λ o. IfSome o
         (λ entry. IsEntryOver (D.known_data decider.old).signature entry)) }
-    ensures same_data { D.known_data decider.new ≡ D.known_data decider.old }
-    ensures same_canon { D.canon decider.new ≡ D.canon decider.old }
+    ensures same_known { KeepsData D.known_data D.canon decider.old decider.new }
 {
     let mut now = changed_draft(draft, &None, decider)?;
     'solving: loop {
@@ -78,8 +78,7 @@ fn stepped<D: Deciding>(
         (profiles_of made.leaves.items)) }
     ensures conditions { IfOk result (λ made. AreConditionsOf (D.known_data decider.old).signature
         (condition_profiles made.conditions.items)) }
-    ensures same_data { D.known_data decider.new ≡ D.known_data decider.old }
-    ensures same_canon { D.canon decider.new ≡ D.canon decider.old }
+    ensures same_known { KeepsData D.known_data D.canon decider.old decider.new }
 {
     changed_draft(now, &Some(found), decider)
 }

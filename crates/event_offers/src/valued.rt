@@ -4,7 +4,7 @@ ghost use Rattle.event_offers.specs.Values.{profiled_listed, profiled_values, Su
 ghost use Rattle.sort_terms.specs.SortedView.{profiled_in, term_in};
 ghost use Rattle.sort_terms.specs.TermView.{all_profiled, profiled_of};
 ghost use Rattle.std.specs.Prelude.{◌≡◌, ◌∷◌, [], IfOk};
-ghost use Rattle.term_algebra.specs.Substitution.{substituted};
+ghost use Rattle.lotos_base.specs.Substitution.{substituted};
 ghost use Rattle.term_match.specs.ProfiledInstance.{
   profiled_binding,
   profiled_instance,

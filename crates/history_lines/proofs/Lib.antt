@@ -8,3 +8,9 @@ pub mod StayLemmas
 pub mod CallLemmas
 pub mod ServingLemmas
 pub mod ShelfLemmas
+pub mod ReachedLemmas
+pub mod AnsweredLemmas
+mod CaseLemmas
+pub mod StepOnceLemmas
+pub mod LineOnceLemmas
+pub mod ReportOnceLemmas

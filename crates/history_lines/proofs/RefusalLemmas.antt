@@ -3,7 +3,7 @@ use Rattle.std.proofs.Common.{◌≡◌, ℕ, List, ◌++◌, Option, None, Some
 use Rattle.behaviour_semantics.proofs.OptionLemmas.{some_value}
 use Rattle.session_histories.specs.Refusal as plain
 use Rattle.session_histories.specs.Replay.{ReplayRefusal}
-use Rattle.session_reports.specs.CommandRefusal.{replay_refusal_text}
+use Rattle.history_lines.specs.CommandRefusal.{replay_refusal_text}
 use Rattle.history_lines.specs.RefusalView.{at_line, number_for}
 
 -- pieces that were added one after another

@@ -2,26 +2,26 @@
 use Rattle.std.proofs.Common.{◌≡◌, ◌⊎◌, inl, inr, ℕ, ◌+◌, ◌≤◌, Bool, true, false, List, [], ◌∷◌, ◌++◌, Option, Some, None, IfSome, Result, Ok, Err, IfOk, MatchResult, codes, refl, ap, sym, ◌∙◌, subst, arith}
 use Rattle.lotos_base.specs.Counts.{Rises, last_count}
 use Rattle.lotos_base.specs.Outside.{Texts}
-use Rattle.term_algebra.specs.Signature.{Signature}
+use Rattle.lotos_base.specs.Signature.{Signature}
 use Rattle.behaviour_semantics.specs.Label.{Label}
 use Rattle.line_server.specs.RequestLaws.{Carries}
 use Rattle.line_server.specs.Request.{Request, take_step, undo, leave, show_normal, compare, request_of}
 use Rattle.session_histories.specs.Session.{SessionBasis, HasUndone}
-use Rattle.session_reports.specs.Standing.{Standing}
-use Rattle.session_reports.specs.CommandRefusal.{CommandRefusal, command_refusal_text}
-use Rattle.session_reports.specs.Befallen.{Befallen, says, says_faulty, leaves, come_to}
-use Rattle.session_reports.specs.SessionMachine.{history_machine}
-use Rattle.session_lines.specs.Answer.{IsNormal, IsComparison, normal_text, comparison_text}
+use Rattle.history_lines.specs.Standing.{Standing}
+use Rattle.history_lines.specs.CommandRefusal.{CommandRefusal, command_refusal_text}
+use Rattle.history_lines.specs.Befallen.{Befallen, says, says_faulty, leaves, come_to}
+use Rattle.history_lines.specs.SessionMachine.{history_machine}
+use Rattle.session_lines.specs.Answer.{IsNormalAnswer, IsComparison, normal_text, comparison_text}
 use Rattle.session_lines.specs.View.{AddsOutcome}
 use Rattle.session_log.specs.Courses.{IsUndone}
 use Rattle.line_server.specs.Machine.{Counted}
-use Rattle.line_server.specs.Serving.{Serves}
+use Rattle.line_server.specs.Serving.{ServesLine}
 use Rattle.line_server.specs.declared.lines.Answer.{Answer}
-use Rattle.session_reports.specs.StepAnswer.{took, declined, StepComesTo}
-use Rattle.session_reports.specs.ShelfAnswer.{refusal_in}
-use Rattle.session_reports.specs.Answer.{Comes, did_text, undone_text, is_undone, is_at_start}
+use Rattle.history_lines.specs.StepAnswer.{took, declined, StepComesTo}
+use Rattle.history_lines.specs.ShelfAnswer.{refusal_in}
+use Rattle.history_lines.specs.Answer.{RequestComesTo, did_text, undone_text, is_undone, is_at_start}
 use Rattle.history_lines.specs.RefusalView.{decline_of, AddsLine, AddsDecline}
-use Rattle.history_lines.specs.Serving.{Moment, moment_of, ShelfCounts, ends_session, Gives, IsAsBefore, IsBeforeOrBehind, Declines, undo_text}
+use Rattle.history_lines.specs.Serving.{SessionMoment, moment_of, ShelfCounts, ends_session, GivesAnswer, IsAsBefore, IsBeforeOrBehind, Declines, undo_text}
 use Rattle.history_lines.specs.declared.refusals.Decline.{Decline}
 
 -- what a call answers, and what holds where it fails
@@ -51,14 +51,14 @@ is_as_before before after faults faults_after same counted = record {
 
 -- an answer without a fault of the shelf, and one with a fault
 pub gives_said : (before after next : Standing) (faults faults_after : ℕ) (wanted : Request) (text said : List ℕ)
-    → Comes before wanted (says next said) → ends_session wanted ≡ false → text ≡ said → after ≡ next → faults_after ≡ faults
-    → Gives (moment_of before faults) wanted text (moment_of after faults_after)
+    → RequestComesTo before wanted (says next said) → ends_session wanted ≡ false → text ≡ said → after ≡ next → faults_after ≡ faults
+    → GivesAnswer (moment_of before faults) wanted text (moment_of after faults_after)
 gives_said before after next faults faults_after wanted text said comes stays printed same counted =
     record { it = says next said; comes = comes; printed = printed; next = same; quits = sym stays; counted = counted }
 
 pub gives_faulty : (before after next : Standing) (faults faults_after : ℕ) (wanted : Request) (text said : List ℕ)
-    → Comes before wanted (says_faulty next said) → ends_session wanted ≡ false → text ≡ said → after ≡ next
-    → Rises faults faults_after → Gives (moment_of before faults) wanted text (moment_of after faults_after)
+    → RequestComesTo before wanted (says_faulty next said) → ends_session wanted ≡ false → text ≡ said → after ≡ next
+    → Rises faults faults_after → GivesAnswer (moment_of before faults) wanted text (moment_of after faults_after)
 gives_faulty before after next faults faults_after wanted text said comes stays printed same counted =
     record { it = says_faulty next said; comes = comes; printed = printed; next = same; quits = sym stays; counted = counted }
 
@@ -67,7 +67,7 @@ gives_faulty before after next faults faults_after wanted text said comes stays 
 pub gives_step : (before after : Standing) (faults number : ℕ) (terms text : List ℕ) (label : Label)
     → StepComesTo before.basis before.progress number terms (took label after.progress) → after.basis ≡ before.basis
     → after.texts ≡ before.texts → text ≡ did_text after.basis label after.progress
-    → Gives (moment_of before faults) (take_step number terms) text (moment_of after faults)
+    → GivesAnswer (moment_of before faults) (take_step number terms) text (moment_of after faults)
 gives_step before after faults number terms text label comes same kept printed =
     gives_said before after (come_to before after.progress) faults faults (take_step number terms) text
     (did_text before.basis label after.progress) (took label after.progress, comes, refl) refl
@@ -82,14 +82,14 @@ line_alone signature shown why text same is = is ∙ ap (λ (it : Signature). co
 pub gives_declined : (before after : Standing) (faults number : ℕ) (terms text : List ℕ) (decline : Decline) (shown : Signature)
     → Declines (StepComesTo before.basis before.progress number terms) decline → after ≡ before
     → shown ≡ before.basis.data_.signature → AddsDecline shown decline [] text
-    → Gives (moment_of before faults) (take_step number terms) text (moment_of after faults)
+    → GivesAnswer (moment_of before faults) (take_step number terms) text (moment_of after faults)
 gives_declined before after faults number terms text decline shown comes same over adds =
     by (decline_of decline) comes adds
   where
     by : (why : Option CommandRefusal)
         → IfSome why (λ it. StepComesTo before.basis before.progress number terms (declined it))
         → AddsLine shown why [] text
-        → Gives (moment_of before faults) (take_step number terms) text (moment_of after faults)
+        → GivesAnswer (moment_of before faults) (take_step number terms) text (moment_of after faults)
     by None h added = absurd added
     by (Some why) h added =
         gives_said before after before faults faults (take_step number terms) text (refusal_in before why)
@@ -99,7 +99,7 @@ gives_declined before after faults number terms text decline shown comes same ov
 
 pub gives_undone : (before after : Standing) (faults : ℕ) (text : List ℕ) → HasUndone before.progress after.progress
     → after.basis ≡ before.basis → after.texts ≡ before.texts → text ≡ undone_text after.basis after.progress
-    → Gives (moment_of before faults) undo text (moment_of after faults)
+    → GivesAnswer (moment_of before faults) undo text (moment_of after faults)
 gives_undone before after faults text undone same kept printed =
     gives_said before after (come_to before after.progress) faults faults undo text (undone_text before.basis after.progress)
     (is_undone after.progress undone) refl (printed ∙ ap (λ (it : SessionBasis). undone_text it after.progress) same)
@@ -107,7 +107,7 @@ gives_undone before after faults text undone same kept printed =
 
 pub gives_undo : (before after : Standing) (faults : ℕ) (text : List ℕ) (undone : Bool)
     → IsUndone undone before.progress after.progress → after.basis ≡ before.basis → after.texts ≡ before.texts
-    → text ≡ undo_text undone after.basis after.progress → Gives (moment_of before faults) undo text (moment_of after faults)
+    → text ≡ undo_text undone after.basis after.progress → GivesAnswer (moment_of before faults) undo text (moment_of after faults)
 gives_undo before after faults text true is same kept printed = gives_undone before after faults text is same kept printed
 gives_undo before after faults text false is same kept printed =
     gives_said before after before faults faults undo text (codes "nothing to undo\n") (is_at_start is.0) refl printed
@@ -119,33 +119,33 @@ gives_undo before after faults text false is same kept printed =
 pub carried : (n : ℕ) (asked real : Request) → real ≡ asked → Carries n real → Carries n asked
 carried n asked real same h = subst (Carries n) same h
 
-pub for_request : {T E : Type 0} (result : Result T E) (before after : Moment) (items : T → List ℕ) (asked real : Request) → real ≡ asked
-    → MatchResult result (λ (line : T). Gives before asked (items line) after) (λ _. IsBeforeOrBehind before asked after)
-    → MatchResult result (λ (line : T). Gives before real (items line) after) (λ _. IsBeforeOrBehind before real after)
+pub for_request : {T E : Type 0} (result : Result T E) (before after : SessionMoment) (items : T → List ℕ) (asked real : Request) → real ≡ asked
+    → MatchResult result (λ (line : T). GivesAnswer before asked (items line) after) (λ _. IsBeforeOrBehind before asked after)
+    → MatchResult result (λ (line : T). GivesAnswer before real (items line) after) (λ _. IsBeforeOrBehind before real after)
 for_request {T} {E} result before after items asked real same h =
-    subst (λ (it : Request). MatchResult result (λ (line : T). Gives before it (items line) after)
+    subst (λ (it : Request). MatchResult result (λ (line : T). GivesAnswer before it (items line) after)
     (λ (e : E). IsBeforeOrBehind before it after)) (sym same) h
 
 -- an answer that changes nothing and calls nothing
 pub said_alone : {T E : Type 0} (result : Result T E) (before : Standing) (faults : ℕ) (items : T → List ℕ) (wanted : Request)
-    (said : List ℕ) → Comes before wanted (says before said) → ends_session wanted ≡ false
+    (said : List ℕ) → RequestComesTo before wanted (says before said) → ends_session wanted ≡ false
     → IfOk result (λ (line : T). items line ≡ said)
-    → MatchResult result (λ (line : T). Gives (moment_of before faults) wanted (items line) (moment_of before faults))
+    → MatchResult result (λ (line : T). GivesAnswer (moment_of before faults) wanted (items line) (moment_of before faults))
     (λ _. IsBeforeOrBehind (moment_of before faults) wanted (moment_of before faults))
 said_alone {T} {E} result before faults items wanted said comes stays is =
     either_way result (λ (line : T). items line ≡ said)
-    (λ (line : T). Gives (moment_of before faults) wanted (items line) (moment_of before faults))
+    (λ (line : T). GivesAnswer (moment_of before faults) wanted (items line) (moment_of before faults))
     (λ (e : E). IsBeforeOrBehind (moment_of before faults) wanted (moment_of before faults))
     (λ line printed. gives_said before before before faults faults wanted (items line) said comes stays printed refl refl)
     (λ e. inl (is_as_before before before faults faults refl refl)) is
 
 pub left_alone : {T E : Type 0} (result : Result T E) (before : Standing) (faults : ℕ) (items : T → List ℕ)
     → IfOk result (λ (line : T). items line ≡ [])
-    → MatchResult result (λ (line : T). Gives (moment_of before faults) leave (items line) (moment_of before faults))
+    → MatchResult result (λ (line : T). GivesAnswer (moment_of before faults) leave (items line) (moment_of before faults))
     (λ _. IsBeforeOrBehind (moment_of before faults) leave (moment_of before faults))
 left_alone {T} {E} result before faults items is =
     either_way result (λ (line : T). items line ≡ [])
-    (λ (line : T). Gives (moment_of before faults) leave (items line) (moment_of before faults))
+    (λ (line : T). GivesAnswer (moment_of before faults) leave (items line) (moment_of before faults))
     (λ (e : E). IsBeforeOrBehind (moment_of before faults) leave (moment_of before faults))
     (λ line printed.
     record { it = leaves before; comes = refl; printed = printed; next = refl; quits = refl; counted = refl })
@@ -153,15 +153,15 @@ left_alone {T} {E} result before faults items is =
 
 -- a question of which the answer was added
 pub said_normal : (before after : Standing) (faults : ℕ) (terms start text : List ℕ) → start ≡ [] → after ≡ before
-    → AddsOutcome (IsNormal before.basis.data_.signature before.basis.canon terms) (normal_text before.basis.data_.signature) start text
-    → Gives (moment_of before faults) (show_normal terms) text (moment_of after faults)
+    → AddsOutcome (IsNormalAnswer before.basis.data_.signature before.basis.canon terms) (normal_text before.basis.data_.signature) start text
+    → GivesAnswer (moment_of before faults) (show_normal terms) text (moment_of after faults)
 said_normal before after faults terms start text none same adds =
     gives_said before after before faults faults (show_normal terms) text (normal_text before.basis.data_.signature adds.0)
     (adds.0, adds.1, refl) refl (adds.2 ∙ ap (λ (it : List ℕ). it ++ normal_text before.basis.data_.signature adds.0) none) same refl
 
 pub said_comparison : (before after : Standing) (faults : ℕ) (terms start text : List ℕ) → start ≡ [] → after ≡ before
     → AddsOutcome (IsComparison before.basis.data_ terms) comparison_text start text
-    → Gives (moment_of before faults) (compare terms) text (moment_of after faults)
+    → GivesAnswer (moment_of before faults) (compare terms) text (moment_of after faults)
 said_comparison before after faults terms start text none same adds =
     gives_said before after before faults faults (compare terms) text (comparison_text adds.0)
     (adds.0, adds.1, refl) refl (adds.2 ∙ ap (λ (it : List ℕ). it ++ comparison_text adds.0) none) same refl
@@ -184,13 +184,13 @@ counts it before after h = by it.faulty h
 
 pub serves_line : (before after : Standing) (faults faults_after : ℕ) (line : List ℕ) (wanted : Request) (answer : Answer)
     → wanted ≡ request_of line → answer.quits ≡ ends_session wanted
-    → Gives (moment_of before faults) wanted answer.text.items (moment_of after faults_after)
-    → Serves history_machine (before, faults) (after, faults_after) line answer
+    → GivesAnswer (moment_of before faults) wanted answer.text.items (moment_of after faults_after)
+    → ServesLine history_machine (before, faults) (after, faults_after) line answer
 serves_line before after faults faults_after line wanted answer is quits gives =
     let counted = counts gives.it faults faults_after gives.counted in
     record {
       chance = Some gives.it;
-      may = subst (λ (it : Request). Comes before it gives.it) is gives.comes;
+      may = subst (λ (it : Request). RequestComesTo before it gives.it) is gives.comes;
       reply = record { text = gives.printed; next = gives.next; quits = quits ∙ sym gives.quits };
       rises = counted.0;
       counted = counted.1;
@@ -202,12 +202,12 @@ counts_after before after faults faults_after wanted (inl as_before) = omega (ar
 counts_after before after faults faults_after wanted (inr behind) = (counts behind.1.it faults faults_after behind.1.counted).0
 
 -- the same behind an equal moment
-pub at_moment : {T E : Type 0} (result : Result T E) (before after other : Moment) (items : T → List ℕ) (wanted : Request)
+pub at_moment : {T E : Type 0} (result : Result T E) (before after other : SessionMoment) (items : T → List ℕ) (wanted : Request)
     → other ≡ after
-    → MatchResult result (λ (line : T). Gives before wanted (items line) after) (λ _. IsBeforeOrBehind before wanted after)
-    → MatchResult result (λ (line : T). Gives before wanted (items line) other) (λ _. IsBeforeOrBehind before wanted other)
+    → MatchResult result (λ (line : T). GivesAnswer before wanted (items line) after) (λ _. IsBeforeOrBehind before wanted after)
+    → MatchResult result (λ (line : T). GivesAnswer before wanted (items line) other) (λ _. IsBeforeOrBehind before wanted other)
 at_moment {T} {E} result before after other items wanted same h =
-    subst (λ (it : Moment). MatchResult result (λ (line : T). Gives before wanted (items line) it)
+    subst (λ (it : SessionMoment). MatchResult result (λ (line : T). GivesAnswer before wanted (items line) it)
     (λ (e : E). IsBeforeOrBehind before wanted it)) (sym same) h
 
 pub same_moment : (one other : Standing) (faults faults_other : ℕ) → one ≡ other → faults ≡ faults_other

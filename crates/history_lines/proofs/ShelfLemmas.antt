@@ -11,19 +11,19 @@ use Rattle.session_log.specs.RefusalView.{step_refusal_of, TellsReplay, TellsSte
 use Rattle.session_log.specs.declared.refusals.StepRefusal.{StepRefusal}
 use Rattle.session_log.specs.declared.refusals.ReplayFault.{ReplayFault}
 use Rattle.session_log.specs.declared.refusals.ReplayFault.TheVariants as replay_fault
-use Rattle.session_reports.specs.Standing.{Standing, shown_menu, shown_trace}
-use Rattle.session_reports.specs.CommandRefusal.{unread, unwritten, trace_too_long, no_replay, replay_refusal_text}
-use Rattle.session_reports.specs.Befallen.{come_to, with_texts}
-use Rattle.session_reports.specs.ShelfAnswer.{trace_limit, refusal_in, HasPut, MayHavePut, saved_text, is_too_long, is_unwritten, is_saved, StandsUnder, IsMissing, replayed_text, is_failed, is_missing, is_long, is_refused, is_replayed}
+use Rattle.history_lines.specs.Standing.{Standing, shown_menu, shown_trace}
+use Rattle.history_lines.specs.CommandRefusal.{unread, unwritten, trace_too_long, no_replay, replay_refusal_text}
+use Rattle.history_lines.specs.Befallen.{come_to, with_texts}
+use Rattle.history_lines.specs.ShelfAnswer.{trace_limit, refusal_in, HasPut, MayHavePut, saved_text, is_too_long, is_unwritten, is_saved, StandsUnder, IsMissing, replayed_text, is_failed, is_missing, is_long, is_refused, is_replayed}
 use Rattle.history_lines.specs.RefusalView.{AddsFault, at_line}
-use Rattle.history_lines.specs.Serving.{moment_of, Gives, IsAsBefore}
+use Rattle.history_lines.specs.Serving.{moment_of, GivesAnswer, IsAsBefore}
 use Rattle.history_lines.proofs.ServingLemmas.{same_standing, gives_said, gives_faulty}
 
 -- ---- Saving
 
 pub gives_long_trace : (before : Standing) (faults : ℕ) (name text : List ℕ)
     → trace_limit < length (shown_trace before.basis before.progress) → text ≡ refusal_in before (trace_too_long name)
-    → Gives (moment_of before faults) (save name) text (moment_of before faults)
+    → GivesAnswer (moment_of before faults) (save name) text (moment_of before faults)
 gives_long_trace before faults name text long printed =
     gives_said before before before faults faults (save name) text (refusal_in before (trace_too_long name)) (is_too_long long) refl printed
     refl refl
@@ -31,7 +31,7 @@ gives_long_trace before faults name text long printed =
 pub gives_unwritten : (before : Standing) (after : Option Texts) (faults faults_after : ℕ) (name text : List ℕ)
     → length (shown_trace before.basis before.progress) ≤ trace_limit → MayHavePut before.texts after name
     → Rises faults faults_after → text ≡ refusal_in before (unwritten name)
-    → Gives (moment_of before faults) (save name) text (moment_of (with_texts before after) faults_after)
+    → GivesAnswer (moment_of before faults) (save name) text (moment_of (with_texts before after) faults_after)
 gives_unwritten before after faults faults_after name text short may rises printed =
     gives_faulty before (with_texts before after) (with_texts before after) faults faults_after (save name) text
     (refusal_in before (unwritten name)) (is_unwritten after short may) refl printed refl rises
@@ -39,7 +39,7 @@ gives_unwritten before after faults faults_after name text short may rises print
 pub gives_saved : (before : Standing) (after : Option Texts) (faults faults_after : ℕ) (name text : List ℕ)
     → length (shown_trace before.basis before.progress) ≤ trace_limit
     → HasPut before.texts after name (shown_trace before.basis before.progress) → faults_after ≡ faults → text ≡ saved_text name
-    → Gives (moment_of before faults) (save name) text (moment_of (with_texts before after) faults_after)
+    → GivesAnswer (moment_of before faults) (save name) text (moment_of (with_texts before after) faults_after)
 gives_saved before after faults faults_after name text short put counted printed =
     gives_said before (with_texts before after) (with_texts before after) faults faults_after (save name) text (saved_text name)
     (is_saved after short put) refl printed refl counted
@@ -95,21 +95,21 @@ got_long (Some told) name got gets long = by (told name) refl gets
     by (Some text) is h = record { text = text; stands = is; long = longer trace_limit text got h long }
 
 pub gives_long_text : (before : Standing) (faults : ℕ) (name text : List ℕ) → IsLongUnder before.texts name
-    → text ≡ refusal_in before (trace_too_long name) → Gives (moment_of before faults) (replay name) text (moment_of before faults)
+    → text ≡ refusal_in before (trace_too_long name) → GivesAnswer (moment_of before faults) (replay name) text (moment_of before faults)
 gives_long_text before faults name text long printed =
     gives_said before before before faults faults (replay name) text (refusal_in before (trace_too_long name))
     (is_long long.text long.stands long.long) refl printed refl refl
 
 pub gives_failed : (before after : Standing) (faults faults_after : ℕ) (name text : List ℕ) → after ≡ before
     → Rises faults faults_after → text ≡ refusal_in before (unread name)
-    → Gives (moment_of before faults) (replay name) text (moment_of after faults_after)
+    → GivesAnswer (moment_of before faults) (replay name) text (moment_of after faults_after)
 gives_failed before after faults faults_after name text same rises printed =
     gives_faulty before after before faults faults_after (replay name) text (refusal_in before (unread name)) is_failed refl printed same
     rises
 
 pub gives_missing : (before after : Standing) (faults faults_after : ℕ) (name text : List ℕ) → IsMissing before.texts name
     → after ≡ before → faults_after ≡ faults → text ≡ refusal_in before (unread name)
-    → Gives (moment_of before faults) (replay name) text (moment_of after faults_after)
+    → GivesAnswer (moment_of before faults) (replay name) text (moment_of after faults_after)
 gives_missing before after faults faults_after name text missing same counted printed =
     gives_said before after before faults faults_after (replay name) text (refusal_in before (unread name)) (is_missing missing) refl
     printed same counted
@@ -119,7 +119,7 @@ pub gives_replayed : (before after : Standing) (faults : ℕ) (name got text : L
     → ReplayIs before.basis (first_situation before.progress) got (goes_on after.progress) → after.basis ≡ before.basis
     → after.texts ≡ before.texts → count ≡ length after.progress.steps
     → text ≡ codes "replayed " ++ decimal count ++ codes "\n" ++ shown_menu after.basis after.progress
-    → Gives (moment_of before faults) (replay name) text (moment_of after faults)
+    → GivesAnswer (moment_of before faults) (replay name) text (moment_of after faults)
 gives_replayed before after faults name got text count stands short comes same kept counted printed =
     gives_said before after (come_to before after.progress) faults faults (replay name) text
     (replayed_text before.basis after.progress) (is_replayed got after.progress stands short comes) refl
@@ -131,11 +131,11 @@ gives_replayed before after faults name got text count stands short comes same k
 pub gives_refused : (before after : Standing) (faults : ℕ) (name got text : List ℕ) (fault : ReplayFault)
     → StandsUnder before.texts name got → length got ≤ trace_limit
     → TellsReplay (λ why. ReplayIs before.basis (first_situation before.progress) got (stops why)) fault → after ≡ before
-    → AddsFault fault [] text → Gives (moment_of before faults) (replay name) text (moment_of after faults)
+    → AddsFault fault [] text → GivesAnswer (moment_of before faults) (replay name) text (moment_of after faults)
 gives_refused before after faults name got text fault stands short told same adds = by fault told adds
   where
     here : (why : ReplayRefusal) → ReplayIs before.basis (first_situation before.progress) got (stops why)
-        → text ≡ replay_refusal_text why.line why.why → Gives (moment_of before faults) (replay name) text (moment_of after faults)
+        → text ≡ replay_refusal_text why.line why.why → GivesAnswer (moment_of before faults) (replay name) text (moment_of after faults)
     here why comes printed =
         gives_said before after before faults faults (replay name) text (refusal_in before (no_replay why))
         (is_refused got why stands short comes) refl printed same refl
@@ -143,14 +143,14 @@ gives_refused before after faults name got text fault stands short told same add
     stepped : (line : ℕ) (refusal : StepRefusal)
         → TellsStepOf (At (λ why. ReplayIs before.basis (first_situation before.progress) got (stops why)) line) refusal
         → IsSomeAnd (at_line line (step_refusal_of refusal)) (λ why. text ≡ [] ++ replay_refusal_text why.line why.why)
-        → Gives (moment_of before faults) (replay name) text (moment_of after faults)
+        → GivesAnswer (moment_of before faults) (replay name) text (moment_of after faults)
     stepped line refusal h added =
         here (record { line = line; why = step_refused h.0 }) h.2
         (subst (λ (it : Option plain.StepRefusal). IsSomeAnd (at_line line it)
         (λ (why : ReplayRefusal). text ≡ [] ++ replay_refusal_text why.line why.why)) h.1 added)
 
     by : (it : ReplayFault) → TellsReplay (λ why. ReplayIs before.basis (first_situation before.progress) got (stops why)) it
-        → AddsFault it [] text → Gives (moment_of before faults) (replay name) text (moment_of after faults)
+        → AddsFault it [] text → GivesAnswer (moment_of before faults) (replay name) text (moment_of after faults)
     by (replay_fault.BadLine line) h added = here (record { line = line; why = bad_line }) h added
     by (replay_fault.LabelDiffers line kept found) h added =
         here (record { line = line; why = label_differs kept.items found.items }) h added

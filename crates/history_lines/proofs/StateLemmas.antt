@@ -1,6 +1,6 @@
 -- The text of a state, over the signature of the data and over what a session holds.
 use Rattle.std.proofs.Common.{◌≡◌, ℕ, List, [], ◌++◌, codes, ◌∙◌}
-use Rattle.term_algebra.specs.Signature.{Signature}
+use Rattle.lotos_base.specs.Signature.{Signature}
 use Rattle.behaviour_tree.specs.DefinitionView.{specification_of}
 use Rattle.behaviour_tree.specs.StateView.{state_of}
 use Rattle.behaviour_tree.specs.declared.definitions.Spec.{Spec}

@@ -1,11 +1,11 @@
 -- Sessions that stay lawful over their data.
 use Rattle.std.proofs.Common.{◌≡◌, ap, sym, ◌∙◌, subst}
-use Rattle.term_algebra.specs.Term.{Term}
-use Rattle.term_algebra.specs.Equation.{Data}
+use Rattle.lotos_base.specs.Term.{Term}
+use Rattle.lotos_base.specs.Equation.{Data}
 use Rattle.behaviour_tree.specs.declared.definitions.Spec.{Spec}
 use Rattle.sort_terms.specs.EquationView.{data_of}
-use Rattle.equation_book.specs.BookCanon.{book_canon}
-use Rattle.equation_book.specs.declared.book.Book.{Book}
+use Rattle.session_lines.specs.HandedOn.{book_canon}
+use Rattle.session_lines.specs.HandedOn.{Book}
 use Rattle.session_log.specs.CourseView.{basis_over}
 use Rattle.session_log.specs.Kept.{IsLawfulSession}
 use Rattle.session_log.specs.declared.sessions.Session.{Session}

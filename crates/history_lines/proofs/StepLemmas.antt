@@ -5,8 +5,8 @@ use Rattle.lotos_base.specs.WrittenTerm.{WrittenTerm}
 use Rattle.sentence_trees.specs.Reading.{IsTermsFault}
 use Rattle.sentence_trees.specs.declared.fault.ReadFault.{ReadFault}
 use Rattle.sentence_trees.specs.declared.fault.ReadFault.TheVariants as fault
-use Rattle.term_algebra.specs.Signature.{Signature}
-use Rattle.term_algebra.specs.Term.{Term}
+use Rattle.lotos_base.specs.Signature.{Signature}
+use Rattle.lotos_base.specs.Term.{Term}
 use Rattle.sort_terms.specs.Reading.{IsScopeOver}
 use Rattle.sort_terms.proofs.ReadsLemmas.{reads_sorted}
 use Rattle.sort_terms.specs.ReadingOutcome.{IsReading}
@@ -31,8 +31,8 @@ use Rattle.session_log.specs.Entries.{IsEntryAt}
 use Rattle.session_log.specs.RefusalView.{TellsStep}
 use Rattle.session_log.specs.declared.refusals.StepRefusal.{StepRefusal as CodeRefusal}
 use Rattle.session_log.specs.declared.refusals.StepRefusal.TheVariants as step
-use Rattle.session_reports.specs.CommandRefusal.{ill_formed, no_step}
-use Rattle.session_reports.specs.StepAnswer.{StepAnswer, declined, IsFirstMisread, IsCounted, IsValued, StepComesTo, is_unread, is_miscounted, is_misread, is_unmet}
+use Rattle.history_lines.specs.CommandRefusal.{ill_formed, no_step}
+use Rattle.history_lines.specs.StepAnswer.{StepAnswer, declined, IsFirstMisread, IsCounted, AreStepValues, StepComesTo, is_unread, is_miscounted, is_misread, is_unmet}
 use Rattle.history_lines.specs.RefusalView.{declined_for_text}
 use Rattle.history_lines.specs.Serving.{Declines}
 use Rattle.history_lines.specs.Values.{TellsMisread}
@@ -92,7 +92,7 @@ module _ (basis : SessionBasis) (progress : Progress) (number : ℕ) (text : Lis
       misread NoMemory h = tt
 
       pub valued : (values : List Term) → AreRead basis.data_.signature entry.variables terms values
-          → IsValued basis progress.situation.menu number text entry values
+          → AreStepValues basis progress.situation.menu number text entry values
       valued values read = record { terms = terms; counted = is_counted; read = read }
 
 -- ---- Values that are read fit their variables
@@ -118,7 +118,7 @@ read_values signature (sort ∷ sorts) (term ∷ terms) (value ∷ values) h =
     )
 
 module _ (basis : SessionBasis) (progress : Progress) (number : ℕ) (text : List ℕ) (entry : PlainEntry) (values : List Term)
-    (valued_ : IsValued basis progress.situation.menu number text entry values) where
+    (valued_ : AreStepValues basis progress.situation.menu number text entry values) where
   fitting : AreValues basis.data_.signature entry.variables values
   fitting = read_values basis.data_.signature entry.variables valued_.terms values valued_.read
 

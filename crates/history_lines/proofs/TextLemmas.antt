@@ -1,7 +1,7 @@
 -- Texts over the signature of the data, and over what a session holds.
 use Rattle.std.proofs.Common.{◌≡◌, ℕ, List, [], ◌++◌, map, codes, decimal, ◌∙◌}
 use Rattle.lotos_base.specs.Name.{spelling}
-use Rattle.term_algebra.specs.Signature.{Signature}
+use Rattle.lotos_base.specs.Signature.{Signature}
 use Rattle.behaviour_semantics.specs.Label.{Label}
 use Rattle.behaviour_tree.specs.declared.definitions.Spec.{Spec}
 use Rattle.event_offers.specs.declared.menus.Menu.{Menu}

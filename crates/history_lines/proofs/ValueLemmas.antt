@@ -4,10 +4,10 @@ use Rattle.std.proofs.lemmas.List.{map-append, length-map}
 use Rattle.lotos_base.specs.WrittenTerm.{WrittenTerm}
 use Rattle.lotos_base.specs.WrittenView.{written_term_of}
 use Rattle.lotos_base.specs.declared.written_terms.Written.{Written}
-use Rattle.term_algebra.specs.Equation.{Variable}
-use Rattle.term_algebra.specs.Signature.{Signature}
-use Rattle.term_algebra.specs.Sorting.{IsGround}
-use Rattle.term_algebra.specs.Term.{Term}
+use Rattle.lotos_base.specs.Equation.{Variable}
+use Rattle.lotos_base.specs.Signature.{Signature}
+use Rattle.lotos_base.specs.Sorting.{IsGround}
+use Rattle.lotos_base.specs.Term.{Term}
 use Rattle.sort_terms.specs.ProfiledTerm.{IsOf}
 use Rattle.sort_terms.specs.ReadingOutcome as reading
 use Rattle.sort_terms.specs.ReadingOutcome.{ReadingIs, answered, IsReading}
@@ -24,8 +24,8 @@ use Rattle.session_histories.specs.Replay.{AreRead}
 use Rattle.session_lines.specs.View.{refused_for_term}
 use Rattle.session_lines.proofs.QuestionLemmas.{read_ground, is_reading}
 use Rattle.session_log.specs.Entries.{AreGiven}
-use Rattle.session_reports.specs.StepAnswer.{IsFirstMisread}
-use Rattle.history_lines.specs.Values.{IsReadAt, IsMisread, TellsMisread}
+use Rattle.history_lines.specs.StepAnswer.{IsFirstMisread}
+use Rattle.history_lines.specs.Values.{IsValueReadAt, IsTermRefused, TellsMisread}
 use Rattle.session_lines.specs.declared.refusals.Refusal.{Refusal}
 use Rattle.session_lines.specs.declared.refusals.Refusal.TheVariants.{BadCommand, BadTerm, NoMemory}
 
@@ -35,7 +35,7 @@ use Rattle.session_lines.specs.declared.refusals.Refusal.TheVariants.{BadCommand
 pub read_at : (signature : Signature) (scope : List Variable) (term : WrittenTerm) (sort : ℕ) (value : Sorted) → scope ≡ []
     → IsOf signature (profiled_in value)
     → ReadingIs signature scope term (Some sort) (answered (record { term = term_in value; sort = value.sort }))
-    → IsReadAt signature term sort value
+    → IsValueReadAt signature term sort value
 read_at signature scope term sort value none is_of read =
     let here : ReadingIs signature [] term (Some sort) (answered (record { term = term_in value; sort = value.sort })) =
     subst (λ (it : List Variable). ReadingIs signature it term (Some sort)
@@ -48,7 +48,7 @@ read_at signature scope term sort value none is_of read =
     }
 
 -- a term that is not read is told by its number
-told_misread : (Is : reading.Refusal → Type 0) (fault : SortFault) → UnlessNoMemory fault Is → TellsMisread Is (refused_for_term fault)
+told_misread : (Is : reading.ReadingRefusal → Type 0) (fault : SortFault) → UnlessNoMemory fault Is → TellsMisread Is (refused_for_term fault)
 told_misread Is (sort_fault.UnknownSort place) is = (reading.unknown_sort _, is, refl)
 told_misread Is (sort_fault.UnknownName place) is = (reading.unknown_name _, is, refl)
 told_misread Is (sort_fault.NoReading place) is = (reading.no_reading _, is, refl)
@@ -57,13 +57,13 @@ told_misread Is sort_fault.NoMemory is = tt
 
 pub misread_at : (signature : Signature) (scope : List Variable) (term : WrittenTerm) (sort : ℕ) (fault : SortFault) → scope ≡ []
     → UnlessNoMemory fault (λ r. ReadingIs signature scope term (Some sort) (reading.refused r))
-    → TellsMisread (IsMisread signature term sort) (refused_for_term fault)
+    → TellsMisread (IsTermRefused signature term sort) (refused_for_term fault)
 misread_at signature scope term sort fault none is =
-    told_misread (IsMisread signature term sort) fault
+    told_misread (IsTermRefused signature term sort) fault
     (subst (λ (it : List Variable). UnlessNoMemory fault (λ r. ReadingIs signature it term (Some sort) (reading.refused r))) none is)
 
 -- a reason that leads to another one
-tells_misread : (Is Other : reading.Refusal → Type 0) → ((why : reading.Refusal) → Is why → Other why) → (refusal : Refusal)
+tells_misread : (Is Other : reading.ReadingRefusal → Type 0) → ((why : reading.ReadingRefusal) → Is why → Other why) → (refusal : Refusal)
     → TellsMisread Is refusal → TellsMisread Other refusal
 tells_misread Is Other so BadCommand h = h
 tells_misread Is Other so (BadTerm number) h = (h.0, so h.0 h.1, h.2)
@@ -82,7 +82,7 @@ from_here xs index x below is =
 pub record AreHalfRead (signature : Signature) (sorts : List ℕ) (terms : List WrittenTerm) (index : ℕ) (values : List Sorted) : Type 0 where
   pub read : (more : List Term) → AreRead signature (drop index sorts) (drop index terms) more
       → AreRead signature sorts terms (terms_of values ++ more)
-  pub misread : (why : reading.Refusal) → IsFirstMisread signature (drop index sorts) (drop index terms) why
+  pub misread : (why : reading.ReadingRefusal) → IsFirstMisread signature (drop index sorts) (drop index terms) why
       → IsFirstMisread signature sorts terms why
   pub given : AreGiven signature values
 
@@ -92,7 +92,7 @@ none_read signature sorts terms values e =
     subst (AreHalfRead signature sorts terms 0) (sym e)
     (record { read = λ more h. h; misread = λ why h. h; given = record { terms = tt; ground = tt } })
 
-value_ground : (signature : Signature) (term : WrittenTerm) (sort : ℕ) (value : Sorted) → IsReadAt signature term sort value
+value_ground : (signature : Signature) (term : WrittenTerm) (sort : ℕ) (value : Sorted) → IsValueReadAt signature term sort value
     → IsGround (term_in value)
 value_ground signature term sort value h =
     let is : IsReading signature [] term (Some sort) (record { term = term_in value; sort = sort }) =
@@ -101,7 +101,7 @@ value_ground signature term sort value h =
 
 one_read : (signature : Signature) (sorts : List ℕ) (terms : List WrittenTerm) (index : ℕ) (values : List Sorted)
     (term : WrittenTerm) (sort : ℕ) (value : Sorted) → index < length terms → term ≡ get_or terms index term → index < length sorts
-    → sort ≡ get_or sorts index sort → AreHalfRead signature sorts terms index values → IsReadAt signature term sort value
+    → sort ≡ get_or sorts index sort → AreHalfRead signature sorts terms index values → IsValueReadAt signature term sort value
     → AreHalfRead signature sorts terms (index + 1) (values ++ (value ∷ []))
 one_read signature sorts terms index values term sort value below is below_sorts is_sort half h =
     let rest : drop index sorts ≡ sort ∷ drop (index + 1) sorts = from_here sorts index sort below_sorts is_sort in
@@ -128,9 +128,9 @@ one_read signature sorts terms index values term sort value below is below_sorts
     }
 
 one_misread : (signature : Signature) (sorts : List ℕ) (terms : List WrittenTerm) (index : ℕ) (values : List Sorted)
-    (term : WrittenTerm) (sort : ℕ) (why : reading.Refusal) → index < length terms → term ≡ get_or terms index term
+    (term : WrittenTerm) (sort : ℕ) (why : reading.ReadingRefusal) → index < length terms → term ≡ get_or terms index term
     → index < length sorts → sort ≡ get_or sorts index sort → AreHalfRead signature sorts terms index values
-    → IsMisread signature term sort why → IsFirstMisread signature sorts terms why
+    → IsTermRefused signature term sort why → IsFirstMisread signature sorts terms why
 one_misread signature sorts terms index values term sort why below is below_sorts is_sort half h =
     half.misread why
     (subst (λ (it : List ℕ). IsFirstMisread signature it (drop index terms) why) (sym (from_here sorts index sort below_sorts is_sort))
@@ -170,16 +170,16 @@ module _ (signature : Signature) (sorts : List ℕ) (terms : List Written) (inde
     is_mapped : written_term_of term ≡ get_or (map written_term_of terms) index (written_term_of term)
     is_mapped = ap written_term_of is ∙ sym (mapped_at written_term_of terms index term)
 
-    pub next_read : (value : Sorted) → IsReadAt signature (written_term_of term) sort value
+    pub next_read : (value : Sorted) → IsValueReadAt signature (written_term_of term) sort value
         → AreHalfRead signature sorts (map written_term_of terms) (index + 1) (values ++ (value ∷ []))
     next_read value h =
         one_read signature sorts (map written_term_of terms) index values (written_term_of term) sort value below_mapped is_mapped
         (omega (arith, below, counted)) is_sort half h
 
-    pub next_told : (refusal : Refusal) → TellsMisread (IsMisread signature (written_term_of term) sort) refusal
+    pub next_told : (refusal : Refusal) → TellsMisread (IsTermRefused signature (written_term_of term) sort) refusal
         → TellsMisread (IsFirstMisread signature sorts (map written_term_of terms)) refusal
     next_told refusal h =
-        tells_misread (IsMisread signature (written_term_of term) sort) (IsFirstMisread signature sorts (map written_term_of terms))
+        tells_misread (IsTermRefused signature (written_term_of term) sort) (IsFirstMisread signature sorts (map written_term_of terms))
         (λ why m.
         one_misread signature sorts (map written_term_of terms) index values (written_term_of term) sort why below_mapped is_mapped
         (omega (arith, below, counted)) is_sort half m)

@@ -3,3 +3,17 @@ pub mod RefusalView
 pub mod Serving
 pub mod Calls
 pub mod Values
+pub mod Beginning
+pub mod Reached
+pub mod Answered
+pub mod ReportLaws
+pub mod Standing
+pub mod CommandRefusal
+pub mod StepAnswer
+pub mod Befallen
+pub mod ShelfAnswer
+pub mod Answer
+pub mod SessionMachine
+pub mod AnswerCases
+pub mod OutcomeLaws
+pub mod HandedOn

@@ -1,17 +1,17 @@
 -- Where the sessions of the code stand.
 use Rattle.std.specs.Prelude.{◌≡◌, Option}
 use Rattle.lotos_base.specs.Outside.{Texts}
-use Rattle.term_algebra.specs.Term.{Term}
-use Rattle.term_algebra.specs.Equation.{Data}
+use Rattle.lotos_base.specs.Term.{Term}
+use Rattle.lotos_base.specs.Equation.{Data}
 use Rattle.behaviour_tree.specs.declared.definitions.Spec.{Spec}
 use Rattle.sort_terms.specs.EquationView.{data_of}
 use Rattle.sort_terms.specs.ReaderView.{signature_read}
 use Rattle.sort_terms.specs.SignatureView.{signature_of}
-use Rattle.equation_book.specs.BookCanon.{book_canon}
+use Rattle.session_lines.specs.HandedOn.{book_canon}
 use Rattle.session_histories.specs.Session.{SessionBasis, Progress}
 use Rattle.session_log.specs.CourseView.{basis_over, progress_of}
 use Rattle.session_log.specs.Kept.{IsLawfulSession}
-use Rattle.session_reports.specs.Standing.{Standing}
+use Rattle.history_lines.specs.Standing.{Standing}
 use Rattle.history_lines.specs.declared.lines.HistoryLines.{HistoryLines}
 
 -- what the session goes over, and how far it has come

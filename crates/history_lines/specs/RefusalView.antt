@@ -1,6 +1,6 @@
 -- The refusals that those of the code stand for, and the lines that are added for them.
 use Rattle.std.specs.Prelude.{◌≡◌, ℕ, List, ◌++◌, Option, None, Some, IsSomeAnd}
-use Rattle.term_algebra.specs.Signature.{Signature}
+use Rattle.lotos_base.specs.Signature.{Signature}
 use Rattle.sentence_trees.specs.declared.fault.ReadFault.{ReadFault}
 use Rattle.session_histories.specs.Refusal as plain
 use Rattle.session_histories.specs.Replay.{ReplayRefusal, bad_line, step_refused, label_differs}
@@ -10,14 +10,14 @@ use Rattle.session_log.specs.RefusalView.{step_refusal_of}
 use Rattle.session_log.specs.declared.refusals.StepRefusal.{StepRefusal}
 use Rattle.session_log.specs.declared.refusals.ReplayFault.{ReplayFault}
 use Rattle.session_log.specs.declared.refusals.ReplayFault.TheVariants as replay
-use Rattle.session_reports.specs.CommandRefusal.{CommandRefusal, ill_formed, no_step, command_refusal_text, step_refusal_text, replay_refusal_text, step_code}
+use Rattle.history_lines.specs.CommandRefusal.{CommandRefusal, ill_formed, no_step, command_refusal_text, step_refusal_text, replay_refusal_text, step_code}
 use Rattle.history_lines.specs.declared.refusals.Decline.{Decline}
 use Rattle.history_lines.specs.declared.refusals.Decline.TheVariants.{Terms, Step}
 
 -- ---- Steps
 
 -- why the line of a step is refused; want of memory is no reason
-abbrev pub for_terms : Option questions.Refusal → Option CommandRefusal
+abbrev pub for_terms : Option questions.QuestionRefusal → Option CommandRefusal
 for_terms None = None
 for_terms (Some refusal) = Some (ill_formed refusal)
 

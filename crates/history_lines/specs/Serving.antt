@@ -3,20 +3,20 @@
 use Rattle.std.specs.Prelude.{◌≡◌, ◌⊎◌, ℕ, Bool, true, false, List, IfSome, codes}
 use Rattle.lotos_base.specs.Counts.{Rises}
 use Rattle.line_server.specs.Request.{Request, undo, leave}
-use Rattle.session_reports.specs.Standing.{Standing}
-use Rattle.session_reports.specs.Befallen.{Befallen}
-use Rattle.session_reports.specs.StepAnswer.{StepAnswer, declined}
+use Rattle.history_lines.specs.Standing.{Standing}
+use Rattle.history_lines.specs.Befallen.{Befallen}
+use Rattle.history_lines.specs.StepAnswer.{StepAnswer, declined}
 use Rattle.session_histories.specs.Session.{SessionBasis, Progress}
-use Rattle.session_reports.specs.Answer.{Comes, undone_text}
+use Rattle.history_lines.specs.Answer.{RequestComesTo, undone_text}
 use Rattle.history_lines.specs.RefusalView.{decline_of}
 use Rattle.history_lines.specs.declared.refusals.Decline.{Decline}
 
 -- a session beside a shelf, and the shelf's count of faults
-pub record Moment : Type 0 where
+pub record SessionMoment : Type 0 where
   pub standing : Standing
   pub faults : ℕ
 
-abbrev pub moment_of : Standing → ℕ → Moment
+abbrev pub moment_of : Standing → ℕ → SessionMoment
 moment_of standing faults = record { standing = standing; faults = faults }
 
 -- the shelf counted a fault, or none
@@ -31,24 +31,24 @@ ends_session _ = false
 
 -- The text is the answer to the request, and session and shelf are as it leaves them. The shelf counted a fault exactly where
 -- the answer says so.
-pub record Gives (before : Moment) (request : Request) (text : List ℕ) (after : Moment) : Type 0 where
+pub record GivesAnswer (before : SessionMoment) (request : Request) (text : List ℕ) (after : SessionMoment) : Type 0 where
   pub it : Befallen
-  pub comes : Comes before.standing request it
+  pub comes : RequestComesTo before.standing request it
   pub printed : text ≡ it.reply.text
   pub next : after.standing ≡ it.reply.next
   pub quits : it.reply.quits ≡ ends_session request
   pub counted : ShelfCounts it.faulty before.faults after.faults
 
 -- Session and shelf are as before. A shelf that does not tell its texts is not spoken of.
-pub record IsAsBefore (before after : Moment) : Type 0 where
+pub record IsAsBefore (before after : SessionMoment) : Type 0 where
   pub basis : after.standing.basis ≡ before.standing.basis
   pub progress : after.standing.progress ≡ before.standing.progress
   pub texts : IfSome before.standing.texts (λ told. after.standing.texts ≡ before.standing.texts)
   pub faults : after.faults ≡ before.faults
 
 -- Session and shelf are as before the line, or as they are behind it.
-abbrev pub IsBeforeOrBehind : Moment → Request → Moment → Type 0
-IsBeforeOrBehind before request after = IsAsBefore before after ⊎ ((text : List ℕ) × Gives before request text after)
+abbrev pub IsBeforeOrBehind : SessionMoment → Request → SessionMoment → Type 0
+IsBeforeOrBehind before request after = IsAsBefore before after ⊎ ((text : List ℕ) × GivesAnswer before request text after)
 
 -- the line of a step is refused, unless memory was wanted
 abbrev pub Declines : (StepAnswer → Type 0) → Decline → Type 0

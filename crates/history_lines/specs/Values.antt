@@ -1,7 +1,7 @@
 -- The readings of terms at the sorts of their variables.
 use Rattle.std.specs.Prelude.{◌≡◌, ℕ, List, [], Some}
 use Rattle.lotos_base.specs.WrittenTerm.{WrittenTerm}
-use Rattle.term_algebra.specs.Signature.{Signature}
+use Rattle.lotos_base.specs.Signature.{Signature}
 use Rattle.sort_terms.specs.ProfiledTerm.{IsOf}
 use Rattle.sort_terms.specs.ReadingOutcome as reading
 use Rattle.sort_terms.specs.ReadingOutcome.{ReadingIs, answered}
@@ -11,28 +11,28 @@ use Rattle.behaviour_semantics.specs.Solving.{Entry}
 use Rattle.behaviour_tree.specs.BehaviourView.{terms_of}
 use Rattle.session_histories.specs.Session.{SessionBasis, Progress}
 use Rattle.session_log.specs.Entries.{AreGiven}
-use Rattle.session_reports.specs.StepAnswer.{IsValued}
+use Rattle.history_lines.specs.StepAnswer.{AreStepValues}
 use Rattle.session_lines.specs.Refusal.{term_number}
 use Rattle.session_lines.specs.declared.refusals.Refusal.{Refusal}
 use Rattle.session_lines.specs.declared.refusals.Refusal.TheVariants.{BadCommand, BadTerm, NoMemory}
 
 -- the reading of a term at a sort
-pub record IsReadAt (signature : Signature) (term : WrittenTerm) (sort : ℕ) (value : Sorted) : Type 0 where
+pub record IsValueReadAt (signature : Signature) (term : WrittenTerm) (sort : ℕ) (value : Sorted) : Type 0 where
   pub is_of : IsOf signature (profiled_in value)
   pub read : ReadingIs signature [] term (Some sort) (answered (record { term = term_in value; sort = sort }))
 
 -- the term is refused at the sort
-abbrev pub IsMisread : Signature → WrittenTerm → ℕ → reading.Refusal → Type 0
-IsMisread signature term sort refusal = ReadingIs signature [] term (Some sort) (reading.refused refusal)
+abbrev pub IsTermRefused : Signature → WrittenTerm → ℕ → reading.ReadingRefusal → Type 0
+IsTermRefused signature term sort refusal = ReadingIs signature [] term (Some sort) (reading.refused refusal)
 
 -- the number of a refusal that the relation has, or memory was wanted
-abbrev pub TellsMisread : (reading.Refusal → Type 0) → Refusal → Type 0
+abbrev pub TellsMisread : (reading.ReadingRefusal → Type 0) → Refusal → Type 0
 TellsMisread Is BadCommand = ⊥
-TellsMisread Is (BadTerm number) = (refusal : reading.Refusal) × Is refusal × (number ≡ term_number refusal)
+TellsMisread Is (BadTerm number) = (refusal : reading.ReadingRefusal) × Is refusal × (number ≡ term_number refusal)
 TellsMisread Is NoMemory = Unit {0}
 
 -- the values are those in the text for the entry with this number, and ground terms of the signature
-pub record Chooses (basis : SessionBasis) (progress : Progress) (number : ℕ) (text : List ℕ) (values : List Sorted) : Type 0 where
+pub record ChoosesValues (basis : SessionBasis) (progress : Progress) (number : ℕ) (text : List ℕ) (values : List Sorted) : Type 0 where
   pub entry : Entry
-  pub valued : IsValued basis progress.situation.menu number text entry (terms_of values)
+  pub valued : AreStepValues basis progress.situation.menu number text entry (terms_of values)
   pub given : AreGiven basis.data_.signature values

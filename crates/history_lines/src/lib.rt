@@ -1,8 +1,12 @@
 //! The lines of a session and their answers: steps, undo, the trace and its texts on a shelf, the
-//! behaviour and the menu, questions on the data.
+//! behaviour and the menu, questions on the data; over plain values, what each line comes to, the
+//! states that lines lead to, and the report of a whole session.
 #![tactic(auto)]
 
+pub mod cases;
+pub mod laws;
 pub mod lines;
+pub mod outcome_laws;
 pub mod refusals;
 pub mod replaying;
 pub mod saving;
@@ -12,3 +16,4 @@ pub mod texts;
 pub mod values;
 
 pub use lines::HistoryLines;
+pub use session_log::Session;

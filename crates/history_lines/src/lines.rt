@@ -1,7 +1,7 @@
 //! A session that answers lines.
 
-use equation_book::Book;
 use menu_builder::MenuMaker;
+use session_lines::Book;
 use session_log::Session;
 use sort_terms::{Reader, Signature};
 

@@ -6,11 +6,10 @@ ghost use Rattle.sort_terms.specs.SignatureView.{signature_of};
 ghost use Rattle.std.specs.Prelude.{◌≡◌, ◌++◌, OnOk, codes, decimal, option_map};
 
 use lotos_base::NoMemory;
-use lotos_grammar::ReadFault;
 use printed_texts::brackets::{push_number, push_text};
 use printed_texts::labels::push_value;
-use session_lines::Refusal;
 use session_lines::refusals::push_refusal;
+use session_lines::{ReadFault, Refusal};
 use session_log::{ReplayFault, StepRefusal};
 use sort_terms::{Signature, Sorted};
 

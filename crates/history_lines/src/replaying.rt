@@ -7,12 +7,12 @@ ghost use Rattle.history_lines.specs.LinesView.{
   reached,
   standing_of,
 };
-ghost use Rattle.history_lines.specs.Serving.{moment_of, Gives, IsBeforeOrBehind};
+ghost use Rattle.history_lines.specs.Serving.{moment_of, GivesAnswer, IsBeforeOrBehind};
 ghost use Rattle.line_server.specs.Request.{replay as replay_text};
 ghost use Rattle.lotos_base.specs.Counts.{next_count};
 ghost use Rattle.lotos_base.specs.Outside.{Gets, Texts};
-ghost use Rattle.session_reports.specs.ShelfAnswer.{StandsUnder, trace_limit};
-ghost use Rattle.session_reports.specs.Standing.{shown_menu};
+ghost use Rattle.history_lines.specs.ShelfAnswer.{StandsUnder, trace_limit};
+ghost use Rattle.history_lines.specs.Standing.{shown_menu};
 ghost use Rattle.session_histories.specs.Replay.{ReplayIs, goes_on, stops};
 ghost use Rattle.session_histories.specs.Session.{first_situation};
 ghost use Rattle.session_log.specs.RefusalView.{TellsReplay};
@@ -54,7 +54,7 @@ impl<M: MenuMaker> HistoryLines<'_, M> {
     ) -> Result<Vec<u8>, NoMemory>
         requires serving { IsServing M.suits self.old }
         ensures answered { MatchResult result
-            (λ line. Gives (moment_of (standing_of self.old (F.texts shelf.old))
+            (λ line. GivesAnswer (moment_of (standing_of self.old (F.texts shelf.old))
             (F.faults shelf.old))
             (replay_text name.now) line.items
             (moment_of (standing_of self.new (F.texts shelf.new)) (F.faults shelf.new)))
@@ -80,7 +80,7 @@ impl<M: MenuMaker> HistoryLines<'_, M> {
         ensures answered { (texts : Option Texts) (faults : ℕ)
             → IfSome texts (λ told. Gets told name.now (trace_limit + 1) got.now)
             → MatchResult result
-            (λ line. Gives (moment_of (standing_of self.old texts) faults) (replay_text name.now)
+            (λ line. GivesAnswer (moment_of (standing_of self.old texts) faults) (replay_text name.now)
             line.items (moment_of (standing_of self.new texts) faults))
             (λ _. IsBeforeOrBehind (moment_of (standing_of self.old texts) faults)
             (replay_text name.now) (moment_of (standing_of self.new texts) faults)) }
@@ -99,7 +99,7 @@ impl<M: MenuMaker> HistoryLines<'_, M> {
         ensures answered { (texts : Option Texts) (faults : ℕ)
             → StandsUnder texts name.now text.now
             → MatchResult result
-            (λ line. Gives (moment_of (standing_of self.old texts) faults) (replay_text name.now)
+            (λ line. GivesAnswer (moment_of (standing_of self.old texts) faults) (replay_text name.now)
             line.items (moment_of (standing_of self.new texts) faults))
             (λ _. IsBeforeOrBehind (moment_of (standing_of self.old texts) faults)
             (replay_text name.now) (moment_of (standing_of self.new texts) faults)) }

@@ -1,11 +1,11 @@
 //! The trace, and its texts on a shelf.
 
 ghost use Rattle.history_lines.specs.LinesView.{IsServing, basis_of, reached, standing_of};
-ghost use Rattle.history_lines.specs.Serving.{moment_of, Gives, IsBeforeOrBehind};
+ghost use Rattle.history_lines.specs.Serving.{moment_of, GivesAnswer, IsBeforeOrBehind};
 ghost use Rattle.line_server.specs.Request.{save as save_trace};
 ghost use Rattle.lotos_base.specs.Counts.{next_count};
-ghost use Rattle.session_reports.specs.ShelfAnswer.{trace_limit};
-ghost use Rattle.session_reports.specs.Standing.{shown_trace};
+ghost use Rattle.history_lines.specs.ShelfAnswer.{trace_limit};
+ghost use Rattle.history_lines.specs.Standing.{shown_trace};
 ghost use Rattle.std.specs.Prelude.{◌≡◌, ◌⊎◌, ◌≤◌, IfOk, MatchResult, length};
 
 use crate::lines::HistoryLines;
@@ -41,7 +41,7 @@ impl<M: MenuMaker> HistoryLines<'_, M> {
     ) -> Result<Vec<u8>, NoMemory>
         requires serving { IsServing M.suits self.now }
         ensures answered { MatchResult result
-            (λ line. Gives (moment_of (standing_of self.now (F.texts shelf.old))
+            (λ line. GivesAnswer (moment_of (standing_of self.now (F.texts shelf.old))
             (F.faults shelf.old))
             (save_trace name.now) line.items
             (moment_of (standing_of self.now (F.texts shelf.new)) (F.faults shelf.new)))
@@ -70,7 +70,7 @@ impl<M: MenuMaker> HistoryLines<'_, M> {
         requires trace { trace.now ≡ shown_trace (basis_of self.now) (reached self.now) }
         requires short { length trace.now ≤ trace_limit }
         ensures answered { MatchResult result
-            (λ line. Gives (moment_of (standing_of self.now (F.texts shelf.old))
+            (λ line. GivesAnswer (moment_of (standing_of self.now (F.texts shelf.old))
             (F.faults shelf.old))
             (save_trace name.now) line.items
             (moment_of (standing_of self.now (F.texts shelf.new)) (F.faults shelf.new)))

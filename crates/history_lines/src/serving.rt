@@ -2,12 +2,12 @@
 
 ghost use Rattle.history_lines.specs.Calls.{CallsShelf};
 ghost use Rattle.history_lines.specs.LinesView.{IsServing, basis_of, reached, standing_of};
-ghost use Rattle.history_lines.specs.Serving.{moment_of, Gives, IsBeforeOrBehind, ends_session};
+ghost use Rattle.history_lines.specs.Serving.{moment_of, GivesAnswer, IsBeforeOrBehind, ends_session};
 ghost use Rattle.line_server.specs.Request.{compare, show_normal};
 ghost use Rattle.line_server.specs.RequestView.{wants};
 ghost use Rattle.line_server.specs.RequestLaws.{Carries};
 ghost use Rattle.lotos_base.specs.Outside.{Texts};
-ghost use Rattle.session_reports.specs.Standing.{shown_menu, state_line};
+ghost use Rattle.history_lines.specs.Standing.{shown_menu, state_line};
 ghost use Rattle.std.specs.Prelude.{
   ◌≡◌,
   ◌+◌,
@@ -44,7 +44,7 @@ impl<M: MenuMaker> HistoryLines<'_, M> {
         requires serving { IsServing M.suits self.old }
         requires short { (n : ℕ) × (n + 1 < 2 ^ 32) × Carries n (wants request) }
         ensures answered { MatchResult result
-            (λ line. Gives (moment_of (standing_of self.old (F.texts shelf.old))
+            (λ line. GivesAnswer (moment_of (standing_of self.old (F.texts shelf.old))
             (F.faults shelf.old))
             (wants request.entry) line.items
             (moment_of (standing_of self.new (F.texts shelf.new)) (F.faults shelf.new)))
@@ -77,7 +77,7 @@ impl<M: MenuMaker> HistoryLines<'_, M> {
         requires serving { IsServing M.suits self.old }
         requires short { length terms.now + 1 < 2 ^ 32 }
         ensures answered { (texts : Option Texts) (faults : ℕ) → MatchResult result
-            (λ line. Gives (moment_of (standing_of self.old texts) faults) (show_normal terms.now)
+            (λ line. GivesAnswer (moment_of (standing_of self.old texts) faults) (show_normal terms.now)
             line.items (moment_of (standing_of self.new texts) faults))
             (λ _. IsBeforeOrBehind (moment_of (standing_of self.old texts) faults)
             (show_normal terms.now) (moment_of (standing_of self.new texts) faults)) }
@@ -100,7 +100,7 @@ impl<M: MenuMaker> HistoryLines<'_, M> {
         requires serving { IsServing M.suits self.old }
         requires short { length terms.now + 1 < 2 ^ 32 }
         ensures answered { (texts : Option Texts) (faults : ℕ) → MatchResult result
-            (λ line. Gives (moment_of (standing_of self.old texts) faults) (compare terms.now)
+            (λ line. GivesAnswer (moment_of (standing_of self.old texts) faults) (compare terms.now)
             line.items (moment_of (standing_of self.new texts) faults))
             (λ _. IsBeforeOrBehind (moment_of (standing_of self.old texts) faults)
             (compare terms.now) (moment_of (standing_of self.new texts) faults)) }
@@ -155,9 +155,9 @@ fn ends(request: &Request<'_>) -> bool
 
 impl<M: MenuMaker> Lines for HistoryLines<'_, M> {
     ghost use Rattle.history_lines.specs.LinesView.{IsServing, standing_of};
-    ghost use Rattle.session_reports.specs.Befallen.{Befallen};
-    ghost use Rattle.session_reports.specs.SessionMachine.{history_machine};
-    ghost use Rattle.session_reports.specs.Standing.{Standing};
+    ghost use Rattle.history_lines.specs.Befallen.{Befallen};
+    ghost use Rattle.history_lines.specs.SessionMachine.{history_machine};
+    ghost use Rattle.history_lines.specs.Standing.{Standing};
     ghost use Rattle.std.specs.Prelude.{Option};
 
     ghost State = { Standing };

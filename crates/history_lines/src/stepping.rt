@@ -8,14 +8,14 @@ ghost use Rattle.history_lines.specs.LinesView.{
   reached,
   standing_of,
 };
-ghost use Rattle.history_lines.specs.Serving.{moment_of, Declines, Gives, IsBeforeOrBehind};
+ghost use Rattle.history_lines.specs.Serving.{moment_of, Declines, GivesAnswer, IsBeforeOrBehind};
 ghost use Rattle.history_lines.specs.Serving.{undo_text};
-ghost use Rattle.history_lines.specs.Values.{Chooses};
+ghost use Rattle.history_lines.specs.Values.{ChoosesValues};
 ghost use Rattle.line_server.specs.Request.{take_step, undo as undo_step};
 ghost use Rattle.lotos_base.specs.Outside.{Texts};
 ghost use Rattle.lotos_base.specs.WrittenView.{written_term_of};
-ghost use Rattle.session_reports.specs.Answer.{did_text};
-ghost use Rattle.session_reports.specs.StepAnswer.{StepComesTo, took};
+ghost use Rattle.history_lines.specs.Answer.{did_text};
+ghost use Rattle.history_lines.specs.StepAnswer.{StepComesTo, took};
 ghost use Rattle.session_lines.specs.Refusal.{AreTerms};
 ghost use Rattle.std.specs.Prelude.{
   ◌≡◌,
@@ -36,8 +36,8 @@ use crate::texts::{bare_line, decline_line, did_line, undone_line};
 use crate::values::values_at;
 use behaviour_tree::Label;
 use lotos_base::{NoMemory, Written};
-use lotos_grammar::read_terms;
 use menu_builder::MenuMaker;
+use session_lines::read_terms;
 use session_log::entries::counted_entry;
 use sort_terms::Sorted;
 use std::alloc::Global;
@@ -60,7 +60,7 @@ impl<M: MenuMaker> HistoryLines<'_, M> {
         requires serving { IsServing M.suits self.old }
         requires short { length text.now + 1 < 2 ^ 32 }
         ensures answered { (texts : Option Texts) (faults : ℕ) → MatchResult result
-            (λ line. Gives (moment_of (standing_of self.old texts) faults)
+            (λ line. GivesAnswer (moment_of (standing_of self.old texts) faults)
             (take_step number text.now)
             line.items (moment_of (standing_of self.new texts) faults))
             (λ _. IsBeforeOrBehind (moment_of (standing_of self.old texts) faults)
@@ -116,7 +116,7 @@ impl<M: MenuMaker> HistoryLines<'_, M> {
         requires serving { IsServing M.suits self.now }
         requires there { AreTerms text.now (map written_term_of terms.now.items) }
         ensures { MatchResult result
-            (λ values. Chooses (basis_of self.now) (reached self.now) number text.now values.items)
+            (λ values. ChoosesValues (basis_of self.now) (reached self.now) number text.now values.items)
             (Declines (StepComesTo (basis_of self.now) (reached self.now) number text.now)) }
     {
         let _ = text;
@@ -127,7 +127,7 @@ impl<M: MenuMaker> HistoryLines<'_, M> {
     // Takes the step with these values, which are those in the text.
     fn take_with(&mut self, number: u64, values: Vec<Sorted>, text: &[u8]) -> Result<Label, Decline>
         requires serving { IsServing M.suits self.old }
-        requires chosen { Chooses (basis_of self.old)
+        requires chosen { ChoosesValues (basis_of self.old)
             (reached self.old) number text.now values.items }
         ensures answered { MatchResult result
             (λ label. StepComesTo (basis_of self.old) (reached self.old) number text.now
@@ -145,7 +145,7 @@ impl<M: MenuMaker> HistoryLines<'_, M> {
     pub fn undo_line(&mut self, alloc: Global) -> Result<Vec<u8>, NoMemory>
         requires serving { IsServing M.suits self.old }
         ensures answered { (texts : Option Texts) (faults : ℕ) → MatchResult result
-            (λ line. Gives (moment_of (standing_of self.old texts) faults) undo_step
+            (λ line. GivesAnswer (moment_of (standing_of self.old texts) faults) undo_step
             line.items (moment_of (standing_of self.new texts) faults))
             (λ _. IsBeforeOrBehind (moment_of (standing_of self.old texts) faults)
             undo_step (moment_of (standing_of self.new texts) faults)) }

@@ -1,9 +1,9 @@
 //! The values of a step: the readings of the terms of its line.
 
 ghost use Rattle.behaviour_tree.specs.BehaviourView.{terms_of};
-ghost use Rattle.history_lines.specs.Values.{IsMisread, IsReadAt, TellsMisread};
+ghost use Rattle.history_lines.specs.Values.{IsTermRefused, IsValueReadAt, TellsMisread};
 ghost use Rattle.lotos_base.specs.WrittenView.{written_term_of};
-ghost use Rattle.session_reports.specs.StepAnswer.{IsFirstMisread};
+ghost use Rattle.history_lines.specs.StepAnswer.{IsFirstMisread};
 ghost use Rattle.session_histories.specs.Replay.{AreRead};
 ghost use Rattle.session_log.specs.Entries.{AreGiven};
 ghost use Rattle.sort_terms.specs.ReaderView.{signature_read};
@@ -57,8 +57,8 @@ fn value_at(
 ) -> Result<Sorted, Refusal>
     requires { variables_in scope.now ≡ [] }
     ensures { MatchResult result
-        (IsReadAt (signature_read reader.now) (written_term_of term.now) sort)
-        (TellsMisread (IsMisread (signature_read reader.now) (written_term_of term.now) sort)) }
+        (IsValueReadAt (signature_read reader.now) (written_term_of term.now) sort)
+        (TellsMisread (IsTermRefused (signature_read reader.now) (written_term_of term.now) sort)) }
 {
     Ok(reader.read_in(scope, term, Some(sort))?)
 }

@@ -1,7 +1,7 @@
 -- What one byte does to a session, and bytes behind bytes.
 use Rattle.std.proofs.Common.{◌≡◌, ◌≢◌, ℕ, nat_eq, false, List, [], ◌∷◌, ◌++◌, refl, sym, ap, ◌∙◌, append_assoc, arith}
 use Rattle.line_server.specs.Report.{Reply, complete, unfinished, report, status, last_state}
-use Rattle.line_server.specs.Serving.{Stand, Passes, Quits, Begins}
+use Rattle.line_server.specs.Serving.{SessionStand, Passes, Quits, ReportBegins}
 use Rattle.line_server.specs.declared.ends.Stop.{Stop}
 
 pub is_no_feed : (byte : ℕ) → byte ≢ 10 → nat_eq byte 10 ≡ false
@@ -18,7 +18,7 @@ joins reply state line byte plain =
     }
 
 -- bytes behind bytes
-pub passes_then : {State : Type 0} (reply : State → List ℕ → Reply State) (one two three : Stand State)
+pub passes_then : {State : Type 0} (reply : State → List ℕ → Reply State) (one two three : SessionStand State)
     (bytes others text more_text : List ℕ)
     → Passes reply one bytes two text → Passes reply two others three more_text
     → Passes reply one (bytes ++ others) three (text ++ more_text)
@@ -36,7 +36,7 @@ passes_then reply one two three bytes others text more_text first second = recor
       ∙ (first.leads (others ++ more) ending ∙ second.leads more ending);
 }
 
-pub quits_then : {State : Type 0} (reply : State → List ℕ → Reply State) (one two : Stand State) (bytes others text more_text : List ℕ)
+pub quits_then : {State : Type 0} (reply : State → List ℕ → Reply State) (one two : SessionStand State) (bytes others text more_text : List ℕ)
     (left : State) → Passes reply one bytes two text → Quits reply two others more_text left
     → Quits reply one (bytes ++ others) (text ++ more_text) left
 quits_then reply one two bytes others text more_text left first second = record {
@@ -51,9 +51,9 @@ quits_then reply one two bytes others text more_text left first second = record 
       ∙ (first.leads (others ++ more) ending ∙ second.leads more ending);
 }
 
-pub begins_then : {State : Type 0} (stop : Stop) (reply : State → List ℕ → Reply State) (one two : Stand State)
+pub begins_then : {State : Type 0} (stop : Stop) (reply : State → List ℕ → Reply State) (one two : SessionStand State)
     (bytes others text more_text : List ℕ)
-    → Passes reply one bytes two text → Begins stop reply two others more_text → Begins stop reply one (bytes ++ others) (text ++ more_text)
+    → Passes reply one bytes two text → ReportBegins stop reply two others more_text → ReportBegins stop reply one (bytes ++ others) (text ++ more_text)
 begins_then stop reply one two bytes others text more_text first second = record {
   printed = λ more ending.
       let left = second.printed more ending in (
@@ -66,7 +66,7 @@ begins_then stop reply one two bytes others text more_text first second = record
 }
 
 -- bytes behind a line that ended the session change nothing
-pub quits_still : {State : Type 0} (reply : State → List ℕ → Reply State) (one : Stand State) (bytes others text : List ℕ) (left : State)
+pub quits_still : {State : Type 0} (reply : State → List ℕ → Reply State) (one : SessionStand State) (bytes others text : List ℕ) (left : State)
     → Quits reply one bytes text left → Quits reply one (bytes ++ others) text left
 quits_still reply one bytes others text left quits = record {
   printed = λ more ending.
@@ -80,8 +80,8 @@ quits_still reply one bytes others text left quits = record {
 }
 
 -- and none behind bytes at which the writing stopped
-pub begins_still : {State : Type 0} (stop : Stop) (reply : State → List ℕ → Reply State) (one : Stand State) (bytes others text : List ℕ)
-    → Begins stop reply one bytes text → Begins stop reply one (bytes ++ others) text
+pub begins_still : {State : Type 0} (stop : Stop) (reply : State → List ℕ → Reply State) (one : SessionStand State) (bytes others text : List ℕ)
+    → ReportBegins stop reply one bytes text → ReportBegins stop reply one (bytes ++ others) text
 begins_still stop reply one bytes others text begins = record {
   printed = λ more ending.
       let left = begins.printed (others ++ more) ending in (

@@ -8,14 +8,14 @@ use Rattle.line_server.specs.Report.{Ending, ended, failed, too_long, report, st
 use Rattle.line_server.specs.Machine.{Machine, by_chances}
 use Rattle.line_server.specs.Fitting.{AllFit, is_whole}
 use Rattle.line_server.specs.Serving.{IsLeftIn}
-use Rattle.line_server.specs.Writing.{IsAnswer, IsWritten}
-use Rattle.line_server.specs.Session.{Surroundings, IsSeen, InputCounts, IsMet, Came, ending_of, EndsWith, Completes}
+use Rattle.line_server.specs.Writing.{IsSessionAnswer, IsReportWritten}
+use Rattle.line_server.specs.Session.{Surroundings, AreSeenBytes, InputCounts, IsMet, SessionCame, ending_of, EndsWith, CompletesSession}
 use Rattle.line_server.specs.declared.ends.SessionEnd.{SessionEnd}
 use Rattle.line_server.specs.declared.ends.SessionEnd.TheVariants.{Finished, InputFailed, InputTooLong, OutputFailed, NoMemory}
 
 -- where the output counted no fault, the answer and the bytes are those of the report
 determined : (end : SessionEnd) (text : List ℕ) (before after : ℕ) (written_before written_after : Option (List ℕ)) (answer : SessionEnd)
-    → IsAnswer end before after answer → IsWritten written_before written_after text answer → ¬ Rises before after
+    → IsSessionAnswer end before after answer → IsReportWritten written_before written_after text answer → ¬ Rises before after
     → EndsWith end text written_before written_after answer
 determined end text before after wb wa Finished answered written steady = inr (sym answered.0, written)
 determined end text before after wb wa InputFailed answered written steady = inr (sym answered.0, written)
@@ -24,7 +24,7 @@ determined end text before after wb wa OutputFailed answered written steady = ab
 determined end text before after wb wa NoMemory answered written steady = inl refl
 
 -- where the output's count rose, the answer says so
-output_fault : (end : SessionEnd) (before after : ℕ) (answer : SessionEnd) → IsAnswer end before after answer → before < after
+output_fault : (end : SessionEnd) (before after : ℕ) (answer : SessionEnd) → IsSessionAnswer end before after answer → before < after
     → answer ≡ OutputFailed
 output_fault end before after Finished answered rose = absurd (omega (arith, answered.1))
 output_fault end before after InputFailed answered rose = absurd (omega (arith, answered.1))
@@ -33,7 +33,7 @@ output_fault end before after OutputFailed answered rose = refl
 output_fault end before after NoMemory answered rose = absurd (omega (arith, answered))
 
 -- where the session's end is that of a failed input, the answer says so
-input_fault : (end : SessionEnd) (before after : ℕ) (answer : SessionEnd) → IsAnswer end before after answer → end ≡ InputFailed
+input_fault : (end : SessionEnd) (before after : ℕ) (answer : SessionEnd) → IsSessionAnswer end before after answer → end ≡ InputFailed
     → ¬ Rises before after → (answer ≡ NoMemory) ⊎ (answer ≡ InputFailed)
 input_fault end before after Finished answered is steady = inr (sym answered.0 ∙ is)
 input_fault end before after InputFailed answered is steady = inr refl
@@ -56,7 +56,7 @@ below limit n within = lt-ltb limit n within
 
 -- where the input counted no fault, the bytes seen and what came behind them are those of the input
 pub seen_is : (bytes : List ℕ) (left_after : Option (List ℕ)) (seen : List ℕ) (ending : Ending) (before after : ℕ)
-    → IsSeen bytes left_after seen ending
+    → AreSeenBytes bytes left_after seen ending
     → InputCounts ending before after → ¬ Rises before after → (seen ≡ take input_limit bytes) × (ending ≡ ending_of bytes)
 seen_is bytes left_after seen ended before after given counts steady =
     let no : nat_lt input_limit (length bytes) ≡ false = not_below input_limit (length bytes) given.1 in
@@ -70,7 +70,7 @@ held : (told : Option (List ℕ)) (bytes : List ℕ) (P : List ℕ → Type 0) �
 held told bytes P is holds = rw is at holds
 
 pub completes : {State Chance : Type 0} (machine : Machine State Chance) (start after : Surroundings State) (answer : SessionEnd)
-    → Came machine start after answer → Completes machine start after answer
+    → SessionCame machine start after answer → CompletesSession machine start after answer
 completes {State} {Chance} machine start after answer came = record {
   input = λ rose steady.
       input_fault end start.output_faults after.output_faults answer came.answered
@@ -78,7 +78,7 @@ completes {State} {Chance} machine start after answer came = record {
   output = λ rose. output_fault end start.output_faults after.output_faults answer came.answered rose;
   whole = λ bytes is input_steady steady.
       let same = seen_is bytes after.left came.seen came.ending start.input_faults after.input_faults
-      (held start.left bytes (λ it. IsSeen it after.left came.seen came.ending) is came.given) came.input input_steady in record {
+      (held start.left bytes (λ it. AreSeenBytes it after.left came.seen came.ending) is came.given) came.input input_steady in record {
         chances = came.chances;
         counted = came.counted;
         fits = subst (λ (it : Ending). AllFit machine (is_whole answer) (start.state, came.chances) [] (take input_limit bytes) it) same.1

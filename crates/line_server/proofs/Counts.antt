@@ -3,7 +3,7 @@ use Rattle.std.proofs.Common.{◌≡◌, inl, inr, ℕ, ◌+◌, ◌≤◌, Bool
 use Rattle.std.proofs.lemmas.List.{append-nil}
 use Rattle.std.proofs.Math.Seq.{take-append-add}
 use Rattle.line_server.specs.Machine.{Machine, fault_count, Counted}
-use Rattle.line_server.specs.Writing.{WritesAll, WritesBeginning, IsWritten}
+use Rattle.line_server.specs.Writing.{WritesAll, WritesBeginning, IsReportWritten}
 use Rattle.line_server.specs.declared.ends.SessionEnd.{SessionEnd}
 use Rattle.line_server.specs.declared.ends.SessionEnd.TheVariants.{Finished, InputFailed, InputTooLong, OutputFailed, NoMemory}
 
@@ -61,7 +61,7 @@ begins_behind before between after text more one two =
 
 -- what is written of a text behind another text
 pub written_behind : (before between after : Option (List ℕ)) (text more : List ℕ) (answer : SessionEnd) → WritesAll before between text
-    → IsWritten between after more answer → IsWritten before after (text ++ more) answer
+    → IsReportWritten between after more answer → IsReportWritten before after (text ++ more) answer
 written_behind before between after text more Finished one two = writes_then before between after text more one two
 written_behind before between after text more InputFailed one two = writes_then before between after text more one two
 written_behind before between after text more InputTooLong one two = writes_then before between after text more one two

@@ -6,9 +6,9 @@ use Rattle.line_server.specs.Limits.{input_limit}
 use Rattle.line_server.specs.Report.{Ending, ended, failed, too_long, end_by, closing, report, status, last_state, state_closed}
 use Rattle.line_server.specs.Machine.{Machine, by_chances, Counted}
 use Rattle.line_server.specs.Fitting.{AllFit, is_whole}
-use Rattle.line_server.specs.Writing.{WritesAll, IsAnswer, IsWritten}
-use Rattle.line_server.specs.Serving.{moment, IsLeft, IsLeftIn, HasQuit, Broke, Closes, StopCounts}
-use Rattle.line_server.specs.Session.{Surroundings, IsSeen, InputCounts, IsMet, Came}
+use Rattle.line_server.specs.Writing.{WritesAll, IsSessionAnswer, IsReportWritten}
+use Rattle.line_server.specs.Serving.{moment, IsLeft, IsLeftIn, HasQuit, Broke, SessionCloses, StopCounts}
+use Rattle.line_server.specs.Session.{Surroundings, AreSeenBytes, InputCounts, IsMet, SessionCame}
 use Rattle.line_server.specs.declared.ends.Stop.{Stop}
 use Rattle.line_server.specs.declared.ends.Stop.TheVariants as stop
 use Rattle.line_server.specs.declared.ends.SessionEnd.{SessionEnd}
@@ -20,12 +20,12 @@ use Rattle.line_server.proofs.Reached.{Reached, IsBehind, GoesOn, goes_on}
 -- the session was closed behind the bytes that were read
 pub came_closed : {State Chance : Type 0} (machine : Machine State Chance) (start now after : Surroundings State) (line line_after : List ℕ)
     (total : ℕ) (ending : Ending) (answer : SessionEnd) (reached : Reached machine start now line total)
-    → Closes machine (moment now.state line now.faults now.written) ending (moment after.state line_after after.faults after.written) answer
-    → IsAnswer (end_by ending) now.output_faults after.output_faults answer
-    → IfSome start.left (λ bytes. IsSeen bytes after.left reached.read ending)
+    → SessionCloses machine (moment now.state line now.faults now.written) ending (moment after.state line_after after.faults after.written) answer
+    → IsSessionAnswer (end_by ending) now.output_faults after.output_faults answer
+    → IfSome start.left (λ bytes. AreSeenBytes bytes after.left reached.read ending)
     → InputCounts ending start.input_faults after.input_faults
     → (answer ≡ InputTooLong → IfSome start.left (λ bytes. after.left ≡ Some (drop (input_limit + 1) bytes)))
-    → Came machine start after answer
+    → SessionCame machine start after answer
 came_closed {State} {Chance} machine start now after line line_after total ending answer reached closes answered given input at_limit
     = record {
       chances = chances;
@@ -37,9 +37,9 @@ came_closed {State} {Chance} machine start now after line line_after total endin
       fits = subst (λ (it : List ℕ). AllFit machine (is_whole answer) (start.state, chances) [] it ending) (append-nil reached.read)
           (reached.passed.fits (is_whole answer) closes.chances [] ending closes.fits);
       met = met ending end_is;
-      answered = subst (λ (it : SessionEnd). IsAnswer it start.output_faults after.output_faults answer) (sym end_is)
-          (subst (λ (it : ℕ). IsAnswer (end_by ending) it after.output_faults answer) reached.output answered);
-      written = subst (λ (it : List ℕ). IsWritten start.written after.written it answer) (sym report_is)
+      answered = subst (λ (it : SessionEnd). IsSessionAnswer it start.output_faults after.output_faults answer) (sym end_is)
+          (subst (λ (it : ℕ). IsSessionAnswer (end_by ending) it after.output_faults answer) reached.output answered);
+      written = subst (λ (it : List ℕ). IsReportWritten start.written after.written it answer) (sym report_is)
           (written_behind start.written now.written after.written reached.passed.text
           (closing (by_chances machine) (now.state, closes.chances) line ending) answer reached.passed.wrote closes.written);
       counted = counted_then machine start.faults now.faults after.faults reached.passed.chances closes.chances reached.passed.counted
@@ -81,7 +81,7 @@ pub came_quit : {State Chance : Type 0} (machine : Machine State Chance) (start 
     (total : ℕ) (reached : Reached machine start now line total)
     → HasQuit machine (moment now.state line now.faults now.written) more (moment after.state line_after after.faults after.written)
     → length (reached.read ++ more) ≤ input_limit → IsBehind start.left (reached.read ++ more) after.left
-    → after.input_faults ≡ now.input_faults → after.output_faults ≡ now.output_faults → Came machine start after Finished
+    → after.input_faults ≡ now.input_faults → after.output_faults ≡ now.output_faults → SessionCame machine start after Finished
 came_quit {State} {Chance} machine start now after line line_after more total reached quit within behind input output = record {
   chances = whole.chances ++ [];
   seen = read ++ goes.more;
@@ -119,7 +119,7 @@ stopped stop.NoMemory = NoMemory
 
 -- what is written of a report of which something is left, or nothing
 written_part : (why : Stop) (before after : Option (List ℕ)) (text rest report_ : List ℕ) → IsLeft why rest → report_ ≡ text ++ rest
-    → WritesAll before after text → IsWritten before after report_ (stopped why)
+    → WritesAll before after text → IsReportWritten before after report_ (stopped why)
 written_part stop.NoMemory before after text rest report_ left is wrote = (text, rest, is, wrote)
 written_part stop.OutputFailed before after text rest report_ left is wrote = (length text, by rest left is, at before wrote)
   where
@@ -134,7 +134,7 @@ written_part stop.OutputFailed before after text rest report_ left is wrote = (l
         ∙ ap (λ (it : List ℕ). Some (written ++ it))
         (sym (take-append_seam text rest) ∙ ap (λ (it : List ℕ). take (length text) it) (sym is))
 
-answer_stopped : (why : Stop) (end : SessionEnd) (before after : ℕ) → StopCounts why before after → IsAnswer end before after (stopped why)
+answer_stopped : (why : Stop) (end : SessionEnd) (before after : ℕ) → StopCounts why before after → IsSessionAnswer end before after (stopped why)
 answer_stopped stop.OutputFailed end before after counts = counts
 answer_stopped stop.NoMemory end before after counts = counts
 
@@ -152,7 +152,7 @@ pub came_broke : {State Chance : Type 0} (why : Stop) (machine : Machine State C
     (line line_after more : List ℕ) (total : ℕ) (reached : Reached machine start now line total)
     → Broke why machine (moment now.state line now.faults now.written) more (moment after.state line_after after.faults after.written)
     → length (reached.read ++ more) ≤ input_limit → IsBehind start.left (reached.read ++ more) after.left
-    → after.input_faults ≡ now.input_faults → StopCounts why now.output_faults after.output_faults → Came machine start after (stopped why)
+    → after.input_faults ≡ now.input_faults → StopCounts why now.output_faults after.output_faults → SessionCame machine start after (stopped why)
 came_broke {State} {Chance} why machine start now after line line_after more total reached broke within behind input output =
     let left = (whole.begins []).printed goes.more goes.ending in record {
       chances = whole.chances ++ [];

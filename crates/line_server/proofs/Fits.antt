@@ -3,7 +3,7 @@ use Rattle.std.proofs.Common.{◌≡◌, ◌≢◌, ℕ, nat_eq, Bool, true, fal
 use Rattle.line_server.specs.Report.{Ending, ended, failed, too_long, complete, unfinished}
 use Rattle.line_server.specs.Machine.{Machine}
 use Rattle.line_server.specs.Fitting.{FitsLast, UnlessQuits, FitLines, AllFit}
-use Rattle.line_server.specs.Serving.{Stand, FitsAt}
+use Rattle.line_server.specs.Serving.{SessionStand, FitsAt}
 use Rattle.line_server.proofs.Bytes.{is_no_feed}
 
 unit : Unit {0}
@@ -49,7 +49,7 @@ feed_fits machine true state chance later line more ending may rest = (may, rest
 feed_fits machine false state chance later line more ending may rest = (may, rest)
 
 -- the bytes of one part before those of the next
-pub in_parts : {State Chance : Type 0} (machine : Machine State Chance) (whole : Bool) (stand : Stand (State × List Chance))
+pub in_parts : {State Chance : Type 0} (machine : Machine State Chance) (whole : Bool) (stand : SessionStand (State × List Chance))
     (bytes others more : List ℕ) (ending : Ending) → FitsAt machine whole stand (bytes ++ (others ++ more)) ending
     → FitsAt machine whole stand (bytes ++ others ++ more) ending
 in_parts machine whole stand bytes others more ending fit =

@@ -2,10 +2,10 @@
 use Rattle.std.proofs.Common.{◌≡◌, ◌≢◌, ℕ, ◌≤◌, List, [], ◌∷◌, length, Bool, true, false, Option, refl, sym, subst, arith}
 use Rattle.line_server.specs.Report.{Ending, ended, closing, state_closed}
 use Rattle.line_server.specs.Machine.{Machine, by_chances}
-use Rattle.line_server.specs.Writing.{IsWritten}
+use Rattle.line_server.specs.Writing.{IsReportWritten}
 use Rattle.line_server.specs.Fitting.{FitsSome, FitsLast, is_whole}
 use Rattle.line_server.proofs.Fits.{none_fits_last}
-use Rattle.line_server.specs.Serving.{Serves, moment, IsLeftIn, Closes}
+use Rattle.line_server.specs.Serving.{ServesLine, moment, IsLeftIn, SessionCloses}
 use Rattle.line_server.specs.declared.lines.Answer.{Answer}
 use Rattle.line_server.specs.declared.ends.SessionEnd.{SessionEnd}
 use Rattle.line_server.specs.declared.ends.SessionEnd.TheVariants.{Finished, InputFailed, InputTooLong, OutputFailed, NoMemory}
@@ -22,15 +22,15 @@ is_left_in NoMemory expected state same = tt
 -- it is served, where it has a byte
 pub closed_by_last : {State Chance : Type 0} (machine : Machine State Chance) (state state_after : State) (faults faults_after : ℕ)
     (line : List ℕ) (written written_after : Option (List ℕ)) (answer : Answer) (end : SessionEnd)
-    → Serves machine (state, faults) (state_after, faults_after) line answer → line ≢ []
-    → IsWritten written written_after answer.text.items end
-    → Closes machine (moment state line faults written) ended (moment state_after line faults_after written_after) end
+    → ServesLine machine (state, faults) (state_after, faults_after) line answer → line ≢ []
+    → IsReportWritten written written_after answer.text.items end
+    → SessionCloses machine (moment state line faults written) ended (moment state_after line faults_after written_after) end
 closed_by_last {State} {Chance} machine state state_after faults faults_after line written written_after answer end serves some wrote = record {
   chances = serves.chance ∷ [];
   rises = serves.rises;
   counted = serves.counted;
   fits = fits_is (is_whole end) line some serves.may;
-  written = subst (λ (it : List ℕ). IsWritten written written_after it end) (text_is line some serves.reply.text) wrote;
+  written = subst (λ (it : List ℕ). IsReportWritten written written_after it end) (text_is line some serves.reply.text) wrote;
   left = is_left_in end _ state_after (state_is line some serves.reply.next);
 }
   where
@@ -53,7 +53,7 @@ closed_by_last {State} {Chance} machine state state_after faults faults_after li
 -- nothing is served, where it has none
 pub closed_empty : {State Chance : Type 0} (machine : Machine State Chance) (state : State) (faults : ℕ) (line : List ℕ)
     (written : Option (List ℕ)) → line ≡ []
-    → Closes machine (moment state line faults written) ended (moment state line faults written) Finished
+    → SessionCloses machine (moment state line faults written) ended (moment state line faults written) Finished
 closed_empty {State} {Chance} machine state faults line written none = record {
   chances = [];
   rises = omega arith;
@@ -69,7 +69,7 @@ closed_empty {State} {Chance} machine state faults line written none = record {
 -- it is not served for want of memory
 pub closed_without_memory : {State Chance : Type 0} (machine : Machine State Chance) (state state_after : State) (faults faults_after : ℕ)
     (line : List ℕ) (written : Option (List ℕ)) → faults ≤ faults_after
-    → Closes machine (moment state line faults written) ended (moment state_after line faults_after written) NoMemory
+    → SessionCloses machine (moment state line faults written) ended (moment state_after line faults_after written) NoMemory
 closed_without_memory machine state state_after faults faults_after line written rises = record {
   chances = [];
   rises = rises;
@@ -83,14 +83,14 @@ closed_without_memory machine state state_after faults faults_after line written
 pub closed_by_text : {State Chance : Type 0} (machine : Machine State Chance) (state : State) (faults : ℕ) (line : List ℕ)
     (written written_after : Option (List ℕ)) (ending : Ending) (text : List ℕ) (end : SessionEnd)
     → FitsLast machine (is_whole end) (state, []) line ending → closing (by_chances machine) (state, []) line ending ≡ text
-    → state ≡ (state_closed (by_chances machine) (state, []) line ending).0 → IsWritten written written_after text end
-    → Closes machine (moment state line faults written) ending (moment state line faults written_after) end
+    → state ≡ (state_closed (by_chances machine) (state, []) line ending).0 → IsReportWritten written written_after text end
+    → SessionCloses machine (moment state line faults written) ending (moment state line faults written_after) end
 closed_by_text machine state faults line written written_after ending text end fits is stays wrote = record {
   chances = [];
   rises = omega arith;
   counted = counted_none machine faults faults (omega arith);
   fits = fits;
-  written = subst (λ (it : List ℕ). IsWritten written written_after it end) (sym is) wrote;
+  written = subst (λ (it : List ℕ). IsReportWritten written written_after it end) (sym is) wrote;
   left = is_left_in end _ state stays;
 }
 

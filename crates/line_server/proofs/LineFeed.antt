@@ -4,7 +4,7 @@ use Rattle.std.proofs.lemmas.List.{take-append-drop, length-drop}
 use Rattle.line_server.specs.Report.{Reply, Ending, report, complete, unfinished}
 use Rattle.line_server.specs.Machine.{Machine, by_chances}
 use Rattle.line_server.specs.Writing.{WritesAll, WritesBeginning}
-use Rattle.line_server.specs.Serving.{Serves, Stand, Passes, Quits, Begins, moment, HasServed, Broke}
+use Rattle.line_server.specs.Serving.{ServesLine, SessionStand, Passes, Quits, ReportBegins, moment, HasServed, Broke}
 use Rattle.line_server.specs.declared.lines.Answer.{Answer}
 use Rattle.line_server.specs.declared.ends.Stop.TheVariants.{OutputFailed, NoMemory}
 use Rattle.line_server.specs.Fitting.{AllFit}
@@ -42,7 +42,7 @@ left_over count text more within none =
 -- its report begins with the first bytes of its answer
 pub begins_feed : {State : Type 0} (reply : State → List ℕ → Reply State) (state : State) (line : List ℕ) (count : ℕ)
     → count < length (reply state line).text
-    → Begins OutputFailed reply (record { state = state; line = line }) (10 ∷ []) (take count (reply state line).text)
+    → ReportBegins OutputFailed reply (record { state = state; line = line }) (10 ∷ []) (take count (reply state line).text)
 begins_feed reply state line count within = record {
   printed = λ more ending.
       let text = (reply state line).text in
@@ -59,7 +59,7 @@ begins_feed reply state line count within = record {
 -- a line was answered, and the answer written
 pub line_served : {State Chance : Type 0} (machine : Machine State Chance) (state state_after : State) (faults faults_after : ℕ)
     (line line_after : List ℕ) (written written_after : Option (List ℕ)) (answer : Answer)
-    → Serves machine (state, faults) (state_after, faults_after) line answer → line_after ≡ []
+    → ServesLine machine (state, faults) (state_after, faults_after) line answer → line_after ≡ []
     → WritesAll written written_after answer.text.items
     → HasServed machine (moment state line faults written) (10 ∷ []) (moment state_after line_after faults_after written_after) answer.quits
 line_served {State} {Chance} machine state state_after faults faults_after line line_after written written_after answer serves cleared
@@ -72,7 +72,7 @@ line_served {State} {Chance} machine state state_after faults faults_after line 
     whole : WritesAll written written_after reply.text
     whole = rw serves.reply.text at wrote
 
-    stand : (later : List Chance) → Stand (State × List Chance)
+    stand : (later : List Chance) → SessionStand (State × List Chance)
     stand later = record { state = (state, serves.chance ∷ later); line = line }
 
     there : (later : List Chance) → reply.quits ≡ false
@@ -132,7 +132,7 @@ line_served {State} {Chance} machine state state_after faults faults_after line 
 -- a line was answered, and the output failed
 pub line_broke : {State Chance : Type 0} (machine : Machine State Chance) (state state_after : State) (faults faults_after : ℕ)
     (line line_after : List ℕ) (written written_after : Option (List ℕ)) (answer : Answer)
-    → Serves machine (state, faults) (state_after, faults_after) line answer
+    → ServesLine machine (state, faults) (state_after, faults_after) line answer
     → WritesBeginning written written_after answer.text.items
     → Broke OutputFailed machine (moment state line faults written) (10 ∷ []) (moment state_after line_after faults_after written_after)
 line_broke {State} {Chance} machine state state_after faults faults_after line line_after written written_after answer serves wrote

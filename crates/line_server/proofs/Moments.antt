@@ -2,7 +2,7 @@
 use Rattle.std.proofs.Common.{◌≡◌, ◌≢◌, ℕ, ◌+◌, ◌<◌, false, List, [], ◌∷◌, ◌++◌, take, drop, length, get_or, Option, refl, sym, ap, subst, ◌∙◌, append_assoc, arith}
 use Rattle.std.proofs.lemmas.List.{take-append-drop, take_more}
 use Rattle.line_server.specs.Machine.{Machine, by_chances}
-use Rattle.line_server.specs.Serving.{Stand, FitsAt, Passes, Quits, Begins, Moment, moment, stand_at, Passed, HasQuit, Broke}
+use Rattle.line_server.specs.Serving.{SessionStand, FitsAt, Passes, Quits, ReportBegins, Moment, moment, stand_at, Passed, HasQuit, Broke}
 use Rattle.line_server.specs.declared.ends.Stop.{Stop}
 use Rattle.line_server.proofs.Bytes.{joins, passes_then, quits_then, begins_then, quits_still, begins_still}
 use Rattle.line_server.proofs.Fits.{joins_fit, in_parts}
@@ -53,13 +53,13 @@ passed_then {State} {Chance} machine one two three bytes others first second = r
   rises = omega (arith, first.rises, second.rises);
   counted = counted_then machine one.faults two.faults three.faults first.chances second.chances first.counted second.counted second.rises;
   passes = λ later.
-      subst (λ (it : Stand (State × List Chance)). Passes (by_chances machine) it (bytes ++ others) (stand_at three later)
+      subst (λ (it : SessionStand (State × List Chance)). Passes (by_chances machine) it (bytes ++ others) (stand_at three later)
       (first.text ++ second.text))
       (in_order one first.chances second.chances later)
       (passes_then (by_chances machine) (stand_at one (first.chances ++ (second.chances ++ later))) (stand_at two (second.chances ++ later))
       (stand_at three later) bytes others first.text second.text (first.passes (second.chances ++ later)) (second.passes later));
   fits = λ whole later more ending fit.
-      subst (λ (it : Stand (State × List Chance)). FitsAt machine whole it (bytes ++ others ++ more) ending)
+      subst (λ (it : SessionStand (State × List Chance)). FitsAt machine whole it (bytes ++ others ++ more) ending)
       (in_order one first.chances second.chances later)
       (in_parts machine whole (stand_at one (first.chances ++ (second.chances ++ later))) bytes others more ending
       (first.fits whole (second.chances ++ later) (others ++ more) ending (second.fits whole later more ending fit)));
@@ -74,13 +74,13 @@ quit_then {State} {Chance} machine one two three bytes others first second = rec
   rises = omega (arith, first.rises, second.rises);
   counted = counted_then machine one.faults two.faults three.faults first.chances second.chances first.counted second.counted second.rises;
   quits = λ later.
-      subst (λ (it : Stand (State × List Chance)). Quits (by_chances machine) it (bytes ++ others) (first.text ++ second.text)
+      subst (λ (it : SessionStand (State × List Chance)). Quits (by_chances machine) it (bytes ++ others) (first.text ++ second.text)
       (three.state, later))
       (in_order one first.chances second.chances later)
       (quits_then (by_chances machine) (stand_at one (first.chances ++ (second.chances ++ later))) (stand_at two (second.chances ++ later))
       bytes others first.text second.text (three.state, later) (first.passes (second.chances ++ later)) (second.quits later));
   fits = λ whole later more ending.
-      subst (λ (it : Stand (State × List Chance)). FitsAt machine whole it (bytes ++ others ++ more) ending)
+      subst (λ (it : SessionStand (State × List Chance)). FitsAt machine whole it (bytes ++ others ++ more) ending)
       (in_order one first.chances second.chances later)
       (in_parts machine whole (stand_at one (first.chances ++ (second.chances ++ later))) bytes others more ending
       (first.fits whole (second.chances ++ later) (others ++ more) ending (second.fits whole later more ending)));
@@ -96,7 +96,7 @@ broke_then {State} {Chance} stop machine one two three bytes others first second
   rises = omega (arith, first.rises, second.rises);
   counted = counted_then machine one.faults two.faults three.faults first.chances second.chances first.counted second.counted second.rises;
   begins = λ later.
-      subst (λ (it : Stand (State × List Chance)). Begins stop (by_chances machine) it (bytes ++ others) (first.text ++ second.text))
+      subst (λ (it : SessionStand (State × List Chance)). ReportBegins stop (by_chances machine) it (bytes ++ others) (first.text ++ second.text))
       (in_order one first.chances second.chances later)
       (begins_then stop (by_chances machine) (stand_at one (first.chances ++ (second.chances ++ later)))
       (stand_at two (second.chances ++ later))

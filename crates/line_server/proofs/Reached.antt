@@ -8,7 +8,7 @@ use Rattle.line_server.specs.Limits.{input_limit}
 use Rattle.line_server.specs.Report.{Ending, ended, too_long}
 use Rattle.line_server.specs.Machine.{Machine}
 use Rattle.line_server.specs.Serving.{moment, Passed}
-use Rattle.line_server.specs.Session.{Surroundings, IsSeen, InputCounts, IsMet}
+use Rattle.line_server.specs.Session.{Surroundings, AreSeenBytes, InputCounts, IsMet}
 use Rattle.line_server.specs.declared.ends.SessionEnd.{SessionEnd}
 use Rattle.line_server.proofs.Moments.{nothing_passed}
 
@@ -63,7 +63,7 @@ pub record GoesOn (left_before left_after : Option (List ℕ)) (seen : List ℕ)
   pub more : List ℕ
   pub ending : Ending
   pub within : length (seen ++ more) ≤ input_limit
-  pub given : IfSome left_before (λ bytes. IsSeen bytes left_after (seen ++ more) ending)
+  pub given : IfSome left_before (λ bytes. AreSeenBytes bytes left_after (seen ++ more) ending)
   pub counts : (before after : ℕ) → after ≡ before → InputCounts ending before after
   pub met : (end : SessionEnd) → IsMet end ending
 

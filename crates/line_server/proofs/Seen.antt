@@ -7,9 +7,9 @@ use Rattle.lotos_base.specs.Outside.{MovesInto}
 use Rattle.line_server.specs.Limits.{input_limit}
 use Rattle.line_server.specs.Report.{ended, failed, too_long}
 use Rattle.line_server.specs.Machine.{Machine}
-use Rattle.line_server.specs.Writing.{IsAnswer}
+use Rattle.line_server.specs.Writing.{IsSessionAnswer}
 use Rattle.line_server.specs.Serving.{moment, Passed}
-use Rattle.line_server.specs.Session.{Surroundings, IsSeen}
+use Rattle.line_server.specs.Session.{Surroundings, AreSeenBytes}
 use Rattle.line_server.specs.declared.ends.SessionEnd.{SessionEnd}
 use Rattle.line_server.specs.declared.ends.SessionEnd.TheVariants.{Finished, InputFailed, InputTooLong, OutputFailed, NoMemory}
 use Rattle.line_server.proofs.Moments.{passed_then}
@@ -17,7 +17,7 @@ use Rattle.line_server.proofs.Reached.{Reached, IsBehind}
 
 -- the input failed behind them
 pub failed_seen : (start now after : Option (List ℕ)) (read : List ℕ) → IsBehind start read now → IfSome now (λ bytes. after ≡ Some bytes)
-    → IfSome start (λ bytes. IsSeen bytes after read failed)
+    → IfSome start (λ bytes. AreSeenBytes bytes after read failed)
 failed_seen None now after read behind kept = tt
 failed_seen (Some bytes) now after read behind kept =
     let left : after ≡ Some behind.0 = rw behind.2 at kept in rw left behind.1
@@ -25,7 +25,7 @@ failed_seen (Some bytes) now after read behind kept =
 -- the input has ended behind them
 pub ended_seen : (start now after : Option (List ℕ)) (read buffer : List ℕ) (count : ℕ) → count ≡ 0 → length read ≤ input_limit
     → IsBehind start read now → IfSome now (λ bytes. MovesInto bytes after buffer count)
-    → IfSome start (λ bytes. IsSeen bytes after read ended)
+    → IfSome start (λ bytes. AreSeenBytes bytes after read ended)
 ended_seen None now after read buffer count none within behind moved = tt
 ended_seen (Some bytes) now after read buffer count none within behind moved =
     let moves : MovesInto behind.0 after buffer count = rw behind.2 at moved in
@@ -36,7 +36,7 @@ ended_seen (Some bytes) now after read buffer count none within behind moved =
 -- the input has bytes past the limit behind them
 pub too_long_seen : (start now after : Option (List ℕ)) (read buffer : List ℕ) (count : ℕ) → count ≢ 0 → length read ≡ input_limit
     → IsBehind start read now → IfSome now (λ bytes. MovesInto bytes after buffer count)
-    → IfSome start (λ bytes. IsSeen bytes after read too_long)
+    → IfSome start (λ bytes. AreSeenBytes bytes after read too_long)
 too_long_seen None now after read buffer count some whole behind moved = tt
 too_long_seen (Some bytes) now after read buffer count some whole behind moved =
     let moves : MovesInto behind.0 after buffer count = rw behind.2 at moved in
@@ -58,7 +58,7 @@ left_at_limit (Some bytes) now after read buffer count one whole behind moved =
     moves.rest ∙ (ap (λ (it : ℕ). Some (drop it behind.0)) one ∙ ap (λ (it : List ℕ). Some it) (sym cut))
 
 -- no other end is that of a session that is too long
-pub no_other_end : (end : SessionEnd) (before after : ℕ) (answer : SessionEnd) → end ≢ InputTooLong → IsAnswer end before after answer
+pub no_other_end : (end : SessionEnd) (before after : ℕ) (answer : SessionEnd) → end ≢ InputTooLong → IsSessionAnswer end before after answer
     → answer ≡ InputTooLong → ⊥
 no_other_end end before after Finished other answered is = absurd (cc is)
 no_other_end end before after InputFailed other answered is = absurd (cc is)

@@ -7,7 +7,7 @@ use Rattle.line_server.specs.Limits.{input_limit}
 use Rattle.line_server.specs.Report.{Reply, Ending, closing, report, status, state_closed, last_state}
 use Rattle.line_server.specs.Machine.{Machine, by_chances, Counted}
 use Rattle.line_server.specs.Fitting.{AllFit, FitsLast, is_whole}
-use Rattle.line_server.specs.Writing.{WritesAll, IsWritten}
+use Rattle.line_server.specs.Writing.{WritesAll, IsReportWritten}
 use Rattle.line_server.specs.declared.lines.Answer.{Answer}
 use Rattle.line_server.specs.declared.ends.SessionEnd.{SessionEnd}
 use Rattle.line_server.specs.declared.ends.SessionEnd.TheVariants.{Finished}
@@ -27,7 +27,7 @@ pub record IsReply {State : Type 0} (reply : Reply State) (answer : Answer) (sta
   pub quits : answer.quits ≡ reply.quits
 
 -- a line was answered, with some chance that may befall it
-pub record Serves {State Chance : Type 0} (machine : Machine State Chance) (before after : State × ℕ) (line : List ℕ)
+pub record ServesLine {State Chance : Type 0} (machine : Machine State Chance) (before after : State × ℕ) (line : List ℕ)
     (answer : Answer) : Type 0 where
   pub chance : Chance
   pub may : machine.may before.0 chance line
@@ -36,12 +36,12 @@ pub record Serves {State Chance : Type 0} (machine : Machine State Chance) (befo
   pub counted : Counted machine before.1 (chance ∷ []) after.1
 
 -- where a session stands: its state, and the line that has begun
-pub record Stand (State : Type 0) : Type 0 where
+pub record SessionStand (State : Type 0) : Type 0 where
   pub state : State
   pub line : List ℕ
 
 -- the bytes lead from one stand to another, and this text is written
-pub record Passes {State : Type 0} (reply : State → List ℕ → Reply State) (before : Stand State) (bytes : List ℕ) (after : Stand State)
+pub record Passes {State : Type 0} (reply : State → List ℕ → Reply State) (before : SessionStand State) (bytes : List ℕ) (after : SessionStand State)
     (text : List ℕ) : Type 0 where
   pub printed : (more : List ℕ) (ending : Ending)
       → report reply before.state before.line (bytes ++ more) ending ≡ text ++ report reply after.state after.line more ending
@@ -51,7 +51,7 @@ pub record Passes {State : Type 0} (reply : State → List ℕ → Reply State) 
       → last_state reply before.state before.line (bytes ++ more) ending ≡ last_state reply after.state after.line more ending
 
 -- a line in the bytes ends the session in this state, and this text is written
-pub record Quits {State : Type 0} (reply : State → List ℕ → Reply State) (before : Stand State) (bytes text : List ℕ) (left : State)
+pub record Quits {State : Type 0} (reply : State → List ℕ → Reply State) (before : SessionStand State) (bytes text : List ℕ) (left : State)
     : Type 0 where
   pub printed : (more : List ℕ) (ending : Ending) → report reply before.state before.line (bytes ++ more) ending ≡ text
   pub ends : (more : List ℕ) (ending : Ending) → status reply before.state before.line (bytes ++ more) ending ≡ Finished
@@ -63,7 +63,7 @@ IsLeft OutputFailed rest = rest ≢ []
 IsLeft NoMemory rest = Unit {0}
 
 -- the report begins with this text
-pub record Begins {State : Type 0} (stop : Stop) (reply : State → List ℕ → Reply State) (before : Stand State) (bytes text : List ℕ) : Type
+pub record ReportBegins {State : Type 0} (stop : Stop) (reply : State → List ℕ → Reply State) (before : SessionStand State) (bytes text : List ℕ) : Type
     0 where
   pub printed : (more : List ℕ) (ending : Ending)
       → (rest : List ℕ) × IsLeft stop rest × (report reply before.state before.line (bytes ++ more) ending ≡ text ++ rest)
@@ -79,11 +79,11 @@ abbrev pub moment : {State : Type 0} → State → List ℕ → ℕ → Option (
 moment state line faults written = record { state = state; line = line; faults = faults; written = written }
 
 -- its stand, where these chances are to come
-abbrev pub stand_at : {State Chance : Type 0} → Moment State → List Chance → Stand (State × List Chance)
+abbrev pub stand_at : {State Chance : Type 0} → Moment State → List Chance → SessionStand (State × List Chance)
 stand_at moment later = record { state = (moment.state, later); line = moment.line }
 
 -- the chances may befall the lines of a session that stands here and in which these bytes come
-abbrev pub FitsAt : {State Chance : Type 0} → Machine State Chance → (whole : Bool) → Stand (State × List Chance) → List ℕ → Ending → Type 0
+abbrev pub FitsAt : {State Chance : Type 0} → Machine State Chance → (whole : Bool) → SessionStand (State × List Chance) → List ℕ → Ending → Type 0
 FitsAt machine whole stand bytes ending = AllFit machine whole stand.state stand.line bytes ending
 
 -- from one moment to another these bytes were served
@@ -126,7 +126,7 @@ pub record Broke {State Chance : Type 0} (stop : Stop) (machine : Machine State 
   pub wrote : WritesAll before.written after.written text
   pub rises : before.faults ≤ after.faults
   pub counted : Counted machine before.faults chances after.faults
-  pub begins : (later : List Chance) → Begins stop (by_chances machine) (stand_at before (chances ++ later)) bytes text
+  pub begins : (later : List Chance) → ReportBegins stop (by_chances machine) (stand_at before (chances ++ later)) bytes text
   pub fits : (more : List ℕ) (ending : Ending) → FitsAt machine false (stand_at before chances) (bytes ++ more) ending
 
 -- a session that was answered whole stands in this state
@@ -137,13 +137,13 @@ IsLeftIn _ expected state = state ≡ expected
 
 -- the input has ended, failed or passed its limit at a moment, and the session was closed with this answer: the last line was
 -- served with some chance where the input has ended, and the closing line was written else
-pub record Closes {State Chance : Type 0} (machine : Machine State Chance) (before : Moment State) (ending : Ending) (after : Moment State)
+pub record SessionCloses {State Chance : Type 0} (machine : Machine State Chance) (before : Moment State) (ending : Ending) (after : Moment State)
     (answer : SessionEnd) : Type 0 where
   pub chances : List Chance
   pub rises : before.faults ≤ after.faults
   pub counted : Counted machine before.faults chances after.faults
   pub fits : FitsLast machine (is_whole answer) (before.state, chances) before.line ending
-  pub written : IsWritten before.written after.written (closing (by_chances machine) (before.state, chances) before.line ending) answer
+  pub written : IsReportWritten before.written after.written (closing (by_chances machine) (before.state, chances) before.line ending) answer
   pub left : IsLeftIn answer (state_closed (by_chances machine) (before.state, chances) before.line ending).0 after.state
 
 -- the output's count where the writing stopped

@@ -6,7 +6,7 @@ use Rattle.line_server.specs.Report.{Ending, ended, failed, too_long, report, st
 use Rattle.line_server.specs.Machine.{Machine, by_chances, Counted}
 use Rattle.line_server.specs.Fitting.{AllFit, is_whole}
 use Rattle.line_server.specs.Serving.{IsLeftIn}
-use Rattle.line_server.specs.Writing.{WritesAll, IsAnswer, IsWritten}
+use Rattle.line_server.specs.Writing.{WritesAll, IsSessionAnswer, IsReportWritten}
 use Rattle.line_server.specs.declared.ends.SessionEnd.{SessionEnd}
 use Rattle.line_server.specs.declared.ends.SessionEnd.TheVariants.{InputFailed, InputTooLong, OutputFailed, NoMemory}
 
@@ -31,10 +31,10 @@ around lines input output = record {
 }
 
 -- the bytes that a session saw of an input with these bytes, by what came behind them
-abbrev pub IsSeen : (bytes : List ℕ) (left_after : Option (List ℕ)) (seen : List ℕ) → Ending → Type 0
-IsSeen bytes left_after seen ended = (seen ≡ bytes) × (length bytes ≤ input_limit)
-IsSeen bytes left_after seen too_long = (seen ≡ take input_limit bytes) × (input_limit < length bytes)
-IsSeen bytes left_after seen failed = IfSome left_after (λ rest. bytes ≡ seen ++ rest)
+abbrev pub AreSeenBytes : (bytes : List ℕ) (left_after : Option (List ℕ)) (seen : List ℕ) → Ending → Type 0
+AreSeenBytes bytes left_after seen ended = (seen ≡ bytes) × (length bytes ≤ input_limit)
+AreSeenBytes bytes left_after seen too_long = (seen ≡ take input_limit bytes) × (input_limit < length bytes)
+AreSeenBytes bytes left_after seen failed = IfSome left_after (λ rest. bytes ≡ seen ++ rest)
 
 -- the input's count of faults
 abbrev pub InputCounts : Ending → (before after : ℕ) → Type 0
@@ -49,19 +49,19 @@ IsMet status _ = Unit {0}
 -- a session was served: there are bytes that it saw, what came behind them, and the chances that befell its lines, such that
 -- answer and bytes written are those of the report, and the state is the one behind the last line. Each line that was answered
 -- has a chance that may befall it
-pub record Came {State Chance : Type 0} (machine : Machine State Chance) (before after : Surroundings State) (answer : SessionEnd) : Type 0
+pub record SessionCame {State Chance : Type 0} (machine : Machine State Chance) (before after : Surroundings State) (answer : SessionEnd) : Type 0
   where
     pub chances : List Chance
     pub seen : List ℕ
     pub ending : Ending
     pub within : length seen ≤ input_limit
-    pub given : IfSome before.left (λ bytes. IsSeen bytes after.left seen ending)
+    pub given : IfSome before.left (λ bytes. AreSeenBytes bytes after.left seen ending)
     pub input : InputCounts ending before.input_faults after.input_faults
     pub fits : AllFit machine (is_whole answer) (before.state, chances) [] seen ending
     pub met : IsMet (status (by_chances machine) (before.state, chances) [] seen ending) ending
-    pub answered : IsAnswer (status (by_chances machine) (before.state, chances) [] seen ending) before.output_faults after.output_faults
+    pub answered : IsSessionAnswer (status (by_chances machine) (before.state, chances) [] seen ending) before.output_faults after.output_faults
         answer
-    pub written : IsWritten before.written after.written (report (by_chances machine) (before.state, chances) [] seen ending) answer
+    pub written : IsReportWritten before.written after.written (report (by_chances machine) (before.state, chances) [] seen ending) answer
     pub counted : Counted machine before.faults chances after.faults
     pub left : IsLeftIn answer (last_state (by_chances machine) (before.state, chances) [] seen ending).0 after.state
     pub at_limit : answer ≡ InputTooLong → IfSome before.left (λ bytes. after.left ≡ Some (drop (input_limit + 1) bytes))
@@ -76,7 +76,7 @@ EndsWith status report before after answer = (answer ≡ NoMemory) ⊎ ((answer 
 
 -- a session over these bytes ends as its report does, with chances that may befall its lines, of which no more are faults than
 -- were counted
-pub record EndsBy {State Chance : Type 0} (machine : Machine State Chance) (before after : Surroundings State) (bytes : List ℕ)
+pub record SessionEndsBy {State Chance : Type 0} (machine : Machine State Chance) (before after : Surroundings State) (bytes : List ℕ)
     (answer : SessionEnd) : Type 0 where
   pub chances : List Chance
   pub counted : Counted machine before.faults chances after.faults
@@ -91,10 +91,10 @@ pub record EndsBy {State Chance : Type 0} (machine : Machine State Chance) (befo
 -- each answer comes where its cause stands: where the input's count rose and not the output's, the answer says so; where
 -- the output's rose, it says that; and where neither rose and the input tells its bytes, the session ends as the report of
 -- these bytes does
-pub record Completes {State Chance : Type 0} (machine : Machine State Chance) (before after : Surroundings State) (answer : SessionEnd)
+pub record CompletesSession {State Chance : Type 0} (machine : Machine State Chance) (before after : Surroundings State) (answer : SessionEnd)
     : Type 0 where
   pub input : before.input_faults < after.input_faults → ¬ Rises before.output_faults after.output_faults
       → (answer ≡ NoMemory) ⊎ (answer ≡ InputFailed)
   pub output : before.output_faults < after.output_faults → answer ≡ OutputFailed
   pub whole : (bytes : List ℕ) → before.left ≡ Some bytes → ¬ Rises before.input_faults after.input_faults
-      → ¬ Rises before.output_faults after.output_faults → EndsBy machine before after bytes answer
+      → ¬ Rises before.output_faults after.output_faults → SessionEndsBy machine before after bytes answer

@@ -15,10 +15,10 @@ WritesBeginning before after text =
 
 -- the answer is the session's end, and the output counted no fault; or the output failed and its count rose; or memory was
 -- wanted
-abbrev pub IsAnswer : SessionEnd → (faults_before faults_after : ℕ) → SessionEnd → Type 0
-IsAnswer status before after OutputFailed = Rises before after
-IsAnswer status before after NoMemory = after ≡ before
-IsAnswer status before after answer = (status ≡ answer) × (after ≡ before)
+abbrev pub IsSessionAnswer : SessionEnd → (faults_before faults_after : ℕ) → SessionEnd → Type 0
+IsSessionAnswer status before after OutputFailed = Rises before after
+IsSessionAnswer status before after NoMemory = after ≡ before
+IsSessionAnswer status before after answer = (status ≡ answer) × (after ≡ before)
 
 -- the session's ends that come of themselves
 abbrev pub IsClosing : SessionEnd → Type 0
@@ -31,7 +31,7 @@ abbrev pub WritesSome : Option (List ℕ) → Option (List ℕ) → List ℕ →
 WritesSome before after report = (text : List ℕ) × (rest : List ℕ) × (report ≡ text ++ rest) × WritesAll before after text
 
 -- the whole report is written, or a beginning of it where the output failed or memory was wanted
-abbrev pub IsWritten : Option (List ℕ) → Option (List ℕ) → List ℕ → SessionEnd → Type 0
-IsWritten before after report OutputFailed = WritesBeginning before after report
-IsWritten before after report NoMemory = WritesSome before after report
-IsWritten before after report _ = WritesAll before after report
+abbrev pub IsReportWritten : Option (List ℕ) → Option (List ℕ) → List ℕ → SessionEnd → Type 0
+IsReportWritten before after report OutputFailed = WritesBeginning before after report
+IsReportWritten before after report NoMemory = WritesSome before after report
+IsReportWritten before after report _ = WritesAll before after report

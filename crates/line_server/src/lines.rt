@@ -3,7 +3,7 @@
 ghost use Rattle.std.specs.Prelude.{◌≡◌, ℕ, ◌≤◌, List, Option, OnErr, IfOk};
 ghost use Rattle.lotos_base.specs.Outside.{Texts};
 ghost use Rattle.line_server.specs.Machine.{Machine};
-ghost use Rattle.line_server.specs.Serving.{IsLine, Serves};
+ghost use Rattle.line_server.specs.Serving.{IsLine, ServesLine};
 
 use lotos_base::{NoMemory, Shelf};
 use std::alloc::Global;
@@ -43,7 +43,7 @@ pub trait Lines {
     ) -> Result<Answer, NoMemory>
         requires ready { is_ready self.old }
         requires plain { IsLine line.now }
-        ensures served { IfOk result (Serves machine
+        ensures served { IfOk result (ServesLine machine
             (state self.old (F.texts shelf.old), F.faults shelf.old)
             (state self.new (F.texts shelf.new), F.faults shelf.new) line.now) }
         ensures counted { OnErr result (F.faults shelf.old ≤ F.faults shelf.new) }

@@ -2,7 +2,7 @@
 
 ghost use Rattle.std.specs.Prelude.{◌≡◌, length};
 ghost use Rattle.line_server.specs.Limits.{piece_limit};
-ghost use Rattle.line_server.specs.Session.{around, Came, Completes};
+ghost use Rattle.line_server.specs.Session.{around, SessionCame, CompletesSession};
 
 use crate::closing::{close, finish};
 use crate::ends::{SessionEnd, Stop};
@@ -28,7 +28,7 @@ pub fn serve_session<L: Lines, F: Shelf, S: Source, K: Sink>(
     output: &mut K,
 ) -> SessionEnd
     requires ready { L.is_ready lines.old }
-    ensures came { Came L.machine
+    ensures came { SessionCame L.machine
         (around (L.state lines.old (F.texts shelf.old), F.faults shelf.old)
         (S.left input.old, S.faults input.old)
         (K.written output.old, K.faults output.old))
@@ -36,7 +36,7 @@ pub fn serve_session<L: Lines, F: Shelf, S: Source, K: Sink>(
         (S.left input.new, S.faults input.new)
         (K.written output.new, K.faults output.new))
         result }
-    ensures complete { Completes L.machine
+    ensures complete { CompletesSession L.machine
         (around (L.state lines.old (F.texts shelf.old), F.faults shelf.old)
         (S.left input.old, S.faults input.old)
         (K.written output.old, K.faults output.old))
@@ -61,7 +61,7 @@ fn serve_pieces<L: Lines, F: Shelf, S: Source, K: Sink>(
 ) -> SessionEnd
     requires ready { L.is_ready lines.old }
     requires piece { length piece.old ≡ piece_limit }
-    ensures { Came L.machine
+    ensures { SessionCame L.machine
         (around (L.state lines.old (F.texts shelf.old), F.faults shelf.old)
         (S.left input.old, S.faults input.old)
         (K.written output.old, K.faults output.old))

@@ -8,7 +8,7 @@ use Rattle.std.proofs.lemmas.Nat.{div-mul-add, mod-mul-add, mul-add-lt}
 use Rattle.std.proofs.Math.Nat.{mul-le-mul_right, mod-add-div', mod-lt}
 use Rattle.ll_engine.specs.declared.relation.Relation.{Relation}
 use Rattle.ll_engine.specs.Computed.{holds, part_column, leads, leads_by}
-use Rattle.ll_engine.specs.Related.{width_of, related, cells, HasCells, next_related, Leads, here, through, IsClosureOf}
+use Rattle.ll_engine.specs.Related.{width_of, related, cells, HasCells, next_related, RelationLeads, here, through, IsClosureOf}
 use Rattle.ll_engine.proofs.Lists.{any_below-at, any_below-from_at, IsWithin, set_count, set_count-le, set_count-le-length, same_from_set_count}
 
 -- a bit that is set stands in a column, and in a row of a part
@@ -59,25 +59,25 @@ related-HasCells r test parts tokens part column h p c =
     rw (h.same_parts, h.same_tokens, h.bits_are) (holds-cells test parts (part_column tokens parts) part column p c)
 
 -- one lead after another is a lead
-Leads-after : (r : Relation) (part column : ℕ) → Leads r part column → (middle last : ℕ) → column ≡ part_column r.tokens middle → Leads r middle last → Leads r part last
+Leads-after : (r : Relation) (part column : ℕ) → RelationLeads r part column → (middle last : ℕ) → column ≡ part_column r.tokens middle → RelationLeads r middle last → RelationLeads r part last
 Leads-after r part column (here p c h) middle last e l = through p middle last (ap (related r p) (sym e) ∙ h) l
 Leads-after r part column (through p m c h rest) middle last e l = through p m last h (Leads-after r m c rest middle last e l)
 
-pub Leads-join : (r : Relation) (part middle last : ℕ) → Leads r part (part_column r.tokens middle) → Leads r middle last → Leads r part last
+pub Leads-join : (r : Relation) (part middle last : ℕ) → RelationLeads r part (part_column r.tokens middle) → RelationLeads r middle last → RelationLeads r part last
 Leads-join r part middle last first l = Leads-after r part (part_column r.tokens middle) first middle last refl l
 
 -- a relation on the way from the old one to its closure
 pub record IsOnTheWay (old r : Relation) : Type 0 where
   pub same_parts : r.parts ≡ old.parts
   pub same_tokens : r.tokens ≡ old.tokens
-  pub sound : (part column : ℕ) → related r part column ≡ true → Leads old part column
+  pub sound : (part column : ℕ) → related r part column ≡ true → RelationLeads old part column
   pub grown : (part column : ℕ) → related old part column ≡ true → related r part column ≡ true
 
 pub IsOnTheWay-start : (old : Relation) → IsOnTheWay old old
 IsOnTheWay-start old = record { same_parts = refl; same_tokens = refl; sound = λ part column h. here part column h; grown = λ part column h. h }
 
 -- what a round adds
-next_related-cases : (old r : Relation) → IsOnTheWay old r → (part column : ℕ) → next_related r part column ≡ true → Leads old part column
+next_related-cases : (old r : Relation) → IsOnTheWay old r → (part column : ℕ) → next_related r part column ≡ true → RelationLeads old part column
 next_related-cases old r way part column h =
     elim (or_cases (related r part column) (leads (related r) r.tokens r.parts part column) h) [
       | inl kept ↦ way.sound part column kept
@@ -85,7 +85,7 @@ next_related-cases old r way part column h =
           let at = any_below-at (leads_by (related r) r.tokens part column) r.parts led in
           let parts = and_parts (related r part (part_column r.tokens at.0)) (related r at.0 column) at.2 in
           let first = way.sound part (part_column r.tokens at.0) parts.0 in
-          Leads-join old part at.0 column (subst (λ (t : ℕ). Leads old part (part_column t at.0)) way.same_tokens first) (way.sound at.0 column parts.1)
+          Leads-join old part at.0 column (subst (λ (t : ℕ). RelationLeads old part (part_column t at.0)) way.same_tokens first) (way.sound at.0 column parts.1)
     ]
 
 module _ (r next : Relation) (cells_are : HasCells next (next_related r) r.parts r.tokens) where
@@ -148,7 +148,7 @@ module _ (r next : Relation) (cells_are : HasCells next (next_related r) r.parts
       ∙ holds-cells (next_related r) r.parts (width_of r) part column b.0 m.1
       ∙ or_right (related r part column) (leads (related r) r.tokens r.parts part column) led
 
-  complete : r.bits.items ≡ next.bits.items → (old : Relation) → IsOnTheWay old r → (part column : ℕ) → Leads old part column → related r part column ≡ true
+  complete : r.bits.items ≡ next.bits.items → (old : Relation) → IsOnTheWay old r → (part column : ℕ) → RelationLeads old part column → related r part column ≡ true
   complete same old way part column (here p c h) = way.grown p c h
   complete same old way part column (through p m c h rest) =
       closed same p m c (ap (λ (t : ℕ). related r p (part_column t m)) way.same_tokens ∙ way.grown p (part_column old.tokens m) h) (complete same old way m c rest)

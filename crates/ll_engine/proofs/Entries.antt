@@ -7,20 +7,20 @@ use Rattle.std.proofs.lemmas.Nat.{div_below}
 use Rattle.std.proofs.Math.Nat.{mod-add-div', mod-lt}
 use Rattle.ll_engine.specs.declared.symbol.Row.{Row}
 use Rattle.ll_engine.specs.declared.fault.TableFault.{TableFault}
-use Rattle.ll_engine.specs.Computed.{IsEntry}
+use Rattle.ll_engine.specs.Computed.{IsTableEntry}
 use Rattle.ll_engine.specs.Table.{width_of, AreEntries, IsConflictEntry, IsTableFault}
 
 pub AreEntries-more : (test : ℕ → ℕ → Row → Bool) (rows : List Row) (tokens : ℕ) (table : List ℕ) (n entry : ℕ) → length table ≡ n →
-    AreEntries test rows tokens table n → IsEntry (test (n / width_of tokens) (n % width_of tokens)) rows entry → AreEntries test rows tokens (table ++ entry ∷ []) (n + 1)
+    AreEntries test rows tokens table n → IsTableEntry (test (n / width_of tokens) (n % width_of tokens)) rows entry → AreEntries test rows tokens (table ++ entry ∷ []) (n + 1)
 AreEntries-more test rows tokens table n entry len before here cell lt =
     elim (cases_lt cell n) [
       | inl below ↦
-          subst (IsEntry (test (cell / width_of tokens) (cell % width_of tokens)) rows) (sym (get_or_append_left table (entry ∷ []) 0 cell (omega arith))) (before cell below)
+          subst (IsTableEntry (test (cell / width_of tokens) (cell % width_of tokens)) rows) (sym (get_or_append_left table (entry ∷ []) 0 cell (omega arith))) (before cell below)
       | inr ge ↦
           let same : n ≡ cell = omega arith in
           let at : get_or (table ++ entry ∷ []) n 0 ≡ entry = get_or_push table entry 0 n len in
-          subst (λ (k : ℕ). IsEntry (test (k / width_of tokens) (k % width_of tokens)) rows (slice_index (table ++ entry ∷ []) k)) same
-          (subst (IsEntry (test (n / width_of tokens) (n % width_of tokens)) rows) (sym at) here)
+          subst (λ (k : ℕ). IsTableEntry (test (k / width_of tokens) (k % width_of tokens)) rows (slice_index (table ++ entry ∷ []) k)) same
+          (subst (IsTableEntry (test (n / width_of tokens) (n % width_of tokens)) rows) (sym at) here)
     ]
 
 pub IsTableFault-at : (test : ℕ → ℕ → Row → Bool) (rows : List Row) (parts tokens cell : ℕ) (table : List ℕ) (fault : TableFault) → cell < parts * width_of tokens →

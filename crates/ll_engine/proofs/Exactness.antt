@@ -10,7 +10,7 @@ use Rattle.ll_engine.specs.declared.grammar.Tree.{Tree}
 use Rattle.ll_engine.specs.Language.{ContextFree, IsSentence, IsUnexpectedAt}
 use Rattle.ll_engine.specs.Walk.{IsAnswer}
 use Rattle.ll_engine.specs.Prediction.{IsBarren, IsLeftCyclic, IsConflict, IsPredictive, IsLeast, IsFirstBarren, IsFirstLeftCyclic, IsFirstConflict}
-use Rattle.ll_engine.specs.Checked.{IsFaultOf, ExactlyWhere}
+use Rattle.ll_engine.specs.Checked.{IsTableFaultOf, ExactlyWhere}
 use Rattle.ll_engine.proofs.Walks.{IsUnexpectedAt-same}
 
 abbrev Answer : Type 0
@@ -53,13 +53,13 @@ module _ (g : ContextFree) where
   pub exact_barren-ok : (h : ContextFree) → IsPredictive g → (part : ℕ) → ExactlyWhere {A = Answer} (IsFirstBarren g part) (Ok h) (Err (Barren part)) (Err NoMemory)
   exact_barren-ok h predictive part = Excluded (IsFirstBarren g part) (Ok h) (Err (Barren part)) (λ e. cc) (predictive-not_barren predictive part)
 
-  pub exact_ok-fault : (fault : TableFault) → IsFaultOf g fault → ExactlyWhere {A = Answer} (IsPredictive g) (Err fault) (Ok g) (Err NoMemory)
+  pub exact_ok-fault : (fault : TableFault) → IsTableFaultOf g fault → ExactlyWhere {A = Answer} (IsPredictive g) (Err fault) (Ok g) (Err NoMemory)
   exact_ok-fault (Barren p) is = Excluded (IsPredictive g) (Err (Barren p)) (Ok g) (λ e. cc) (λ predictive. predictive-not_barren predictive p is)
   exact_ok-fault (LeftCycle p) is = Excluded (IsPredictive g) (Err (LeftCycle p)) (Ok g) (λ e. cc) (λ predictive. predictive-not_cyclic predictive p is)
   exact_ok-fault (Conflict p t) is = Excluded (IsPredictive g) (Err (Conflict p t)) (Ok g) (λ e. cc) (λ predictive. predictive-not_conflict predictive p t is)
   exact_ok-fault NoMemory is = Wanting (IsPredictive g) (Ok g) (λ e. cc)
 
-  pub exact_barren-fault : (fault : TableFault) → IsFaultOf g fault → (part : ℕ) → ExactlyWhere {A = Answer} (IsFirstBarren g part) (Err fault) (Err (Barren part)) (Err NoMemory)
+  pub exact_barren-fault : (fault : TableFault) → IsTableFaultOf g fault → (part : ℕ) → ExactlyWhere {A = Answer} (IsFirstBarren g part) (Err fault) (Err (Barren part)) (Err NoMemory)
   exact_barren-fault (Barren p) is part = record {
     only = λ e. let same : p ≡ part = cc in subst (IsFirstBarren g) same is;
     always = λ h. let same : p ≡ part = IsLeast-same (IsBarren g.rows) p part is.1 h.1 in inl (ap (λ (q : ℕ). Err (Barren q)) same);
@@ -68,7 +68,7 @@ module _ (g : ContextFree) where
   exact_barren-fault (Conflict p t) is part = Excluded (IsFirstBarren g part) (Err (Conflict p t)) (Err (Barren part)) (λ e. cc) (λ h. barren-not_conflict part p t h is)
   exact_barren-fault NoMemory is part = Wanting (IsFirstBarren g part) (Err (Barren part)) (λ e. cc)
 
-  pub exact_left_cycle-fault : (fault : TableFault) → IsFaultOf g fault → (part : ℕ) → ExactlyWhere {A = Answer} (IsFirstLeftCyclic g part) (Err fault) (Err (LeftCycle part)) (Err NoMemory)
+  pub exact_left_cycle-fault : (fault : TableFault) → IsTableFaultOf g fault → (part : ℕ) → ExactlyWhere {A = Answer} (IsFirstLeftCyclic g part) (Err fault) (Err (LeftCycle part)) (Err NoMemory)
   exact_left_cycle-fault (Barren p) is part = Excluded (IsFirstLeftCyclic g part) (Err (Barren p)) (Err (LeftCycle part)) (λ e. cc) (λ h. barren-not_cyclic p part is h)
   exact_left_cycle-fault (LeftCycle p) is part = record {
     only = λ e. let same : p ≡ part = cc in subst (IsFirstLeftCyclic g) same is;
@@ -77,7 +77,7 @@ module _ (g : ContextFree) where
   exact_left_cycle-fault (Conflict p t) is part = Excluded (IsFirstLeftCyclic g part) (Err (Conflict p t)) (Err (LeftCycle part)) (λ e. cc) (λ h. cyclic-not_conflict part p t h is)
   exact_left_cycle-fault NoMemory is part = Wanting (IsFirstLeftCyclic g part) (Err (LeftCycle part)) (λ e. cc)
 
-  pub exact_conflict-fault : (fault : TableFault) → IsFaultOf g fault → (part token : ℕ) →
+  pub exact_conflict-fault : (fault : TableFault) → IsTableFaultOf g fault → (part token : ℕ) →
       ExactlyWhere {A = Answer} (IsFirstConflict g part token) (Err fault) (Err (Conflict part token)) (Err NoMemory)
   exact_conflict-fault (Barren p) is part token = Excluded (IsFirstConflict g part token) (Err (Barren p)) (Err (Conflict part token)) (λ e. cc) (λ h. barren-not_conflict p part token is h)
   exact_conflict-fault (LeftCycle p) is part token = Excluded (IsFirstConflict g part token) (Err (LeftCycle p)) (Err (Conflict part token)) (λ e. cc) (λ h. cyclic-not_conflict p part token is h)

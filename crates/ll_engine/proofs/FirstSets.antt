@@ -8,11 +8,11 @@ use Rattle.ll_engine.specs.declared.symbol.Symbol.{Symbol}
 use Rattle.ll_engine.specs.declared.symbol.Symbol.TheVariants.{Token, Part}
 use Rattle.ll_engine.specs.declared.symbol.Row.{Row}
 use Rattle.ll_engine.specs.declared.relation.Relation.{Relation}
-use Rattle.ll_engine.specs.Derivation.{Production, Forest, empty, leaf, node, Derives, leaves}
-use Rattle.ll_engine.specs.Prediction.{Begins}
+use Rattle.ll_engine.specs.Derivation.{Production, Forest, empty, leaf, node, DerivesSymbols, leaves}
+use Rattle.ll_engine.specs.Prediction.{CanBeginWith}
 use Rattle.ll_engine.specs.View.{is_in_range, production_of, productions}
 use Rattle.ll_engine.specs.Computed.{part_column, all_marked, begins, has_corner}
-use Rattle.ll_engine.specs.Related.{related, HasCells, Leads, here, through, IsClosureOf}
+use Rattle.ll_engine.specs.Related.{related, HasCells, RelationLeads, here, through, IsClosureOf}
 use Rattle.ll_engine.proofs.Forests.{beside, leaves-beside, Derives-beside}
 use Rattle.ll_engine.proofs.Lists.{list_any-at, list_any-from_at, slice_get-from_map, slice_get-to_map}
 use Rattle.ll_engine.proofs.Closure.{related-bounds, related-HasCells}
@@ -113,7 +113,7 @@ module _ (rows : List Row) (parts tokens : ℕ) (nullable : ℕ → Bool) (none 
           ]
 
   -- what a list of symbols derives: the test says with what that begins
-  pub begins-leaves : (f : Forest) (symbols : List Symbol) (token : ℕ) (rest : List ℕ) → Derives (productions rows) f symbols → leaves f ≡ token ∷ rest →
+  pub begins-leaves : (f : Forest) (symbols : List Symbol) (token : ℕ) (rest : List ℕ) → DerivesSymbols (productions rows) f symbols → leaves f ≡ token ∷ rest →
       begins nullable (related first) tokens token symbols ≡ true
   begins-leaves empty symbols token rest d e = absurd (cc)
   begins-leaves (leaf t after) [] token rest d e = absurd d
@@ -135,7 +135,7 @@ module _ (rows : List Row) (parts tokens : ℕ) (nullable : ℕ → Bool) (none 
             (or_right (part_column tokens p == token) (related first p token) (ap (λ (q : ℕ). related first q token) (sym d.2) ∙ led))
       ]
 
-  pub begins-Begins : (symbols : List Symbol) (token : ℕ) → Begins (productions rows) symbols token → begins nullable (related first) tokens token symbols ≡ true
+  pub begins-Begins : (symbols : List Symbol) (token : ℕ) → CanBeginWith (productions rows) symbols token → begins nullable (related first) tokens token symbols ≡ true
   begins-Begins symbols token b = begins-leaves b.0 symbols token b.1 b.2 b.3
 
   -- the corners that the relation was made of
@@ -190,7 +190,7 @@ module _ (rows : List Row) (parts tokens : ℕ) (nullable : ℕ → Bool) (none 
   module _ (productive : AllProductive (productions rows) parts) where
     -- what a corner's symbol begins with, the list does
     Begins-at : (front : List Symbol) (symbol : Symbol) (back symbols : List Symbol) (token : ℕ) → symbols ≡ front ++ symbol ∷ back →
-        InRange parts tokens symbols → all_marked nullable false front ≡ true → Begins (productions rows) (symbol ∷ []) token → Begins (productions rows) symbols token
+        InRange parts tokens symbols → all_marked nullable false front ≡ true → CanBeginWith (productions rows) (symbol ∷ []) token → CanBeginWith (productions rows) symbols token
     Begins-at front symbol back symbols token e in_range front_null b =
         let empties = IsNullable-all_marked (productions rows) nullable made.decides front front_null in
         let ranges = (list_all-split (is_in_range parts tokens) (front ++ symbol ∷ []) back (rw append_assoc (rw e at in_range))).1 in
@@ -199,23 +199,23 @@ module _ (rows : List Row) (parts tokens : ℕ) (nullable : ℕ → Bool) (none 
         let whole = Derives-beside (productions rows) empties.0 (beside b.0 after.0) front (symbol ∷ back) empties.1 middle in (
           beside empties.0 (beside b.0 after.0),
           b.1 ++ leaves after.0,
-          subst (λ (xs : List Symbol). Derives (productions rows) (beside empties.0 (beside b.0 after.0)) xs) (sym e) whole,
+          subst (λ (xs : List Symbol). DerivesSymbols (productions rows) (beside empties.0 (beside b.0 after.0)) xs) (sym e) whole,
           leaves-beside empties.0 (beside b.0 after.0)
               ∙ ap (λ (xs : List ℕ). xs ++ leaves (beside b.0 after.0)) empties.2
               ∙ leaves-beside b.0 after.0
               ∙ ap (λ (xs : List ℕ). xs ++ leaves after.0) b.3,
         )
 
-    Begins-row : (r : ℕ) (row : Production) (token : ℕ) → slice_get (productions rows) r ≡ Some row → Begins (productions rows) row.right token → Begins (productions rows) (Part row.left ∷ []) token
+    Begins-row : (r : ℕ) (row : Production) (token : ℕ) → slice_get (productions rows) r ≡ Some row → CanBeginWith (productions rows) row.right token → CanBeginWith (productions rows) (Part row.left ∷ []) token
     Begins-row r row token is b = (node r b.0 empty, b.1, (row, is, refl, b.2, tt), ap (λ (xs : List ℕ). xs ++ []) b.3 ∙ append-nil (token ∷ b.1))
 
     Begins-corner : (part : ℕ) (symbol : Symbol) (token : ℕ) → IsCorner (productions rows) nullable part symbol →
-        Begins (productions rows) (symbol ∷ []) token → Begins (productions rows) (Part part ∷ []) token
+        CanBeginWith (productions rows) (symbol ∷ []) token → CanBeginWith (productions rows) (Part part ∷ []) token
     Begins-corner part symbol token corner b =
         let right = Begins-at corner.front symbol corner.back corner.row.right token corner.split (right-InRange made.ranges corner.number corner.row corner.is_row) corner.nullable_front b in
-        subst (λ (p : ℕ). Begins (productions rows) (Part p ∷ []) token) corner.left_is (Begins-row corner.number corner.row token corner.is_row right)
+        subst (λ (p : ℕ). CanBeginWith (productions rows) (Part p ∷ []) token) corner.left_is (Begins-row corner.number corner.row token corner.is_row right)
 
-    Begins-symbol : (column : ℕ) (symbol : Symbol) → column ≤ tokens → starts_symbol none tokens column symbol ≡ true → Begins (productions rows) (symbol ∷ []) column
+    Begins-symbol : (column : ℕ) (symbol : Symbol) → column ≤ tokens → starts_symbol none tokens column symbol ≡ true → CanBeginWith (productions rows) (symbol ∷ []) column
     Begins-symbol column (Token t) le starts = (leaf t empty, [], (refl, tt), ap (λ (x : ℕ). x ∷ []) (eqb-true t column starts))
     Begins-symbol column (Part p) le starts =
         elim (or_cases (part_column tokens p == column) (none p column) starts) [
@@ -224,7 +224,7 @@ module _ (rows : List Row) (parts tokens : ℕ) (nullable : ℕ → Bool) (none 
         ]
 
     -- the column of a token, or of the end
-    Begins-Leads : (part token : ℕ) → Leads base part token → token ≤ tokens → Begins (productions rows) (Part part ∷ []) token
+    Begins-Leads : (part token : ℕ) → RelationLeads base part token → token ≤ tokens → CanBeginWith (productions rows) (Part part ∷ []) token
     Begins-Leads part token (here p c h) le =
         let corner = corner-base p c h in
         Begins-corner p corner.0 c corner.1 (Begins-symbol c corner.0 le corner.2)
@@ -233,12 +233,12 @@ module _ (rows : List Row) (parts tokens : ℕ) (nullable : ℕ → Bool) (none 
 
     -- what the test finds, the list begins with
     pub Begins-begins : (symbols : List Symbol) (token : ℕ) → InRange parts tokens symbols → token ≤ tokens →
-        begins nullable (related first) tokens token symbols ≡ true → Begins (productions rows) symbols token
+        begins nullable (related first) tokens token symbols ≡ true → CanBeginWith (productions rows) symbols token
     Begins-begins symbols token in_range le h =
         let at = BeginsAt-begins nullable (related first) tokens token symbols h in
         Begins-at at.front at.symbol at.back symbols token at.split in_range at.nullable_front (by_symbol at.symbol at.starts)
       where
-        by_symbol : (symbol : Symbol) → starts_symbol (related first) tokens token symbol ≡ true → Begins (productions rows) (symbol ∷ []) token
+        by_symbol : (symbol : Symbol) → starts_symbol (related first) tokens token symbol ≡ true → CanBeginWith (productions rows) (symbol ∷ []) token
         by_symbol (Token t) starts = (leaf t empty, [], (refl, tt), ap (λ (x : ℕ). x ∷ []) (eqb-true t token starts))
         by_symbol (Part p) starts =
             elim (or_cases (part_column tokens p == token) (related first p token) starts) [

@@ -4,7 +4,7 @@ use Rattle.std.specs.Prelude.{cond, Option, Some, None, option_and_then, slice_g
 use Rattle.std.proofs.lemmas.Option.{option_and_then_some}
 use Rattle.ll_engine.specs.declared.symbol.Symbol.{Symbol}
 use Rattle.ll_engine.specs.declared.symbol.Symbol.TheVariants.{Token, Part}
-use Rattle.ll_engine.specs.Derivation.{Production, Forest, empty, leaf, node, Derives, leaves}
+use Rattle.ll_engine.specs.Derivation.{Production, Forest, empty, leaf, node, DerivesSymbols, leaves}
 use Rattle.ll_engine.specs.Fold.{begins_kept, first_if, tree_begins_kept, in_front, folded}
 use Rattle.ll_engine.specs.Run.{count_parts, Work, work, rest_if, step, step_of, run, kept_tokens}
 
@@ -72,7 +72,7 @@ and_then_twice f g (Some x) = refl
 module _ {T A : Type 0} (value_of : ℕ → Option T → List A → Option A) (keeps : ℕ → Bool) where
   -- one value for each part
   pub length_folded : (rows : List Production) (trees : Forest) (symbols : List Symbol) (own : List T) (values : List A)
-      → Derives rows trees symbols →
+      → DerivesSymbols rows trees symbols →
       folded value_of keeps trees own ≡ Some values → length values ≡ count_parts symbols
   length_folded rows empty [] own values d e = let same : [] ≡ values = cc in ap length (sym same)
   length_folded rows empty (symbol ∷ symbols) own values d e = absurd d

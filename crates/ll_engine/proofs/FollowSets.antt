@@ -8,10 +8,10 @@ use Rattle.ll_engine.specs.declared.symbol.Symbol.TheVariants.{Token, Part}
 use Rattle.ll_engine.specs.declared.symbol.Row.{Row}
 use Rattle.ll_engine.specs.declared.relation.Relation.{Relation}
 use Rattle.ll_engine.specs.Derivation.{Production}
-use Rattle.ll_engine.specs.Prediction.{Begins, MayFollow, ends, before, behind}
+use Rattle.ll_engine.specs.Prediction.{CanBeginWith, MayFollow, ends, before, behind}
 use Rattle.ll_engine.specs.View.{is_in_range, production_of, productions, grammar_of}
 use Rattle.ll_engine.specs.Computed.{part_column, all_marked, begins, continues, is_part, follows_in, has_follower}
-use Rattle.ll_engine.specs.Related.{related, HasCells, Leads, here, through, IsClosureOf}
+use Rattle.ll_engine.specs.Related.{related, HasCells, RelationLeads, here, through, IsClosureOf}
 use Rattle.ll_engine.proofs.Lists.{list_any-at, list_any-from_at, slice_get-from_map, slice_get-to_map}
 use Rattle.ll_engine.proofs.Closure.{related-bounds, related-HasCells}
 use Rattle.ll_engine.proofs.Ranges.{InRange, left-below, right-InRange, list_all-split, AllProductive, AreTokens-leaves}
@@ -140,7 +140,7 @@ module _ (rows : List Row) (parts tokens start : ℕ) (nullable : ℕ → Bool) 
             (subst (λ (p : ℕ). MayFollow (grammar_of rows parts tokens start) p column) same m)
       ]
 
-  MayFollow-Leads : (part column : ℕ) → Leads base part column → column ≤ tokens → MayFollow (grammar_of rows parts tokens start) part column
+  MayFollow-Leads : (part column : ℕ) → RelationLeads base part column → column ≤ tokens → MayFollow (grammar_of rows parts tokens start) part column
   MayFollow-Leads part column (here p c h) le = MayFollow-reason p c le (reason p c h)
   MayFollow-Leads part column (through p m c h rest) le = MayFollow-through p m c (reason p (part_column base.tokens m) h) (MayFollow-Leads m c rest le)
 
@@ -148,13 +148,13 @@ module _ (rows : List Row) (parts tokens start : ℕ) (nullable : ℕ → Bool) 
   MayFollow-related part column le h = MayFollow-Leads part column (follows.closed.sound part column h) le
 
   -- what begins a list in range is a token in range
-  token_below : (symbols : List Symbol) (token : ℕ) → InRange parts tokens symbols → Begins (productions rows) symbols token → token < tokens
+  token_below : (symbols : List Symbol) (token : ℕ) → InRange parts tokens symbols → CanBeginWith (productions rows) symbols token → token < tokens
   token_below symbols token in_range b =
       let all = AreTokens-leaves made.ranges b.0 symbols b.2 in_range in
       let own = ap (list_all (λ (t : ℕ). nat_lt t tokens)) (sym b.3) ∙ all in
       ltb-true token tokens (and_parts (nat_lt token tokens) (list_all (λ (t : ℕ). nat_lt t tokens) b.1) own).0
 
-  pub Leads-MayFollow : (part column : ℕ) → MayFollow (grammar_of rows parts tokens start) part column → Leads base part column
+  pub Leads-MayFollow : (part column : ℕ) → MayFollow (grammar_of rows parts tokens start) part column → RelationLeads base part column
   Leads-MayFollow part column ends =
       here start tokens (related-base start tokens follows.start_below (omega arith)
       ∙ or_left ((start == start) && (tokens == tokens)) (list_any (λ (x : Row). follows_in nullable (related first) tokens x.left start tokens x.right.items) rows)

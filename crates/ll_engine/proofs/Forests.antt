@@ -2,7 +2,7 @@
 use Rattle.std.proofs.Common.{◌≡◌, List, [], ◌∷◌, ◌++◌, refl, ap, sym, ◌∙◌, append_assoc}
 use Rattle.ll_engine.specs.declared.symbol.Symbol.{Symbol}
 use Rattle.ll_engine.specs.declared.symbol.Symbol.TheVariants.{Token, Part}
-use Rattle.ll_engine.specs.Derivation.{Production, Forest, empty, leaf, node, Derives, leaves, leftmost}
+use Rattle.ll_engine.specs.Derivation.{Production, Forest, empty, leaf, node, DerivesSymbols, leaves, leftmost}
 
 -- the trees of both, from left to right
 abbrev pub beside : Forest → Forest → Forest
@@ -22,7 +22,7 @@ leftmost-beside (leaf t rest) g = leftmost-beside rest g
 leftmost-beside (node r below rest) g =
     ap (λ xs. r ∷ (leftmost below ++ xs)) (leftmost-beside rest g) ∙ ap (λ xs. r ∷ xs) (sym (append_assoc (leftmost below) (leftmost rest) (leftmost g)))
 
-pub Derives-beside : (rows : List Production) (f g : Forest) (a b : List Symbol) → Derives rows f a → Derives rows g b → Derives rows (beside f g) (a ++ b)
+pub Derives-beside : (rows : List Production) (f g : Forest) (a b : List Symbol) → DerivesSymbols rows f a → DerivesSymbols rows g b → DerivesSymbols rows (beside f g) (a ++ b)
 Derives-beside rows empty g [] b df dg = dg
 Derives-beside rows empty g (x ∷ a) b df dg = absurd df
 Derives-beside rows (leaf t rest) g [] b df dg = absurd df
@@ -37,11 +37,11 @@ Derives-beside rows (node r below rest) g (Part p ∷ a) b df dg =
 pub record Splits (rows : List Production) (f : Forest) (a b : List Symbol) : Type 0 where
   pub left : Forest
   pub right : Forest
-  pub left_derives : Derives rows left a
-  pub right_derives : Derives rows right b
+  pub left_derives : DerivesSymbols rows left a
+  pub right_derives : DerivesSymbols rows right b
   pub both : f ≡ beside left right
 
-pub Splits-from_append : (rows : List Production) (f : Forest) (a b : List Symbol) → Derives rows f (a ++ b) → Splits rows f a b
+pub Splits-from_append : (rows : List Production) (f : Forest) (a b : List Symbol) → DerivesSymbols rows f (a ++ b) → Splits rows f a b
 Splits-from_append rows f [] b d = record { left = empty; right = f; left_derives = tt; right_derives = d; both = refl }
 Splits-from_append rows empty (x ∷ a) b d = absurd d
 Splits-from_append rows (leaf t rest) (Token u ∷ a) b d =

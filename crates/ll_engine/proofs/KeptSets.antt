@@ -5,9 +5,9 @@ use Rattle.std.specs.List.{list_all}
 use Rattle.std.proofs.lemmas.Bool.{and_parts, and_from, or_cases, or_left, or_right, not-true, both_ways, cases_eq, ltb-true, lt-ltb, eqb-true, eq-eqb}
 use Rattle.ll_engine.specs.declared.symbol.Symbol.{Symbol}
 use Rattle.ll_engine.specs.declared.symbol.Symbol.TheVariants.{Token, Part}
-use Rattle.ll_engine.specs.Derivation.{Production, Forest, empty, leaf, node, Derives, leaves}
+use Rattle.ll_engine.specs.Derivation.{Production, Forest, empty, leaf, node, DerivesSymbols, leaves}
 use Rattle.ll_engine.specs.Language.{ContextFree}
-use Rattle.ll_engine.specs.Prediction.{IsPredictedBy, MayFollow, ends, before, behind, Rewrites, RewritesInSteps, one, more, IsPredictive}
+use Rattle.ll_engine.specs.Prediction.{IsPredictedBy, MayFollow, ends, before, behind, RewritesSymbols, RewritesInSteps, one, more, IsPredictive}
 use Rattle.ll_engine.specs.PredictionSets.{Sets, has, within, apart, all_nullable, first_of, predicting, keeps_nullable, keeps_first, keeps_follow, falls, keeps, is_apart_from, all_apart, has_left, right_of, derives_by, all_below, Kept, PartSets, sets_of, tree_of, known_after, are_kept, is_predictive_after}
 
 -- membership
@@ -66,7 +66,7 @@ row_found : (found : Option Production) (p : ℕ) → has_left found p ≡ true 
 row_found None p h = absurd (cc)
 row_found (Some row) p h = (row, refl, eqb-true row.left p h)
 
-derives_from : (rows : List Production) (trees : Forest) (symbols : List Symbol) → derives_by rows trees symbols ≡ true → Derives rows trees symbols
+derives_from : (rows : List Production) (trees : Forest) (symbols : List Symbol) → derives_by rows trees symbols ≡ true → DerivesSymbols rows trees symbols
 derives_from rows empty [] h = tt
 derives_from rows empty (symbol ∷ symbols) h = absurd (cc)
 derives_from rows (leaf t rest) [] h = absurd (cc)
@@ -81,7 +81,7 @@ derives_from rows (node r below rest) (Part p ∷ symbols) h =
     let parts = and_parts (has_left found p && derives_by rows below (right_of found)) (derives_by rows rest symbols) h in
     let here = and_parts (has_left found p) (derives_by rows below (right_of found)) parts.0 in
     let row = row_found found p here.0 in
-    (row.0, row.1, row.2, subst (Derives rows below) (ap right_of row.1) (derives_from rows below (right_of found) here.1), derives_from rows rest symbols parts.1)
+    (row.0, row.1, row.2, subst (DerivesSymbols rows below) (ap right_of row.1) (derives_from rows below (right_of found) here.1), derives_from rows rest symbols parts.1)
 
 record RowKeeps (sets : Sets) (row : Production) : Type 0 where
   when_nullable : all_nullable sets row.right ≡ true → sets.nullable row.left ≡ true
@@ -104,7 +104,7 @@ row_keeps rows sets all r row is =
 
 -- the sets hold what is derived
 nullable_sound : (rows : List Production) (sets : Sets) → list_all (keeps sets) rows ≡ true → (trees : Forest) (symbols : List Symbol) →
-    Derives rows trees symbols → leaves trees ≡ [] → all_nullable sets symbols ≡ true
+    DerivesSymbols rows trees symbols → leaves trees ≡ [] → all_nullable sets symbols ≡ true
 nullable_sound rows sets all empty [] d e = refl
 nullable_sound rows sets all empty (symbol ∷ symbols) d e = absurd d
 nullable_sound rows sets all (leaf t rest) symbols d e = absurd (cc)
@@ -122,7 +122,7 @@ cases_list [] none some = none refl
 cases_list (n ∷ ns) none some = some n ns refl
 
 first_sound : (rows : List Production) (sets : Sets) → list_all (keeps sets) rows ≡ true → (trees : Forest) (symbols : List Symbol) (t : ℕ) (others : List ℕ) →
-    Derives rows trees symbols → leaves trees ≡ t ∷ others → has (first_of sets symbols) t ≡ true
+    DerivesSymbols rows trees symbols → leaves trees ≡ t ∷ others → has (first_of sets symbols) t ≡ true
 first_sound rows sets all empty symbols t others d e = absurd (cc)
 first_sound rows sets all (leaf k rest) [] t others d e = absurd d
 first_sound rows sets all (leaf k rest) (Token u ∷ symbols) t others d e =
@@ -256,7 +256,7 @@ first_falls rows sets all part number row [] back new is old_is new_is =
     (row_keeps rows sets all number row is).falling (λ passes. ap (falls sets (sets.rank part)) nothing)
 first_falls rows sets all part number row (x ∷ front) back new is old_is new_is = absurd (no_part_left front back part row.left x old_is)
 
-next_falls : (rows : List Production) (sets : Sets) → list_all (keeps sets) rows ≡ true → (limit : ℕ) {old new : List Symbol} → Rewrites rows old new →
+next_falls : (rows : List Production) (sets : Sets) → list_all (keeps sets) rows ≡ true → (limit : ℕ) {old new : List Symbol} → RewritesSymbols rows old new →
     falls sets limit old ≡ true → falls sets limit new ≡ true
 next_falls rows sets all limit step falling =
     ap (falls sets limit) step.new_is

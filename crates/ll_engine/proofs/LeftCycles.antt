@@ -6,18 +6,18 @@ use Rattle.ll_engine.specs.declared.symbol.Symbol.{Symbol}
 use Rattle.ll_engine.specs.declared.symbol.Symbol.TheVariants.{Token, Part}
 use Rattle.ll_engine.specs.declared.symbol.Row.{Row}
 use Rattle.ll_engine.specs.declared.relation.Relation.{Relation}
-use Rattle.ll_engine.specs.Derivation.{Production, Forest, empty, leaf, node, Derives, leaves}
-use Rattle.ll_engine.specs.Prediction.{Rewrites, RewritesInSteps, one, more, IsLeftCyclic}
+use Rattle.ll_engine.specs.Derivation.{Production, Forest, empty, leaf, node, DerivesSymbols, leaves}
+use Rattle.ll_engine.specs.Prediction.{RewritesSymbols, RewritesInSteps, one, more, IsLeftCyclic}
 use Rattle.ll_engine.specs.View.{productions}
 use Rattle.ll_engine.specs.Computed.{part_column, all_marked, begins}
-use Rattle.ll_engine.specs.Related.{related, Leads, here, through}
+use Rattle.ll_engine.specs.Related.{related, RelationLeads, here, through}
 use Rattle.ll_engine.proofs.MarkRounds.{append_nil}
 use Rattle.ll_engine.proofs.Nullable.{IsNullable-all_marked, nullable-row}
 use Rattle.ll_engine.proofs.Begins.{begins-cases, begins-front, begins-behind}
 use Rattle.ll_engine.proofs.FirstSets.{IsFirstOf, IsCorner, first-row, corner-part}
 
 -- one step more at the end of a derivation, one derivation after another, and a derivation in front of more symbols
-then_one : {rows : List Production} {a b c : List Symbol} → RewritesInSteps rows a b → Rewrites rows b c → RewritesInSteps rows a c
+then_one : {rows : List Production} {a b c : List Symbol} → RewritesInSteps rows a b → RewritesSymbols rows b c → RewritesInSteps rows a c
 then_one (one first) step = more first (one step)
 then_one (more first rest) step = more first (then_one rest step)
 
@@ -25,7 +25,7 @@ then_all : {rows : List Production} {a b c : List Symbol} → RewritesInSteps ro
 then_all (one first) after = more first after
 then_all (more first rest) after = more first (then_all rest after)
 
-Rewrites-before : {rows : List Production} {a b : List Symbol} (z : List Symbol) → Rewrites rows a b → Rewrites rows (a ++ z) (b ++ z)
+Rewrites-before : {rows : List Production} {a b : List Symbol} (z : List Symbol) → RewritesSymbols rows a b → RewritesSymbols rows (a ++ z) (b ++ z)
 Rewrites-before z step = record {
   front = step.front;
   back = step.back ++ z;
@@ -41,7 +41,7 @@ steps_before z (one step) = one (Rewrites-before z step)
 steps_before z (more step rest) = more (Rewrites-before z step) (steps_before z rest)
 
 -- symbols that derive the empty list can be rewritten away
-away : (rows : List Production) (old : List Symbol) (f : Forest) (front back : List Symbol) → Derives rows f front → leaves f ≡ [] →
+away : (rows : List Production) (old : List Symbol) (f : Forest) (front back : List Symbol) → DerivesSymbols rows f front → leaves f ≡ [] →
     RewritesInSteps rows old (front ++ back) → RewritesInSteps rows old back
 away rows old empty [] back d e steps = steps
 away rows old empty (x ∷ front) back d e steps = absurd d
@@ -50,7 +50,7 @@ away rows old (node r below rest) [] back d e steps = absurd d
 away rows old (node r below rest) (Token u ∷ front) back d e steps = absurd d
 away rows old (node r below rest) (Part p ∷ front) back d e steps =
     let parts = append_nil (leaves below) (leaves rest) e in
-    let step : Rewrites rows (Part p ∷ (front ++ back)) (d.0.right ++ (front ++ back)) = record {
+    let step : RewritesSymbols rows (Part p ∷ (front ++ back)) (d.0.right ++ (front ++ back)) = record {
       front = [];
       back = front ++ back;
       number = r;
@@ -78,7 +78,7 @@ module _ (rows : List Row) (parts tokens : ℕ) (nullable : ℕ → Bool) (none 
       (back : List Symbol) × RewritesInSteps (productions rows) (Part part ∷ []) (Part middle ∷ back)
   corner_steps part middle corner =
       let empties = IsNullable-all_marked (productions rows) nullable made.decides corner.front corner.nullable_front in
-      let step : Rewrites (productions rows) (Part part ∷ []) (corner.front ++ Part middle ∷ corner.back) = record {
+      let step : RewritesSymbols (productions rows) (Part part ∷ []) (corner.front ++ Part middle ∷ corner.back) = record {
         front = [];
         back = [];
         number = corner.number;
@@ -89,7 +89,7 @@ module _ (rows : List Row) (parts tokens : ℕ) (nullable : ℕ → Bool) (none 
       } in
       (corner.back, away (productions rows) (Part part ∷ []) empties.0 corner.front (Part middle ∷ corner.back) empties.1 empties.2 (one step))
 
-  steps-Leads : (part column : ℕ) → Leads base part column → (last : ℕ) → column ≡ part_column base.tokens last →
+  steps-Leads : (part column : ℕ) → RelationLeads base part column → (last : ℕ) → column ≡ part_column base.tokens last →
       (back : List Symbol) × RewritesInSteps (productions rows) (Part part ∷ []) (Part last ∷ back)
   steps-Leads part column (here p c h) last e =
       corner_steps p last (corner-part rows parts tokens nullable none base first made p last (ap (related base p) (sym e) ∙ h))
@@ -99,7 +99,7 @@ module _ (rows : List Row) (parts tokens : ℕ) (nullable : ℕ → Bool) (none 
       (after.0 ++ start.0, then_all start.1 (steps_before start.0 after.1))
 
   -- a step back keeps what a list begins with
-  begins-old : (column : ℕ) (old new : List Symbol) → Rewrites (productions rows) old new → begins nullable (related first) tokens column new ≡ true →
+  begins-old : (column : ℕ) (old new : List Symbol) → RewritesSymbols (productions rows) old new → begins nullable (related first) tokens column new ≡ true →
       begins nullable (related first) tokens column old ≡ true
   begins-old column old new step h =
       ap (begins nullable (related first) tokens column) step.old_is
@@ -125,7 +125,7 @@ module _ (rows : List Row) (parts tokens : ℕ) (nullable : ℕ → Bool) (none 
   begins-start column old new (more {next = next} step rest) h = begins-old column old next step (begins-start column next new rest h)
 
   -- the first step from a part alone is one of its rows
-  related-step : (part column : ℕ) (new : List Symbol) → Rewrites (productions rows) (Part part ∷ []) new → begins nullable (related first) tokens column new ≡ true →
+  related-step : (part column : ℕ) (new : List Symbol) → RewritesSymbols (productions rows) (Part part ∷ []) new → begins nullable (related first) tokens column new ≡ true →
       related first part column ≡ true
   related-step part column new step h = by_front step.front step.old_is step.new_is
     where

@@ -9,7 +9,7 @@ use Rattle.std.proofs.lemmas.List.{get_or_past, get_or-replicate, length-replica
 use Rattle.ll_engine.specs.declared.symbol.Symbol.{Symbol}
 use Rattle.ll_engine.specs.declared.symbol.Symbol.TheVariants.{Token, Part}
 use Rattle.ll_engine.specs.declared.symbol.Row.{Row}
-use Rattle.ll_engine.specs.Derivation.{Production, Forest, empty, leaf, node, Derives, leaves}
+use Rattle.ll_engine.specs.Derivation.{Production, Forest, empty, leaf, node, DerivesSymbols, leaves}
 use Rattle.ll_engine.specs.View.{production_of, productions}
 use Rattle.ll_engine.specs.Computed.{is_marked, all_marked, has_marked_row, next_mark}
 use Rattle.ll_engine.specs.Answers.{DerivesPassing, AreDeriving, HasPartsBelow}
@@ -79,7 +79,7 @@ DerivesPassing-next_mark rows marks passing sound part h =
 -- where each row that passes has its part marked, all that derives passes
 pub all_marked-DerivesPassing : (rows : List Production) (passing : Bool) (marked : ℕ → Bool) →
     ((r : ℕ) (row : Production) → slice_get rows r ≡ Some row → all_marked marked passing row.right ≡ true → marked row.left ≡ true) →
-    (trees : Forest) (symbols : List Symbol) → Derives rows trees symbols → (passing ≡ false → leaves trees ≡ []) → all_marked marked passing symbols ≡ true
+    (trees : Forest) (symbols : List Symbol) → DerivesSymbols rows trees symbols → (passing ≡ false → leaves trees ≡ []) → all_marked marked passing symbols ≡ true
 all_marked-DerivesPassing rows passing marked closed empty [] d none = refl
 all_marked-DerivesPassing rows passing marked closed empty (x ∷ symbols) d none = absurd d
 all_marked-DerivesPassing rows passing marked closed (leaf t rest) [] d none = absurd d

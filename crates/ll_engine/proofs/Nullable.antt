@@ -4,7 +4,7 @@ use Rattle.std.specs.Prelude.{Some, slice_get}
 use Rattle.ll_engine.specs.declared.symbol.Symbol.{Symbol}
 use Rattle.ll_engine.specs.declared.symbol.Symbol.TheVariants.{Part}
 use Rattle.ll_engine.specs.declared.symbol.Row.{Row}
-use Rattle.ll_engine.specs.Derivation.{Production, Forest, empty, leaf, node, Derives, leaves}
+use Rattle.ll_engine.specs.Derivation.{Production, Forest, empty, leaf, node, DerivesSymbols, leaves}
 use Rattle.ll_engine.specs.Prediction.{IsNullable}
 use Rattle.ll_engine.specs.View.{productions}
 use Rattle.ll_engine.specs.Computed.{is_marked, all_marked}
@@ -16,7 +16,7 @@ pub record DecidesNullable (rows : List Production) (nullable : ℕ → Bool) : 
   pub sound : (part : ℕ) → nullable part ≡ true → IsNullable rows (Part part ∷ [])
   pub complete : (part : ℕ) → IsNullable rows (Part part ∷ []) → nullable part ≡ true
 
-part_below : (rows : List Row) (parts : ℕ) → HasPartsBelow rows parts → (tree : Forest) (part : ℕ) → Derives (productions rows) tree (Part part ∷ []) → part < parts
+part_below : (rows : List Row) (parts : ℕ) → HasPartsBelow rows parts → (tree : Forest) (part : ℕ) → DerivesSymbols (productions rows) tree (Part part ∷ []) → part < parts
 part_below rows parts below empty part d = absurd d
 part_below rows parts below (leaf t rest) part d = absurd d
 part_below rows parts below (node r under rest) part d = let e = d.2 in let b = below r d.0 d.1 in omega arith
@@ -41,7 +41,7 @@ module _ (rows : List Production) (nullable : ℕ → Bool) (decides : DecidesNu
       let d = DerivesPassing-row rows false r row is (right.0, right.1, λ _. right.2) in
       decides.complete row.left (d.0, d.1, d.2 refl)
 
-  pub all_marked-leaves : (f : Forest) (symbols : List Symbol) → Derives rows f symbols → leaves f ≡ [] → all_marked nullable false symbols ≡ true
+  pub all_marked-leaves : (f : Forest) (symbols : List Symbol) → DerivesSymbols rows f symbols → leaves f ≡ [] → all_marked nullable false symbols ≡ true
   all_marked-leaves f symbols d e = all_marked-DerivesPassing rows false nullable nullable-row f symbols d (λ _. e)
 
   pub all_marked-IsNullable : (symbols : List Symbol) → IsNullable rows symbols → all_marked nullable false symbols ≡ true

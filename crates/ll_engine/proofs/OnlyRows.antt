@@ -17,7 +17,7 @@ use Rattle.ll_engine.specs.Checked.{IsChecked}
 use Rattle.ll_engine.specs.Grammar.{viewed, IsTableOf}
 use Rattle.ll_engine.specs.Table.{width_of, row_of_entry, entry_at}
 use Rattle.ll_engine.specs.Walk.{IsOnlyRow}
-use Rattle.ll_engine.specs.WrittenTable.{written_production, written_productions, row_among, first_row, row_at, is_named, IsWritten}
+use Rattle.ll_engine.specs.WrittenTable.{written_production, written_productions, row_among, first_row, row_at, is_named, IsTableWritten}
 use Rattle.ll_engine.proofs.Lists.{slice_get-to_map}
 use Rattle.ll_engine.proofs.Walks.{one_row}
 
@@ -29,10 +29,10 @@ checked_at rows parts tokens start own entries g known is view =
     (subst (λ (r : Rows). IsTableOf r (viewed r parts tokens start)) is known)
 
 pub written_at : (rows : Rows) (parts tokens start : ℕ) (table : Bor WrittenTable) (g : ContextFree) → IsTableOf rows (viewed rows parts tokens start) →
-    rows ≡ Written table → viewed rows parts tokens start ≡ g → IsWritten g table.now × (g.rows ≡ written_productions table.now)
+    rows ≡ Written table → viewed rows parts tokens start ≡ g → IsTableWritten g table.now × (g.rows ≡ written_productions table.now)
 written_at rows parts tokens start table g known is view =
     let same = sym (ap (λ (r : Rows). viewed r parts tokens start) is) ∙ view in (
-      subst (λ (other : ContextFree). IsWritten other table.now) same (subst (λ (r : Rows). IsTableOf r (viewed r parts tokens start)) is known),
+      subst (λ (other : ContextFree). IsTableWritten other table.now) same (subst (λ (r : Rows). IsTableOf r (viewed r parts tokens start)) is known),
       sym (ap (λ (other : ContextFree). other.rows) same),
     )
 
@@ -100,7 +100,7 @@ slice_get-behind zero list i x is = ap (slice_get list) (let e : 0 + i ≡ i = o
 slice_get-behind (suc n) [] i x is = absurd (cc)
 slice_get-behind (suc n) (y ∷ list) i x is = ap (slice_get (y ∷ list)) (let e : suc n + i ≡ suc (n + i) = omega arith in e) ∙ slice_get-behind n list i x is
 
-pub row_some : (g : ContextFree) (table : WrittenTable) (part token : ℕ) → IsWritten g table → g.rows ≡ written_productions table → token ≤ g.tokens →
+pub row_some : (g : ContextFree) (table : WrittenTable) (part token : ℕ) → IsTableWritten g table → g.rows ≡ written_productions table → token ≤ g.tokens →
     IfSome (row_at table part token) (IsOnlyRow g part token)
 row_some g table part token written rows within = by_found (row_at table part token) refl
   where

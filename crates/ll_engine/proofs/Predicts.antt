@@ -9,7 +9,7 @@ use Rattle.ll_engine.specs.declared.relation.Relation.{Relation}
 use Rattle.ll_engine.specs.Derivation.{Production}
 use Rattle.ll_engine.specs.Prediction.{IsPredictedBy, IsConflict}
 use Rattle.ll_engine.specs.View.{production_of, productions, grammar_of}
-use Rattle.ll_engine.specs.Computed.{all_marked, begins, predicts, is_candidate, AreSeveral, IsEntry}
+use Rattle.ll_engine.specs.Computed.{all_marked, begins, predicts, is_candidate, AreSeveral, IsTableEntry}
 use Rattle.ll_engine.specs.Related.{related}
 use Rattle.ll_engine.specs.Table.{width_of, AreEntries}
 use Rattle.ll_engine.specs.Checked.{IsPrediction}
@@ -21,14 +21,14 @@ use Rattle.ll_engine.proofs.FollowSets.{IsFollowOf, MayFollow-related, related-M
 
 -- the entry at a part and a token
 pub entry_at : (test : ℕ → ℕ → Row → Bool) (rows : List Row) (parts tokens : ℕ) (table : List ℕ) (n part token : ℕ) → AreEntries test rows tokens table n →
-    part * width_of tokens + token < n → token ≤ tokens → IsEntry (test part token) rows (slice_index table (part * width_of tokens + token))
+    part * width_of tokens + token < n → token ≤ tokens → IsTableEntry (test part token) rows (slice_index table (part * width_of tokens + token))
 entry_at test rows parts tokens table n part token entries lt le =
     let column : token < width_of tokens = omega arith in
     let p = div-mul-add part (width_of tokens) token column in
     let t = mod-mul-add part (width_of tokens) token column in
     let e = entries (part * width_of tokens + token) lt in
-    subst (λ (q : ℕ). IsEntry (test q token) rows (slice_index table (part * width_of tokens + token))) p
-    (subst (λ (u : ℕ). IsEntry (test ((part * width_of tokens + token) / width_of tokens) u) rows (slice_index table (part * width_of tokens + token))) t e)
+    subst (λ (q : ℕ). IsTableEntry (test q token) rows (slice_index table (part * width_of tokens + token))) p
+    (subst (λ (u : ℕ). IsTableEntry (test ((part * width_of tokens + token) / width_of tokens) u) rows (slice_index table (part * width_of tokens + token))) t e)
 
 module _ (rows : List Row) (parts tokens start : ℕ) (nullable : ℕ → Bool) (none : ℕ → ℕ → Bool) (corners first base follow : Relation)
     (made : IsFirstOf rows parts tokens nullable none corners first) (follows : IsFollowOf rows parts tokens start nullable first base follow)
@@ -98,7 +98,7 @@ module _ (rows : List Row) (parts tokens start : ℕ) (nullable : ℕ → Bool) 
         second_predicted = b.1;
       }
 
-  pub no_conflict-IsEntry : (part token entry : ℕ) → IsEntry (test part token) rows entry → ¬ IsConflict (grammar_of rows parts tokens start) part token
+  pub no_conflict-IsEntry : (part token entry : ℕ) → IsTableEntry (test part token) rows entry → ¬ IsConflict (grammar_of rows parts tokens start) part token
   no_conflict-IsEntry part token entry is conflict =
       let a = passes part token conflict.first conflict.first_row conflict.is_first conflict.first_left conflict.first_predicted in
       let b = passes part token conflict.second conflict.second_row conflict.is_second conflict.second_left conflict.second_predicted in
@@ -109,7 +109,7 @@ module _ (rows : List Row) (parts tokens start : ℕ) (nullable : ℕ → Bool) 
             conflict.apart (only.no_other conflict.first a.0 a.1 a.2 ∙ sym (only.no_other conflict.second b.0 b.1 b.2))
       ]
 
-  pub IsPrediction-IsEntry : (part token entry : ℕ) → token ≤ tokens → IsEntry (test part token) rows entry → IsPrediction (grammar_of rows parts tokens start) part token entry
+  pub IsPrediction-IsEntry : (part token entry : ℕ) → token ≤ tokens → IsTableEntry (test part token) rows entry → IsPrediction (grammar_of rows parts tokens start) part token entry
   IsPrediction-IsEntry part token entry le is = record {
     none = λ e r row at left p.
         let x = passes part token r row at left p in

@@ -5,7 +5,7 @@ use Rattle.std.specs.List.{list_all}
 use Rattle.std.proofs.lemmas.Bool.{and_parts, and_from, ltb-true}
 use Rattle.ll_engine.specs.declared.symbol.Symbol.{Symbol}
 use Rattle.ll_engine.specs.declared.symbol.Symbol.TheVariants.{Token, Part}
-use Rattle.ll_engine.specs.Derivation.{Production, Forest, empty, leaf, node, Derives, leaves}
+use Rattle.ll_engine.specs.Derivation.{Production, Forest, empty, leaf, node, DerivesSymbols, leaves}
 use Rattle.ll_engine.specs.Language.{ContextFree}
 use Rattle.ll_engine.specs.View.{is_in_range, is_row_in_range, is_well_formed}
 use Rattle.ll_engine.proofs.Forests.{beside, Derives-beside}
@@ -65,7 +65,7 @@ abbrev pub AreTokens : ℕ → List ℕ → Type 0
 AreTokens tokens list = list_all (λ (t : ℕ). nat_lt t tokens) list ≡ true
 
 pub AreTokens-leaves : {rows : List Production} {parts tokens : ℕ} → RowsInRange rows parts tokens → (f : Forest) (symbols : List Symbol) →
-    Derives rows f symbols → InRange parts tokens symbols → AreTokens tokens (leaves f)
+    DerivesSymbols rows f symbols → InRange parts tokens symbols → AreTokens tokens (leaves f)
 AreTokens-leaves ranges empty symbols d h = refl
 AreTokens-leaves ranges (leaf t rest) [] d h = absurd d
 AreTokens-leaves {rows} {parts} {tokens} ranges (leaf t rest) (Token u ∷ symbols) d h =
@@ -82,9 +82,9 @@ AreTokens-leaves {rows} {parts} {tokens} ranges (node r below rest) (Part p ∷ 
 
 -- where every part derives something, every list in range does
 abbrev pub AllProductive : List Production → ℕ → Type 0
-AllProductive rows parts = (part : ℕ) → part < parts → (tree : Forest) × Derives rows tree (Part part ∷ [])
+AllProductive rows parts = (part : ℕ) → part < parts → (tree : Forest) × DerivesSymbols rows tree (Part part ∷ [])
 
-pub trees_of : (rows : List Production) (parts tokens : ℕ) → AllProductive rows parts → (symbols : List Symbol) → InRange parts tokens symbols → (f : Forest) × Derives rows f symbols
+pub trees_of : (rows : List Production) (parts tokens : ℕ) → AllProductive rows parts → (symbols : List Symbol) → InRange parts tokens symbols → (f : Forest) × DerivesSymbols rows f symbols
 trees_of rows parts tokens productive [] h = (empty, tt)
 trees_of rows parts tokens productive (Token t ∷ symbols) h =
     let own = and_parts (nat_lt t tokens) (list_all (is_in_range parts tokens) symbols) h in

@@ -7,7 +7,7 @@ use Rattle.std.proofs.lemmas.List.{append-nil, reverse-append, length-map}
 use Rattle.std.proofs.lemmas.List.Elements.{filter-append}
 use Rattle.ll_engine.specs.declared.symbol.Symbol.{Symbol}
 use Rattle.ll_engine.specs.declared.symbol.Symbol.TheVariants.{Token, Part}
-use Rattle.ll_engine.specs.Derivation.{Production, Forest, empty, leaf, node, Derives, leaves, leftmost}
+use Rattle.ll_engine.specs.Derivation.{Production, Forest, empty, leaf, node, DerivesSymbols, leaves, leftmost}
 use Rattle.ll_engine.proofs.KeptSets.{list_all-at}
 use Rattle.ll_engine.specs.Fold.{is_dropped, kept_in_front, begins_kept, first_if, tree_begins_kept, in_front, folded, first_value, value_of_tree}
 use Rattle.ll_engine.specs.Run.{count_parts, Work, work, rest_if, step_of, run, kept_tokens}
@@ -40,7 +40,7 @@ module _ {T A : Type 0} (value_of : ℕ → Option T → List A → Option A) (k
 
   row_behind : (number : ℕ) (row : Production) (trees inner : Forest) (own mine front : List T) (symbols : List Symbol)
       → slice_get rows number ≡ Some row →
-      leftmost trees ≡ leftmost inner → Derives rows inner symbols → count_parts row.right ≡ count_parts symbols
+      leftmost trees ≡ leftmost inner → DerivesSymbols rows inner symbols → count_parts row.right ≡ count_parts symbols
       → values_in trees own ≡ values_in inner mine →
       begins_kept keeps row.right ≡ tree_begins_kept keeps trees → kept own ≡ front ++ kept mine →
       ((ahead : List T) → first_if (begins_kept keeps row.right) (reverse front ++ ahead) ≡ first_if (tree_begins_kept keeps trees) own) →
@@ -88,7 +88,7 @@ module _ {T A : Type 0} (value_of : ℕ → Option T → List A → Option A) (k
 
   -- a row whose first token is not kept, or that has none
   row_dropped : (number : ℕ) (row : Production) (trees : Forest) (own : List T) → slice_get rows number ≡ Some row
-      → Derives rows trees row.right →
+      → DerivesSymbols rows trees row.right →
       begins_kept keeps row.right ≡ false → tree_begins_kept keeps trees ≡ false → Runs trees own → RunsRow number row trees own
   row_dropped number row trees own is d right_test tree_test trees_run =
       row_behind number row trees trees own own [] row.right is refl d refl refl (right_test ∙ sym tree_test) refl
@@ -98,7 +98,7 @@ module _ {T A : Type 0} (value_of : ℕ → Option T → List A → Option A) (k
   -- a row whose first token is kept
   row_kept : (number : ℕ) (row : Production) (t : ℕ) (inner : Forest) (token : T) (mine : List T) (symbols : List Symbol)
       → slice_get rows number ≡ Some row →
-      row.right ≡ Token t ∷ symbols → Derives rows inner symbols → keeps t ≡ true → kind token ≡ t → Runs inner mine
+      row.right ≡ Token t ∷ symbols → DerivesSymbols rows inner symbols → keeps t ≡ true → kind token ≡ t → Runs inner mine
       → RunsRow number row (leaf t inner) (token ∷ mine)
   row_kept number row t inner token mine symbols is right d kept_t kind_is inner_runs =
       let right_test : begins_kept keeps row.right ≡ true = ap (begins_kept keeps) right ∙ kept_t in
@@ -153,28 +153,28 @@ module _ {T A : Type 0} (value_of : ℕ → Option T → List A → Option A) (k
 
     -- what is shown of the trees of a right side, whose first symbol may be kept
     row_of_leaf : (number : ℕ) (row : Production) (t : ℕ) (inner : Forest) (own : List T) → slice_get rows number ≡ Some row
-        → Derives rows (leaf t inner) row.right →
-        t ∷ leaves inner ≡ map kind own → ((symbols : List Symbol) (mine : List T) → Derives rows inner symbols
+        → DerivesSymbols rows (leaf t inner) row.right →
+        t ∷ leaves inner ≡ map kind own → ((symbols : List Symbol) (mine : List T) → DerivesSymbols rows inner symbols
         → leaves inner ≡ map kind mine → AllDropped symbols → Runs inner mine) →
-        ((symbols : List Symbol) → Derives rows (leaf t inner) symbols → AllDropped symbols → Runs (leaf t inner) own)
+        ((symbols : List Symbol) → DerivesSymbols rows (leaf t inner) symbols → AllDropped symbols → Runs (leaf t inner) own)
         → RunsRow number row (leaf t inner) own
     row_of_leaf number row t inner own is d e inner_runs whole_runs = by_right row.right refl own e whole_runs (keeps t) refl
       where
         by_right : (right : List Symbol) → row.right ≡ right → (tokens : List T) → t ∷ leaves inner ≡ map kind tokens →
-            ((symbols : List Symbol) → Derives rows (leaf t inner) symbols → AllDropped symbols → Runs (leaf t inner) tokens) →
+            ((symbols : List Symbol) → DerivesSymbols rows (leaf t inner) symbols → AllDropped symbols → Runs (leaf t inner) tokens) →
             (test : Bool) → keeps t ≡ test → RunsRow number row (leaf t inner) tokens
-        by_right [] right tokens e2 whole test kept_t = absurd (subst (Derives rows (leaf t inner)) right d)
-        by_right (Part p ∷ symbols) right tokens e2 whole test kept_t = absurd (subst (Derives rows (leaf t inner)) right d)
+        by_right [] right tokens e2 whole test kept_t = absurd (subst (DerivesSymbols rows (leaf t inner)) right d)
+        by_right (Part p ∷ symbols) right tokens e2 whole test kept_t = absurd (subst (DerivesSymbols rows (leaf t inner)) right d)
         by_right (Token u ∷ symbols) right [] e2 whole test kept_t = absurd (cc)
         by_right (Token u ∷ symbols) right (token ∷ mine) e2 whole true kept_t =
-            let derived = subst (Derives rows (leaf t inner)) right d in
+            let derived = subst (DerivesSymbols rows (leaf t inner)) right d in
             let dropped : AllDropped symbols = ap (kept_in_front keeps) (sym right) ∙ in_front_at number row is in
             let first : t ≡ kind token = cc in
             let others : leaves inner ≡ map kind mine = cc in
             row_kept number row t inner token mine symbols is (right ∙ ap (λ (k : ℕ). Token k ∷ symbols) (sym derived.0)) derived.1
             kept_t (sym first) (inner_runs symbols mine derived.1 others dropped)
         by_right (Token u ∷ symbols) right (token ∷ mine) e2 whole false kept_t =
-            let derived = subst (Derives rows (leaf t inner)) right d in
+            let derived = subst (DerivesSymbols rows (leaf t inner)) right d in
             let dropped : AllDropped symbols = ap (kept_in_front keeps) (sym right) ∙ in_front_at number row is in
             let not_kept : keeps u ≡ false = ap keeps (sym derived.0) ∙ kept_t in
             let all : AllDropped (Token u ∷ symbols) = and_from (not (keeps u)) (list_all (is_dropped keeps) symbols)
@@ -183,26 +183,26 @@ module _ {T A : Type 0} (value_of : ℕ → Option T → List A → Option A) (k
             (whole (Token u ∷ symbols) derived all)
 
     row_of_node : (number : ℕ) (row : Production) (r : ℕ) (below rest : Forest) (own : List T) → slice_get rows number ≡ Some row
-        → Derives rows (node r below rest) row.right →
-        ((symbols : List Symbol) → Derives rows (node r below rest) symbols → AllDropped symbols → Runs (node r below rest) own)
+        → DerivesSymbols rows (node r below rest) row.right →
+        ((symbols : List Symbol) → DerivesSymbols rows (node r below rest) symbols → AllDropped symbols → Runs (node r below rest) own)
         → RunsRow number row (node r below rest) own
     row_of_node number row r below rest own is d whole_runs = by_right row.right refl
       where
         by_right : (right : List Symbol) → row.right ≡ right → RunsRow number row (node r below rest) own
-        by_right [] right = absurd (subst (Derives rows (node r below rest)) right d)
-        by_right (Token u ∷ symbols) right = absurd (subst (Derives rows (node r below rest)) right d)
+        by_right [] right = absurd (subst (DerivesSymbols rows (node r below rest)) right d)
+        by_right (Token u ∷ symbols) right = absurd (subst (DerivesSymbols rows (node r below rest)) right d)
         by_right (Part p ∷ symbols) right =
             let dropped : AllDropped symbols = ap (kept_in_front keeps) (sym right) ∙ in_front_at number row is in
             row_dropped number row (node r below rest) own is d (ap (begins_kept keeps) right) refl
-            (whole_runs (Part p ∷ symbols) (subst (Derives rows (node r below rest)) right d) dropped)
+            (whole_runs (Part p ∷ symbols) (subst (DerivesSymbols rows (node r below rest)) right d) dropped)
 
-    row_of_none : (number : ℕ) (row : Production) (own : List T) → slice_get rows number ≡ Some row → Derives rows empty row.right
+    row_of_none : (number : ℕ) (row : Production) (own : List T) → slice_get rows number ≡ Some row → DerivesSymbols rows empty row.right
         → Runs empty own → RunsRow number row empty own
     row_of_none number row own is d none_runs = by_right row.right refl
       where
         by_right : (right : List Symbol) → row.right ≡ right → RunsRow number row empty own
         by_right [] right = row_dropped number row empty own is d (ap (begins_kept keeps) right) refl none_runs
-        by_right (symbol ∷ symbols) right = absurd (subst (Derives rows empty) right d)
+        by_right (symbol ∷ symbols) right = absurd (subst (DerivesSymbols rows empty) right d)
 
     leaf_runs : (t u : ℕ) (rest : Forest) (symbols : List Symbol) (own : List T) → t ≡ u → AllDropped (Token u ∷ symbols)
         → t ∷ leaves rest ≡ map kind own →
@@ -216,7 +216,7 @@ module _ {T A : Type 0} (value_of : ℕ → Option T → List A → Option A) (k
         ap (λ (l : List T). runs (reverse (leftmost rest)) (work below (reverse l ++ ahead))) (kept_none kind keeps token mine not_kept)
         ∙ rest_runs mine others parts.1 below ahead
 
-    pub trees_run : (trees : Forest) (symbols : List Symbol) (own : List T) → Derives rows trees symbols → leaves trees ≡ map kind own
+    pub trees_run : (trees : Forest) (symbols : List Symbol) (own : List T) → DerivesSymbols rows trees symbols → leaves trees ≡ map kind own
         → AllDropped symbols → Runs trees own
     trees_run empty [] own d e dropped = λ below ahead. ap (λ (l : List T). runs [] (work below (reverse (kept l) ++ ahead)))
         (no_tokens kind own e)
@@ -245,7 +245,7 @@ module _ {T A : Type 0} (value_of : ℕ → Option T → List A → Option A) (k
         (trees_run rest symbols h.back d.4 h.back_are dropped)
 
     -- the run over the rows of a whole derivation gives the values of its tree
-    pub tree_runs : (tree : Forest) (p : ℕ) (own : List T) → Derives rows tree (Part p ∷ []) → leaves tree ≡ map kind own →
+    pub tree_runs : (tree : Forest) (p : ℕ) (own : List T) → DerivesSymbols rows tree (Part p ∷ []) → leaves tree ≡ map kind own →
         option_and_then (λ after. first_value after.values) (runs (reverse (leftmost tree)) (work [] (reverse (kept own))))
         ≡ value_of_tree value_of keeps tree own
     tree_runs tree p own d e =

@@ -6,7 +6,7 @@ use Rattle.std.proofs.lemmas.Bool.{and_parts, and_from, ltb-true, lt-ltb}
 use Rattle.std.proofs.lemmas.List.{append-nil}
 use Rattle.ll_engine.specs.declared.symbol.Symbol.{Symbol}
 use Rattle.ll_engine.specs.declared.symbol.Symbol.TheVariants.{Token, Part}
-use Rattle.ll_engine.specs.Derivation.{Production, Forest, empty, leaf, node, Derives, leaves, leftmost}
+use Rattle.ll_engine.specs.Derivation.{Production, Forest, empty, leaf, node, DerivesSymbols, leaves, leftmost}
 use Rattle.ll_engine.specs.Language.{ContextFree}
 use Rattle.ll_engine.specs.Prediction.{MayFollow, ends, IsPredictive, IsPredictedBy}
 use Rattle.ll_engine.specs.View.{is_in_range, is_well_formed}
@@ -17,7 +17,7 @@ use Rattle.ll_engine.proofs.Ranges.{RowsInRange-well_formed, left-below, right-I
 use Rattle.ll_engine.proofs.Walks.{IsPredictedBy-node, MayFollow-row, one_row, IsUnexpectedAt-same}
 
 -- trees in front of a leftmost derivation
-leftmost_before : (rows : List Production) (f : Forest) (a b : List Symbol) (numbers list : List ℕ) → Derives rows f a → DerivesLeftmost rows b numbers list →
+leftmost_before : (rows : List Production) (f : Forest) (a b : List Symbol) (numbers list : List ℕ) → DerivesSymbols rows f a → DerivesLeftmost rows b numbers list →
     DerivesLeftmost rows (a ++ b) (leftmost f ++ numbers) (leaves f ++ list)
 leftmost_before rows empty [] b numbers list d after = after
 leftmost_before rows empty (x ∷ a) b numbers list d after = absurd d
@@ -42,7 +42,7 @@ trees_are_leftmost = λ rows trees symbols d.
     (subst (DerivesLeftmost rows (symbols ++ []) (leftmost trees ++ [])) (append-nil (leaves trees)) all))
 
 trees_from_leftmost : (rows : List Production) {symbols : List Symbol} {numbers list : List ℕ} → DerivesLeftmost rows symbols numbers list →
-    (trees : Forest) × Derives rows trees symbols × (leftmost trees ≡ numbers) × (leaves trees ≡ list)
+    (trees : Forest) × DerivesSymbols rows trees symbols × (leftmost trees ≡ numbers) × (leaves trees ≡ list)
 trees_from_leftmost rows done = (empty, tt, refl, refl)
 trees_from_leftmost rows (token {t = t} rest) =
     let f = trees_from_leftmost rows rest in
@@ -72,7 +72,7 @@ module _ (g : ContextFree) (well_formed : is_well_formed g ≡ true) (predictive
   FollowedBy [] after = Unit {0}
   FollowedBy (Token t ∷ symbols) after = FollowedBy symbols after
   FollowedBy (Part p ∷ symbols) after =
-      ((trees : Forest) → Derives g.rows trees symbols → MayFollow g p (next_token g (leaves trees ++ after))) × FollowedBy symbols after
+      ((trees : Forest) → DerivesSymbols g.rows trees symbols → MayFollow g p (next_token g (leaves trees ++ after))) × FollowedBy symbols after
 
   FollowedBy-right : (r : ℕ) (row : Production) → slice_get g.rows r ≡ Some row → (after : List ℕ) → MayFollow g row.left (next_token g after) →
       (front right : List Symbol) → row.right ≡ front ++ right → FollowedBy right after
@@ -85,7 +85,7 @@ module _ (g : ContextFree) (well_formed : is_well_formed g ≡ true) (predictive
   )
 
   -- trees of the same symbols and with the same leaves, each in front of a list, are the same, and so are the lists
-  same_trees : (f : Forest) (symbols : List Symbol) (other : Forest) (v w : List ℕ) → Derives g.rows f symbols → Derives g.rows other symbols → InRange g.parts g.tokens symbols →
+  same_trees : (f : Forest) (symbols : List Symbol) (other : Forest) (v w : List ℕ) → DerivesSymbols g.rows f symbols → DerivesSymbols g.rows other symbols → InRange g.parts g.tokens symbols →
       AreTokens g.tokens v → leaves f ++ v ≡ leaves other ++ w → FollowedBy symbols v → FollowedBy symbols w → (f ≡ other) × (v ≡ w)
   same_trees empty [] empty v w d o in_range tokens e follow follow_other = (refl, e)
   same_trees empty [] (leaf x rest) v w d o in_range tokens e follow follow_other = absurd o
@@ -119,7 +119,7 @@ module _ (g : ContextFree) (well_formed : is_well_formed g ≡ true) (predictive
       let number : r ≡ i = one_row g predictive p (next_token g (leaves below ++ (leaves rest ++ v))) r i d.0 o.0 (ltb-true p g.parts own.0)
       (next_token-le g (leaves below ++ (leaves rest ++ v)) all_tokens) d.1 o.1 d.2 o.2 next_predicts other_predicts in
       let row : o.0 ≡ d.0 = let a : slice_get g.rows i ≡ Some d.0 = ap (slice_get g.rows) (sym number) ∙ d.1 in let b = o.1 in cc in
-      let lower = same_trees below d.0.right under (leaves rest ++ v) (leaves after ++ w) d.3 (subst (λ (x : Production). Derives g.rows under x.right) row o.3)
+      let lower = same_trees below d.0.right under (leaves rest ++ v) (leaves after ++ w) d.3 (subst (λ (x : Production). DerivesSymbols g.rows under x.right) row o.3)
       (right-InRange ranges r d.0 d.1) rest_tokens split
       (FollowedBy-right r d.0 d.1 (leaves rest ++ v) (subst (λ (q : ℕ). MayFollow g q (next_token g (leaves rest ++ v))) (sym d.2) (follow.0 rest d.4)) [] d.0.right refl)
       (FollowedBy-right r d.0 d.1 (leaves after ++ w) (subst (λ (q : ℕ). MayFollow g q (next_token g (leaves after ++ w))) (sym d.2) (follow_other.0 after o.4)) [] d.0.right refl) in
@@ -132,12 +132,12 @@ module _ (g : ContextFree) (well_formed : is_well_formed g ≡ true) (predictive
   follow_start : FollowedBy (Part g.start ∷ []) []
   follow_start = (λ trees d. subst (λ (list : List ℕ). MayFollow g g.start (next_token g list)) (sym (nothing trees d)) ends, tt)
     where
-      nothing : (trees : Forest) → Derives g.rows trees [] → leaves trees ++ [] ≡ []
+      nothing : (trees : Forest) → DerivesSymbols g.rows trees [] → leaves trees ++ [] ≡ []
       nothing empty d = refl
       nothing (leaf t rest) d = absurd d
       nothing (node r below rest) d = absurd d
 
-  one_tree_of : (tree other : Forest) → Derives g.rows tree (Part g.start ∷ []) → Derives g.rows other (Part g.start ∷ []) → leaves tree ≡ leaves other → tree ≡ other
+  one_tree_of : (tree other : Forest) → DerivesSymbols g.rows tree (Part g.start ∷ []) → DerivesSymbols g.rows other (Part g.start ∷ []) → leaves tree ≡ leaves other → tree ≡ other
   one_tree_of tree other d o e =
       (same_trees tree (Part g.start ∷ []) other [] [] d o
       (and_from (nat_lt g.start g.parts) true (lt-ltb g.start g.parts (start-below g well_formed)) refl) refl (ap (λ (xs : List ℕ). xs ++ []) e) follow_start follow_start).0

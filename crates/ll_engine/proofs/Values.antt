@@ -5,13 +5,13 @@ use Rattle.std.proofs.lemmas.List.{append-nil, length-map, map-append}
 use Rattle.std.proofs.lemmas.Option.{option_and_then_some}
 use Rattle.ll_engine.specs.declared.symbol.Symbol.{Symbol}
 use Rattle.ll_engine.specs.declared.symbol.Symbol.TheVariants.{Token, Part}
-use Rattle.ll_engine.specs.Derivation.{Production, Forest, empty, leaf, node, Derives, leaves}
+use Rattle.ll_engine.specs.Derivation.{Production, Forest, empty, leaf, node, DerivesSymbols, leaves}
 use Rattle.ll_engine.specs.Fold.{begins_kept, first_if, tree_begins_kept, in_front, folded}
-use Rattle.ll_engine.specs.Values.{Stand, nothing, token, part, IsKept, HasValue}
+use Rattle.ll_engine.specs.Values.{StandForTokens, nothing, token, part, IsKept, HasValue}
 use Rattle.ll_engine.proofs.Folding.{append_parts, halves, no_tokens}
 
 -- a right side and its trees begin alike
-begin_alike : (keeps : ℕ → Bool) (rows : List Production) (trees : Forest) (symbols : List Symbol) → Derives rows trees symbols
+begin_alike : (keeps : ℕ → Bool) (rows : List Production) (trees : Forest) (symbols : List Symbol) → DerivesSymbols rows trees symbols
     → tree_begins_kept keeps trees ≡ begins_kept keeps symbols
 begin_alike keeps rows empty [] d = refl
 begin_alike keeps rows empty (symbol ∷ symbols) d = absurd d
@@ -27,7 +27,7 @@ module _ {T A : Type 0} (value_of : ℕ → Option T → List A → Option A) (k
     stand_leaf : (t u : ℕ) (rest : Forest) (symbols : List Symbol) (own : List T) (values : List A) → t ≡ u
         → t ∷ leaves rest ≡ map kind own → folded value_of keeps rest (drop 1 own) ≡ Some values →
         ((mine : List T) → leaves rest ≡ map kind mine → folded value_of keeps rest mine ≡ Some values
-        → Stand kind has symbols mine values) → Stand kind has (Token u ∷ symbols) own values
+        → StandForTokens kind has symbols mine values) → StandForTokens kind has (Token u ∷ symbols) own values
     stand_leaf t u rest symbols [] values same e folds others = absurd (cc)
     stand_leaf t u rest symbols (first ∷ mine) values same e folds others =
         let here : t ≡ kind first = cc in
@@ -35,13 +35,13 @@ module _ {T A : Type 0} (value_of : ℕ → Option T → List A → Option A) (k
         token first (sym here ∙ same) (others mine behind folds)
 
     -- the trees of symbols stand for their tokens
-    stand : (trees : Forest) (symbols : List Symbol) (own : List T) (values : List A) → Derives rows trees symbols
+    stand : (trees : Forest) (symbols : List Symbol) (own : List T) (values : List A) → DerivesSymbols rows trees symbols
         → leaves trees ≡ map kind own → folded value_of keeps trees own ≡ Some values →
-        Stand kind has symbols own values
+        StandForTokens kind has symbols own values
     stand empty [] own values d e folds =
         let none : own ≡ [] = no_tokens kind own e in
         let no_values : [] ≡ values = cc in
-        subst (λ (l : List T). Stand kind has [] l values) (sym none) (subst (Stand kind has [] []) no_values nothing)
+        subst (λ (l : List T). StandForTokens kind has [] l values) (sym none) (subst (StandForTokens kind has [] []) no_values nothing)
     stand empty (symbol ∷ symbols) own values d e folds = absurd d
     stand (leaf t rest) [] own values d e folds = absurd d
     stand (leaf t rest) (Token u ∷ symbols) own values d e folds = stand_leaf t u rest symbols own values d.0 e folds
@@ -72,11 +72,11 @@ module _ {T A : Type 0} (value_of : ℕ → Option T → List A → Option A) (k
         let token_is = ap (λ (test : Bool). first_if test h.front) (begin_alike keeps rows below d.0.right d.3) in
         let given = ap (λ (o : Option T). value_of r o inner) (sym token_is) ∙ value_is in
         let here = subst (λ (q : ℕ). has q h.front first) d.2 (kept r d.0 h.front inner first d.1 inner_stand given) in
-        subst (λ (l : List T). Stand kind has (Part p ∷ symbols) l values) (sym h.both)
-        (subst (Stand kind has (Part p ∷ symbols) (h.front ++ h.back)) same
+        subst (λ (l : List T). StandForTokens kind has (Part p ∷ symbols) l values) (sym h.both)
+        (subst (StandForTokens kind has (Part p ∷ symbols) (h.front ++ h.back)) same
         (part here (stand rest symbols h.back after d.4 h.back_are after_is))))))
 
-    only_value : (p : ℕ) (tokens : List T) (values : List A) (value : A) → Stand kind has (Part p ∷ []) tokens values
+    only_value : (p : ℕ) (tokens : List T) (values : List A) (value : A) → StandForTokens kind has (Part p ∷ []) tokens values
         → values ≡ value ∷ [] → has p tokens value
     only_value p tokens values value (part {own = own} {value = found} here nothing) same =
         let first : found ≡ value = cc in
@@ -88,16 +88,16 @@ module _ {T A : Type 0} (value_of : ℕ → Option T → List A → Option A) (k
   -- trees for symbols that stand for tokens
   record Trees (symbols : List Symbol) (own : List T) (values : List A) : Type 0 where
     trees : Forest
-    derives : Derives rows trees symbols
+    derives : DerivesSymbols rows trees symbols
     leaves_are : leaves trees ≡ map kind own
     folds : folded value_of keeps trees own ≡ Some values
 
   -- a tree in front of others
   tree_in_front : (r p : ℕ) (row : Production) (below rest : Forest) (mine own : List T) (symbols : List Symbol) (value : A)
       (values : List A) → slice_get rows r ≡ Some row → row.left ≡ p →
-      Derives rows below row.right → leaves below ≡ map kind mine → option_and_then
+      DerivesSymbols rows below row.right → leaves below ≡ map kind mine → option_and_then
       (value_of r (first_if (tree_begins_kept keeps below) mine)) (folded value_of keeps below mine) ≡ Some value →
-      Derives rows rest symbols → leaves rest ≡ map kind own → folded value_of keeps rest own ≡ Some values
+      DerivesSymbols rows rest symbols → leaves rest ≡ map kind own → folded value_of keeps rest own ≡ Some values
       → Trees (Part p ∷ symbols) (mine ++ own) (value ∷ values)
   tree_in_front r p row below rest mine own symbols value values is left d below_leaves value_is rest_d rest_leaves rest_folds =
       let len : length mine ≡ length (leaves below) = sym (length-map mine kind) ∙ sym (ap length below_leaves) in
@@ -120,7 +120,7 @@ module _ {T A : Type 0} (value_of : ℕ → Option T → List A → Option A) (k
       Trees (Part p ∷ symbols) (mine ++ own) (value ∷ values)
   part_in_front p symbols mine own value values it others = by_tree it.0 it.1 it.2 it.3
     where
-      by_tree : (tree : Forest) → Derives rows tree (Part p ∷ []) → leaves tree ≡ map kind mine
+      by_tree : (tree : Forest) → DerivesSymbols rows tree (Part p ∷ []) → leaves tree ≡ map kind mine
           → folded value_of keeps tree mine ≡ Some (value ∷ []) →
           Trees (Part p ∷ symbols) (mine ++ own) (value ∷ values)
       by_tree empty d e folds = absurd d
@@ -151,7 +151,7 @@ module _ {T A : Type 0} (value_of : ℕ → Option T → List A → Option A) (k
   }
 
   trees_of : (symbols : List Symbol) (own : List T) (values : List A)
-      → Stand kind (HasValue value_of keeps kind rows) symbols own values → Trees symbols own values
+      → StandForTokens kind (HasValue value_of keeps kind rows) symbols own values → Trees symbols own values
   trees_of [] _ _ nothing = record { trees = empty; derives = tt; leaves_are = refl; folds = refl }
   trees_of (Token t ∷ symbols) _ values (token {tokens = own} first is others) =
       token_in_front t symbols first own values is (trees_of symbols own values others)

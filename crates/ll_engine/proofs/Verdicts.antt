@@ -8,14 +8,14 @@ use Rattle.ll_engine.specs.declared.symbol.Row.{Row}
 use Rattle.ll_engine.specs.declared.relation.Relation.{Relation}
 use Rattle.ll_engine.specs.declared.fault.TableFault.{TableFault}
 use Rattle.ll_engine.specs.declared.fault.TableFault.TheVariants.{Barren, LeftCycle, Conflict, NoMemory}
-use Rattle.ll_engine.specs.Derivation.{Forest, Derives}
+use Rattle.ll_engine.specs.Derivation.{Forest, DerivesSymbols}
 use Rattle.ll_engine.specs.Prediction.{IsLeftCyclic, IsConflict, HasBarren, HasLeftCycle, IsFirstBarren, IsFirstLeftCyclic, IsFirstConflict}
 use Rattle.ll_engine.specs.View.{productions, grammar_of, is_well_formed}
 use Rattle.ll_engine.specs.Computed.{is_marked, part_column, is_candidate, IsLeastBelow}
 use Rattle.ll_engine.specs.Answers.{AreDeriving, HasPartsBelow}
 use Rattle.ll_engine.specs.Related.{related, IsFirstSets, IsFollowSets}
 use Rattle.ll_engine.specs.Table.{width_of, IsTable, IsFirstSeveral, IsTableFault}
-use Rattle.ll_engine.specs.Checked.{IsChecked, IsFaultOf}
+use Rattle.ll_engine.specs.Checked.{IsChecked, IsTableFaultOf}
 use Rattle.ll_engine.proofs.Ranges.{RowsInRange-well_formed, left-below, start-below, AllProductive}
 use Rattle.ll_engine.proofs.Nullable.{DecidesNullable-marks}
 use Rattle.ll_engine.proofs.FirstSets.{IsFirstOf}
@@ -32,7 +32,7 @@ module _ (rows : List Row) (parts tokens start : ℕ) (well_formed : is_well_for
   parts-below r row is = left-below (RowsInRange-well_formed (grammar_of rows parts tokens start) well_formed) r row is
 
   module _ (marks : List Bool) (deriving_marks : AreDeriving rows parts true marks) where
-    marked-productive : (part : ℕ) → is_marked marks part ≡ true → (tree : Forest) × Derives (productions rows) tree (Part part ∷ [])
+    marked-productive : (part : ℕ) → is_marked marks part ≡ true → (tree : Forest) × DerivesSymbols (productions rows) tree (Part part ∷ [])
     marked-productive part h = let d = deriving_marks.sound part h in (d.0, d.1)
 
     pub IsFirstBarren-least : (part : ℕ) → IsLeastBelow (λ p. not (is_marked marks p)) parts (Some part) → IsFirstBarren (grammar_of rows parts tokens start) part
@@ -144,7 +144,7 @@ module _ (rows : List Row) (parts tokens start : ℕ) (well_formed : is_well_for
             },
           )
 
-      pub IsFaultOf-table : (fault : TableFault) → IsTableFault test rows parts tokens fault → IsFaultOf (grammar_of rows parts tokens start) fault
+      pub IsFaultOf-table : (fault : TableFault) → IsTableFault test rows parts tokens fault → IsTableFaultOf (grammar_of rows parts tokens start) fault
       IsFaultOf-table (Barren part) is = absurd is
       IsFaultOf-table (LeftCycle part) is = absurd is
       IsFaultOf-table (Conflict part token) is = IsFirstConflict-several part token is

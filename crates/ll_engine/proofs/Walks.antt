@@ -8,16 +8,16 @@ use Rattle.std.proofs.lemmas.Option.{unwrap_or-slice_get, slice_get-get_or, slic
 use Rattle.std.proofs.lemmas.List.{append-nil, take_more, take_all, take-take, get_or_past, nil_from_length, reverse-append, take-append-drop}
 use Rattle.ll_engine.specs.declared.symbol.Symbol.{Symbol}
 use Rattle.ll_engine.specs.declared.symbol.Symbol.TheVariants.{Token, Part}
-use Rattle.ll_engine.specs.Derivation.{Production, Forest, empty, leaf, node, Derives, leaves, leftmost}
+use Rattle.ll_engine.specs.Derivation.{Production, Forest, empty, leaf, node, DerivesSymbols, leaves, leftmost}
 use Rattle.ll_engine.specs.Language.{ContextFree, IsLeftmostDerivation, IsViable, IsUnexpectedAt}
 use Rattle.ll_engine.specs.Prediction.{MayFollow, ends, before, behind, IsPredictedBy, IsPredictive}
 use Rattle.ll_engine.specs.View.{is_in_range, is_well_formed}
-use Rattle.ll_engine.specs.Walk.{next_token, AreFollowed, IsReached}
+use Rattle.ll_engine.specs.Walk.{next_token, AreFollowed, IsReachedByRows}
 use Rattle.ll_engine.proofs.Forests.{beside, leaves-beside, leftmost-beside, Derives-beside, Splits-from_append, leaves-Splits}
 use Rattle.ll_engine.proofs.Ranges.{RowsInRange-well_formed, right-InRange, start-below, list_all-join, trees_of}
 
 -- the token that comes first, or the end, predicts the row that derives it
-pub IsPredictedBy-node : (g : ContextFree) (r : ℕ) (row : Production) (p : ℕ) (below : Forest) (after : List ℕ) → slice_get g.rows r ≡ Some row → row.left ≡ p → Derives g.rows below row.right →
+pub IsPredictedBy-node : (g : ContextFree) (r : ℕ) (row : Production) (p : ℕ) (below : Forest) (after : List ℕ) → slice_get g.rows r ≡ Some row → row.left ≡ p → DerivesSymbols g.rows below row.right →
     MayFollow g p (next_token g after) → IsPredictedBy g row (next_token g (leaves below ++ after))
 IsPredictedBy-node g r row p below after is left d follow = by_leaves (leaves below) refl
   where
@@ -28,7 +28,7 @@ IsPredictedBy-node g r row p below after is left d follow = by_leaves (leaves be
 
 -- what follows the parts of a row's right side, in front of a list that may follow the row's part
 module _ (g : ContextFree) (r : ℕ) (row : Production) (is : slice_get g.rows r ≡ Some row) where
-  pub MayFollow-row : (front back : List Symbol) (q : ℕ) → row.right ≡ front ++ Part q ∷ back → (trees : Forest) → Derives g.rows trees back → (after : List ℕ) →
+  pub MayFollow-row : (front back : List Symbol) (q : ℕ) → row.right ≡ front ++ Part q ∷ back → (trees : Forest) → DerivesSymbols g.rows trees back → (after : List ℕ) →
       MayFollow g row.left (next_token g after) → MayFollow g q (next_token g (leaves trees ++ after))
   MayFollow-row front back q e trees d after follow = by_leaves (leaves trees) refl
     where
@@ -36,7 +36,7 @@ module _ (g : ContextFree) (r : ℕ) (row : Production) (is : slice_get g.rows r
       by_leaves [] nothing = rw nothing (behind r row front back q (next_token g after) is e (trees, d, nothing) follow)
       by_leaves (t ∷ list) begin = rw begin (before r row front back q t is e (trees, list, d, begin))
 
-  AreFollowed-right : (symbols : List Symbol) → ((trees : Forest) → Derives g.rows trees symbols → MayFollow g row.left (next_token g (leaves trees))) → AreFollowed g symbols →
+  AreFollowed-right : (symbols : List Symbol) → ((trees : Forest) → DerivesSymbols g.rows trees symbols → MayFollow g row.left (next_token g (leaves trees))) → AreFollowed g symbols →
       (front right : List Symbol) → row.right ≡ front ++ right → AreFollowed g (right ++ symbols)
   AreFollowed-right symbols follow followed front [] e = followed
   AreFollowed-right symbols follow followed front (Token t ∷ right) e =
@@ -79,7 +79,7 @@ one_row g predictive part token i j row other below le is_row is_other row_left 
     ]
 
 -- the trees of no symbols
-leaves-none : (rows : List Production) (trees : Forest) → Derives rows trees [] → trees ≡ empty
+leaves-none : (rows : List Production) (trees : Forest) → DerivesSymbols rows trees [] → trees ≡ empty
 leaves-none rows empty d = refl
 leaves-none rows (leaf t rest) d = absurd d
 leaves-none rows (node r below rest) d = absurd d
@@ -96,7 +96,7 @@ next_token-same g xs ys i e =
     sym (unwrap_or-slice_get xs 0 g.tokens) ∙ ap (λ o. unwrap_or o g.tokens) e ∙ unwrap_or-slice_get ys i g.tokens
 
 module _ (g : ContextFree) (well_formed : is_well_formed g ≡ true) (list : List ℕ) where
-  pub IsReached-start : IsReached g list 0 [] (Part g.start ∷ [])
+  pub IsReached-start : IsReachedByRows g list 0 [] (Part g.start ∷ [])
   IsReached-start = record {
     in_range = omega arith;
     symbols_in_range = and_from (nat_lt g.start g.parts) true (lt-ltb g.start g.parts (start-below g well_formed)) refl;
@@ -105,8 +105,8 @@ module _ (g : ContextFree) (well_formed : is_well_formed g ≡ true) (list : Lis
     complete = λ tree rest d e same. (tree, d, e);
   }
 
-  pub IsReached-token : (at : ℕ) (rows : List ℕ) (t : ℕ) (stack : List Symbol) → slice_get list at ≡ Some t → IsReached g list at rows (Token t ∷ stack) →
-      IsReached g list (at + 1) rows stack
+  pub IsReached-token : (at : ℕ) (rows : List ℕ) (t : ℕ) (stack : List Symbol) → slice_get list at ≡ Some t → IsReachedByRows g list at rows (Token t ∷ stack) →
+      IsReachedByRows g list (at + 1) rows stack
   IsReached-token at rows t stack is reached = record {
     in_range = let lt = slice_get_within list at t is in omega arith;
     symbols_in_range = (and_parts (nat_lt t g.tokens) (list_all (is_in_range g.parts g.tokens) stack) reached.symbols_in_range).1;
@@ -126,13 +126,13 @@ module _ (g : ContextFree) (well_formed : is_well_formed g ≡ true) (list : Lis
           let here : get_or list at t ≡ t = get_or_from_slice_get list at t t is in
           ap (λ (xs : List ℕ). xs ++ rest) (more ∙ ap (λ (x : ℕ). take at list ++ x ∷ []) here) ∙ append_assoc (take at list) (t ∷ []) rest
 
-      by_tree : (f : Forest) (rest : List ℕ) → Derives g.rows f (Token t ∷ stack) → leaves f ≡ t ∷ rest → (trees : Forest) × Derives g.rows trees stack × (leaves trees ≡ rest)
+      by_tree : (f : Forest) (rest : List ℕ) → DerivesSymbols g.rows f (Token t ∷ stack) → leaves f ≡ t ∷ rest → (trees : Forest) × DerivesSymbols g.rows trees stack × (leaves trees ≡ rest)
       by_tree empty rest d e = absurd d
       by_tree (leaf x trees) rest d e = (trees, d.1, cc)
       by_tree (node r below trees) rest d e = absurd d
 
   -- a token on top of the stack that is the next one of the list
-  is_next : (at : ℕ) (rows : List ℕ) (t : ℕ) (stack : List Symbol) → slice_index_or list at g.tokens ≡ t → IsReached g list at rows (Token t ∷ stack) → slice_get list at ≡ Some t
+  is_next : (at : ℕ) (rows : List ℕ) (t : ℕ) (stack : List Symbol) → slice_index_or list at g.tokens ≡ t → IsReachedByRows g list at rows (Token t ∷ stack) → slice_get list at ≡ Some t
   is_next at rows t stack e reached =
       let below = ltb-true t g.tokens (and_parts (nat_lt t g.tokens) (list_all (is_in_range g.parts g.tokens) stack) reached.symbols_in_range).0 in
       elim (cases_lt at (length list)) [
@@ -140,13 +140,13 @@ module _ (g : ContextFree) (well_formed : is_well_formed g ≡ true) (list : Lis
         | inr ge ↦ let past = get_or_past list at g.tokens ge in absurd (omega arith)
       ]
 
-  pub IsReached-next : (at : ℕ) (rows : List ℕ) (t : ℕ) (stack : List Symbol) → slice_index_or list at g.tokens ≡ t → IsReached g list at rows (Token t ∷ stack) → IsReached g list (at + 1) rows stack
+  pub IsReached-next : (at : ℕ) (rows : List ℕ) (t : ℕ) (stack : List Symbol) → slice_index_or list at g.tokens ≡ t → IsReachedByRows g list at rows (Token t ∷ stack) → IsReachedByRows g list (at + 1) rows stack
   IsReached-next at rows t stack e reached = IsReached-token at rows t stack (is_next at rows t stack e reached) reached
 
-  pub place-below : (at : ℕ) (rows : List ℕ) (t : ℕ) (stack : List Symbol) → slice_index_or list at g.tokens ≡ t → IsReached g list at rows (Token t ∷ stack) → at < length list
+  pub place-below : (at : ℕ) (rows : List ℕ) (t : ℕ) (stack : List Symbol) → slice_index_or list at g.tokens ≡ t → IsReachedByRows g list at rows (Token t ∷ stack) → at < length list
   place-below at rows t stack e reached = slice_get_within list at t (is_next at rows t stack e reached)
 
-  pub part-below : (at : ℕ) (rows : List ℕ) (p : ℕ) (stack : List Symbol) → IsReached g list at rows (Part p ∷ stack) → p < g.parts
+  pub part-below : (at : ℕ) (rows : List ℕ) (p : ℕ) (stack : List Symbol) → IsReachedByRows g list at rows (Part p ∷ stack) → p < g.parts
   part-below at rows p stack reached = ltb-true p g.parts (and_parts (nat_lt p g.parts) (list_all (is_in_range g.parts g.tokens) stack) reached.symbols_in_range).0
 
   pub next-le : All (λ t. t < g.tokens) list → (at : ℕ) → slice_index_or list at g.tokens ≤ g.tokens
@@ -159,7 +159,7 @@ module _ (g : ContextFree) (well_formed : is_well_formed g ≡ true) (list : Lis
   module _ (predictive : IsPredictive g) (at : ℕ) (rows : List ℕ) where
     pub IsReached-row : (p : ℕ) (stack : List Symbol) (r : ℕ) (row : Production) → slice_get g.rows r ≡ Some row → row.left ≡ p →
         ((number : ℕ) (other : Production) → slice_get g.rows number ≡ Some other → other.left ≡ p → IsPredictedBy g other (slice_index_or list at g.tokens) → number ≡ r) →
-        IsReached g list at rows (Part p ∷ stack) → IsReached g list at (rows ++ r ∷ []) (row.right ++ stack)
+        IsReachedByRows g list at rows (Part p ∷ stack) → IsReachedByRows g list at (rows ++ r ∷ []) (row.right ++ stack)
     IsReached-row p stack r row is left only reached = record {
       in_range = reached.in_range;
       symbols_in_range =
@@ -180,8 +180,8 @@ module _ (g : ContextFree) (well_formed : is_well_formed g ≡ true) (list : Lis
           by_tree f.0 rest f.1 f.2 same;
     }
       where
-        by_tree : (f : Forest) (rest : List ℕ) → Derives g.rows f (Part p ∷ stack) → leaves f ≡ rest → slice_get rest 0 ≡ slice_get list at →
-            (trees : Forest) × Derives g.rows trees (row.right ++ stack) × (leaves trees ≡ rest)
+        by_tree : (f : Forest) (rest : List ℕ) → DerivesSymbols g.rows f (Part p ∷ stack) → leaves f ≡ rest → slice_get rest 0 ≡ slice_get list at →
+            (trees : Forest) × DerivesSymbols g.rows trees (row.right ++ stack) × (leaves trees ≡ rest)
         by_tree empty rest d e same = absurd d
         by_tree (leaf x trees) rest d e same = absurd d
         by_tree (node i below trees) rest d e same =
@@ -190,12 +190,12 @@ module _ (g : ContextFree) (well_formed : is_well_formed g ≡ true) (list : Lis
             let number : i ≡ r = only i d.0 d.1 d.2 other in
             let row_same : d.0 ≡ row = let a : slice_get g.rows i ≡ Some row = ap (slice_get g.rows) number ∙ is in cc in (
               beside below trees,
-              Derives-beside g.rows below trees row.right stack (subst (λ (x : Production). Derives g.rows below x.right) row_same d.3) d.4,
+              Derives-beside g.rows below trees row.right stack (subst (λ (x : Production). DerivesSymbols g.rows below x.right) row_same d.3) d.4,
               leaves-beside below trees ∙ e,
             )
 
     -- where no derivation goes on with the next token, the list goes wrong there
-    IsUnexpectedAt-blocked : (stack : List Symbol) → IsReached g list at rows stack → ((trees : Forest) → Derives g.rows trees stack → slice_get (leaves trees) 0 ≡ slice_get list at → ⊥) →
+    IsUnexpectedAt-blocked : (stack : List Symbol) → IsReachedByRows g list at rows stack → ((trees : Forest) → DerivesSymbols g.rows trees stack → slice_get (leaves trees) 0 ≡ slice_get list at → ⊥) →
         IsUnexpectedAt g list at
     IsUnexpectedAt-blocked stack reached blocked = record {
       in_range = reached.in_range;
@@ -214,19 +214,19 @@ module _ (g : ContextFree) (well_formed : is_well_formed g ≡ true) (list : Lis
           blocked f.0 f.1 (ap (λ (xs : List ℕ). slice_get xs 0) f.2 ∙ slice_get-drop list at);
     }
 
-    pub IsUnexpectedAt-token : (t : ℕ) (stack : List Symbol) → IsReached g list at rows (Token t ∷ stack) → ¬ (slice_get list at ≡ Some t) → IsUnexpectedAt g list at
+    pub IsUnexpectedAt-token : (t : ℕ) (stack : List Symbol) → IsReachedByRows g list at rows (Token t ∷ stack) → ¬ (slice_get list at ≡ Some t) → IsUnexpectedAt g list at
     IsUnexpectedAt-token t stack reached other = IsUnexpectedAt-blocked (Token t ∷ stack) reached blocked
       where
-        blocked : (trees : Forest) → Derives g.rows trees (Token t ∷ stack) → slice_get (leaves trees) 0 ≡ slice_get list at → ⊥
+        blocked : (trees : Forest) → DerivesSymbols g.rows trees (Token t ∷ stack) → slice_get (leaves trees) 0 ≡ slice_get list at → ⊥
         blocked empty d e = d
         blocked (leaf x trees) d e = other (sym e ∙ ap Some d.0)
         blocked (node r below trees) d e = d
 
-    pub IsUnexpectedAt-part : (p : ℕ) (stack : List Symbol) → IsReached g list at rows (Part p ∷ stack) →
+    pub IsUnexpectedAt-part : (p : ℕ) (stack : List Symbol) → IsReachedByRows g list at rows (Part p ∷ stack) →
         ((r : ℕ) (row : Production) → slice_get g.rows r ≡ Some row → row.left ≡ p → ¬ IsPredictedBy g row (slice_index_or list at g.tokens)) → IsUnexpectedAt g list at
     IsUnexpectedAt-part p stack reached none = IsUnexpectedAt-blocked (Part p ∷ stack) reached blocked
       where
-        blocked : (trees : Forest) → Derives g.rows trees (Part p ∷ stack) → slice_get (leaves trees) 0 ≡ slice_get list at → ⊥
+        blocked : (trees : Forest) → DerivesSymbols g.rows trees (Part p ∷ stack) → slice_get (leaves trees) 0 ≡ slice_get list at → ⊥
         blocked empty d e = d
         blocked (leaf x trees) d e = d
         blocked (node r below trees) d e =
@@ -234,31 +234,31 @@ module _ (g : ContextFree) (well_formed : is_well_formed g ≡ true) (list : Lis
             (subst (IsPredictedBy g d.0) (next_token-same g (leaves below ++ leaves trees) list at e)
             (IsPredictedBy-node g r d.0 p below (leaves trees) d.1 d.2 d.3 (reached.followed.0 trees d.4)))
 
-    pub IsUnexpectedAt-more : IsReached g list at rows [] → at < length list → IsUnexpectedAt g list at
+    pub IsUnexpectedAt-more : IsReachedByRows g list at rows [] → at < length list → IsUnexpectedAt g list at
     IsUnexpectedAt-more reached lt = IsUnexpectedAt-blocked [] reached blocked
       where
-        blocked : (trees : Forest) → Derives g.rows trees [] → slice_get (leaves trees) 0 ≡ slice_get list at → ⊥
+        blocked : (trees : Forest) → DerivesSymbols g.rows trees [] → slice_get (leaves trees) 0 ≡ slice_get list at → ⊥
         blocked empty d e = none-some (get_or list at 0) (e ∙ slice_get-get_or list at 0 lt)
         blocked (leaf x trees) d e = d
         blocked (node r below trees) d e = d
 
-    pub IsLeftmostDerivation-end : IsReached g list at rows [] → length list ≤ at → IsLeftmostDerivation g rows list
+    pub IsLeftmostDerivation-end : IsReachedByRows g list at rows [] → length list ≤ at → IsLeftmostDerivation g rows list
     IsLeftmostDerivation-end reached le =
         let s = reached.sound empty tt in
         (s.0, s.1, s.2 ∙ append-nil (take at list) ∙ take_all at list le, s.3 ∙ append-nil rows)
 
-    pub IsUnexpectedAt-other : (t : ℕ) (stack : List Symbol) → IsReached g list at rows (Token t ∷ stack) → t ≢ slice_index_or list at g.tokens → IsUnexpectedAt g list at
+    pub IsUnexpectedAt-other : (t : ℕ) (stack : List Symbol) → IsReachedByRows g list at rows (Token t ∷ stack) → t ≢ slice_index_or list at g.tokens → IsUnexpectedAt g list at
     IsUnexpectedAt-other t stack reached other = IsUnexpectedAt-token t stack reached (λ is. other (sym (get_or_from_slice_get list at t g.tokens is)))
 
 -- the stack with a symbol on top, and the empty stack
 pub IsReached-top : (g : ContextFree) (list : List ℕ) (at : ℕ) (rows : List ℕ) (stack below : List Symbol) (symbol top : Symbol) → stack ≡ below ++ symbol ∷ [] → symbol ≡ top →
-    IsReached g list at rows (reverse stack) → IsReached g list at rows (top ∷ reverse below)
+    IsReachedByRows g list at rows (reverse stack) → IsReachedByRows g list at rows (top ∷ reverse below)
 IsReached-top g list at rows stack below symbol top e is reached =
-    subst (λ (s : Symbol). IsReached g list at rows (s ∷ reverse below)) is
-    (subst (IsReached g list at rows) (ap reverse e ∙ reverse-append below (symbol ∷ [])) reached)
+    subst (λ (s : Symbol). IsReachedByRows g list at rows (s ∷ reverse below)) is
+    (subst (IsReachedByRows g list at rows) (ap reverse e ∙ reverse-append below (symbol ∷ [])) reached)
 
-pub IsReached-empty : (g : ContextFree) (list : List ℕ) (at : ℕ) (rows : List ℕ) (stack : List Symbol) → length stack ≡ 0 → IsReached g list at rows (reverse stack) → IsReached g list at rows []
-IsReached-empty g list at rows stack e reached = subst (IsReached g list at rows) (ap reverse (nil_from_length stack e)) reached
+pub IsReached-empty : (g : ContextFree) (list : List ℕ) (at : ℕ) (rows : List ℕ) (stack : List Symbol) → length stack ≡ 0 → IsReachedByRows g list at rows (reverse stack) → IsReachedByRows g list at rows []
+IsReached-empty g list at rows stack e reached = subst (IsReachedByRows g list at rows) (ap reverse (nil_from_length stack e)) reached
 
 -- where a longer front is viable, so is a shorter one
 IsViable-front : (g : ContextFree) (list : List ℕ) (m n : ℕ) → m ≤ n → IsViable g (take n list) → IsViable g (take m list)

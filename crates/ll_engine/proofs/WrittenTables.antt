@@ -9,7 +9,7 @@ use Rattle.ll_engine.specs.Derivation.{Production}
 use Rattle.ll_engine.specs.Language.{ContextFree}
 use Rattle.ll_engine.specs.PredictionSets.{Sets, has, predicting, PartSets, sets_of, tree_of, are_kept, known_after}
 use Rattle.ll_engine.specs.View.{is_well_formed}
-use Rattle.ll_engine.specs.WrittenTable.{written_grammar, row_among, first_row, row_at, IsWritten, is_number, names_rows, is_kept_and_named, is_sized, is_written_after}
+use Rattle.ll_engine.specs.WrittenTable.{written_grammar, row_among, first_row, row_at, IsTableWritten, is_number, names_rows, is_kept_and_named, is_sized, is_written_after}
 use Rattle.ll_engine.proofs.KeptSets.{list_all-at, all_has, predicted_sound, predictive, kept_of}
 
 number_is : (number : ℕ) (found : Option ℕ) → is_number number found ≡ true → found ≡ Some number
@@ -33,7 +33,7 @@ named_at table sets (other ∷ rows) first (suc number) row token names is predi
     named_at table sets rows (first + 1) number row token rest is predicted ∙ ap Some (omega arith)
 
 written_by : (table : WrittenTable) (g : ContextFree) (known : List PartSets) → g.parts ≡ length table.first_rows.now → g.tokens ≡ table.tokens →
-    is_well_formed g ≡ true → is_sized table ≡ true → is_kept_and_named table g known ≡ true → IsWritten g table
+    is_well_formed g ≡ true → is_sized table ≡ true → is_kept_and_named table g known ≡ true → IsTableWritten g table
 written_by table g known parts_are tokens_are well_formed sized kept_and_named =
     let few_rows = nat_lt (length table.rows.now) 2147483648 in
     let few_parts = nat_lt (length table.first_rows.now) 65536 in
@@ -61,7 +61,7 @@ written_by table g known parts_are tokens_are well_formed sized kept_and_named =
           ∙ ap Some (omega arith);
     }
 
-pub written_after : (n : ℕ) (table : WrittenTable) (start : ℕ) → is_written_after n table start ≡ true → IsWritten (written_grammar table start) table
+pub written_after : (n : ℕ) (table : WrittenTable) (start : ℕ) → is_written_after n table start ≡ true → IsTableWritten (written_grammar table start) table
 written_after n table start passes =
     let g = written_grammar table start in
     let both = and_parts (is_well_formed g && is_sized table) (is_kept_and_named table g (known_after n g)) passes in

@@ -3,14 +3,14 @@ use Rattle.std.specs.Prelude.{◌≡◌, ℕ, ◌<◌, Bool, true, false, List, 
 use Rattle.ll_engine.specs.declared.symbol.Symbol.{Symbol}
 use Rattle.ll_engine.specs.declared.symbol.Symbol.TheVariants.{Part}
 use Rattle.ll_engine.specs.declared.symbol.Row.{Row}
-use Rattle.ll_engine.specs.Derivation.{Production, Forest, Derives, leaves}
+use Rattle.ll_engine.specs.Derivation.{Production, Forest, DerivesSymbols, leaves}
 use Rattle.ll_engine.specs.View.{productions}
 use Rattle.ll_engine.specs.Computed.{is_marked}
 
 -- the symbols derive a list of tokens, and where no token passes the empty list
 abbrev pub DerivesPassing : List Production → Bool → List Symbol → Type 0
 DerivesPassing rows tokens_pass symbols =
-    (trees : Forest) × Derives rows trees symbols × (tokens_pass ≡ false → leaves trees ≡ [])
+    (trees : Forest) × DerivesSymbols rows trees symbols × (tokens_pass ≡ false → leaves trees ≡ [])
 
 -- the part of each row is one of the parts
 abbrev pub HasPartsBelow : List Row → ℕ → Type 0

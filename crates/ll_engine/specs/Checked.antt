@@ -27,8 +27,8 @@ pub record ExactlyWhere {A : Type 0} (cause : Type 0) (result answer otherwise :
   pub always : cause → (result ≡ answer) ⊎ (result ≡ otherwise)
 
 -- what each fault says of the grammar
-abbrev pub IsFaultOf : ContextFree → TableFault → Type 0
-IsFaultOf g (Barren part) = IsFirstBarren g part
-IsFaultOf g (LeftCycle part) = IsFirstLeftCyclic g part
-IsFaultOf g (Conflict part token) = IsFirstConflict g part token
-IsFaultOf g NoMemory = Unit {0}
+abbrev pub IsTableFaultOf : ContextFree → TableFault → Type 0
+IsTableFaultOf g (Barren part) = IsFirstBarren g part
+IsTableFaultOf g (LeftCycle part) = IsFirstLeftCyclic g part
+IsTableFaultOf g (Conflict part token) = IsFirstConflict g part token
+IsTableFaultOf g NoMemory = Unit {0}

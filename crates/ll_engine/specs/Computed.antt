@@ -122,6 +122,6 @@ IsChoice test rows (One r) = IsOnly test rows r
 IsChoice test rows Several = AreSeveral test rows
 
 -- an entry of the table: the number of the only row that passes, or the number that stands for none
-abbrev pub IsEntry : (Row → Bool) → List Row → ℕ → Type 0
-IsEntry test rows entry =
+abbrev pub IsTableEntry : (Row → Bool) → List Row → ℕ → Type 0
+IsTableEntry test rows entry =
     (entry ≡ NO_ROW → IsChoice test rows Nothing) × (entry ≢ NO_ROW → IsOnly test rows entry)

@@ -16,12 +16,12 @@ pub data Forest : Type 0 where
   node : ℕ → Forest → Forest → Forest
 
 -- the trees are derivations of these symbols by these rows
-abbrev pub Derives : List Production → Forest → List Symbol → Type 0
-Derives rows empty [] = Unit {0}
-Derives rows (leaf t rest) (Token u ∷ symbols) = (t ≡ u) × Derives rows rest symbols
-Derives rows (node r below rest) (Part p ∷ symbols) =
-    (row : Production) × (slice_get rows r ≡ Some row) × (row.left ≡ p) × Derives rows below row.right × Derives rows rest symbols
-Derives rows _ _ = ⊥
+abbrev pub DerivesSymbols : List Production → Forest → List Symbol → Type 0
+DerivesSymbols rows empty [] = Unit {0}
+DerivesSymbols rows (leaf t rest) (Token u ∷ symbols) = (t ≡ u) × DerivesSymbols rows rest symbols
+DerivesSymbols rows (node r below rest) (Part p ∷ symbols) =
+    (row : Production) × (slice_get rows r ≡ Some row) × (row.left ≡ p) × DerivesSymbols rows below row.right × DerivesSymbols rows rest symbols
+DerivesSymbols rows _ _ = ⊥
 
 -- the tokens at the leaves, from left to right: the list that is derived
 abbrev pub leaves : Forest → List ℕ

@@ -6,7 +6,7 @@ use Rattle.ll_engine.specs.Derivation.{Production}
 use Rattle.ll_engine.specs.Language.{ContextFree}
 use Rattle.ll_engine.specs.View.{productions}
 use Rattle.ll_engine.specs.Checked.{IsChecked}
-use Rattle.ll_engine.specs.WrittenTable.{written_productions, IsWritten}
+use Rattle.ll_engine.specs.WrittenTable.{written_productions, IsTableWritten}
 
 abbrev pub rows_of : Rows → List Production
 rows_of (Checked rows entries) = productions rows.items
@@ -17,4 +17,4 @@ viewed rows parts tokens start = record { rows = rows_of rows; parts = parts; to
 
 abbrev pub IsTableOf : Rows → ContextFree → Type 0
 IsTableOf (Checked rows entries) g = IsChecked g entries.items
-IsTableOf (Written table) g = IsWritten g table.now
+IsTableOf (Written table) g = IsTableWritten g table.now

@@ -1,7 +1,7 @@
 -- The sentences of a grammar, its viable lists, and the token that is to blame where a list is no sentence.
 use Rattle.std.specs.Prelude.{◌≡◌, ℕ, ◌+◌, ◌<◌, ◌≤◌, List, [], ◌∷◌, ◌++◌, length, take}
 use Rattle.ll_engine.specs.declared.symbol.Symbol.TheVariants.{Part}
-use Rattle.ll_engine.specs.Derivation.{Production, Forest, Derives, leaves, leftmost}
+use Rattle.ll_engine.specs.Derivation.{Production, Forest, DerivesSymbols, leaves, leftmost}
 
 -- A grammar: its rows, how many parts and tokens there are, and the part that derives the sentences. Parts and
 -- tokens are numbers below those counts; the number `tokens` stands for the end of a list of tokens.
@@ -13,12 +13,12 @@ pub record ContextFree : Type 0 where
 
 -- the start part derives the list
 abbrev pub IsSentence : ContextFree → List ℕ → Type 0
-IsSentence g list = (tree : Forest) × Derives g.rows tree (Part g.start ∷ []) × (leaves tree ≡ list)
+IsSentence g list = (tree : Forest) × DerivesSymbols g.rows tree (Part g.start ∷ []) × (leaves tree ≡ list)
 
 -- the row numbers are a leftmost derivation of the list from the start part
 abbrev pub IsLeftmostDerivation : ContextFree → List ℕ → List ℕ → Type 0
 IsLeftmostDerivation g rows list =
-    (tree : Forest) × Derives g.rows tree (Part g.start ∷ []) × (leaves tree ≡ list) × (leftmost tree ≡ rows)
+    (tree : Forest) × DerivesSymbols g.rows tree (Part g.start ∷ []) × (leaves tree ≡ list) × (leftmost tree ≡ rows)
 
 -- some sentence begins with the list
 abbrev pub IsViable : ContextFree → List ℕ → Type 0

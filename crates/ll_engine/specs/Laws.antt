@@ -2,7 +2,7 @@
 use Rattle.std.specs.Prelude.{◌≡◌, ℕ, ◌≤◌, List, [], ◌∷◌, ◌++◌, true, Some, slice_get}
 use Rattle.ll_engine.specs.declared.symbol.Symbol.{Symbol}
 use Rattle.ll_engine.specs.declared.symbol.Symbol.TheVariants.{Token, Part}
-use Rattle.ll_engine.specs.Derivation.{Production, Forest, Derives, leaves, leftmost}
+use Rattle.ll_engine.specs.Derivation.{Production, Forest, DerivesSymbols, leaves, leftmost}
 use Rattle.ll_engine.specs.Language.{ContextFree, IsLeftmostDerivation, IsUnexpectedAt}
 use Rattle.ll_engine.specs.Prediction.{IsPredictive, IsPredictedBy}
 use Rattle.ll_engine.specs.View.{is_well_formed}
@@ -18,18 +18,18 @@ pub data DerivesLeftmost (rows : List Production) : List Symbol → List ℕ →
 -- the rows of derivation trees, each before those below it, are a leftmost derivation of their leaves
 abbrev pub TreesAreLeftmost : Type 0
 TreesAreLeftmost =
-    (rows : List Production) (trees : Forest) (symbols : List Symbol) → Derives rows trees symbols → DerivesLeftmost rows symbols (leftmost trees) (leaves trees)
+    (rows : List Production) (trees : Forest) (symbols : List Symbol) → DerivesSymbols rows trees symbols → DerivesLeftmost rows symbols (leftmost trees) (leaves trees)
 
 -- and each leftmost derivation is that of trees
 abbrev pub LeftmostHasTrees : Type 0
 LeftmostHasTrees =
     (rows : List Production) (symbols : List Symbol) (numbers list : List ℕ) → DerivesLeftmost rows symbols numbers list →
-    (trees : Forest) × Derives rows trees symbols × (leftmost trees ≡ numbers) × (leaves trees ≡ list)
+    (trees : Forest) × DerivesSymbols rows trees symbols × (leftmost trees ≡ numbers) × (leaves trees ≡ list)
 
 -- a sentence of a grammar that one token ahead decides has one derivation tree, and so one leftmost derivation
 abbrev pub OneTree : Type 0
 OneTree =
-    (g : ContextFree) → is_well_formed g ≡ true → IsPredictive g → (tree other : Forest) → Derives g.rows tree (Part g.start ∷ []) → Derives g.rows other (Part g.start ∷ []) →
+    (g : ContextFree) → is_well_formed g ≡ true → IsPredictive g → (tree other : Forest) → DerivesSymbols g.rows tree (Part g.start ∷ []) → DerivesSymbols g.rows other (Part g.start ∷ []) →
     leaves tree ≡ leaves other → tree ≡ other
 
 abbrev pub OneDerivation : Type 0

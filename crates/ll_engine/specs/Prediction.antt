@@ -3,23 +3,23 @@
 use Rattle.std.specs.Prelude.{◌≡◌, ◌≢◌, ℕ, ◌<◌, ◌≤◌, ◌⊎◌, List, [], ◌∷◌, ◌++◌, Some, slice_get}
 use Rattle.ll_engine.specs.declared.symbol.Symbol.{Symbol}
 use Rattle.ll_engine.specs.declared.symbol.Symbol.TheVariants.{Part}
-use Rattle.ll_engine.specs.Derivation.{Production, Forest, Derives, leaves}
+use Rattle.ll_engine.specs.Derivation.{Production, Forest, DerivesSymbols, leaves}
 use Rattle.ll_engine.specs.Language.{ContextFree}
 
 -- the symbols derive the empty list
 abbrev pub IsNullable : List Production → List Symbol → Type 0
-IsNullable rows symbols = (trees : Forest) × Derives rows trees symbols × (leaves trees ≡ [])
+IsNullable rows symbols = (trees : Forest) × DerivesSymbols rows trees symbols × (leaves trees ≡ [])
 
 -- the symbols derive a list of tokens that begins with the token
-abbrev pub Begins : List Production → List Symbol → ℕ → Type 0
-Begins rows symbols token = (trees : Forest) × (rest : List ℕ) × Derives rows trees symbols × (leaves trees ≡ token ∷ rest)
+abbrev pub CanBeginWith : List Production → List Symbol → ℕ → Type 0
+CanBeginWith rows symbols token = (trees : Forest) × (rest : List ℕ) × DerivesSymbols rows trees symbols × (leaves trees ≡ token ∷ rest)
 
 -- the part derives no list of tokens
 abbrev pub IsBarren : List Production → ℕ → Type 0
-IsBarren rows part = (tree : Forest) → Derives rows tree (Part part ∷ []) → ⊥
+IsBarren rows part = (tree : Forest) → DerivesSymbols rows tree (Part part ∷ []) → ⊥
 
 -- one step of a derivation: a part somewhere in the list is replaced by the right side of one of its rows
-pub record Rewrites (rows : List Production) (old new : List Symbol) : Type 0 where
+pub record RewritesSymbols (rows : List Production) (old new : List Symbol) : Type 0 where
   pub front : List Symbol
   pub back : List Symbol
   pub number : ℕ
@@ -30,8 +30,8 @@ pub record Rewrites (rows : List Production) (old new : List Symbol) : Type 0 wh
 
 -- one step or more
 pub data RewritesInSteps (rows : List Production) : List Symbol → List Symbol → Type 0 where
-  one : {old new : List Symbol} → Rewrites rows old new → RewritesInSteps rows old new
-  more : {old next new : List Symbol} → Rewrites rows old next → RewritesInSteps rows next new → RewritesInSteps rows old new
+  one : {old new : List Symbol} → RewritesSymbols rows old new → RewritesInSteps rows old new
+  more : {old next new : List Symbol} → RewritesSymbols rows old next → RewritesInSteps rows next new → RewritesInSteps rows old new
 
 -- the part derives, in one step or more, a list of symbols that begins with itself
 abbrev pub IsLeftCyclic : List Production → ℕ → Type 0
@@ -42,7 +42,7 @@ pub data MayFollow (g : ContextFree) : ℕ → ℕ → Type 0 where
   ends : MayFollow g g.start g.tokens
   before : (number : ℕ) (row : Production) (front back : List Symbol) (part token : ℕ) →
       slice_get g.rows number ≡ Some row → row.right ≡ front ++ Part part ∷ back →
-      Begins g.rows back token → MayFollow g part token
+      CanBeginWith g.rows back token → MayFollow g part token
   behind : (number : ℕ) (row : Production) (front back : List Symbol) (part token : ℕ) →
       slice_get g.rows number ≡ Some row → row.right ≡ front ++ Part part ∷ back →
       IsNullable g.rows back → MayFollow g row.left token → MayFollow g part token
@@ -51,7 +51,7 @@ pub data MayFollow (g : ContextFree) : ℕ → ℕ → Type 0 where
 -- token may follow the row's part.
 abbrev pub IsPredictedBy : ContextFree → Production → ℕ → Type 0
 IsPredictedBy g row token =
-    Begins g.rows row.right token ⊎ (IsNullable g.rows row.right × MayFollow g row.left token)
+    CanBeginWith g.rows row.right token ⊎ (IsNullable g.rows row.right × MayFollow g row.left token)
 
 -- two rows of the part are predicted by the token, or by the end
 pub record IsConflict (g : ContextFree) (part token : ℕ) : Type 0 where
@@ -80,7 +80,7 @@ HasConflict g = (part : ℕ) × (part < g.parts) × ((token : ℕ) × IsConflict
 
 -- Every part derives some list of tokens, none has a left cycle and none a conflict: one token ahead decides.
 pub record IsPredictive (g : ContextFree) : Type 0 where
-  pub productive : (part : ℕ) → part < g.parts → (tree : Forest) × Derives g.rows tree (Part part ∷ [])
+  pub productive : (part : ℕ) → part < g.parts → (tree : Forest) × DerivesSymbols g.rows tree (Part part ∷ [])
   pub not_left_cyclic : ¬ HasLeftCycle g
   pub no_conflict : ¬ HasConflict g
 

@@ -28,16 +28,16 @@ next_related relation part column =
     related relation part column || leads (related relation) relation.tokens relation.parts part column
 
 -- the relation holds, or it takes the part to the column of another that leads to the column
-pub data Leads (relation : Relation) : ℕ → ℕ → Type 0 where
-  here : (part column : ℕ) → related relation part column ≡ true → Leads relation part column
-  through : (part middle column : ℕ) → related relation part (part_column relation.tokens middle) ≡ true → Leads relation middle column → Leads relation part column
+pub data RelationLeads (relation : Relation) : ℕ → ℕ → Type 0 where
+  here : (part column : ℕ) → related relation part column ≡ true → RelationLeads relation part column
+  through : (part middle column : ℕ) → related relation part (part_column relation.tokens middle) ≡ true → RelationLeads relation middle column → RelationLeads relation part column
 
 -- the new relation holds exactly what the old one leads to
 pub record IsClosureOf (old new : Relation) : Type 0 where
   pub same_parts : new.parts ≡ old.parts
   pub same_tokens : new.tokens ≡ old.tokens
-  pub sound : (part column : ℕ) → related new part column ≡ true → Leads old part column
-  pub complete : (part column : ℕ) → Leads old part column → related new part column ≡ true
+  pub sound : (part column : ℕ) → related new part column ≡ true → RelationLeads old part column
+  pub complete : (part column : ℕ) → RelationLeads old part column → related new part column ≡ true
 
 -- the closure of what the rows of each part begin with
 pub record IsFirstSets (rows : List Row) (parts tokens : ℕ) (nullable : ℕ → Bool) (first : Relation) : Type 0 where

@@ -4,7 +4,7 @@ use Rattle.ll_engine.specs.declared.symbol.Row.{Row}
 use Rattle.ll_engine.specs.declared.fault.TableFault.{TableFault}
 use Rattle.ll_engine.specs.declared.fault.TableFault.TheVariants.{Barren, LeftCycle, Conflict, NoMemory}
 use Rattle.ll_engine.specs.declared.table.TheConstants.{NO_ROW}
-use Rattle.ll_engine.specs.Computed.{IsEntry, AreSeveral}
+use Rattle.ll_engine.specs.Computed.{IsTableEntry, AreSeveral}
 
 -- a fault says that two rows pass the test of a part and a token
 abbrev pub IsConflictEntry : (Row → Bool) → List Row → ℕ → ℕ → TableFault → Type 0
@@ -24,7 +24,7 @@ entry_at entries tokens part token = row_of_entry (slice_index entries (part * w
 -- the first n entries are right
 abbrev pub AreEntries : (ℕ → ℕ → Row → Bool) → List Row → ℕ → List ℕ → ℕ → Type 0
 AreEntries test rows tokens table n =
-    (cell : ℕ) → cell < n → IsEntry (test (cell / width_of tokens) (cell % width_of tokens)) rows (slice_index table cell)
+    (cell : ℕ) → cell < n → IsTableEntry (test (cell / width_of tokens) (cell % width_of tokens)) rows (slice_index table cell)
 
 pub record IsTable (test : ℕ → ℕ → Row → Bool) (rows : List Row) (parts tokens : ℕ) (table : List ℕ) : Type 0 where
   pub one_each : length table ≡ parts * width_of tokens

@@ -6,7 +6,7 @@ use Rattle.ll_engine.specs.declared.symbol.Symbol.TheVariants.{Token, Part}
 use Rattle.ll_engine.specs.declared.grammar.Tree.{Tree}
 use Rattle.ll_engine.specs.declared.fault.ParseFault.{ParseFault}
 use Rattle.ll_engine.specs.declared.fault.ParseFault.TheVariants.{Unexpected, NoMemory}
-use Rattle.ll_engine.specs.Derivation.{Production, Forest, Derives, leaves, leftmost}
+use Rattle.ll_engine.specs.Derivation.{Production, Forest, DerivesSymbols, leaves, leftmost}
 use Rattle.ll_engine.specs.Language.{ContextFree, IsLeftmostDerivation, IsUnexpectedAt}
 use Rattle.ll_engine.specs.Prediction.{MayFollow, IsPredictedBy}
 use Rattle.ll_engine.specs.View.{is_in_range}
@@ -27,18 +27,18 @@ abbrev pub AreFollowed : ContextFree → List Symbol → Type 0
 AreFollowed g [] = Unit {0}
 AreFollowed g (Token t ∷ symbols) = AreFollowed g symbols
 AreFollowed g (Part p ∷ symbols) =
-    ((trees : Forest) → Derives g.rows trees symbols → MayFollow g p (next_token g (leaves trees))) × AreFollowed g symbols
+    ((trees : Forest) → DerivesSymbols g.rows trees symbols → MayFollow g p (next_token g (leaves trees))) × AreFollowed g symbols
 
 -- The rows so far derive the first `at` tokens and then the symbols of the stack, and no other rows do that begin with
 -- those tokens and the next one.
-pub record IsReached (g : ContextFree) (list : List ℕ) (at : ℕ) (rows : List ℕ) (stack : List Symbol) : Type 0 where
+pub record IsReachedByRows (g : ContextFree) (list : List ℕ) (at : ℕ) (rows : List ℕ) (stack : List Symbol) : Type 0 where
   pub in_range : at ≤ length list
   pub symbols_in_range : list_all (is_in_range g.parts g.tokens) stack ≡ true
   pub followed : AreFollowed g stack
-  pub sound : (trees : Forest) → Derives g.rows trees stack →
-      (tree : Forest) × Derives g.rows tree (Part g.start ∷ []) × (leaves tree ≡ take at list ++ leaves trees) × (leftmost tree ≡ rows ++ leftmost trees)
-  pub complete : (tree : Forest) (rest : List ℕ) → Derives g.rows tree (Part g.start ∷ []) → leaves tree ≡ take at list ++ rest →
-      slice_get rest 0 ≡ slice_get list at → (trees : Forest) × Derives g.rows trees stack × (leaves trees ≡ rest)
+  pub sound : (trees : Forest) → DerivesSymbols g.rows trees stack →
+      (tree : Forest) × DerivesSymbols g.rows tree (Part g.start ∷ []) × (leaves tree ≡ take at list ++ leaves trees) × (leftmost tree ≡ rows ++ leftmost trees)
+  pub complete : (tree : Forest) (rest : List ℕ) → DerivesSymbols g.rows tree (Part g.start ∷ []) → leaves tree ≡ take at list ++ rest →
+      slice_get rest 0 ≡ slice_get list at → (trees : Forest) × DerivesSymbols g.rows trees stack × (leaves trees ≡ rest)
 
 -- what an answer of the parser says
 abbrev pub IsAnswer : ContextFree → List ℕ → Result Tree ParseFault → Type 0

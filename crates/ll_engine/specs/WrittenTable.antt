@@ -40,7 +40,7 @@ row_at table part token = row_among (drop (first_row table part) table.rows.now)
 
 -- A written table of a grammar that one token ahead decides: it names each row for each token that predicts it, and for the
 -- end where that does.
-pub record IsWritten (g : ContextFree) (table : WrittenTable) : Type 0 where
+pub record IsTableWritten (g : ContextFree) (table : WrittenTable) : Type 0 where
   pub well_formed : is_well_formed g ≡ true
   pub predictive : IsPredictive g
   pub one_each : length table.first_rows.now ≡ g.parts
@@ -83,4 +83,4 @@ is_written_after n table start =
 -- A table that passes the test is a written table.
 abbrev pub TestedTablesAreWritten : Type 0
 TestedTablesAreWritten =
-    (n : ℕ) (table : WrittenTable) (start : ℕ) → is_written_after n table start ≡ true → IsWritten (written_grammar table start) table
+    (n : ℕ) (table : WrittenTable) (start : ℕ) → is_written_after n table start ≡ true → IsTableWritten (written_grammar table start) table

@@ -4,7 +4,7 @@ ghost use Rattle.std.specs.Prelude.{◌≡◌, ◌+◌, not, true, IfOk, MatchRe
 ghost use Rattle.ll_engine.specs.Computed.{is_marked, part_column, IsLeastBelow};
 ghost use Rattle.ll_engine.specs.Related.{related, IsFirstSets, IsFollowSets};
 ghost use Rattle.ll_engine.specs.View.{grammar_of, is_well_formed};
-ghost use Rattle.ll_engine.specs.Checked.{IsChecked, IsFaultOf};
+ghost use Rattle.ll_engine.specs.Checked.{IsChecked, IsTableFaultOf};
 
 use crate::fault::TableFault;
 use crate::marks::{deriving_parts, is_marked};
@@ -79,7 +79,7 @@ pub fn checked_table(
     requires { is_well_formed (grammar_of rows.now parts tokens start) ≡ true }
     ensures { MatchResult result
         (λ table. IsChecked (grammar_of rows.now parts tokens start) table.items)
-        (IsFaultOf (grammar_of rows.now parts tokens start)) }
+        (IsTableFaultOf (grammar_of rows.now parts tokens start)) }
 {
     if rows.len() >= NO_ROW as usize {
         return Err(TableFault::NoMemory);

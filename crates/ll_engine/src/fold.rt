@@ -3,7 +3,7 @@
 ghost use Rattle.std.specs.Prelude.{◌≡◌, true, map, IfOk, OnOk, Some, None, List, [], ◌∷◌, take, drop, option_map, option_and_then, slice_get, reverse};
 ghost use Rattle.std.specs.List.{list_all};
 ghost use Rattle.ll_engine.specs.declared.symbol.Symbol.TheVariants.{Part};
-ghost use Rattle.ll_engine.specs.Derivation.{Forest, Derives, leaves, leftmost};
+ghost use Rattle.ll_engine.specs.Derivation.{Forest, DerivesSymbols, leaves, leftmost};
 ghost use Rattle.ll_engine.specs.Fold.{kept_in_front, begins_kept, value_of_tree, first_if, first_value};
 ghost use Rattle.ll_engine.specs.Run.{from_last, count_parts, rest_if, kept_tokens, work, step, run};
 
@@ -122,7 +122,7 @@ pub fn fold_derivation<A: Actions>(
     rows: Vec<u32>,
 ) -> Result<Option<A::Value>, AllocError>
     requires { list_all (λ row. kept_in_front A.keeps row.right) grammar.now.rows ≡ true }
-    ensures { IfOk result (λ built. (tree : Forest) → Derives grammar.now.rows tree (Part grammar.now.start ∷ []) → leaves tree ≡ map A.kind tokens.now
+    ensures { IfOk result (λ built. (tree : Forest) → DerivesSymbols grammar.now.rows tree (Part grammar.now.start ∷ []) → leaves tree ≡ map A.kind tokens.now
         → leftmost tree ≡ rows.items → option_map A.meaning built ≡ value_of_tree (A.value_of actions.now) A.keeps tree tokens.now) }
 {
     let ahead = kept_tokens(alloc, actions, tokens)?;

@@ -46,7 +46,7 @@ impl Grammar {
     ghost use Rattle.ll_engine.specs.Prediction.{IsPredictive, IsPredictedBy, IsFirstBarren, IsFirstLeftCyclic, IsFirstConflict};
     ghost use Rattle.ll_engine.specs.Checked.{ExactlyWhere};
     ghost use Rattle.ll_engine.specs.Walk.{IsOnlyRow};
-    ghost use Rattle.ll_engine.specs.WrittenTable.{written_grammar, IsWritten};
+    ghost use Rattle.ll_engine.specs.WrittenTable.{written_grammar, IsTableWritten};
 
     /// Checks a grammar and makes its table. Parts are the numbers below `parts`, tokens those below `tokens`, and the
     /// number `tokens` stands for the end; `start` derives the sentences.
@@ -83,7 +83,7 @@ impl Grammar {
 
     /// The grammar of a table that stands written, with a start part. Nothing is copied and nothing is made.
     pub fn written(table: &'static WrittenTable, start: u16) -> Grammar
-        requires { IsWritten (written_grammar table.now start) table.now }
+        requires { IsTableWritten (written_grammar table.now start) table.now }
         ensures { result ≡ written_grammar table.now start }
     {
         Grammar {

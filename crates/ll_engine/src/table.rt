@@ -1,7 +1,7 @@
 //! The table: which row of a part each token predicts.
 
 ghost use Rattle.std.specs.Prelude.{◌≡◌, ℕ, ◌+◌, ◌*◌, ◌/◌, ◌%◌, ◌<◌, ◌≤◌, length, IfOk, IfErr, MatchResult};
-ghost use Rattle.ll_engine.specs.Computed.{is_marked, is_candidate, IsChoice, IsEntry};
+ghost use Rattle.ll_engine.specs.Computed.{is_marked, is_candidate, IsChoice, IsTableEntry};
 ghost use Rattle.ll_engine.specs.Related.{related};
 ghost use Rattle.ll_engine.specs.Table.{IsConflictEntry, IsTable, IsTableFault};
 
@@ -53,7 +53,7 @@ fn entry(
 ) -> Result<u32, TableFault>
     requires { length rows.now < NO_ROW }
     ensures { MatchResult result
-        (IsEntry (is_candidate (is_marked nullable.now) (related first.now) (related follow.now) first.now.tokens part token) rows.now)
+        (IsTableEntry (is_candidate (is_marked nullable.now) (related first.now) (related follow.now) first.now.tokens part token) rows.now)
         (IsConflictEntry (is_candidate (is_marked nullable.now) (related first.now) (related follow.now) first.now.tokens part token) rows.now part token) }
 {
     match choice(nullable, first, follow, rows, part, usize::from(token)) {

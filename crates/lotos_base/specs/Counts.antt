@@ -16,5 +16,5 @@ Rises before after = (before < after) ⊎ ((before ≡ last_count) × (after ≡
 
 -- the call that comes after `calls` others is one of those listed by number, from 1; a call past the
 -- last value of the count is none of them
-abbrev pub IsListed : List ℕ → ℕ → Type 0
-IsListed numbers calls = (calls < last_count) × Contains numbers (calls + 1)
+abbrev pub IsListedCall : List ℕ → ℕ → Type 0
+IsListedCall numbers calls = (calls < last_count) × Contains numbers (calls + 1)

@@ -1,6 +1,6 @@
 -- Names: their spelling, and when two of them are one.
 use Rattle.std.specs.Prelude.{ℕ, List}
-pub use Rattle.term_algebra.specs.Names.{folded, AreOneName}
+pub use Rattle.lotos_base.specs.Names.{folded, AreOneName}
 use Rattle.lotos_base.specs.declared.names.Name.{Name}
 
 -- the bytes of a name as it was spelled

@@ -1,7 +1,7 @@
 -- Terms as they are written, before any sort is known, and what an order file lists, as plain values.
 use Rattle.std.specs.Prelude.{ℕ, List, [], ◌∷◌, Option}
-use Rattle.term_algebra.specs.Equation.{Place}
-use Rattle.term_algebra.specs.Signature.{Form}
+use Rattle.lotos_base.specs.Equation.{Place}
+use Rattle.lotos_base.specs.Signature.{Form}
 
 -- a name with the place where it stands
 pub record PlacedName : Type 0 where

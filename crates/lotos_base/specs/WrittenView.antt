@@ -1,7 +1,7 @@
 -- The plain values that places, written terms and items of an order file stand for.
 use Rattle.std.specs.Prelude.{List, map, option_map}
-use Rattle.term_algebra.specs.Equation as plain
-use Rattle.term_algebra.specs.Signature as plain_signature
+use Rattle.lotos_base.specs.Equation as plain
+use Rattle.lotos_base.specs.Signature as plain_signature
 use Rattle.lotos_base.specs.declared.places.Place.{Place}
 use Rattle.lotos_base.specs.declared.names.Name.{Name}
 use Rattle.lotos_base.specs.declared.written_terms.Form.{Form}

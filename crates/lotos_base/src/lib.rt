@@ -1,9 +1,13 @@
 //! What every crate of `lotos` stands on: the outside (a source, a sink, a shelf of texts) as
-//! traits whose contracts say what each call does, the three objects in memory that meet them, and
-//! places, names, written terms and the limit on texts.
+//! traits whose contracts say what each call does, the three objects in memory that meet them,
+//! places, names, written terms and the limit on texts, and the algebra of terms: signatures,
+//! terms, the equality that equations derive, and the laws of a canon.
 #![tactic(auto)]
 
+pub mod canons;
 pub mod counts;
+pub mod equality;
+pub mod examples;
 pub mod faults;
 pub mod limits;
 pub mod memory_shelf;
@@ -11,8 +15,13 @@ pub mod memory_sink;
 pub mod memory_source;
 pub mod names;
 pub mod outside;
+pub mod paths;
 pub mod places;
+pub mod plain;
 mod schedule;
+pub mod signatures;
+pub mod substitutions;
+pub mod terms;
 pub mod written_laws;
 pub mod written_terms;
 

@@ -1,7 +1,7 @@
 //! A shelf over texts in memory.
 
 ghost use Rattle.std.specs.Prelude.{◌≡◌, ℕ, ◌<◌, ◌≤◌, ◌↔◌, [], Some, None, length, OnErr, OnOk, IsOk, IsErr, IfSome, MatchResult, MatchOption, option_copied};
-ghost use Rattle.lotos_base.specs.Counts.{IsListed, Rises, next_count};
+ghost use Rattle.lotos_base.specs.Counts.{IsListedCall, Rises, next_count};
 ghost use Rattle.lotos_base.specs.Outside.{Gets, GetAnswers, GetCounts, PutLeaves, PutCounts, Puts};
 ghost use Rattle.lotos_base.specs.MemShelf.{text_under, IsFirstNamed};
 
@@ -53,7 +53,7 @@ impl Shelf for MemShelf {
         ensures counts { GetCounts result (faults_of self.old) (faults_of self.new) }
 
         // The calls fail whose number is listed, and no others.
-        ensures fails { (result ≡ Err GetFault.Failed) ↔ IsListed (failing_of self.old) (calls_of self.old) }
+        ensures fails { (result ≡ Err GetFault.Failed) ↔ IsListedCall (failing_of self.old) (calls_of self.old) }
         ensures failing { failing_of self.new ≡ failing_of self.old }
     {
         into.clear();
@@ -77,7 +77,7 @@ impl Shelf for MemShelf {
         ensures counts { PutCounts result (faults_of self.old) (faults_of self.new) }
 
         // The calls fail whose number is listed, and no others.
-        ensures fails { (result ≡ Err PutFault.Failed) ↔ IsListed (failing_of self.old) (calls_of self.old) }
+        ensures fails { (result ≡ Err PutFault.Failed) ↔ IsListedCall (failing_of self.old) (calls_of self.old) }
         ensures failing { failing_of self.new ≡ failing_of self.old }
     {
         if self.schedule.begin() {

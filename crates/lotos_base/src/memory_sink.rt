@@ -1,7 +1,7 @@
 //! A sink over memory that was taken beforehand.
 
 ghost use Rattle.std.specs.Prelude.{◌≡◌, ℕ, ◌<◌, ◌≤◌, ◌-◌, ◌↔◌, ◌⊎◌, ◌++◌, [], Some, take, length, min, IfOk, OnErr, IsErr, MatchResult, vec_capacity, vec_len};
-ghost use Rattle.lotos_base.specs.Counts.{IsListed, Rises, next_count};
+ghost use Rattle.lotos_base.specs.Counts.{IsListedCall, Rises, next_count};
 
 use crate::faults::{Failed, NoMemory};
 use crate::outside::Sink;
@@ -65,7 +65,7 @@ impl Sink for MemSink {
 
         // It takes what fits, and fails exactly where nothing does or where the call is listed.
         ensures fits { IfOk result (λ count. count ≡ min (length piece.now) (room_of self.old - length (written_of self.old))) }
-        ensures fails { IsErr result ↔ (IsListed (failing_of self.old) (calls_of self.old) ⊎ (room_of self.old ≤ length (written_of self.old))) }
+        ensures fails { IsErr result ↔ (IsListedCall (failing_of self.old) (calls_of self.old) ⊎ (room_of self.old ≤ length (written_of self.old))) }
         ensures calls { calls_of self.new ≡ next_count (calls_of self.old) }
         ensures room { room_of self.new ≡ room_of self.old }
         ensures failing { failing_of self.new ≡ failing_of self.old }

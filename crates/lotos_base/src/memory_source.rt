@@ -1,7 +1,7 @@
 //! A source over bytes in memory.
 
 ghost use Rattle.std.specs.Prelude.{◌≡◌, ℕ, ◌<◌, ◌≤◌, ◌↔◌, Some, drop, length, min, IfOk, OnOk, OnErr, IfSome, IsErr, MatchResult};
-ghost use Rattle.lotos_base.specs.Counts.{IsListed, Rises, next_count};
+ghost use Rattle.lotos_base.specs.Counts.{IsListedCall, Rises, next_count};
 ghost use Rattle.lotos_base.specs.Outside.{MovesInto};
 
 use crate::faults::Failed;
@@ -55,7 +55,7 @@ impl Source for MemSource {
         ensures untouched { OnErr result (buf.new ≡ buf.old) }
 
         // The calls fail whose number is listed, and no others.
-        ensures fails { IsErr result ↔ IsListed (failing_of self.old) (calls_of self.old) }
+        ensures fails { IsErr result ↔ IsListedCall (failing_of self.old) (calls_of self.old) }
         ensures calls { calls_of self.new ≡ next_count (calls_of self.old) }
         ensures failing { failing_of self.new ≡ failing_of self.old }
     {

@@ -1,7 +1,7 @@
 //! Which calls of an object in memory fail.
 
 ghost use Rattle.std.specs.Prelude.{◌≡◌, ℕ, ◌+◌, ◌↔◌, IsTrue};
-ghost use Rattle.lotos_base.specs.Counts.{IsListed, Rises, next_count};
+ghost use Rattle.lotos_base.specs.Counts.{IsListedCall, Rises, next_count};
 
 use crate::counts::counted;
 
@@ -30,7 +30,7 @@ impl Schedule {
 
     /// Counts one more call, and tells whether it is one of those that fail.
     pub fn begin(&mut self) -> bool
-        ensures fails { IsTrue result ↔ IsListed self.old.failing.items self.old.calls }
+        ensures fails { IsTrue result ↔ IsListedCall self.old.failing.items self.old.calls }
         ensures calls { self.new.calls ≡ next_count self.old.calls }
         ensures faults { self.new.faults ≡ self.old.faults }
         ensures failing { self.new.failing ≡ self.old.failing }

@@ -30,7 +30,7 @@ use Rattle.std.proofs.Math.ListN.{drop_of_length-le}
 use Rattle.std.proofs.lemmas.Slice.Eq.{bytes_eq-Decides}
 use Rattle.lotos_base.specs.Name.{spelling, AreSame}
 use Rattle.lotos_base.specs.declared.names.Name.{Name}
-use Rattle.term_algebra.specs.Names.{folded}
+use Rattle.lotos_base.specs.Names.{folded}
 use Rattle.lotos_grammar.specs.Gathering.{is_read}
 
 -- the next member of a list, and what follows it

@@ -8,7 +8,7 @@ use Rattle.sentence_trees.specs.Reading.{IsTypesReading, IsTypesFault}
 use Rattle.sentence_trees.specs.declared.fault.ReadFault.{ReadFault}
 use Rattle.sentence_trees.specs.declared.fault.ReadFault.TheVariants as cause
 use Rattle.sentence_trees.proofs.Outcomes.{all_have_one_outcome}
-use Rattle.lotos_grammar.specs.Gathering.{next_text, library_file, Gathered, with_library, Waiting, item, GotFile, misread, Outcome, faulty, TextOf, shipped, in_file, IsMisread, Step, goes_on, stops, Mentioned, read_before, one_too_many, in_place, not_read, no_file, Becomes, nothing_waits, a_type, mentions, then, ends}
+use Rattle.lotos_grammar.specs.Gathering.{next_text, library_file, Gathered, with_library, Waiting, item, GotFile, misread, GatheringOutcome, faulty, TextOf, shipped, in_file, IsMisread, Step, goes_on, stops, MentionComesTo, read_before, one_too_many, in_place, not_read, no_file, Becomes, nothing_waits, a_type, mentions, then, ends}
 use Rattle.lotos_grammar.specs.GatheringLaws.{Files, AreGotFrom, LacksFrom, OutcomesAreOne}
 
 -- ---- Steps
@@ -21,12 +21,12 @@ abbrev IsGoing : Step → Type 0
 IsGoing (goes_on so_far items) = Unit {0}
 IsGoing (stops outcome) = ⊥
 
-abbrev outcome_in : Outcome → Step → Outcome
+abbrev outcome_in : GatheringOutcome → Step → GatheringOutcome
 outcome_in other (goes_on so_far items) = other
 outcome_in other (stops outcome) = outcome
 
 -- what comes of a step and what waits behind it
-abbrev Goes : Step → List Waiting → List GotFile → Outcome → Type 0
+abbrev Goes : Step → List Waiting → List GotFile → GatheringOutcome → Type 0
 Goes (goes_on next items) rest files outcome = Becomes next (map item items ++ rest) files outcome
 Goes (stops stopped) rest files outcome = ⊥
 
@@ -94,7 +94,7 @@ abbrev stopped_at : Gathered → PlacedName → ReadFault → Step
 stopped_at so_far at fault = stops (faulty (with_library at.name so_far).read (misread (next_text so_far.read) fault))
 
 mentioned_one : (got : Files) {so_far : Gathered} {at : PlacedName} {files others : List GotFile} {one other : Step} →
-    Mentioned so_far at files one → Mentioned so_far at others other → AreGotFrom got files → AreGotFrom got others →
+    MentionComesTo so_far at files one → MentionComesTo so_far at others other → AreGotFrom got files → AreGotFrom got others →
     StepLacks got one → StepLacks got other → (files ≡ others) × (one ≡ other)
 mentioned_one got (read_before h) (read_before k) all both lack lacks = (refl, refl)
 mentioned_one got (read_before h) (one_too_many k past) all both lack lacks = absurd (both_true _ h k)
@@ -138,13 +138,13 @@ mentioned_one got (no_file next none) (no_file also too) all both lack lacks = (
 pub joined : {f g l m : List GotFile} → f ≡ g → l ≡ m → f ++ l ≡ g ++ m
 joined {f = f} {m = m} e h = ap (λ (x : List GotFile). f ++ x) h ∙ ap (λ (x : List GotFile). x ++ m) e
 
-outcome_one : {one other : Outcome} → stops one ≡ stops other → one ≡ other
+outcome_one : {one other : GatheringOutcome} → stops one ≡ stops other → one ≡ other
 outcome_one {one = one} e = ap (λ (s : Step). outcome_in one s) e
 
-going : (next : Gathered) (items : List WrittenItem) (outcome : Outcome) → goes_on next items ≡ stops outcome → ⊥
+going : (next : Gathered) (items : List WrittenItem) (outcome : GatheringOutcome) → goes_on next items ≡ stops outcome → ⊥
 going next items outcome e = subst (λ (s : Step). IsGoing s) e tt
 
-becomes_one : (got : Files) {so_far : Gathered} {waiting : List Waiting} {files others : List GotFile} {one other : Outcome} →
+becomes_one : (got : Files) {so_far : Gathered} {waiting : List Waiting} {files others : List GotFile} {one other : GatheringOutcome} →
     Becomes so_far waiting files one → Becomes so_far waiting others other → AreGotFrom got files → AreGotFrom got others →
     LacksFrom got one → LacksFrom got other → (files ≡ others) × (one ≡ other)
 becomes_one got (nothing_waits so_far) (nothing_waits _) all both lack lacks = (refl, refl)

@@ -16,7 +16,7 @@ use Rattle.lotos_grammar.specs.Gathering.{
   item,
   mention,
   GotFile,
-  Outcome,
+  GatheringOutcome,
   all_gathered,
   faulty,
   without_file,
@@ -25,25 +25,25 @@ use Rattle.lotos_grammar.specs.Gathering.{
   Step,
   goes_on,
   stops,
-  Mentioned,
+  MentionComesTo,
   Becomes,
   nothing_waits,
   then,
   ends,
 }
-use Rattle.lotos_grammar.specs.ShelfUse.{ShelfState, Gives, GivesAndLacks, Keeps}
-use Rattle.lotos_grammar.specs.Progress.{Leads, Ends, IsDone, EndsBy, IsReplaced, StopsBy, IsGathered, FailsBy}
+use Rattle.lotos_grammar.specs.ShelfUse.{ShelfState, Gives, GivesAndLacks, KeepsCount}
+use Rattle.lotos_grammar.specs.Progress.{GatheringLeads, Ends, IsDone, GatheringEndsBy, IsMentionReplaced, StopsBy, IsGathered, FailsBy}
 use Rattle.lotos_grammar.proofs.ShelfLemmas.{gives_nothing, gives_then, gives_then_lacks, gives_then_keeps}
 
-leads_then : (a b c : Gathered) (v w : List Waiting) (f g : List GotFile) → Leads a v f b → Leads b w g c → Leads a (v ++ w) (f ++ g) c
+leads_then : (a b c : Gathered) (v w : List Waiting) (f g : List GotFile) → GatheringLeads a v f b → GatheringLeads b w g c → GatheringLeads a (v ++ w) (f ++ g) c
 leads_then a b c v w f g first second = λ rest later outcome after.
     rw (append_assoc v w rest, append_assoc f g later) (first (w ++ rest) (g ++ later) outcome (second rest later outcome after))
 
-leads_then_ends : (a b : Gathered) (v w : List Waiting) (f g : List GotFile) (o : Outcome) → Leads a v f b → Ends b w g o →
+leads_then_ends : (a b : Gathered) (v w : List Waiting) (f g : List GotFile) (o : GatheringOutcome) → GatheringLeads a v f b → Ends b w g o →
     Ends a (v ++ w) (f ++ g) o
 leads_then_ends a b v w f g o first second = λ rest. rw (append_assoc v w rest) (first (w ++ rest) g o (second rest))
 
-ends_more : (a : Gathered) (v w : List Waiting) (f : List GotFile) (o : Outcome) → Ends a v f o → Ends a (v ++ w) f o
+ends_more : (a : Gathered) (v w : List Waiting) (f : List GotFile) (o : GatheringOutcome) → Ends a v f o → Ends a (v ++ w) f o
 ends_more a v w f o first = λ rest. rw (append_assoc v w rest) (first (w ++ rest))
 
 -- nothing waits
@@ -59,7 +59,7 @@ done_then a b c start middle now v w first second = record {
 }
 
 pub done_then_ends : (a b c : ShelfState) (start middle now : Gathered) (v w : List Waiting) (fault : LibraryFault) →
-    IsDone a b start v middle → EndsBy b c middle w now fault → EndsBy a c start (v ++ w) now fault
+    IsDone a b start v middle → GatheringEndsBy b c middle w now fault → GatheringEndsBy a c start (v ++ w) now fault
 done_then_ends a b c start middle now v w (TooMany place name) first (files, given, ends_) = (
   first.files ++ files,
   gives_then a b c first.files files first.given given,
@@ -78,7 +78,7 @@ done_then_ends a b c start middle now v w (Unread file) first (files, given, end
 done_then_ends a b c start middle now v w NoMemory first keeps = gives_then_keeps a b c first.files first.given keeps
 
 pub ends_before_more : (a b : ShelfState) (start now : Gathered) (v w : List Waiting) (fault : LibraryFault) →
-    EndsBy a b start v now fault → EndsBy a b start (v ++ w) now fault
+    GatheringEndsBy a b start v now fault → GatheringEndsBy a b start (v ++ w) now fault
 ends_before_more a b start now v w (TooMany place name) (files, given, ends_) = (files, given, ends_more start v w files _ ends_)
 ends_before_more a b start now v w (Misread text fault) (files, given, ends_) = (files, given, ends_more start v w files _ ends_)
 ends_before_more a b start now v w (Unread file) (files, given, ends_) = (files, given, ends_more start v w files _ ends_)
@@ -86,16 +86,16 @@ ends_before_more a b start now v w NoMemory keeps = keeps
 
 -- a mention, and what its items come to
 replaced_leads : (start middle now : Gathered) (at : PlacedName) (items : List WrittenItem) (f g : List GotFile) →
-    Mentioned start at f (goes_on middle items) → Leads middle (map item items) g now → Leads start (mention at ∷ []) (f ++ g) now
+    MentionComesTo start at f (goes_on middle items) → GatheringLeads middle (map item items) g now → GatheringLeads start (mention at ∷ []) (f ++ g) now
 replaced_leads start middle now at items f g mentioned leads = λ rest later outcome after.
     rw (append_assoc f g later) (then mentioned (leads rest later outcome after))
 
-replaced_ends : (start middle : Gathered) (at : PlacedName) (items : List WrittenItem) (f g : List GotFile) (o : Outcome) →
-    Mentioned start at f (goes_on middle items) → Ends middle (map item items) g o → Ends start (mention at ∷ []) (f ++ g) o
+replaced_ends : (start middle : Gathered) (at : PlacedName) (items : List WrittenItem) (f g : List GotFile) (o : GatheringOutcome) →
+    MentionComesTo start at f (goes_on middle items) → Ends middle (map item items) g o → Ends start (mention at ∷ []) (f ++ g) o
 replaced_ends start middle at items f g o mentioned ends_ = λ rest. then mentioned (ends_ rest)
 
 replaced_then : (a b c : ShelfState) (start middle now : Gathered) (at : PlacedName) (items : List WrittenItem) →
-    IsReplaced a b start at middle items → IsDone b c middle (map item items) now → IsDone a c start (mention at ∷ []) now
+    IsMentionReplaced a b start at middle items → IsDone b c middle (map item items) now → IsDone a c start (mention at ∷ []) now
 replaced_then a b c start middle now at items first second = record {
   files = first.files ++ second.files;
   given = gives_then a b c first.files second.files first.given second.given;
@@ -104,7 +104,7 @@ replaced_then a b c start middle now at items first second = record {
 
 replaced_then_ends : (a b c : ShelfState) (start middle now : Gathered) (at : PlacedName) (items : List WrittenItem) (fault : LibraryFault)
     →
-    IsReplaced a b start at middle items → EndsBy b c middle (map item items) now fault → EndsBy a c start (mention at ∷ []) now fault
+    IsMentionReplaced a b start at middle items → GatheringEndsBy b c middle (map item items) now fault → GatheringEndsBy a c start (mention at ∷ []) now fault
 replaced_then_ends a b c start middle now at items (TooMany place name) first (files, given, ends_) = (
   first.files ++ files,
   gives_then a b c first.files files first.given given,
@@ -124,33 +124,33 @@ replaced_then_ends a b c start middle now at items NoMemory first keeps = gives_
 
 pub replaced_answer : {T : Type 0} (a b c : ShelfState) (start middle now : Gathered) (at : PlacedName) (items : List WrittenItem) (answer :
     Result T LibraryFault) →
-    IsReplaced a b start at middle items →
-    MatchResult answer (λ x. IsDone b c middle (map item items) now) (EndsBy b c middle (map item items) now) →
-    MatchResult answer (λ x. IsDone a c start (mention at ∷ []) now) (EndsBy a c start (mention at ∷ []) now)
+    IsMentionReplaced a b start at middle items →
+    MatchResult answer (λ x. IsDone b c middle (map item items) now) (GatheringEndsBy b c middle (map item items) now) →
+    MatchResult answer (λ x. IsDone a c start (mention at ∷ []) now) (GatheringEndsBy a c start (mention at ∷ []) now)
 replaced_answer a b c start middle now at items (Ok x) first done = replaced_then a b c start middle now at items first done
 replaced_answer a b c start middle now at items (Err fault) first ends_ = replaced_then_ends a b c start middle now at items fault first
     ends_
 
 -- a mention that ends all
 pub stopped : (a b : ShelfState) (start now : Gathered) (at : PlacedName) (fault : LibraryFault) → StopsBy a b start at now fault →
-    EndsBy a b start (mention at ∷ []) now fault
+    GatheringEndsBy a b start (mention at ∷ []) now fault
 stopped a b start now at (TooMany place name) (files, given, mentioned) = (files, given, λ rest. ends mentioned)
 stopped a b start now at (Misread text fault) (files, given, mentioned) = (files, given, λ rest. ends mentioned)
 stopped a b start now at (Unread file) (files, given, mentioned) = (files, given, λ rest. ends mentioned)
 stopped a b start now at NoMemory keeps = keeps
 
 -- the whole of a text
-whole_leads : (now : Gathered) (v : List Waiting) (f : List GotFile) → Leads nothing_yet v f now → Becomes nothing_yet v f (all_gathered
+whole_leads : (now : Gathered) (v : List Waiting) (f : List GotFile) → GatheringLeads nothing_yet v f now → Becomes nothing_yet v f (all_gathered
     now)
 whole_leads now v f leads = rw (sym (append-nil v), sym (append-nil f)) (leads [] [] (all_gathered now) (nothing_waits now))
 
-whole_ends : (v : List Waiting) (f : List GotFile) (o : Outcome) → Ends nothing_yet v f o → Becomes nothing_yet v f o
+whole_ends : (v : List Waiting) (f : List GotFile) (o : GatheringOutcome) → Ends nothing_yet v f o → Becomes nothing_yet v f o
 whole_ends v f o ends_ = rw (sym (append-nil v)) (ends_ [])
 
 gathered : (a b : ShelfState) (now : Gathered) (v : List Waiting) → IsDone a b nothing_yet v now → IsGathered a b v now
 gathered a b now v done = record { files = done.files; given = done.given; becomes = whole_leads now v done.files done.leads }
 
-fails : (a b : ShelfState) (now : Gathered) (v : List Waiting) (fault : LibraryFault) → EndsBy a b nothing_yet v now fault →
+fails : (a b : ShelfState) (now : Gathered) (v : List Waiting) (fault : LibraryFault) → GatheringEndsBy a b nothing_yet v now fault →
     FailsBy a b v now fault
 fails a b now v (TooMany place name) (files, given, ends_) = (files, given, whole_ends v files _ ends_)
 fails a b now v (Misread text fault) (files, given, ends_) = (files, given, whole_ends v files _ ends_)
@@ -159,7 +159,7 @@ fails a b now v NoMemory keeps = keeps
 
 pub whole_answer : {T : Type 0} (a b : ShelfState) (start now : Gathered) (v : List Waiting) (answer : Result T LibraryFault) → start ≡
     nothing_yet →
-    MatchResult answer (λ x. IsDone a b start v now) (EndsBy a b start v now) → MatchResult answer (λ x. IsGathered a b v now) (FailsBy a b
+    MatchResult answer (λ x. IsDone a b start v now) (GatheringEndsBy a b start v now) → MatchResult answer (λ x. IsGathered a b v now) (FailsBy a b
     v now)
 whole_answer a b start now v (Ok x) is done = gathered a b now v (subst (λ (s : Gathered). IsDone a b s v now) is done)
-whole_answer a b start now v (Err fault) is ends_ = fails a b now v fault (subst (λ (s : Gathered). EndsBy a b s v now fault) is ends_)
+whole_answer a b start now v (Err fault) is ends_ = fails a b now v fault (subst (λ (s : Gathered). GatheringEndsBy a b s v now fault) is ends_)

@@ -4,7 +4,7 @@ use Rattle.std.proofs.lemmas.List.Elements.{All-append, All-nil}
 use Rattle.lotos_base.specs.Counts.{Rises, next_count}
 use Rattle.lotos_base.specs.Outside.{Texts}
 use Rattle.lotos_grammar.specs.Gathering.{GotFile}
-use Rattle.lotos_grammar.specs.ShelfUse.{ShelfState, calls_after, IsFileOf, Gives, GivesAndLacks, Keeps}
+use Rattle.lotos_grammar.specs.ShelfUse.{ShelfState, calls_after, IsFileOf, Gives, GivesAndLacks, KeepsCount}
 
 calls_after_more : (files more : List GotFile) (calls : ℕ) → calls_after (files ++ more) calls ≡ calls_after more (calls_after files calls)
 calls_after_more [] more calls = refl
@@ -40,5 +40,5 @@ gives_then_lacks a b c files more name first second = record {
       ∙ ap next_count (sym (calls_after_more files more a.calls));
 }
 
-pub gives_then_keeps : (a b c : ShelfState) (files : List GotFile) → Gives a b files → Keeps b c → Keeps a c
+pub gives_then_keeps : (a b c : ShelfState) (files : List GotFile) → Gives a b files → KeepsCount b c → KeepsCount a c
 gives_then_keeps a b c files first second = record { texts = second.texts ∙ first.texts; faults = second.faults ∙ first.faults }

@@ -42,13 +42,13 @@ use Rattle.lotos_grammar.specs.Gathering.{
   GotFile,
   library_file,
   next_text,
-  IsNext,
+  IsNextLibrary,
   TextOf,
   in_file,
   in_place,
   not_read,
   no_file,
-  Mentioned,
+  MentionComesTo,
   goes_on,
   stops,
   faulty,
@@ -56,31 +56,31 @@ use Rattle.lotos_grammar.specs.Gathering.{
   without_file,
   IsMisread,
 }
-use Rattle.lotos_grammar.specs.ShelfUse.{ShelfState, Gives, GivesAndLacks, Keeps}
-use Rattle.lotos_grammar.specs.Progress.{IsReplaced, StopsBy, FileFails, TextFails}
+use Rattle.lotos_grammar.specs.ShelfUse.{ShelfState, Gives, GivesAndLacks, KeepsCount}
+use Rattle.lotos_grammar.specs.Progress.{IsMentionReplaced, StopsBy, FileFails, TextFails}
 
 -- the text is got, and its items are read or not
 pub text_items :
     (a b : ShelfState) (start now : Gathered) (place : Place) (name : Name) (files : List GotFile) (text : List ℕ) (number : ℕ)
     (answer : Result (Vec ItemText Global) LibraryFault) →
-    IsNext start.read (spelling name) → TextOf (spelling name) files text → number ≡ next_text start.read → Gives a b files →
+    IsNextLibrary start.read (spelling name) → TextOf (spelling name) files text → number ≡ next_text start.read → Gives a b files →
     now ≡ with_library (spelling name) start →
     MatchResult answer (λ items. IsTypesReading number text (map item_of items.items)) (TextFails number text) →
-    MatchResult answer (λ items. IsReplaced a b start (placed_name_of (place, name)) now (map item_of items.items))
+    MatchResult answer (λ items. IsMentionReplaced a b start (placed_name_of (place, name)) now (map item_of items.items))
     (StopsBy a b start (placed_name_of (place, name)) now)
 text_items a b start now place name files text number (Ok items) next text_is number_is given now_is reading = record {
   files = files;
   given = given;
   mentioned =
-      subst (λ (g : Gathered). Mentioned start (placed_name_of (place, name)) files (goes_on g (map item_of items.items))) (sym now_is)
+      subst (λ (g : Gathered). MentionComesTo start (placed_name_of (place, name)) files (goes_on g (map item_of items.items))) (sym now_is)
       (in_place next text_is (subst (λ (n : ℕ). IsTypesReading n text (map item_of items.items)) number_is reading));
 }
 text_items a b start now place name files text number (Err (TooMany other one)) next text_is number_is given now_is fails = absurd fails
 text_items a b start now place name files text number (Err (Misread told fault)) next text_is number_is given now_is (told_is, misread_is) = (
   files,
   given,
-  subst (λ (g : Gathered). Mentioned start (placed_name_of (place, name)) files (stops (faulty g.read (misread told fault)))) (sym now_is)
-      (subst (λ (n : ℕ). Mentioned start (placed_name_of (place, name)) files
+  subst (λ (g : Gathered). MentionComesTo start (placed_name_of (place, name)) files (stops (faulty g.read (misread told fault)))) (sym now_is)
+      (subst (λ (n : ℕ). MentionComesTo start (placed_name_of (place, name)) files
       (stops (faulty (with_library (spelling name) start).read (misread n fault)))) (sym (told_is ∙ number_is))
       (not_read next text_is (subst (λ (n : ℕ). IsMisread n text fault) number_is misread_is))),
 )
@@ -93,11 +93,11 @@ pub moved_items :
     (a b : ShelfState) (start now : Gathered) (place : Place) (name : Name) (text moved : List ℕ) (number : ℕ)
     (answer : Result (Vec ItemText Global) LibraryFault) →
     moved ≡ text →
-    IsNext start.read (spelling name) → library_text (spelling name) ≡ None → number ≡ next_text start.read →
+    IsNextLibrary start.read (spelling name) → library_text (spelling name) ≡ None → number ≡ next_text start.read →
     Gives a b (record { name = library_file (spelling name); bytes = text } ∷ []) →
     now ≡ with_library (spelling name) start →
     MatchResult answer (λ items. IsTypesReading number moved (map item_of items.items)) (TextFails number moved) →
-    MatchResult answer (λ items. IsReplaced a b start (placed_name_of (place, name)) now (map item_of items.items))
+    MatchResult answer (λ items. IsMentionReplaced a b start (placed_name_of (place, name)) now (map item_of items.items))
     (StopsBy a b start (placed_name_of (place, name)) now)
 moved_items a b start now place name text moved number answer same next none number_is given now_is reading =
     text_items a b start now place name (record { name = library_file (spelling name); bytes = text } ∷ []) text number answer
@@ -135,7 +135,7 @@ err_is (Err e) fault h = ap Err h
 -- the file is not got
 pub file_stops :
     (a b : ShelfState) (start : Gathered) (place : Place) (name : Name) (fault : LibraryFault) →
-    IsNext start.read (spelling name) → library_text (spelling name) ≡ None → FileFails a b (library_file (spelling name)) fault →
+    IsNextLibrary start.read (spelling name) → library_text (spelling name) ≡ None → FileFails a b (library_file (spelling name)) fault →
     StopsBy a b start (placed_name_of (place, name)) start fault
 file_stops a b start place name (TooMany other one) next none fails = absurd fails
 file_stops a b start place name (Misread told fault) next none fails = absurd fails
@@ -146,13 +146,13 @@ pub stops_by_file :
     (a b : ShelfState) (start : Gathered) (place : Place) (name : Name) (fault : LibraryFault) (answer : Result (Vec ItemText Global)
     LibraryFault) →
     answer ≡ Err fault →
-    IsNext start.read (spelling name) → library_text (spelling name) ≡ None → FileFails a b (library_file (spelling name)) fault →
-    MatchResult answer (λ items. IsReplaced a b start (placed_name_of (place, name)) start (map item_of items.items))
+    IsNextLibrary start.read (spelling name) → library_text (spelling name) ≡ None → FileFails a b (library_file (spelling name)) fault →
+    MatchResult answer (λ items. IsMentionReplaced a b start (placed_name_of (place, name)) start (map item_of items.items))
     (StopsBy a b start (placed_name_of (place, name)) start)
 stops_by_file a b start place name fault answer is next none fails =
     subst
     (λ (r : Result (Vec ItemText Global) LibraryFault). MatchResult r
-    (λ items. IsReplaced a b start (placed_name_of (place, name)) start (map item_of items.items))
+    (λ items. IsMentionReplaced a b start (placed_name_of (place, name)) start (map item_of items.items))
     (StopsBy a b start (placed_name_of (place, name)) start))
     (sym is) (file_stops a b start place name fault next none fails)
 

@@ -47,12 +47,12 @@ use Rattle.lotos_grammar.specs.Gathering.{
   item,
   mention,
   GotFile,
-  Outcome,
+  GatheringOutcome,
   faulty,
   too_many,
   is_read,
   library_limit,
-  Mentioned,
+  MentionComesTo,
   read_before,
   one_too_many,
   Becomes,
@@ -62,7 +62,7 @@ use Rattle.lotos_grammar.specs.Gathering.{
   ends,
 }
 use Rattle.lotos_grammar.specs.ShelfUse.{ShelfState, Gives}
-use Rattle.lotos_grammar.specs.Progress.{Leads, Ends, IsDone, EndsBy, StopsBy}
+use Rattle.lotos_grammar.specs.Progress.{GatheringLeads, Ends, IsDone, GatheringEndsBy, StopsBy}
 use Rattle.lotos_grammar.proofs.ShelfLemmas.{gives_nothing}
 use Rattle.lotos_grammar.proofs.ProgressLemmas.{done_then, done_then_ends, ends_before_more, stopped}
 
@@ -102,11 +102,11 @@ one_done g f a b c start middle now ys x first second =
 
 pub one_ends : {X Y : Type 0} (g : Y → Waiting) (f : X → Y) (a b c : ShelfState) (start middle now : Gathered) (ys : List X) (x : X)
     (zs whole : List X) (fault : LibraryFault) → whole ≡ ys ++ x ∷ zs →
-    IsDone a b start (map g (map f ys)) middle → EndsBy b c middle (g (f x) ∷ []) now fault → EndsBy a c start (map g (map f whole)) now
+    IsDone a b start (map g (map f ys)) middle → GatheringEndsBy b c middle (g (f x) ∷ []) now fault → GatheringEndsBy a c start (map g (map f whole)) now
     fault
 one_ends g f a b c start middle now ys x zs whole fault is first second =
-    subst (λ (xs : List _). EndsBy a c start (map g (map f xs)) now fault) (sym is)
-    (subst (λ (w : List Waiting). EndsBy a c start w now fault) (sym (mapped_more g f ys x zs))
+    subst (λ (xs : List _). GatheringEndsBy a c start (map g (map f xs)) now fault) (sym is)
+    (subst (λ (w : List Waiting). GatheringEndsBy a c start w now fault) (sym (mapped_more g f ys x zs))
     (done_then_ends a b c start middle now (map g (map f ys)) (g (f x) ∷ map g (map f zs)) fault first
     (ends_before_more b c middle now (g (f x) ∷ []) (map g (map f zs)) fault second)))
 
@@ -126,12 +126,12 @@ library_is : (text : ItemText) (names : Vec (Place × Name) Global) → text.bod
     item_of text ≡ libraries (text_place_of text.place) (placed_names_of names.items)
 library_is text names is = rw is refl
 
-mentions_lead : (start now : Gathered) (place : _) (names : List PlacedName) (files : List GotFile) → Leads start (map mention names) files
+mentions_lead : (start now : Gathered) (place : _) (names : List PlacedName) (files : List GotFile) → GatheringLeads start (map mention names) files
     now →
-    Leads start (item (libraries place names) ∷ []) files now
+    GatheringLeads start (item (libraries place names) ∷ []) files now
 mentions_lead start now place names files leads = λ rest later outcome after. mentions (leads rest later outcome after)
 
-mentions_end : (start : Gathered) (place : _) (names : List PlacedName) (files : List GotFile) (outcome : Outcome) → Ends start (map mention
+mentions_end : (start : Gathered) (place : _) (names : List PlacedName) (files : List GotFile) (outcome : GatheringOutcome) → Ends start (map mention
     names) files outcome →
     Ends start (item (libraries place names) ∷ []) files outcome
 mentions_end start place names files outcome ends_ = λ rest. mentions (ends_ rest)
@@ -145,9 +145,9 @@ libraries_done a b start now place names done = record {
   leads = mentions_lead start now place names done.files done.leads;
 }
 
-libraries_end : (a b : ShelfState) (start now : Gathered) (place : _) (names : List PlacedName) (fault : LibraryFault) → EndsBy a b start
+libraries_end : (a b : ShelfState) (start now : Gathered) (place : _) (names : List PlacedName) (fault : LibraryFault) → GatheringEndsBy a b start
     (map mention names) now fault →
-    EndsBy a b start (item (libraries place names) ∷ []) now fault
+    GatheringEndsBy a b start (item (libraries place names) ∷ []) now fault
 libraries_end a b start now place names (TooMany other name) (files, given, ends_) = (
   files,
   given,
@@ -165,8 +165,8 @@ libraries_end a b start now place names NoMemory keeps = keeps
 
 at_libraries : {T : Type 0} (a b : ShelfState) (start now : Gathered) (place : _) (names : List PlacedName) (answer : Result T LibraryFault)
     →
-    MatchResult answer (λ x. IsDone a b start (map mention names) now) (EndsBy a b start (map mention names) now) →
-    MatchResult answer (λ x. IsDone a b start (item (libraries place names) ∷ []) now) (EndsBy a b start (item (libraries place names) ∷ [])
+    MatchResult answer (λ x. IsDone a b start (map mention names) now) (GatheringEndsBy a b start (map mention names) now) →
+    MatchResult answer (λ x. IsDone a b start (item (libraries place names) ∷ []) now) (GatheringEndsBy a b start (item (libraries place names) ∷ [])
     now)
 at_libraries a b start now place names (Ok x) done = libraries_done a b start now place names done
 at_libraries a b start now place names (Err fault) ends_ = libraries_end a b start now place names fault ends_
@@ -174,17 +174,17 @@ at_libraries a b start now place names (Err fault) ends_ = libraries_end a b sta
 pub library_item : {T : Type 0} (a b : ShelfState) (start now : Gathered) (text : ItemText) (names : Vec (Place × Name) Global) (answer :
     Result T LibraryFault) →
     text.body ≡ Library names →
-    MatchResult answer (λ x. IsDone a b start (map mention (placed_names_of names.items)) now) (EndsBy a b start (map mention
+    MatchResult answer (λ x. IsDone a b start (map mention (placed_names_of names.items)) now) (GatheringEndsBy a b start (map mention
     (placed_names_of names.items)) now) →
-    MatchResult answer (λ x. IsDone a b start (item (item_of text) ∷ []) now) (EndsBy a b start (item (item_of text) ∷ []) now)
+    MatchResult answer (λ x. IsDone a b start (item (item_of text) ∷ []) now) (GatheringEndsBy a b start (item (item_of text) ∷ []) now)
 library_item a b start now text names answer is told =
     subst
-    (λ (w : WrittenItem). MatchResult answer (λ x. IsDone a b start (item w ∷ []) now) (EndsBy a b start (item w ∷ []) now))
+    (λ (w : WrittenItem). MatchResult answer (λ x. IsDone a b start (item w ∷ []) now) (GatheringEndsBy a b start (item w ∷ []) now))
     (sym (library_is text names is)) (at_libraries a b start now (text_place_of text.place) (placed_names_of names.items) answer told)
 
 -- a type
 type_leads : (start : Gathered) (place : Place) (body : ItemBody) → ((names : Vec (Place × Name) Global) → body ≡ Library names → ⊥) →
-    Leads start (item (item_of (record { place = place; body = body })) ∷ []) [] (with_type (item_of (record {
+    GatheringLeads start (item (item_of (record { place = place; body = body })) ∷ []) [] (with_type (item_of (record {
       place = place;
       body = body;
     })) start)
@@ -208,7 +208,7 @@ pub type_item : (s : ShelfState) (read : List (List ℕ)) (types after : List It
 type_item s read types after text other is = record {
   files = [];
   given = gives_nothing s;
-  leads = subst (λ (ts : List WrittenItem). Leads (record { read = read; types = map item_of types }) (item (item_of text) ∷ []) []
+  leads = subst (λ (ts : List WrittenItem). GatheringLeads (record { read = read; types = map item_of types }) (item (item_of text) ∷ []) []
       (record { read = read; types = ts })) (sym (ap (map item_of) is ∙ type_more types text))
       (type_leads (record { read = read; types = map item_of types }) text.place text.body other);
 }
@@ -224,7 +224,7 @@ read_already s so_far at known = record {
 }
 
 pub too_many_ends : (s : ShelfState) (so_far : Gathered) (place : Place) (name : Name) → is_read so_far.read (spelling name) ≡ false →
-    library_limit ≤ length so_far.read → EndsBy s s so_far (mention (placed_name_of (place, name)) ∷ []) so_far (TooMany place name)
+    library_limit ≤ length so_far.read → GatheringEndsBy s s so_far (mention (placed_name_of (place, name)) ∷ []) so_far (TooMany place name)
 too_many_ends s so_far place name unknown full = ([], gives_nothing s, λ rest. ends (one_too_many unknown full))
 
 -- as many names as libraries

@@ -23,8 +23,8 @@ use Rattle.std.specs.Prelude.{
 }
 use Rattle.std.specs.Str.{bytes_eq}
 use Rattle.std.specs.Str.Lossy.{utf8_lossy}
-use Rattle.term_algebra.specs.Names.{folded}
-use Rattle.term_algebra.specs.Equation.{Place}
+use Rattle.lotos_base.specs.Names.{folded}
+use Rattle.lotos_base.specs.Equation.{Place}
 use Rattle.lotos_base.specs.WrittenTerm.{PlacedName}
 use Rattle.lotos_library.specs.Library.{library_text}
 use Rattle.syntax_trees.specs.WrittenItem.{WrittenItem, WrittenTypeBody, libraries, type_declared}
@@ -80,10 +80,10 @@ pub data Problem : Type 0 where
   misread : (text : ℕ) (fault : ReadFault) → Problem
 
 -- what becomes of a text: all is gathered; something is wrong, where these libraries were read; or the file could not be got
-pub data Outcome : Type 0 where
-  all_gathered : Gathered → Outcome
-  faulty : (read : List (List ℕ)) (problem : Problem) → Outcome
-  without_file : (read : List (List ℕ)) (file : List ℕ) → Outcome
+pub data GatheringOutcome : Type 0 where
+  all_gathered : Gathered → GatheringOutcome
+  faulty : (read : List (List ℕ)) (problem : Problem) → GatheringOutcome
+  without_file : (read : List (List ℕ)) (file : List ℕ) → GatheringOutcome
 
 -- the text of a library, where the shelf gives these files: the shipped one, or that of its file
 pub data TextOf (name : List ℕ) : List GotFile → List ℕ → Type 0 where
@@ -91,7 +91,7 @@ pub data TextOf (name : List ℕ) : List GotFile → List ℕ → Type 0 where
   in_file : {text : List ℕ} → library_text name ≡ None → TextOf name (record { name = library_file name; bytes = text } ∷ []) text
 
 -- a library that is to be read: it was not read before, and another text may be read
-pub record IsNext (read : List (List ℕ)) (name : List ℕ) : Type 0 where
+pub record IsNextLibrary (read : List (List ℕ)) (name : List ℕ) : Type 0 where
   pub new : is_read read name ≡ false
   pub within : length read < library_limit
 
@@ -102,47 +102,47 @@ IsMisread number text fault = (fault ≢ cause.NoMemory) × IsTypesFault number 
 -- what a mention comes to: these items stand in its place, and so much is gathered before they are looked at; or all ends
 pub data Step : Type 0 where
   goes_on : Gathered → List WrittenItem → Step
-  stops : Outcome → Step
+  stops : GatheringOutcome → Step
 
 -- what a mention of a library comes to, where so much is gathered and the shelf gives these files. A library that was read
 -- is passed over
-pub data Mentioned (so_far : Gathered) (at : PlacedName) : List GotFile → Step → Type 0 where
-  read_before : is_read so_far.read at.name ≡ true → Mentioned so_far at [] (goes_on so_far [])
+pub data MentionComesTo (so_far : Gathered) (at : PlacedName) : List GotFile → Step → Type 0 where
+  read_before : is_read so_far.read at.name ≡ true → MentionComesTo so_far at [] (goes_on so_far [])
   one_too_many :
       is_read so_far.read at.name ≡ false → library_limit ≤ length so_far.read →
-      Mentioned so_far at [] (stops (faulty so_far.read (too_many at.place at.name)))
+      MentionComesTo so_far at [] (stops (faulty so_far.read (too_many at.place at.name)))
   in_place :
       {files : List GotFile} {text : List ℕ} {items : List WrittenItem} →
-      IsNext so_far.read at.name → TextOf at.name files text → IsTypesReading (next_text so_far.read) text items →
-      Mentioned so_far at files (goes_on (with_library at.name so_far) items)
+      IsNextLibrary so_far.read at.name → TextOf at.name files text → IsTypesReading (next_text so_far.read) text items →
+      MentionComesTo so_far at files (goes_on (with_library at.name so_far) items)
   not_read :
       {files : List GotFile} {text : List ℕ} {fault : ReadFault} →
-      IsNext so_far.read at.name → TextOf at.name files text → IsMisread (next_text so_far.read) text fault →
-      Mentioned so_far at files (stops (faulty (with_library at.name so_far).read (misread (next_text so_far.read) fault)))
+      IsNextLibrary so_far.read at.name → TextOf at.name files text → IsMisread (next_text so_far.read) text fault →
+      MentionComesTo so_far at files (stops (faulty (with_library at.name so_far).read (misread (next_text so_far.read) fault)))
   no_file :
-      IsNext so_far.read at.name → library_text at.name ≡ None →
-      Mentioned so_far at [] (stops (without_file so_far.read (library_file at.name)))
+      IsNextLibrary so_far.read at.name → library_text at.name ≡ None →
+      MentionComesTo so_far at [] (stops (without_file so_far.read (library_file at.name)))
 
 -- What becomes of what waits, where so much is gathered and the shelf gives these files one after another. The libraries
 -- are read in the order of mention, those that a library mentions before the rest of what mentions it.
-pub data Becomes : Gathered → List Waiting → List GotFile → Outcome → Type 0 where
+pub data Becomes : Gathered → List Waiting → List GotFile → GatheringOutcome → Type 0 where
   nothing_waits : (so_far : Gathered) → Becomes so_far [] [] (all_gathered so_far)
   a_type :
       {so_far : Gathered} {place : Place} {name : List ℕ} {body : WrittenTypeBody} {rest : List Waiting} {files : List GotFile}
-      {outcome : Outcome} →
+      {outcome : GatheringOutcome} →
       Becomes (with_type (type_declared place name body) so_far) rest files outcome →
       Becomes so_far (item (type_declared place name body) ∷ rest) files outcome
   mentions :
-      {so_far : Gathered} {place : Place} {names : List PlacedName} {rest : List Waiting} {files : List GotFile} {outcome : Outcome} →
+      {so_far : Gathered} {place : Place} {names : List PlacedName} {rest : List Waiting} {files : List GotFile} {outcome : GatheringOutcome} →
       Becomes so_far (map mention names ++ rest) files outcome →
       Becomes so_far (item (libraries place names) ∷ rest) files outcome
   then :
       {so_far next : Gathered} {at : PlacedName} {rest : List Waiting} {files later : List GotFile} {items : List WrittenItem}
-      {outcome : Outcome} →
-      Mentioned so_far at files (goes_on next items) →
+      {outcome : GatheringOutcome} →
+      MentionComesTo so_far at files (goes_on next items) →
       Becomes next (map item items ++ rest) later outcome →
       Becomes so_far (mention at ∷ rest) (files ++ later) outcome
   ends :
-      {so_far : Gathered} {at : PlacedName} {rest : List Waiting} {files : List GotFile} {outcome : Outcome} →
-      Mentioned so_far at files (stops outcome) →
+      {so_far : Gathered} {at : PlacedName} {rest : List Waiting} {files : List GotFile} {outcome : GatheringOutcome} →
+      MentionComesTo so_far at files (stops outcome) →
       Becomes so_far (mention at ∷ rest) files outcome

@@ -1,7 +1,7 @@
 -- What the items of a text come to is one thing: by what is got under each name there is one outcome at most, and the same
 -- files are got for it in the same order.
 use Rattle.std.specs.Prelude.{◌≡◌, List, [], ◌∷◌, ℕ, Option, None, Some}
-use Rattle.lotos_grammar.specs.Gathering.{Gathered, Waiting, GotFile, Outcome, all_gathered, faulty, without_file, Becomes}
+use Rattle.lotos_grammar.specs.Gathering.{Gathered, Waiting, GotFile, GatheringOutcome, all_gathered, faulty, without_file, Becomes}
 
 -- what is got under each name, if anything is
 abbrev pub Files : Type 0
@@ -12,17 +12,17 @@ AreGotFrom got [] = Unit {0}
 AreGotFrom got (file ∷ files) = (got file.name ≡ Some file.bytes) × AreGotFrom got files
 
 -- a file that could not be got is one that nothing is got for
-abbrev pub LacksFrom : Files → Outcome → Type 0
+abbrev pub LacksFrom : Files → GatheringOutcome → Type 0
 LacksFrom got (all_gathered so_far) = Unit {0}
 LacksFrom got (faulty read problem) = Unit {0}
 LacksFrom got (without_file read file) = got file ≡ None
 
 -- what waits comes to the outcome, by what is got under each name, and these files are got for it
-pub record ComesFrom (got : Files) (so_far : Gathered) (waiting : List Waiting) (files : List GotFile) (outcome : Outcome) : Type 0 where
+pub record ComesFrom (got : Files) (so_far : Gathered) (waiting : List Waiting) (files : List GotFile) (outcome : GatheringOutcome) : Type 0 where
   pub becomes : Becomes so_far waiting files outcome
   pub got_files : AreGotFrom got files
   pub lacks : LacksFrom got outcome
 
 abbrev pub OutcomesAreOne : Type 0
-OutcomesAreOne = (got : Files) (so_far : Gathered) (waiting : List Waiting) (files others : List GotFile) (one other : Outcome)
+OutcomesAreOne = (got : Files) (so_far : Gathered) (waiting : List Waiting) (files others : List GotFile) (one other : GatheringOutcome)
     → ComesFrom got so_far waiting files one → ComesFrom got so_far waiting others other → (files ≡ others) × (one ≡ other)

@@ -13,7 +13,7 @@ use Rattle.lotos_grammar.specs.Gathering.{
   with_library,
   Waiting,
   GotFile,
-  Outcome,
+  GatheringOutcome,
   all_gathered,
   faulty,
   without_file,
@@ -23,64 +23,64 @@ use Rattle.lotos_grammar.specs.Gathering.{
   goes_on,
   stops,
   IsMisread,
-  Mentioned,
+  MentionComesTo,
   Becomes,
 }
-use Rattle.lotos_grammar.specs.ShelfUse.{ShelfState, Gives, GivesAndLacks, Keeps}
+use Rattle.lotos_grammar.specs.ShelfUse.{ShelfState, Gives, GivesAndLacks, KeepsCount}
 
 -- whatever becomes of the rest from here becomes of the whole from there
-abbrev pub Leads : Gathered → List Waiting → List GotFile → Gathered → Type 0
-Leads start waiting files now =
-    (rest : List Waiting) (later : List GotFile) (outcome : Outcome) →
+abbrev pub GatheringLeads : Gathered → List Waiting → List GotFile → Gathered → Type 0
+GatheringLeads start waiting files now =
+    (rest : List Waiting) (later : List GotFile) (outcome : GatheringOutcome) →
     Becomes now rest later outcome → Becomes start (waiting ++ rest) (files ++ later) outcome
 
 -- the whole ends here, whatever the rest is
-abbrev pub Ends : Gathered → List Waiting → List GotFile → Outcome → Type 0
+abbrev pub Ends : Gathered → List Waiting → List GotFile → GatheringOutcome → Type 0
 Ends start waiting files outcome = (rest : List Waiting) → Becomes start (waiting ++ rest) files outcome
 
 -- all that waits was looked at
 pub record IsDone (before after : ShelfState) (start : Gathered) (waiting : List Waiting) (now : Gathered) : Type 0 where
   pub files : List GotFile
   pub given : Gives before after files
-  pub leads : Leads start waiting files now
+  pub leads : GatheringLeads start waiting files now
 
 -- what waits ends with the fault, where so much was gathered
-abbrev pub EndsBy : ShelfState → ShelfState → Gathered → List Waiting → Gathered → LibraryFault → Type 0
-EndsBy before after start waiting now (TooMany place name) =
+abbrev pub GatheringEndsBy : ShelfState → ShelfState → Gathered → List Waiting → Gathered → LibraryFault → Type 0
+GatheringEndsBy before after start waiting now (TooMany place name) =
     (files : List GotFile) × Gives before after files
     × Ends start waiting files (faulty now.read (too_many (text_place_of place) (spelling name)))
-EndsBy before after start waiting now (Misread text fault) =
+GatheringEndsBy before after start waiting now (Misread text fault) =
     (files : List GotFile) × Gives before after files × Ends start waiting files (faulty now.read (misread text fault))
-EndsBy before after start waiting now (Unread file) =
+GatheringEndsBy before after start waiting now (Unread file) =
     (files : List GotFile) × GivesAndLacks before after files (string_bytes file)
     × Ends start waiting files (without_file now.read (string_bytes file))
-EndsBy before after start waiting now NoMemory = Keeps before after
+GatheringEndsBy before after start waiting now NoMemory = KeepsCount before after
 
 -- a mention was looked at, and these items stand in its place
-pub record IsReplaced (before after : ShelfState) (start : Gathered) (at : PlacedName) (now : Gathered) (items : List WrittenItem)
+pub record IsMentionReplaced (before after : ShelfState) (start : Gathered) (at : PlacedName) (now : Gathered) (items : List WrittenItem)
     : Type 0 where
   pub files : List GotFile
   pub given : Gives before after files
-  pub mentioned : Mentioned start at files (goes_on now items)
+  pub mentioned : MentionComesTo start at files (goes_on now items)
 
 -- a mention ends all with the fault
 abbrev pub StopsBy : ShelfState → ShelfState → Gathered → PlacedName → Gathered → LibraryFault → Type 0
 StopsBy before after start at now (TooMany place name) =
     (files : List GotFile) × Gives before after files
-    × Mentioned start at files (stops (faulty now.read (too_many (text_place_of place) (spelling name))))
+    × MentionComesTo start at files (stops (faulty now.read (too_many (text_place_of place) (spelling name))))
 StopsBy before after start at now (Misread text fault) =
-    (files : List GotFile) × Gives before after files × Mentioned start at files (stops (faulty now.read (misread text fault)))
+    (files : List GotFile) × Gives before after files × MentionComesTo start at files (stops (faulty now.read (misread text fault)))
 StopsBy before after start at now (Unread file) =
     (files : List GotFile) × GivesAndLacks before after files (string_bytes file)
-    × Mentioned start at files (stops (without_file now.read (string_bytes file)))
-StopsBy before after start at now NoMemory = Keeps before after
+    × MentionComesTo start at files (stops (without_file now.read (string_bytes file)))
+StopsBy before after start at now NoMemory = KeepsCount before after
 
 -- the file of the name is not got
 abbrev pub FileFails : ShelfState → ShelfState → List ℕ → LibraryFault → Type 0
 FileFails before after name (TooMany place other) = ⊥
 FileFails before after name (Misread text fault) = ⊥
 FileFails before after name (Unread file) = (string_bytes file ≡ name) × GivesAndLacks before after [] name
-FileFails before after name NoMemory = Keeps before after
+FileFails before after name NoMemory = KeepsCount before after
 
 -- the text with the number is not read
 abbrev pub TextFails : ℕ → List ℕ → LibraryFault → Type 0
@@ -105,4 +105,4 @@ FailsBy before after waiting now (Misread text fault) =
 FailsBy before after waiting now (Unread file) =
     (files : List GotFile) × GivesAndLacks before after files (string_bytes file)
     × Becomes nothing_yet waiting files (without_file now.read (string_bytes file))
-FailsBy before after waiting now NoMemory = Keeps before after
+FailsBy before after waiting now NoMemory = KeepsCount before after

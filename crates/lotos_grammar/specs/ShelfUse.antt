@@ -40,7 +40,7 @@ pub record GivesAndLacks (before after : ShelfState) (files : List GotFile) (nam
   pub calls : after.calls ≡ next_count (calls_after files before.calls)
 
 -- memory was wanted: the shelf counted no fault
-pub record Keeps (before after : ShelfState) : Type 0 where
+pub record KeepsCount (before after : ShelfState) : Type 0 where
   pub texts : after.texts ≡ before.texts
   pub faults : after.faults ≡ before.faults
 

@@ -5,7 +5,7 @@ ghost use Rattle.lotos_base.specs.WrittenView.{placed_name_of};
 ghost use Rattle.syntax_trees.specs.TreeViews.{item_of, placed_names_of};
 ghost use Rattle.lotos_grammar.specs.Gathering.{item as item_waits, mention, nothing_yet};
 ghost use Rattle.lotos_grammar.specs.GatheredView.{gathered_of};
-ghost use Rattle.lotos_grammar.specs.Progress.{EndsBy, FailsBy, IsDone, IsGathered};
+ghost use Rattle.lotos_grammar.specs.Progress.{GatheringEndsBy, FailsBy, IsDone, IsGathered};
 ghost use Rattle.lotos_grammar.specs.ShelfUse.{shelf_state};
 
 use crate::faults::LibraryFault;
@@ -60,7 +60,7 @@ fn add_items<F: Shelf>(
         (shelf_state (F.texts shelf.new) (F.faults shelf.new) (F.calls shelf.new))
         (gathered_of so_far.old) (map item_waits (map item_of items.items)) (gathered_of
         so_far.new))
-        (EndsBy (shelf_state (F.texts shelf.old) (F.faults shelf.old) (F.calls shelf.old))
+        (GatheringEndsBy (shelf_state (F.texts shelf.old) (F.faults shelf.old) (F.calls shelf.old))
         (shelf_state (F.texts shelf.new) (F.faults shelf.new) (F.calls shelf.new))
         (gathered_of so_far.old) (map item_waits (map item_of items.items)) (gathered_of
         so_far.new)) }
@@ -84,7 +84,7 @@ fn add_item<F: Shelf>(
         (λ _. IsDone (shelf_state (F.texts shelf.old) (F.faults shelf.old) (F.calls shelf.old))
         (shelf_state (F.texts shelf.new) (F.faults shelf.new) (F.calls shelf.new))
         (gathered_of so_far.old) (item_waits (item_of item) ∷ []) (gathered_of so_far.new))
-        (EndsBy (shelf_state (F.texts shelf.old) (F.faults shelf.old) (F.calls shelf.old))
+        (GatheringEndsBy (shelf_state (F.texts shelf.old) (F.faults shelf.old) (F.calls shelf.old))
         (shelf_state (F.texts shelf.new) (F.faults shelf.new) (F.calls shelf.new))
         (gathered_of so_far.old) (item_waits (item_of item) ∷ []) (gathered_of so_far.new)) }
     ensures grows { length so_far.old.libraries.items ≤ length so_far.new.libraries.items }
@@ -112,7 +112,7 @@ fn add_libraries<F: Shelf>(
         (shelf_state (F.texts shelf.new) (F.faults shelf.new) (F.calls shelf.new))
         (gathered_of so_far.old) (map mention (placed_names_of names.items)) (gathered_of
         so_far.new))
-        (EndsBy (shelf_state (F.texts shelf.old) (F.faults shelf.old) (F.calls shelf.old))
+        (GatheringEndsBy (shelf_state (F.texts shelf.old) (F.faults shelf.old) (F.calls shelf.old))
         (shelf_state (F.texts shelf.new) (F.faults shelf.new) (F.calls shelf.new))
         (gathered_of so_far.old) (map mention (placed_names_of names.items)) (gathered_of
         so_far.new)) }
@@ -138,7 +138,7 @@ fn add_library<F: Shelf>(
         (shelf_state (F.texts shelf.new) (F.faults shelf.new) (F.calls shelf.new))
         (gathered_of so_far.old) (mention (placed_name_of (place, name)) ∷ []) (gathered_of
         so_far.new))
-        (EndsBy (shelf_state (F.texts shelf.old) (F.faults shelf.old) (F.calls shelf.old))
+        (GatheringEndsBy (shelf_state (F.texts shelf.old) (F.faults shelf.old) (F.calls shelf.old))
         (shelf_state (F.texts shelf.new) (F.faults shelf.new) (F.calls shelf.new))
         (gathered_of so_far.old) (mention (placed_name_of (place, name)) ∷ []) (gathered_of
         so_far.new)) }

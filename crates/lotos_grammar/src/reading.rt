@@ -5,7 +5,7 @@ ghost use Rattle.lotos_base.specs.Limits.{text_limit};
 ghost use Rattle.lotos_base.specs.WrittenView.{listed_operation_of, written_term_of};
 ghost use Rattle.syntax_trees.specs.TreeViews.{item_of, specification_of};
 ghost use Rattle.sentence_trees.specs.declared.fault.ReadFault.TheVariants.{TooLong};
-ghost use Rattle.sentence_trees.specs.Reading.{IsOrderFault, IsOrderReading, IsSpecificationFault, IsSpecificationReading, IsTermsFault, IsTermsReading, IsTypesFault, IsTypesReading};
+ghost use Rattle.sentence_trees.specs.Reading.{IsOrderReadFault, IsOrderReading, IsSpecificationFault, IsSpecificationReading, IsTermsFault, IsTermsReading, IsTypesFault, IsTypesReading};
 
 use lotos_base::{OrderItem, TEXT_LIMIT, Written};
 use sentence_building::{items_trees, order_items, specification_tree, terms_trees};
@@ -66,7 +66,7 @@ pub fn read_types(alloc: Global, text: &[u8], number: u32) -> Result<Vec<ItemTex
 pub fn read_order(alloc: Global, text: &[u8], number: u32) -> Result<Vec<OrderItem>, ReadFault>
     ensures { MatchResult result
         (λ items. IsOrderReading number text.now (map listed_operation_of items.items))
-        (IsOrderFault number text.now) }
+        (IsOrderReadFault number text.now) }
 {
     within_limit(text)?;
     let Derived { tokens, rows } = derive(alloc, text, number, TextKind::Order)?;

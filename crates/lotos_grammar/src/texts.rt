@@ -7,9 +7,9 @@ ghost use Rattle.lotos_base.specs.Name.{spelling};
 ghost use Rattle.lotos_base.specs.WrittenView.{placed_name_of};
 ghost use Rattle.syntax_trees.specs.TreeViews.{item_of};
 ghost use Rattle.sentence_trees.specs.Reading.{IsTypesReading};
-ghost use Rattle.lotos_grammar.specs.Gathering.{IsNext, library_file, with_library};
+ghost use Rattle.lotos_grammar.specs.Gathering.{IsNextLibrary, library_file, with_library};
 ghost use Rattle.lotos_grammar.specs.GatheredView.{gathered_of};
-ghost use Rattle.lotos_grammar.specs.Progress.{FileFails, IsReplaced, StopsBy, TextFails};
+ghost use Rattle.lotos_grammar.specs.Progress.{FileFails, IsMentionReplaced, StopsBy, TextFails};
 ghost use Rattle.lotos_grammar.specs.ShelfUse.{GivesFile, shelf_state};
 
 use crate::faults::LibraryFault;
@@ -35,9 +35,9 @@ pub fn library_items<F: Shelf>(
     so_far: &mut Gathered,
     shelf: &mut F,
 ) -> Result<Vec<ItemText>, LibraryFault>
-    requires { IsNext (gathered_of so_far.old).read (spelling name) }
+    requires { IsNextLibrary (gathered_of so_far.old).read (spelling name) }
     ensures replaced { MatchResult result
-        (λ items. IsReplaced (shelf_state (F.texts shelf.old) (F.faults shelf.old) (F.calls
+        (λ items. IsMentionReplaced (shelf_state (F.texts shelf.old) (F.faults shelf.old) (F.calls
         shelf.old))
         (shelf_state (F.texts shelf.new) (F.faults shelf.new) (F.calls shelf.new))
         (gathered_of so_far.old) (placed_name_of (place, name)) (gathered_of so_far.new) (map

@@ -86,10 +86,10 @@ abbrev pub tokens_of : ℕ → List ℕ → Lexed
 tokens_of number text = cut number 0 false start text
 
 -- the fault is the one that the text has; want of memory may come with any text
-abbrev pub IsFaultOf : Lexed → LexFault → Type 0
-IsFaultOf lexed (fault.BadByte place) = lexed ≡ BadByte place
-IsFaultOf lexed (fault.OpenComment place) = lexed ≡ OpenComment place
-IsFaultOf lexed fault.NoMemory = Unit {0}
+abbrev pub IsLexFaultOf : Lexed → LexFault → Type 0
+IsLexFaultOf lexed (fault.BadByte place) = lexed ≡ BadByte place
+IsLexFaultOf lexed (fault.OpenComment place) = lexed ≡ OpenComment place
+IsLexFaultOf lexed fault.NoMemory = Unit {0}
 
 -- the token has bytes, and they are bytes of the text
 abbrev pub IsTokenOf : List ℕ → Token → Type 0

@@ -1,7 +1,7 @@
 //! The cutting of a text into its tokens.
 
 ghost use Rattle.std.specs.Prelude.{◌≡◌, ◌+◌, ◌<◌, ◌≤◌, ◌^◌, length, drop, MatchResult, OnOk, IfOk, IfErr, All};
-ghost use Rattle.lotos_lexer.specs.Tokens.{Tokens, tokens_of, IsFaultOf, IsTokenOf, IsOfText, list_open_behind, token_at};
+ghost use Rattle.lotos_lexer.specs.Tokens.{Tokens, tokens_of, IsLexFaultOf, IsTokenOf, IsOfText, list_open_behind, token_at};
 ghost use Rattle.lotos_lexer.specs.Cutting.{cut_by, IsInside};
 
 use crate::kinds;
@@ -29,7 +29,7 @@ struct Cutting {
 /// The lexical rules are those of ISO 8807:1989 with this project's form of names.
 pub fn lex(alloc: Global, text: &[u8], number: u32) -> Result<Vec<Token>, LexFault>
     requires { length text.now < 2 ^ 32 }
-    ensures exact { MatchResult result (λ tokens. tokens_of number text.now ≡ Tokens tokens.items) (IsFaultOf (tokens_of number text.now)) }
+    ensures exact { MatchResult result (λ tokens. tokens_of number text.now ≡ Tokens tokens.items) (IsLexFaultOf (tokens_of number text.now)) }
     ensures inside { IfOk result (λ tokens. All (IsTokenOf text.now) tokens.items) }
 {
     let mut cutting = Cutting {
@@ -52,7 +52,7 @@ fn cut_piece(text: &[u8], number: u32, cutting: &mut Cutting) -> Result<(), LexF
     ensures moved { OnOk result (cutting.old.position.offset < cutting.new.position.offset) }
     ensures inside { OnOk result (IsInside text.now cutting.new) }
     ensures tokens { OnOk result (All (IsTokenOf text.now) cutting.old.tokens.items → All (IsTokenOf text.now) cutting.new.tokens.items) }
-    ensures fault { IfErr result (IsFaultOf (cut_by number text.now cutting.old)) }
+    ensures fault { IfErr result (IsLexFaultOf (cut_by number text.now cutting.old)) }
 {
     let position = cutting.position;
     let rest = &text[position.offset..];

@@ -10,3 +10,13 @@ pub mod SpecificationRows
 pub mod StartsRows
 pub mod Rows
 pub mod Kept
+pub mod Words
+pub mod Names
+pub mod Terms
+pub mod Equations
+pub mod Renamings
+pub mod Types
+pub mod Behaviours
+pub mod Definitions
+pub mod Starts
+pub mod HandedOn

@@ -1,4 +1,5 @@
-//! The rows of the grammar of LOTOS, by subject, and the four grammars of its texts.
+//! The grammar of LOTOS: as a definition, which tokens of a text are which tree; its rows, by
+//! subject; and the four grammars of its texts.
 #![tactic(auto)]
 
 pub mod behaviours;
@@ -17,6 +18,7 @@ pub mod types;
 
 pub use grammars::{order_grammar, specification_grammar, terms_grammar, types_grammar};
 pub use kept::{KEPT, is_kept_kind, kept_tokens_stand_in_front};
+pub use lotos_lexer::Token;
 use lotos_lexer::kinds;
 pub use row_names::{RowName, row_name};
 

@@ -1,7 +1,7 @@
 //! The written table of all rows.
 
 ghost use Rattle.std.specs.Prelude.{◌≡◌, ℕ};
-ghost use Rattle.ll_engine.specs.WrittenTable.{written_grammar, IsWritten};
+ghost use Rattle.ll_engine.specs.WrittenTable.{written_grammar, IsTableWritten};
 ghost use Rattle.lotos_rows.specs.Rows.{grammar_from};
 ghost use Rattle.lotos_rows.specs.declared.starts.TheConstants as starts;
 
@@ -267,10 +267,10 @@ static TABLE: WrittenTable = WrittenTable {
 /// The table. It names the right row for each token and for the end, whichever of the four starts a text has.
 pub fn table() -> &'static WrittenTable
     ensures grammar { (start : ℕ) → written_grammar result.now start ≡ grammar_from start }
-    ensures specification { IsWritten (written_grammar result.now starts.SPEC) result.now }
-    ensures types { IsWritten (written_grammar result.now starts.TYPETEXT) result.now }
-    ensures order { IsWritten (written_grammar result.now starts.ORDER) result.now }
-    ensures terms { IsWritten (written_grammar result.now starts.TERMS) result.now }
+    ensures specification { IsTableWritten (written_grammar result.now starts.SPEC) result.now }
+    ensures types { IsTableWritten (written_grammar result.now starts.TYPETEXT) result.now }
+    ensures order { IsTableWritten (written_grammar result.now starts.ORDER) result.now }
+    ensures terms { IsTableWritten (written_grammar result.now starts.TERMS) result.now }
 {
     &TABLE
 }

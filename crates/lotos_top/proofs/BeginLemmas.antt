@@ -1,7 +1,7 @@
 -- Where the session of an accepted specification begins.
 use Rattle.std.proofs.Common.{◌≡◌, List, [], map, sym, ap, subst, ◌∙◌}
-use Rattle.term_algebra.specs.Term.{Term}
-use Rattle.term_algebra.specs.Equation.{Data}
+use Rattle.lotos_base.specs.Term.{Term}
+use Rattle.lotos_base.specs.Equation.{Data}
 use Rattle.termination_theory.specs.Orientation.{rules_of}
 use Rattle.rewriting_theory.specs.ChosenForm.{Chooses}
 use Rattle.behaviour_semantics.specs.Behaviour.{Specification}
@@ -16,30 +16,30 @@ use Rattle.equation_book.specs.BookCanon.{book_canon, book_chooses, book_is_cano
 use Rattle.equation_book.specs.declared.book.Book.{Book}
 use Rattle.menu_builder.specs.declared.makers.FreshMenus.{FreshMenus}
 use Rattle.spec_acceptance.specs.Acceptance.{Acceptance}
-use Rattle.lotos_grammar.specs.ShelfUse.{ShelfState}
+use Rattle.spec_acceptance.specs.HandedOn.{ShelfState}
 use Rattle.spec_acceptance.specs.Part.{goes_on, Part}
-use Rattle.session_histories.specs.Session.{Progress, Situation, first_situation}
-use Rattle.session_histories.specs.Lawful.{IsSituation}
-use Rattle.session_log.specs.CourseView.{basis_over, progress_of, pasts_of}
-use Rattle.session_log.specs.Kept.{AreSuited, IsKeptState, IsLawfulSession}
-use Rattle.session_log.specs.declared.courses.Past.{Past}
-use Rattle.session_log.specs.declared.sessions.Session.{Session}
-use Rattle.session_reports.specs.Beginning.{CanBegin}
-use Rattle.spec_acceptance.specs.AcceptedView.{Holds}
+use Rattle.history_lines.specs.HandedOn.{Progress, Situation, first_situation}
+use Rattle.history_lines.specs.HandedOn.{IsSituation}
+use Rattle.history_lines.specs.HandedOn.{basis_over, progress_of, pasts_of}
+use Rattle.history_lines.specs.HandedOn.{AreSuited, IsKeptState, IsLawfulSession}
+use Rattle.history_lines.specs.HandedOn.{Past}
+use Rattle.history_lines.specs.HandedOn.{Session}
+use Rattle.history_lines.specs.Beginning.{CanBegin}
+use Rattle.spec_acceptance.specs.AcceptedView.{HoldsAccepted}
 use Rattle.spec_acceptance.specs.Doing.{Did, Failed}
 use Rattle.spec_acceptance.specs.declared.accepted.Accepted.{Accepted}
 use Rattle.spec_acceptance.specs.declared.not_accepted.NotAccepted.TheVariants.{NoMemory}
-use Rattle.lotos_top.specs.Outcome.{Begins}
+use Rattle.lotos_top.specs.Outcome.{SessionBegins}
 use Rattle.lotos_top.specs.Prepared.{begun, any_maker, IsLawfulAt}
 
 -- ---- What was accepted can be opened
 
-pub suited : (acceptance : Acceptance) (accepted : Accepted) (maker : FreshMenus) → Holds acceptance accepted
+pub suited : (acceptance : Acceptance) (accepted : Accepted) (maker : FreshMenus) → HoldsAccepted acceptance accepted
     → AreSuited any_maker (data_of accepted.book.flat) (book_canon accepted.book) accepted.spec accepted.ranks maker
 suited acceptance accepted maker holds =
     record { signature = holds.well_formed.signature; over = holds.over; ranked = holds.ranks_are; fitting = tt }
 
-pub kept : (acceptance : Acceptance) (accepted : Accepted) → Holds acceptance accepted
+pub kept : (acceptance : Acceptance) (accepted : Accepted) → HoldsAccepted acceptance accepted
     → IsKeptState (data_of accepted.book.flat).signature accepted.spec accepted.start
 kept acceptance accepted holds = record { over = holds.state; closed = holds.closed }
 
@@ -84,9 +84,9 @@ can_begin accepted book session is =
       at_start = none;
     }
 
-pub begins_so : (acceptance : Acceptance) (accepted : Accepted) (book : Book) (session : Session FreshMenus) → Holds acceptance accepted
+pub begins_so : (acceptance : Acceptance) (accepted : Accepted) (book : Book) (session : Session FreshMenus) → HoldsAccepted acceptance accepted
     → IsOpenedAt accepted book session
-    → Begins acceptance (begun (record { session = session; book = book })) × IsLawfulAt (record { session = session; book = book })
+    → SessionBegins acceptance (begun (record { session = session; book = book })) × IsLawfulAt (record { session = session; book = book })
 begins_so acceptance accepted book session holds is = (
   record {
     data_is = is.same_data ∙ holds.data_is;

@@ -1,6 +1,6 @@
 -- The texts of an opening, part by part.
 use Rattle.std.proofs.Common.{◌≡◌, ℕ, List, ◌++◌, length, codes, decimal, ap, ◌∙◌, append_assoc}
-use Rattle.term_algebra.specs.Equation.{Data}
+use Rattle.lotos_base.specs.Equation.{Data}
 use Rattle.printed_texts.specs.ReportLines.{head_text}
 
 joined : (s0 s1 t first rest : List ℕ) → s1 ≡ s0 ++ first → t ≡ s1 ++ rest → t ≡ s0 ++ (first ++ rest)

@@ -4,7 +4,7 @@ use Rattle.std.proofs.lemmas.List.{take_all}
 use Rattle.std.proofs.lemmas.Bool.{le-ltb}
 use Rattle.lotos_base.specs.Counts.{Rises}
 use Rattle.lotos_base.specs.Outside.{Texts}
-use Rattle.lotos_grammar.specs.ShelfUse.{ShelfState}
+use Rattle.spec_acceptance.specs.HandedOn.{ShelfState}
 use Rattle.spec_acceptance.specs.Acceptance.{Asked, Acceptance}
 use Rattle.spec_acceptance.specs.Part.{goes_on}
 use Rattle.line_server.specs.Limits.{input_limit}
@@ -16,16 +16,16 @@ use Rattle.line_server.specs.Session.{ending_of, EndsWith}
 use Rattle.line_server.specs.Writing.{WritesAll}
 use Rattle.line_server.specs.declared.ends.SessionEnd.{SessionEnd}
 use Rattle.line_server.specs.declared.ends.SessionEnd.TheVariants as end
-use Rattle.session_reports.specs.Standing.{Standing}
-use Rattle.session_reports.specs.Befallen.{Befallen}
-use Rattle.session_reports.specs.SessionMachine.{history_machine}
-use Rattle.session_reports.specs.Beginning.{Beginning, standing_at}
-use Rattle.session_reports.specs.Reached.{IsReached}
-use Rattle.session_reports.specs.ReportLaws.{LinesLeadOn, ServedLinesAreAnswered}
-use Rattle.session_reports.proofs.AnsweredLemmas.{ends_finished}
+use Rattle.history_lines.specs.Standing.{Standing}
+use Rattle.history_lines.specs.Befallen.{Befallen}
+use Rattle.history_lines.specs.SessionMachine.{history_machine}
+use Rattle.history_lines.specs.Beginning.{Beginning, standing_at}
+use Rattle.history_lines.specs.Reached.{IsReached}
+use Rattle.history_lines.specs.ReportLaws.{LinesLeadOn, ServedLinesAreAnswered}
+use Rattle.history_lines.proofs.AnsweredLemmas.{ends_finished}
 use Rattle.spec_acceptance.specs.AcceptedView.{asked_for}
-use Rattle.lotos_top.specs.Outcome.{Outcome, no_line, unread, refused, accepted, files_of, Begins, IsOutcome, opening_text}
-use Rattle.lotos_top.specs.Run.{Streams, Serves, in_part, whole, Follows, IsOutcomeOf, Ran, ended_by}
+use Rattle.lotos_top.specs.Outcome.{RunOutcome, no_line, unread, refused, accepted, files_of, SessionBegins, IsOutcome, opening_text}
+use Rattle.lotos_top.specs.Run.{Streams, ServesSession, in_part, whole, FollowsOutcome, IsOutcomeOf, Ran, ended_by}
 use Rattle.lotos_top.specs.Headline.{Stands, IsSteady, Simulates, Headline}
 use Rattle.lotos_top.specs.Words.{CommandLine, session, is_demonstration}
 use Rattle.lotos_top.proofs.RunLemmas.{settles, steady_before, follows_so}
@@ -83,7 +83,7 @@ written_after before between after written opening answers told first then_ =
 
 module _ (served_lines : ServedLinesAreAnswered) (acceptance : Acceptance) (texts : Texts) (bytes written : List ℕ) where
   simulates : (begun : Beginning) (last : Standing) (shelf_after : ShelfState) (before between after : Streams)
-      (chances : List (Option Befallen)) (end_ : SessionEnd) (answer : Ended) → last.texts ≡ shelf_after.texts → Begins acceptance begun
+      (chances : List (Option Befallen)) (end_ : SessionEnd) (answer : Ended) → last.texts ≡ shelf_after.texts → SessionBegins acceptance begun
       → IsReached begun (standing_at begun (Some texts)) → before.written ≡ Some written
       → WritesAll before.written between.written (opening_text begun) → answer ≡ ended_by end_
       → fault_count history_machine chances ≡ 0
@@ -119,9 +119,9 @@ module _ (served_lines : ServedLinesAreAnswered) (acceptance : Acceptance) (text
           })
 
   serves_simulates : LinesLeadOn → (begun : Beginning) (shelf shelf_after : ShelfState) (before after : Streams) (answer : Ended)
-      → Begins acceptance begun → shelf.texts ≡ Some texts → before.left ≡ Some bytes → length bytes ≤ input_limit
+      → SessionBegins acceptance begun → shelf.texts ≡ Some texts → before.left ≡ Some bytes → length bytes ≤ input_limit
       → before.written ≡ Some written → IsSteady shelf shelf_after before after
-      → Serves begun (opening_text begun) shelf shelf_after before after answer
+      → ServesSession begun (opening_text begun) shelf shelf_after before after answer
       → (answer ≡ NoMemory) ⊎ Simulates acceptance texts bytes written shelf_after after answer
   serves_simulates laws begun shelf shelf_after before after answer begins texts_are left within told steady
       (in_part kept leaves is wrote rises) =
@@ -141,10 +141,10 @@ module _ (served_lines : ServedLinesAreAnswered) (acceptance : Acceptance) (text
 
 came_simulates : ServedLinesAreAnswered → LinesLeadOn → (spec : List ℕ) (order : Option (List ℕ)) (values : List (List ℕ))
     (texts : Texts) (acceptance : Acceptance) (bytes written : List ℕ) (shelf between shelf_after : ShelfState) (before after : Streams)
-    (answer : Ended) (outcome : Outcome) → shelf.texts ≡ Some texts → before.left ≡ Some bytes → length bytes ≤ input_limit
+    (answer : Ended) (outcome : RunOutcome) → shelf.texts ≡ Some texts → before.left ≡ Some bytes → length bytes ≤ input_limit
     → before.written ≡ Some written → IsSteady shelf shelf_after before after
     → IsOutcome (Some (asked_for spec order values)) shelf between outcome → IsOutcomeOf (goes_on acceptance) outcome
-    → Follows (Some (session spec order values)) outcome between shelf_after before after answer
+    → FollowsOutcome (Some (session spec order values)) outcome between shelf_after before after answer
     → (answer ≡ NoMemory) ⊎ Simulates acceptance texts bytes written shelf_after after answer
 came_simulates served_lines laws spec order values texts acceptance bytes written shelf between shelf_after before after answer no_line
     told left within wrote steady possible of follows = absurd of
@@ -181,4 +181,4 @@ headline served_lines laws line shelf shelf_after before after answer (inr (inl 
     came_simulates served_lines laws spec order values texts acceptance bytes written shelf came.between shelf_after before after answer
     came.outcome told left within wrote steady possible
     (settles asked texts shelf came.between (goes_on acceptance) came.outcome told over before_it possible)
-    (subst (λ (it : Option CommandLine). Follows it came.outcome came.between shelf_after before after answer) is came.follows)
+    (subst (λ (it : Option CommandLine). FollowsOutcome it came.outcome came.between shelf_after before after answer) is came.follows)

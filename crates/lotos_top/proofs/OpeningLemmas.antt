@@ -3,12 +3,12 @@ use Rattle.std.proofs.Common.{◌≡◌, inl, inr, ℕ, false, List, [], ◌∷�
 use Rattle.std.proofs.lemmas.Option.{none-some}
 use Rattle.lotos_base.specs.Counts.{Rises}
 use Rattle.demo_walks.specs.DemoSummary.{IsSummary}
-use Rattle.session_log.specs.CourseView.{past_of, progress_of}
-use Rattle.session_log.specs.declared.courses.Course.{Course}
-use Rattle.session_log.specs.declared.courses.Past.{Past}
-use Rattle.acceptance_outcomes.specs.AcceptanceOutcomes.{ComesOver}
-use Rattle.acceptance_outcomes.proofs.OneAnswer.{comes_over}
-use Rattle.lotos_grammar.specs.ShelfUse.{ShelfState}
+use Rattle.history_lines.specs.HandedOn.{past_of, progress_of}
+use Rattle.history_lines.specs.HandedOn.{Course}
+use Rattle.history_lines.specs.HandedOn.{Past}
+use Rattle.spec_acceptance.specs.AcceptanceOutcomes.{ComesOver}
+use Rattle.spec_acceptance.proofs.OneAnswer.{comes_over}
+use Rattle.spec_acceptance.specs.HandedOn.{ShelfState}
 use Rattle.spec_acceptance.specs.Acceptance.{Acceptance, Asked, IsAccepted}
 use Rattle.spec_acceptance.specs.Ending as ending
 use Rattle.spec_acceptance.specs.Part.{Comes, goes_on, stops, Part}
@@ -19,8 +19,8 @@ use Rattle.spec_acceptance.specs.Doing.{Did, Failed}
 use Rattle.spec_acceptance.specs.declared.not_accepted.NotAccepted.{NotAccepted}
 use Rattle.spec_acceptance.specs.declared.not_accepted.NotAccepted.TheVariants.{File, Spec, NoMemory}
 use Rattle.lotos_top.specs.Words.{CommandLine, check, session, demonstration, is_demonstration}
-use Rattle.lotos_top.specs.Outcome.{Outcome, no_line, unread, refused, accepted, files_of, IsOutcome, text_of, status_of, opening_text, word_or_none}
-use Rattle.lotos_top.specs.Run.{Streams, LeavesInput, Prints, Serves, Follows, demo_asked, demo_texts_of}
+use Rattle.lotos_top.specs.Outcome.{RunOutcome, no_line, unread, refused, accepted, files_of, IsOutcome, text_of, status_of, opening_text, word_or_none}
+use Rattle.lotos_top.specs.Run.{Streams, LeavesInput, Prints, ServesSession, FollowsOutcome, demo_asked, demo_texts_of}
 use Rattle.lotos_top.specs.Prepared.{begun, IsAlone, IsLast, IsShown, IsServed, IsOpened, IsDemoShelf}
 use Rattle.lotos_top.specs.declared.opening.Opened.{Opened}
 use Rattle.lotos_top.specs.declared.opening.Alone.{Alone}
@@ -47,14 +47,14 @@ opened_texts asked before after opened is = did_texts before after (IsAccepted a
 -- a line behind whose outcome nothing comes
 follows_unread : (line : CommandLine) (name : List ℕ) (shelf : ShelfState) (first last : Streams) (answer : Ended)
     → LeavesInput first last → Prints (text_of (files_of (Some line)) (unread name)) (status_of (unread name)) first last answer
-    → Follows (Some line) (unread name) shelf shelf first last answer
+    → FollowsOutcome (Some line) (unread name) shelf shelf first last answer
 follows_unread (check spec order values) name shelf first last answer leaves prints = (refl, leaves, prints)
 follows_unread (session spec order values) name shelf first last answer leaves prints = (refl, leaves, prints)
 follows_unread (demonstration cells) name shelf first last answer leaves prints = (refl, leaves, prints)
 
 follows_refused : (line : CommandLine) (r : _) (shelf : ShelfState) (first last : Streams) (answer : Ended)
     → LeavesInput first last → Prints (text_of (files_of (Some line)) (refused r)) (status_of (refused r)) first last answer
-    → Follows (Some line) (refused r) shelf shelf first last answer
+    → FollowsOutcome (Some line) (refused r) shelf shelf first last answer
 follows_refused (check spec order values) r shelf first last answer leaves prints = (refl, leaves, prints)
 follows_refused (session spec order values) r shelf first last answer leaves prints = (refl, leaves, prints)
 follows_refused (demonstration cells) r shelf first last answer leaves prints = (refl, leaves, prints)

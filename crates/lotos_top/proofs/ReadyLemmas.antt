@@ -1,9 +1,9 @@
 -- What came of a run by what was ready.
 use Rattle.std.proofs.Common.{◌≡◌, ◌⊎◌, inl, inr, ℕ, List, Option, refl, subst}
-use Rattle.lotos_grammar.specs.ShelfUse.{ShelfState}
+use Rattle.spec_acceptance.specs.HandedOn.{ShelfState}
 use Rattle.lotos_top.specs.Words.{CommandLine}
 use Rattle.lotos_top.specs.Outcome.{accepted, files_of, text_of, opening_text, status_of}
-use Rattle.lotos_top.specs.Run.{Streams, streams, LeavesInput, Prints, Serves, Came, Untouched, Stopped, Ran, Completes}
+use Rattle.lotos_top.specs.Run.{Streams, streams, LeavesInput, Prints, ServesSession, RunCame, Untouched, Stopped, Ran, CompletesRun}
 use Rattle.lotos_top.specs.Prepared.{begun, IsLast, IsShown, IsServed}
 use Rattle.lotos_top.specs.declared.opening.Opened.{Opened}
 use Rattle.lotos_top.specs.declared.opening.Alone.{Alone}
@@ -41,7 +41,7 @@ ran_alone line shelf shelf_after alone input before after answer (inr shown) pri
 -- a session was served
 pub ran_served : (line : Option CommandLine) (shelf between shelf_after : ShelfState) (opened : Opened) (before after : Streams)
     (answer : Ended) → IsServed line shelf between opened
-    → Serves (begun opened) (opening_text (begun opened)) between shelf_after before after answer
+    → ServesSession (begun opened) (opening_text (begun opened)) between shelf_after before after answer
     → Ran line shelf shelf_after before after answer
 ran_served line shelf between shelf_after opened before after answer served serves = inr (inl (record {
   outcome = accepted (begun opened);

@@ -4,20 +4,20 @@ use Rattle.std.proofs.lemmas.Bool.{cases_lt}
 use Rattle.std.proofs.lemmas.Option.{none-some}
 use Rattle.lotos_base.specs.Counts.{Rises, last_count}
 use Rattle.lotos_base.specs.Outside.{Texts}
-use Rattle.lotos_grammar.specs.ShelfUse.{ShelfState}
+use Rattle.spec_acceptance.specs.HandedOn.{ShelfState}
 use Rattle.line_server.specs.Machine.{Counted}
 use Rattle.line_server.specs.Writing.{WritesAll}
 use Rattle.line_server.specs.declared.ends.SessionEnd.TheVariants as end
 use Rattle.spec_acceptance.specs.Acceptance.{Asked, Acceptance, IsAccepted}
 use Rattle.spec_acceptance.specs.Part.{Comes, goes_on, stops}
 use Rattle.spec_acceptance.specs.Ending as ending
-use Rattle.acceptance_outcomes.specs.AcceptanceOutcomes.{ComesOver}
-use Rattle.acceptance_outcomes.proofs.OneAnswer.{comes_over, outcomes_over_texts_are_one}
-use Rattle.session_reports.specs.SessionMachine.{history_machine}
-use Rattle.session_reports.specs.Beginning.{Beginning}
+use Rattle.spec_acceptance.specs.AcceptanceOutcomes.{ComesOver}
+use Rattle.spec_acceptance.proofs.OneAnswer.{comes_over, outcomes_over_texts_are_one}
+use Rattle.history_lines.specs.SessionMachine.{history_machine}
+use Rattle.history_lines.specs.Beginning.{Beginning}
 use Rattle.lotos_top.specs.Words.{CommandLine, check, session, demonstration, is_demonstration}
-use Rattle.lotos_top.specs.Outcome.{Outcome, no_line, unread, refused, accepted, files_of, IsOutcome, text_of, status_of, opening_text}
-use Rattle.lotos_top.specs.Run.{Streams, LeavesInput, Prints, whole, in_part, Serves, Follows, Came, Stopped, Demonstrated, PrintsFor, demo_asked, demo_texts_of, Ran, IsOutcomeOf, EndsBy, MetByLines, serves_session, Completes, ended_by}
+use Rattle.lotos_top.specs.Outcome.{RunOutcome, no_line, unread, refused, accepted, files_of, IsOutcome, text_of, status_of, opening_text}
+use Rattle.lotos_top.specs.Run.{Streams, LeavesInput, Prints, whole, in_part, ServesSession, FollowsOutcome, RunCame, Stopped, Demonstrated, PrintsFor, demo_asked, demo_texts_of, Ran, IsOutcomeOf, RunEndsBy, MetByLines, serves_session, CompletesRun, ended_by}
 use Rattle.lotos_top.specs.declared.ended.Ended.{Ended}
 use Rattle.lotos_top.specs.declared.ended.Ended.TheVariants.{FileFault, InputFault, OutputFault, NoMemory}
 use Rattle.lotos_top.proofs.OpeningLemmas.{did_texts}
@@ -37,15 +37,15 @@ prints_steady text status before after answer (in_part is wrote rises) steady = 
 -- ---- What follows an outcome
 
 -- a text alone, or a session
-abbrev pub FollowsSo : Option CommandLine → Outcome → (shelf shelf_after : ShelfState) → Streams → Streams → Ended → Type 0
+abbrev pub FollowsSo : Option CommandLine → RunOutcome → (shelf shelf_after : ShelfState) → Streams → Streams → Ended → Type 0
 FollowsSo line outcome shelf shelf_after before after answer =
     ((shelf_after ≡ shelf) × LeavesInput before after
     × Prints (text_of (files_of line) outcome) (status_of outcome) before after answer)
     ⊎ (IsTrue (serves_session line) × (begun : Beginning) × (outcome ≡ accepted begun)
-    × Serves begun (opening_text begun) shelf shelf_after before after answer)
+    × ServesSession begun (opening_text begun) shelf shelf_after before after answer)
 
-pub follows_so : (line : Option CommandLine) (outcome : Outcome) (shelf shelf_after : ShelfState) (before after : Streams) (answer : Ended)
-    → Follows line outcome shelf shelf_after before after answer → FollowsSo line outcome shelf shelf_after before after answer
+pub follows_so : (line : Option CommandLine) (outcome : RunOutcome) (shelf shelf_after : ShelfState) (before after : Streams) (answer : Ended)
+    → FollowsOutcome line outcome shelf shelf_after before after answer → FollowsSo line outcome shelf shelf_after before after answer
 follows_so None outcome shelf shelf_after before after answer follows = inl follows
 follows_so (Some (check spec order values)) outcome shelf shelf_after before after answer follows = inl follows
 follows_so (Some (demonstration cells)) outcome shelf shelf_after before after answer follows = inl follows
@@ -56,13 +56,13 @@ follows_so (Some (session spec order values)) (accepted begun) shelf shelf_after
     inr (refl, begun, refl, follows)
 
 serves_output : (begun : Beginning) (text : List ℕ) (shelf shelf_after : ShelfState) (before after : Streams) (answer : Ended)
-    → Serves begun text shelf shelf_after before after answer → before.output_faults < after.output_faults → answer ≡ OutputFault
+    → ServesSession begun text shelf shelf_after before after answer → before.output_faults < after.output_faults → answer ≡ OutputFault
 serves_output begun text shelf shelf_after before after answer (in_part kept leaves is wrote rises) rose = is
 serves_output begun text shelf shelf_after before after answer (whole between last end_ wrote texts came complete is) rose =
     is ∙ ap ended_by (complete.output rose)
 
 serves_input : (begun : Beginning) (text : List ℕ) (shelf shelf_after : ShelfState) (before after : Streams) (answer : Ended)
-    → Serves begun text shelf shelf_after before after answer → before.input_faults < after.input_faults
+    → ServesSession begun text shelf shelf_after before after answer → before.input_faults < after.input_faults
     → ¬ Rises before.output_faults after.output_faults → (answer ≡ NoMemory) ⊎ (answer ≡ InputFault)
 serves_input begun text shelf shelf_after before after answer (in_part kept leaves is wrote rises) rose steady =
     absurd (omega (arith, leaves.faults, rose))
@@ -73,13 +73,13 @@ serves_input begun text shelf shelf_after before after answer (whole between las
     by (inl none) = inl (is ∙ ap ended_by none)
     by (inr failed) = inr (is ∙ ap ended_by failed)
 
-follows_output : (line : Option CommandLine) (outcome : Outcome) (shelf shelf_after : ShelfState) (before after : Streams) (answer : Ended)
+follows_output : (line : Option CommandLine) (outcome : RunOutcome) (shelf shelf_after : ShelfState) (before after : Streams) (answer : Ended)
     → FollowsSo line outcome shelf shelf_after before after answer → before.output_faults < after.output_faults → answer ≡ OutputFault
 follows_output line outcome shelf shelf_after before after answer (inl alone) rose = prints_output _ _ before after answer alone.2 rose
 follows_output line outcome shelf shelf_after before after answer (inr serves) rose =
     serves_output serves.1 _ shelf shelf_after before after answer serves.3 rose
 
-follows_input : (line : Option CommandLine) (outcome : Outcome) (shelf shelf_after : ShelfState) (before after : Streams) (answer : Ended)
+follows_input : (line : Option CommandLine) (outcome : RunOutcome) (shelf shelf_after : ShelfState) (before after : Streams) (answer : Ended)
     → FollowsSo line outcome shelf shelf_after before after answer → before.input_faults < after.input_faults
     → ¬ Rises before.output_faults after.output_faults → (answer ≡ NoMemory) ⊎ (answer ≡ InputFault)
 follows_input line outcome shelf shelf_after before after answer (inl alone) rose steady =
@@ -88,7 +88,7 @@ follows_input line outcome shelf shelf_after before after answer (inr serves) ro
     serves_input serves.1 _ shelf shelf_after before after answer serves.3 rose steady
 
 -- an outcome behind which no session comes
-follows_alone : (line : Option CommandLine) (outcome other : Outcome) (shelf shelf_after : ShelfState) (before after : Streams)
+follows_alone : (line : Option CommandLine) (outcome other : RunOutcome) (shelf shelf_after : ShelfState) (before after : Streams)
     (answer : Ended) → FollowsSo line outcome shelf shelf_after before after answer → outcome ≡ other
     → ((begun : Beginning) → other ≡ accepted begun → ⊥) → ¬ Rises before.output_faults after.output_faults
     → (answer ≡ status_of other) × WritesAll before.written after.written (text_of (files_of line) other)
@@ -99,7 +99,7 @@ follows_alone line outcome other shelf shelf_after before after answer (inr serv
 
 -- ---- What the shelf tells of an outcome
 
-shelf_rose : (asked : Option Asked) (shelf after : ShelfState) (outcome : Outcome) → IsOutcome asked shelf after outcome
+shelf_rose : (asked : Option Asked) (shelf after : ShelfState) (outcome : RunOutcome) → IsOutcome asked shelf after outcome
     → shelf.faults < after.faults → (name : List ℕ) × (outcome ≡ unread name)
 shelf_rose None shelf after no_line is rose = absurd (omega (arith, ap (λ (it : ShelfState). it.faults) is, rose))
 shelf_rose None shelf after (unread name) is rose = absurd is
@@ -116,7 +116,7 @@ accepted_keeps : (asked : Option Asked) (shelf between : ShelfState) (begun : Be
 accepted_keeps None shelf between begun is = absurd is
 accepted_keeps (Some asked) shelf between begun is = is.1.1.faults
 
-outcome_texts : (asked : Option Asked) (shelf after : ShelfState) (outcome : Outcome) → IsOutcome asked shelf after outcome
+outcome_texts : (asked : Option Asked) (shelf after : ShelfState) (outcome : RunOutcome) → IsOutcome asked shelf after outcome
     → after.texts ≡ shelf.texts
 outcome_texts None shelf after no_line is = ap (λ (it : ShelfState). it.texts) is
 outcome_texts None shelf after (unread name) is = absurd is
@@ -127,11 +127,11 @@ outcome_texts (Some asked) shelf after (unread name) is = did_texts shelf after 
 outcome_texts (Some asked) shelf after (refused r) is = did_texts shelf after (IsAccepted asked) (stops (ending.refused r)) is
 outcome_texts (Some asked) shelf after (accepted begun) is = did_texts shelf after (IsAccepted asked) (goes_on is.0) is.1
 
-no_line_only : (line : Option CommandLine) (shelf after : ShelfState) (outcome : Outcome) → line ≡ None
+no_line_only : (line : Option CommandLine) (shelf after : ShelfState) (outcome : RunOutcome) → line ≡ None
     → IsOutcome (files_of line) shelf after outcome → outcome ≡ no_line
 no_line_only line shelf after outcome none is = only outcome (rw none at is)
   where
-    only : (it : Outcome) → IsOutcome None shelf after it → it ≡ no_line
+    only : (it : RunOutcome) → IsOutcome None shelf after it → it ≡ no_line
     only no_line is_it = refl
     only (unread name) is_it = absurd is_it
     only (refused r) is_it = absurd is_it
@@ -139,7 +139,7 @@ no_line_only line shelf after outcome none is = only outcome (rw none at is)
 
 -- ---- What had to come
 
-pub settles : (asked : Asked) (texts : Texts) (shelf after : ShelfState) (comes : Comes Acceptance) (outcome : Outcome)
+pub settles : (asked : Asked) (texts : Texts) (shelf after : ShelfState) (comes : Comes Acceptance) (outcome : RunOutcome)
     → shelf.texts ≡ Some texts → ComesOver texts asked comes → ¬ Rises shelf.faults after.faults
     → IsOutcome (Some asked) shelf after outcome → IsOutcomeOf comes outcome
 settles asked texts shelf after comes no_line told over steady is = absurd is
@@ -166,7 +166,7 @@ rises_over last n after is past = by (cases_lt last after)
 
 -- no count falls while a session is served
 serves_counts : (begun : Beginning) (text : List ℕ) (shelf shelf_after : ShelfState) (before after : Streams) (answer : Ended)
-    → Serves begun text shelf shelf_after before after answer
+    → ServesSession begun text shelf shelf_after before after answer
     → (shelf.faults ≤ shelf_after.faults) ⊎ (last_count ≤ shelf_after.faults)
 serves_counts begun text shelf shelf_after before after answer (in_part kept leaves is wrote rises) =
     inl (omega (arith, ap (λ (it : ShelfState). it.faults) kept))
@@ -185,7 +185,7 @@ rises_behind shelf between after same (inl more) (inr stands) =
 rises_behind shelf between after same (inr more) (inr stands) = rises_over last_count shelf after stands.0 more
 
 -- where the shelf counted no fault in all, it counted none before the outcome was there
-pub steady_before : (line : Option CommandLine) (outcome : Outcome) (shelf between shelf_after : ShelfState) (before after : Streams)
+pub steady_before : (line : Option CommandLine) (outcome : RunOutcome) (shelf between shelf_after : ShelfState) (before after : Streams)
     (answer : Ended) → IsOutcome (files_of line) shelf between outcome → FollowsSo line outcome between shelf_after before after answer
     → ¬ Rises shelf.faults shelf_after.faults → ¬ Rises shelf.faults between.faults
 steady_before line outcome shelf between shelf_after before after answer possible (inl alone) steady =
@@ -193,13 +193,13 @@ steady_before line outcome shelf between shelf_after before after answer possibl
 steady_before line outcome shelf between shelf_after before after answer possible (inr serves) steady = λ rises.
     steady (rises_behind shelf.faults between.faults shelf_after.faults
     (accepted_keeps (files_of line) shelf between serves.1
-    (subst (λ (it : Outcome). IsOutcome (files_of line) shelf between it) serves.2 possible))
+    (subst (λ (it : RunOutcome). IsOutcome (files_of line) shelf between it) serves.2 possible))
     (serves_counts serves.1 _ between shelf_after before after answer serves.3) rises)
 
 came_settles : (line : Option CommandLine) (shelf shelf_after : ShelfState) (before after : Streams) (answer : Ended)
-    → Came line shelf shelf_after before after answer → (texts : Texts) (asked : Asked) (comes : Comes Acceptance)
+    → RunCame line shelf shelf_after before after answer → (texts : Texts) (asked : Asked) (comes : Comes Acceptance)
     → files_of line ≡ Some asked → shelf.texts ≡ Some texts → ComesOver texts asked comes
-    → ¬ Rises shelf.faults shelf_after.faults → EndsBy line comes shelf_after before after answer
+    → ¬ Rises shelf.faults shelf_after.faults → RunEndsBy line comes shelf_after before after answer
 came_settles line shelf shelf_after before after answer came texts asked comes asks told over steady = inr (
   came.outcome,
   came.between,
@@ -211,12 +211,12 @@ came_settles line shelf shelf_after before after answer came texts asked comes a
 )
 
 -- a fault of the shelf
-came_files : (line : Option CommandLine) (outcome : Outcome) (shelf between shelf_after : ShelfState) (before after : Streams)
+came_files : (line : Option CommandLine) (outcome : RunOutcome) (shelf between shelf_after : ShelfState) (before after : Streams)
     (answer : Ended) → IsOutcome (files_of line) shelf between outcome → FollowsSo line outcome between shelf_after before after answer
     → shelf.faults < shelf_after.faults → ¬ Rises before.output_faults after.output_faults
     → (answer ≡ NoMemory) ⊎ (answer ≡ FileFault) ⊎ MetByLines line shelf
 came_files line outcome shelf between shelf_after before after answer possible (inr serves) rose steady =
-    inr (inr (serves.0, serves.1, between, subst (λ (it : Outcome). IsOutcome (files_of line) shelf between it) serves.2 possible))
+    inr (inr (serves.0, serves.1, between, subst (λ (it : RunOutcome). IsOutcome (files_of line) shelf between it) serves.2 possible))
 came_files line outcome shelf between shelf_after before after answer possible (inl alone) rose steady =
     let lost : (name : List ℕ) × (outcome ≡ unread name) = shelf_rose (files_of line) shelf between outcome possible
     (subst (λ (it : ShelfState). shelf.faults < it.faults) alone.0 rose) in
@@ -224,7 +224,7 @@ came_files line outcome shelf between shelf_after before after answer possible (
     (λ begun same. absurd (cc same)) steady).0)
 
 -- the texts of the shelf
-came_texts : (line : Option CommandLine) (outcome : Outcome) (shelf between shelf_after : ShelfState) (before after : Streams)
+came_texts : (line : Option CommandLine) (outcome : RunOutcome) (shelf between shelf_after : ShelfState) (before after : Streams)
     (answer : Ended) → IsOutcome (files_of line) shelf between outcome → FollowsSo line outcome between shelf_after before after answer
     → serves_session line ≡ false → shelf_after.texts ≡ shelf.texts
 came_texts line outcome shelf between shelf_after before after answer possible (inl alone) none =
@@ -233,7 +233,7 @@ came_texts line outcome shelf between shelf_after before after answer possible (
     absurd (cc (sym none ∙ serves.0))
 
 came_completes : (line : Option CommandLine) (shelf shelf_after : ShelfState) (before after : Streams) (answer : Ended)
-    → Came line shelf shelf_after before after answer → Completes line shelf shelf_after before after answer
+    → RunCame line shelf shelf_after before after answer → CompletesRun line shelf shelf_after before after answer
 came_completes line shelf shelf_after before after answer came = record {
   words = λ none steady.
       let told = follows_alone line came.outcome no_line came.between shelf_after before after answer so
@@ -252,7 +252,7 @@ came_completes line shelf shelf_after before after answer came = record {
 
 -- ---- A demonstration
 
-shows_output : (cells : ℕ) (outcome : Outcome) (before after : Streams) (answer : Ended) → PrintsFor cells outcome before after answer
+shows_output : (cells : ℕ) (outcome : RunOutcome) (before after : Streams) (answer : Ended) → PrintsFor cells outcome before after answer
     → before.output_faults < after.output_faults → answer ≡ OutputFault
 shows_output cells no_line before after answer prints rose = prints_output _ _ before after answer prints rose
 shows_output cells (unread name) before after answer prints rose = prints_output _ _ before after answer prints rose
@@ -267,7 +267,7 @@ cells_of _ = 0
 shown_settles : (line : Option CommandLine) (shelf shelf_after : ShelfState) (before after : Streams) (answer : Ended)
     → Demonstrated line shelf shelf_after before after answer → (cells : ℕ) (comes : Comes Acceptance)
     → line ≡ Some (demonstration cells) → ComesOver (demo_texts_of cells) demo_asked comes
-    → (shelf_after ≡ shelf) × (outcome : Outcome) × IsOutcomeOf comes outcome × PrintsFor cells outcome before after answer
+    → (shelf_after ≡ shelf) × (outcome : RunOutcome) × IsOutcomeOf comes outcome × PrintsFor cells outcome before after answer
 shown_settles line shelf shelf_after before after answer shown cells comes is over =
     let same : shown.cells ≡ cells = ap cells_of (sym shown.is ∙ is) in
     let one : shown.comes ≡ comes = outcomes_over_texts_are_one (demo_texts_of cells) demo_asked shown.comes comes
@@ -279,7 +279,7 @@ shown_settles line shelf shelf_after before after answer shown cells comes is ov
     )
 
 shown_completes : (line : Option CommandLine) (shelf shelf_after : ShelfState) (before after : Streams) (answer : Ended)
-    → Demonstrated line shelf shelf_after before after answer → Completes line shelf shelf_after before after answer
+    → Demonstrated line shelf shelf_after before after answer → CompletesRun line shelf shelf_after before after answer
 shown_completes line shelf shelf_after before after answer shown = record {
   words = λ none steady. absurd (none-some _ (sym none ∙ shown.is));
   files = λ rose steady. absurd (omega (arith, ap (λ (it : ShelfState). it.faults) shown.kept, rose));
@@ -291,7 +291,7 @@ shown_completes line shelf shelf_after before after answer shown = record {
 }
 
 pub completes : (line : Option CommandLine) (shelf shelf_after : ShelfState) (before after : Streams) (answer : Ended)
-    → Ran line shelf shelf_after before after answer → Completes line shelf shelf_after before after answer
+    → Ran line shelf shelf_after before after answer → CompletesRun line shelf shelf_after before after answer
 completes line shelf shelf_after before after answer (inr (inl came)) = came_completes line shelf shelf_after before after answer came
 completes line shelf shelf_after before after answer (inr (inr shown)) = shown_completes line shelf shelf_after before after answer shown
 completes line shelf shelf_after before after answer (inl stopped) = record {

@@ -4,7 +4,7 @@ use Rattle.std.specs.Prelude.{nat_le, codes, if◌then◌else◌, option_map}
 use Rattle.std.specs.Str.{bytes_eq}
 use Rattle.std.proofs.lemmas.Bool.{and_parts, leb-true}
 use Rattle.std.proofs.lemmas.Option.{none-some, same_Some}
-use Rattle.start_values.specs.WordLimits.{words_limit, word_bytes_limit, total_length, are_within}
+use Rattle.refusal_lines.specs.HandedOn.{words_limit, word_bytes_limit, total_length, are_within}
 use Rattle.spec_acceptance.specs.Acceptance.{Asked}
 use Rattle.lotos_top.specs.Words.{CommandLine, check, session, demonstration, ends_names, behind_order, behind_spec, files_in, verb_line, verb_with, number_up_to, or_this, most_cells, cells_said, demo_line, words_line, command_line, values_in}
 

@@ -2,16 +2,16 @@
 use Rattle.std.specs.Prelude.{◌≡◌, ◌⊎◌, ℕ, ◌<◌, ◌≤◌, List, ◌++◌, length, Option, Some}
 use Rattle.lotos_base.specs.Counts.{last_count}
 use Rattle.lotos_base.specs.Outside.{Texts}
-use Rattle.lotos_grammar.specs.ShelfUse.{ShelfState}
+use Rattle.spec_acceptance.specs.HandedOn.{ShelfState}
 use Rattle.spec_acceptance.specs.Acceptance.{Acceptance}
 use Rattle.spec_acceptance.specs.Part.{goes_on}
-use Rattle.acceptance_outcomes.specs.AcceptanceOutcomes.{ComesOver}
+use Rattle.spec_acceptance.specs.AcceptanceOutcomes.{ComesOver}
 use Rattle.line_server.specs.Limits.{input_limit}
-use Rattle.session_reports.specs.Beginning.{Beginning, standing_at}
-use Rattle.session_reports.specs.Standing.{Standing}
-use Rattle.session_reports.specs.Answered.{lines_in, AreAnswered}
+use Rattle.history_lines.specs.Beginning.{Beginning, standing_at}
+use Rattle.history_lines.specs.Standing.{Standing}
+use Rattle.history_lines.specs.Answered.{lines_in, AreAnswered}
 use Rattle.spec_acceptance.specs.AcceptedView.{asked_for}
-use Rattle.lotos_top.specs.Outcome.{Begins, opening_text}
+use Rattle.lotos_top.specs.Outcome.{SessionBegins, opening_text}
 use Rattle.lotos_top.specs.Run.{Streams}
 use Rattle.lotos_top.specs.Words.{CommandLine, session}
 use Rattle.lotos_top.specs.declared.ended.Ended.{Ended}
@@ -33,7 +33,7 @@ pub record IsSteady (shelf shelf_after : ShelfState) (before after : Streams) : 
 pub record Simulates (acceptance : Acceptance) (texts : Texts) (bytes written : List ℕ) (shelf_after : ShelfState) (after : Streams)
     (answer : Ended) : Type 0 where
   pub begun : Beginning
-  pub begins : Begins acceptance begun
+  pub begins : SessionBegins acceptance begun
   pub answers : List ℕ
   pub last : Standing
   pub answered : AreAnswered begun (standing_at begun (Some texts)) (lines_in bytes) answers last

@@ -2,11 +2,11 @@
 use Rattle.std.specs.Prelude.{◌≡◌, ◌⊎◌, ℕ, ◌<◌, Bool, true, false, IsTrue, List, [], codes, Option, Some, None}
 use Rattle.lotos_base.specs.Counts.{Rises}
 use Rattle.lotos_base.specs.Outside.{Texts}
-use Rattle.lotos_grammar.specs.ShelfUse.{ShelfState}
+use Rattle.spec_acceptance.specs.HandedOn.{ShelfState}
 use Rattle.spec_acceptance.specs.Acceptance.{Asked, Acceptance}
 use Rattle.spec_acceptance.specs.Ending as ending
 use Rattle.spec_acceptance.specs.Part.{Comes, goes_on, stops}
-use Rattle.acceptance_outcomes.specs.AcceptanceOutcomes.{ComesOver}
+use Rattle.spec_acceptance.specs.AcceptanceOutcomes.{ComesOver}
 use Rattle.line_server.specs.Session as served
 use Rattle.line_server.specs.Session.{around}
 use Rattle.line_server.specs.Writing.{WritesAll, WritesBeginning}
@@ -15,13 +15,13 @@ use Rattle.line_server.specs.declared.ends.SessionEnd.TheVariants as end
 use Rattle.demo_walks.specs.DemoText.{demo_text}
 use Rattle.demo_walks.specs.DemoSummary.{IsSummary}
 use Rattle.printed_texts.specs.ReportLines.{usage_text}
-use Rattle.session_reports.specs.Standing.{Standing}
-use Rattle.session_reports.specs.SessionMachine.{history_machine}
-use Rattle.session_reports.specs.Beginning.{Beginning, standing_at}
+use Rattle.history_lines.specs.Standing.{Standing}
+use Rattle.history_lines.specs.SessionMachine.{history_machine}
+use Rattle.history_lines.specs.Beginning.{Beginning, standing_at}
 use Rattle.spec_acceptance.specs.AcceptedView.{asked_for}
 use Rattle.lotos_top.specs.Words.{CommandLine, check, session, demonstration, is_demonstration}
 use Rattle.lotos_top.specs.TextShelf.{one_text}
-use Rattle.lotos_top.specs.Outcome.{Outcome, no_line, unread, refused, accepted, files_of, Begins, IsOutcome, text_of, opening_text, status_of}
+use Rattle.lotos_top.specs.Outcome.{RunOutcome, no_line, unread, refused, accepted, files_of, SessionBegins, IsOutcome, text_of, opening_text, status_of}
 use Rattle.lotos_top.specs.declared.ended.Ended.{Ended}
 use Rattle.lotos_top.specs.declared.ended.Ended.TheVariants.{Done, WordsRefused, FileFault, InputFault, OutputFault, NoMemory, InputTooLong}
 
@@ -60,40 +60,40 @@ pub data Prints (text : List ℕ) (status : Ended) (before after : Streams) (ans
 
 -- A text is printed, and then a session is served, whose lines are answered by what they come to one after another, beside the
 -- shelf, and whose end comes where its cause stands; or the output failed at a byte of the text.
-pub data Serves (begun : Beginning) (text : List ℕ) (shelf shelf_after : ShelfState) (before after : Streams)
+pub data ServesSession (begun : Beginning) (text : List ℕ) (shelf shelf_after : ShelfState) (before after : Streams)
     (answer : Ended) : Type 0 where
   in_part :
       shelf_after ≡ shelf → LeavesInput before after → answer ≡ OutputFault → WritesBeginning before.written after.written text
       → Rises before.output_faults after.output_faults
-      → Serves begun text shelf shelf_after before after answer
+      → ServesSession begun text shelf shelf_after before after answer
   whole :
       (between : Option (List ℕ)) (last : Standing) (end : SessionEnd)
       → WritesAll before.written between text → last.texts ≡ shelf_after.texts
-      → served.Came history_machine
+      → served.SessionCame history_machine
       (around (standing_at begun shelf.texts, shelf.faults) (before.left, before.input_faults) (between, before.output_faults))
       (around (last, shelf_after.faults) (after.left, after.input_faults) (after.written, after.output_faults)) end
-      → served.Completes history_machine
+      → served.CompletesSession history_machine
       (around (standing_at begun shelf.texts, shelf.faults) (before.left, before.input_faults) (between, before.output_faults))
       (around (last, shelf_after.faults) (after.left, after.input_faults) (after.written, after.output_faults)) end
       → answer ≡ ended_by end
-      → Serves begun text shelf shelf_after before after answer
+      → ServesSession begun text shelf shelf_after before after answer
 
 -- what comes behind an outcome
-abbrev pub Follows : Option CommandLine → Outcome → (shelf shelf_after : ShelfState) → Streams → Streams → Ended → Type 0
-Follows (Some (session spec order values)) (accepted begun) shelf shelf_after before after answer =
-    Serves begun (opening_text begun) shelf shelf_after before after answer
-Follows line outcome shelf shelf_after before after answer =
+abbrev pub FollowsOutcome : Option CommandLine → RunOutcome → (shelf shelf_after : ShelfState) → Streams → Streams → Ended → Type 0
+FollowsOutcome (Some (session spec order values)) (accepted begun) shelf shelf_after before after answer =
+    ServesSession begun (opening_text begun) shelf shelf_after before after answer
+FollowsOutcome line outcome shelf shelf_after before after answer =
     (shelf_after ≡ shelf) × LeavesInput before after
     × Prints (text_of (files_of line) outcome) (status_of outcome) before after answer
 
 -- The run came to an outcome that the words and the shelf allow, and did what follows. The shelf stood so once the outcome was
 -- there.
-pub record Came (line : Option CommandLine) (shelf shelf_after : ShelfState) (before after : Streams) (answer : Ended) : Type 0 where
-  pub outcome : Outcome
+pub record RunCame (line : Option CommandLine) (shelf shelf_after : ShelfState) (before after : Streams) (answer : Ended) : Type 0 where
+  pub outcome : RunOutcome
   pub between : ShelfState
   pub no_demonstration : is_demonstration line ≡ false
   pub possible : IsOutcome (files_of line) shelf between outcome
-  pub follows : Follows line outcome between shelf_after before after answer
+  pub follows : FollowsOutcome line outcome between shelf_after before after answer
 
 -- nothing was read from the input or written to the output
 pub record Untouched (before after : Streams) : Type 0 where
@@ -108,11 +108,11 @@ pub record Stopped (shelf shelf_after : ShelfState) (before after : Streams) (an
   pub untouched : Untouched before after
 
 -- the outcome is what comes of the acceptance
-abbrev pub IsOutcomeOf : Comes Acceptance → Outcome → Type 0
+abbrev pub IsOutcomeOf : Comes Acceptance → RunOutcome → Type 0
 IsOutcomeOf (goes_on acceptance) no_line = ⊥
 IsOutcomeOf (goes_on acceptance) (unread name) = ⊥
 IsOutcomeOf (goes_on acceptance) (refused r) = ⊥
-IsOutcomeOf (goes_on acceptance) (accepted begun) = Begins acceptance begun
+IsOutcomeOf (goes_on acceptance) (accepted begun) = SessionBegins acceptance begun
 IsOutcomeOf (stops (ending.unread lacking)) no_line = ⊥
 IsOutcomeOf (stops (ending.unread lacking)) (unread name) = name ≡ lacking
 IsOutcomeOf (stops (ending.unread lacking)) (refused r) = ⊥
@@ -131,7 +131,7 @@ demo_texts_of cells = one_text (codes "demo") (demo_text cells)
 
 -- What a demonstration prints for what comes of its text: where it is accepted, the summary of the walk through the session that
 -- begins, and else the line of the refusal.
-abbrev pub PrintsFor : ℕ → Outcome → Streams → Streams → Ended → Type 0
+abbrev pub PrintsFor : ℕ → RunOutcome → Streams → Streams → Ended → Type 0
 PrintsFor cells (accepted begun) before after answer =
     (text : List ℕ) × IsSummary begun.basis begun.progress.situation cells text × Prints text Done before after answer
 PrintsFor cells outcome before after answer = Prints (text_of (Some demo_asked) outcome) (status_of outcome) before after answer
@@ -145,21 +145,21 @@ pub record Demonstrated (line : Option CommandLine) (shelf shelf_after : ShelfSt
     pub leaves : LeavesInput before after
     pub comes : Comes Acceptance
     pub over : ComesOver (demo_texts_of cells) demo_asked comes
-    pub outcome : Outcome
+    pub outcome : RunOutcome
     pub is_outcome : IsOutcomeOf comes outcome
     pub prints : PrintsFor cells outcome before after answer
 
 abbrev pub Ran : Option CommandLine → (shelf shelf_after : ShelfState) → (before after : Streams) → Ended → Type 0
 Ran line shelf shelf_after before after answer =
-    Stopped shelf shelf_after before after answer ⊎ Came line shelf shelf_after before after answer
+    Stopped shelf shelf_after before after answer ⊎ RunCame line shelf shelf_after before after answer
     ⊎ Demonstrated line shelf shelf_after before after answer
 
 -- memory was wanted, or the run did what follows this outcome
-abbrev pub EndsBy : Option CommandLine → Comes Acceptance → (shelf_after : ShelfState) → Streams → Streams → Ended → Type 0
-EndsBy line comes shelf_after before after answer =
+abbrev pub RunEndsBy : Option CommandLine → Comes Acceptance → (shelf_after : ShelfState) → Streams → Streams → Ended → Type 0
+RunEndsBy line comes shelf_after before after answer =
     (answer ≡ NoMemory)
-    ⊎ ((outcome : Outcome) × (between : ShelfState) × IsOutcomeOf comes outcome
-    × Follows line outcome between shelf_after before after answer)
+    ⊎ ((outcome : RunOutcome) × (between : ShelfState) × IsOutcomeOf comes outcome
+    × FollowsOutcome line outcome between shelf_after before after answer)
 
 -- whether the words are those of a session
 abbrev pub serves_session : Option CommandLine → Bool
@@ -178,7 +178,7 @@ MetByLines line shelf =
 -- shelf tells its texts and counted no fault, what comes of the acceptance of these texts, which is one thing, is what the run
 -- came to: so a specification that they accept is answered by its report and session, and one that has a first fault by the line
 -- of this fault. For a demonstration it is what comes of the acceptance of its text.
-pub record Completes (line : Option CommandLine) (shelf shelf_after : ShelfState) (before after : Streams) (answer : Ended) : Type 0
+pub record CompletesRun (line : Option CommandLine) (shelf shelf_after : ShelfState) (before after : Streams) (answer : Ended) : Type 0
   where
     pub words : line ≡ None → ¬ Rises before.output_faults after.output_faults
         → (answer ≡ NoMemory) ⊎ ((answer ≡ WordsRefused) × WritesAll before.written after.written usage_text)
@@ -190,8 +190,8 @@ pub record Completes (line : Option CommandLine) (shelf shelf_after : ShelfState
     pub texts : serves_session line ≡ false → shelf_after.texts ≡ shelf.texts
     pub settled : (texts : Texts) (asked : Asked) (comes : Comes Acceptance) → files_of line ≡ Some asked
         → shelf.texts ≡ Some texts → ComesOver texts asked comes → ¬ Rises shelf.faults shelf_after.faults
-        → EndsBy line comes shelf_after before after answer
+        → RunEndsBy line comes shelf_after before after answer
     pub demonstrated : (cells : ℕ) (comes : Comes Acceptance) → line ≡ Some (demonstration cells)
         → ComesOver (demo_texts_of cells) demo_asked comes
         → (answer ≡ NoMemory)
-        ⊎ ((shelf_after ≡ shelf) × (outcome : Outcome) × IsOutcomeOf comes outcome × PrintsFor cells outcome before after answer)
+        ⊎ ((shelf_after ≡ shelf) × (outcome : RunOutcome) × IsOutcomeOf comes outcome × PrintsFor cells outcome before after answer)

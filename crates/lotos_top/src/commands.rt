@@ -14,12 +14,12 @@ ghost use Rattle.lotos_top.specs.Words.{
   verb_line,
   verb_with,
 };
-ghost use Rattle.start_values.specs.WordLimits.{words_of};
+ghost use Rattle.refusal_lines.specs.HandedOn.{words_of};
 ghost use Rattle.std.specs.Prelude.{◌≡◌, None, Some, MatchOption, codes, decimal, option_map};
 ghost use Rattle.std.specs.Str.{bytes_eq};
 
 use itoa::Buffer;
-use start_values::limits::are_within_limits;
+use refusal_lines::are_within_limits;
 
 /// What the words ask for.
 #[derive(Clone, Copy, Debug)]

@@ -9,7 +9,6 @@ mod text_shelf;
 
 pub use commands::{Command, parse_command};
 pub use ended::Ended;
+pub use refusal_lines::{Refused, SpecFault, WORD_BYTES_LIMIT, WORDS_LIMIT};
 pub use running::run;
 pub use spec_acceptance::{Accepted, NotAccepted};
-pub use start_values::limits::{WORD_BYTES_LIMIT, WORDS_LIMIT};
-pub use start_values::{Refused, SpecFault};

@@ -3,14 +3,14 @@
 
 ghost use Rattle.spec_acceptance.specs.Acceptance.{IsAccepted};
 ghost use Rattle.demo_walks.specs.DemoSummary.{IsSummary};
-ghost use Rattle.lotos_grammar.specs.ShelfUse.{ShelfState, shelf_state};
+ghost use Rattle.spec_acceptance.specs.HandedOn.{ShelfState, shelf_state};
 ghost use Rattle.lotos_top.specs.Outcome.{files_of, opening_text, word_or_none};
 ghost use Rattle.lotos_top.specs.Prepared.{
   IsDemoShelf,
   IsLast,
   IsLawfulAt,
   IsOpened,
-  IsReady,
+  AreWordsReady,
   IsShown,
   begun,
 };
@@ -18,11 +18,11 @@ ghost use Rattle.lotos_top.specs.Run.{demo_asked};
 ghost use Rattle.lotos_top.specs.Words.{CommandLine, check, command_line, demonstration, session};
 ghost use Rattle.sort_terms.specs.EquationView.{data_of};
 ghost use Rattle.sort_terms.specs.SignatureView.{signature_of};
-ghost use Rattle.spec_acceptance.specs.AcceptedView.{Holds, asked_for};
+ghost use Rattle.spec_acceptance.specs.AcceptedView.{HoldsAccepted, asked_for};
 ghost use Rattle.spec_acceptance.specs.Doing.{Failed};
 ghost use Rattle.spec_acceptance.specs.Acceptance.{Acceptance};
 ghost use Rattle.lotos_base.specs.Name.{spelling};
-ghost use Rattle.lotos_top.specs.Outcome.{Begins};
+ghost use Rattle.lotos_top.specs.Outcome.{SessionBegins};
 ghost use Rattle.lotos_top.specs.declared.ended.Ended.TheVariants.{
   Done as done,
   FileFault as file_fault,
@@ -31,8 +31,8 @@ ghost use Rattle.lotos_top.specs.declared.ended.Ended.TheVariants.{
 };
 ghost use Rattle.printed_texts.specs.ReportLines.{head_text, unread_text, usage_text};
 ghost use Rattle.refusal_lines.specs.RefusalText.{refusal_text};
-ghost use Rattle.start_values.specs.RefusalView.{refused_of};
-ghost use Rattle.start_values.specs.WordLimits.{are_within, words_of};
+ghost use Rattle.refusal_lines.specs.HandedOn.{refused_of};
+ghost use Rattle.refusal_lines.specs.HandedOn.{are_within, words_of};
 ghost use Rattle.std.specs.Prelude.{
   ◌≡◌,
   ◌++◌,
@@ -56,15 +56,14 @@ use crate::text_shelf::TextShelf;
 use behaviour_tree::Spec;
 use demo_walks::{demo_text, write_summary};
 use equation_book::Book;
+use history_lines::Session;
 use lotos_base::{NoMemory, Shelf};
 use menu_builder::FreshMenus;
 use printed_texts::brackets::{push_number, push_text};
 use printed_texts::menu_text;
-use refusal_lines::refusal_line;
-use session_log::Session;
+use refusal_lines::{Refused, refusal_line};
 use sort_terms::Signature;
 use spec_acceptance::{Accepted, NotAccepted};
-use start_values::Refused;
 use std::alloc::Global;
 
 /// A specification that is accepted, where its session begins.
@@ -106,7 +105,7 @@ pub enum Ready {
 
 /// Makes ready what the words ask for.
 pub fn prepare<F: Shelf>(alloc: Global, words: &[String], shelf: &mut F) -> Result<Ready, NoMemory>
-    ensures ready { IfOk result (IsReady (command_line (words_of words.now))
+    ensures ready { IfOk result (AreWordsReady (command_line (words_of words.now))
         (shelf_state (F.texts shelf.old) (F.faults shelf.old) (F.calls shelf.old))
         (shelf_state (F.texts shelf.new) (F.faults shelf.new) (F.calls shelf.new))) }
     ensures texts { F.texts shelf.new ≡ F.texts shelf.old }
@@ -141,7 +140,7 @@ fn checked<F: Shelf>(
 ) -> Result<Ready, NoMemory>
     requires { IsTrue (are_within (words_of values.now)) }
     ensures ready { IfOk result
-        (IsReady (Some (check spec.now (option_map (λ word. word.now) order.entry)
+        (AreWordsReady (Some (check spec.now (option_map (λ word. word.now) order.entry)
         (words_of values.now)))
         (shelf_state (F.texts shelf.old) (F.faults shelf.old) (F.calls shelf.old))
         (shelf_state (F.texts shelf.new) (F.faults shelf.new) (F.calls shelf.new))) }
@@ -163,7 +162,7 @@ fn served<F: Shelf>(
 ) -> Result<Ready, NoMemory>
     requires { IsTrue (are_within (words_of values.now)) }
     ensures ready { IfOk result
-        (IsReady (Some (session spec.now (option_map (λ word. word.now) order.entry)
+        (AreWordsReady (Some (session spec.now (option_map (λ word. word.now) order.entry)
         (words_of values.now)))
         (shelf_state (F.texts shelf.old) (F.faults shelf.old) (F.calls shelf.old))
         (shelf_state (F.texts shelf.new) (F.faults shelf.new) (F.calls shelf.new))) }
@@ -200,9 +199,9 @@ pub fn open<F: Shelf>(
 
 // The session of what was accepted, at its beginning.
 fn begin(alloc: Global, accepted: Accepted) -> Result<Opened, NoMemory>
-    requires known { (acceptance : Acceptance) × Holds acceptance accepted }
-    ensures { (acceptance : Acceptance) → Holds acceptance accepted
-        → IfOk result (λ opened. Begins acceptance (begun opened) × IsLawfulAt opened) }
+    requires known { (acceptance : Acceptance) × HoldsAccepted acceptance accepted }
+    ensures { (acceptance : Acceptance) → HoldsAccepted acceptance accepted
+        → IfOk result (λ opened. SessionBegins acceptance (begun opened) × IsLawfulAt opened) }
 {
     let Accepted {
         spec,
@@ -341,7 +340,7 @@ fn refused_alone(
 // Makes ready what `demo` prints. Nothing is asked of the shelf: the text stands on one of its own.
 fn demonstrated(alloc: Global, cells: u8) -> Result<Ready, NoMemory>
     ensures { IfOk result (λ ready. (now : ShelfState)
-        → IsReady (Some (demonstration cells)) now now ready) }
+        → AreWordsReady (Some (demonstration cells)) now now ready) }
 {
     let mut shelf = TextShelf::of(alloc, "demo", demo_text(alloc, cells)?)?;
     match open(alloc, "demo", None, &[], &mut shelf) {
@@ -389,7 +388,7 @@ fn summary_alone(alloc: Global, opened: Opened, cells: u8) -> Result<Alone, NoMe
 // Makes ready the usage line, for words that are no line.
 fn usage_ready(alloc: Global) -> Result<Ready, NoMemory>
     ensures { IfOk result (λ ready. (line : Option CommandLine) (now : ShelfState)
-        → line ≡ None → IsReady line now now ready) }
+        → line ≡ None → AreWordsReady line now now ready) }
 {
     Ok(Ready::Alone(usage_alone(alloc)?))
 }

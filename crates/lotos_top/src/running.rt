@@ -1,31 +1,31 @@
 //! The whole program over any outside.
 
 ghost use Rattle.history_lines.specs.LinesView.{IsServing};
-ghost use Rattle.lotos_grammar.specs.ShelfUse.{shelf_state};
+ghost use Rattle.spec_acceptance.specs.HandedOn.{shelf_state};
 ghost use Rattle.lotos_top.specs.Headline.{Headline};
 ghost use Rattle.lotos_top.specs.Outcome.{opening_text};
 ghost use Rattle.lotos_top.specs.Prepared.{IsLawfulAt, any_maker, beginning_of, begun};
 ghost use Rattle.lotos_top.specs.Run.{
-  Completes,
+  CompletesRun,
   Prints,
   Ran,
-  Serves,
+  ServesSession,
   Untouched,
   ended_by,
   streams,
 };
 ghost use Rattle.lotos_top.specs.Words.{command_line};
 ghost use Rattle.sort_terms.specs.SignatureView.{signature_of};
-ghost use Rattle.start_values.specs.WordLimits.{words_of};
+ghost use Rattle.refusal_lines.specs.HandedOn.{words_of};
 ghost use Rattle.std.specs.Prelude.{◌≡◌, ℕ, List, MatchResult, Option};
 
 use crate::ended::Ended;
 use crate::opening::{Alone, Front, Opened, Ready, front_of, prepare};
 use history_lines::HistoryLines;
+use history_lines::laws::{lines_lead_on, served_lines_are_answered};
 use line_server::{SessionEnd, serve_session, write_whole};
 use lotos_base::{Failed, NoMemory, Shelf, Sink, Source};
 use menu_builder::FreshMenus;
-use session_reports::laws::{lines_lead_on, served_lines_are_answered};
 use sort_terms::Reader;
 use std::alloc::Global;
 
@@ -56,7 +56,7 @@ pub fn run<F: Shelf, S: Source, K: Sink>(
         (streams (S.left input.old, S.faults input.old) (K.written output.old, K.faults output.old))
         (streams (S.left input.new, S.faults input.new) (K.written output.new, K.faults output.new))
         result }
-    ensures complete { Completes (command_line (words_of words.now))
+    ensures complete { CompletesRun (command_line (words_of words.now))
         (shelf_state (F.texts shelf.old) (F.faults shelf.old) (F.calls shelf.old))
         (shelf_state (F.texts shelf.new) (F.faults shelf.new) (F.calls shelf.new))
         (streams (S.left input.old, S.faults input.old) (K.written output.old, K.faults output.old))
@@ -94,7 +94,7 @@ fn print<K: Sink>(alone: &Alone, output: &mut K) -> Ended
     }
 }
 
-// Serves the session of an accepted specification. Where memory is wanted before its first line,
+// ServesSession the session of an accepted specification. Where memory is wanted before its first line,
 // nothing is written.
 fn serve<F: Shelf, S: Source, K: Sink>(
     alloc: Global,
@@ -105,7 +105,7 @@ fn serve<F: Shelf, S: Source, K: Sink>(
 ) -> Result<Ended, NoMemory>
     requires lawful { IsLawfulAt opened }
     ensures { MatchResult result
-        (Serves (begun opened) (opening_text (begun opened))
+        (ServesSession (begun opened) (opening_text (begun opened))
         (shelf_state (F.texts shelf.old) (F.faults shelf.old) (F.calls shelf.old))
         (shelf_state (F.texts shelf.new) (F.faults shelf.new) (F.calls shelf.new))
         (streams (S.left input.old, S.faults input.old) (K.written output.old, K.faults output.old))
@@ -120,7 +120,7 @@ fn serve<F: Shelf, S: Source, K: Sink>(
     serve_front(alloc, &front, opened, shelf, input, output)
 }
 
-// Serves the session behind its front.
+// ServesSession the session behind its front.
 fn serve_front<F: Shelf, S: Source, K: Sink>(
     alloc: Global,
     front: &Front,
@@ -132,7 +132,7 @@ fn serve_front<F: Shelf, S: Source, K: Sink>(
     requires over { signature_of front.now.signature ≡ signature_of opened.book.flat.signature }
     requires lawful { IsLawfulAt opened }
     ensures { MatchResult result
-        (Serves (begun opened) front.now.text.items
+        (ServesSession (begun opened) front.now.text.items
         (shelf_state (F.texts shelf.old) (F.faults shelf.old) (F.calls shelf.old))
         (shelf_state (F.texts shelf.new) (F.faults shelf.new) (F.calls shelf.new))
         (streams (S.left input.old, S.faults input.old) (K.written output.old, K.faults output.old))
@@ -171,7 +171,7 @@ fn serve_behind<F: Shelf, S: Source, K: Sink>(
     output: &mut K,
 ) -> Ended
     requires serving { IsServing any_maker lines.old }
-    ensures { Serves (beginning_of lines.old) text.now
+    ensures { ServesSession (beginning_of lines.old) text.now
         (shelf_state (F.texts shelf.old) (F.faults shelf.old) (F.calls shelf.old))
         (shelf_state (F.texts shelf.new) (F.faults shelf.new) (F.calls shelf.new))
         (streams (S.left input.old, S.faults input.old) (K.written output.old, K.faults output.old))

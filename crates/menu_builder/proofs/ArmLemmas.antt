@@ -3,8 +3,8 @@ use Rattle.std.proofs.Common.{◌≡◌, ◌<◌, ◌≤◌, ℕ, zero, suc, ◌
 use Rattle.std.specs.Prelude.{Vec}
 use Rattle.std.specs.declared.alloc.Global.{Global}
 use Rattle.lotos_base.specs.declared.places.Place.{Place}
-use Rattle.term_algebra.specs.Signature.{IsSort, Signature}
-use Rattle.term_algebra.specs.Term.{Term}
+use Rattle.lotos_base.specs.Signature.{IsSort, Signature}
+use Rattle.lotos_base.specs.Term.{Term}
 use Rattle.behaviour_semantics.specs.Behaviour as plain
 use Rattle.behaviour_semantics.specs.Behaviour.{Behaviour, let_be, choose_value, par_gate, call, relabel, Relabelling, SynchronisationSet, let_variables, let_terms}
 use Rattle.behaviour_semantics.specs.Guardedness.{unguarded_calls}
@@ -23,7 +23,7 @@ use Rattle.behaviour_tree.specs.declared.behaviours.Beh.{Beh, Stop, Exit, Action
 use Rattle.event_offers.specs.declared.drafts.Draft.{Draft}
 use Rattle.draft_parts.specs.Environments.{ArePairsOf}
 use Rattle.draft_parts.specs.BelowLaws.{binder_pairs}
-use Rattle.menu_builder.specs.Placed.{AreListed, Basis, IsPlaced, Position, StandsAt}
+use Rattle.menu_builder.specs.Placed.{AreDraftsPlaced, Basis, IsPlaced, Position, StandsAt}
 use Rattle.menu_builder.proofs.CallLemmas.{listed_form, placed_form}
 use Rattle.menu_builder.proofs.EffortLemmas.{above_bodies, above_ranks, effort, less_by, size}
 use Rattle.menu_builder.proofs.PlaceLemmas.{call_part, let_part, par_part, value_part}
@@ -109,8 +109,8 @@ module _ (basis : Basis) (first : ℕ) (pairs : List (ℕ × ProfiledTerm)) (b f
 
 -- what is read from a box is listed as its value is
 pub listed_read : (basis : Basis) (first : ℕ) (pairs : List (ℕ × ProfiledTerm)) (part read : Beh) → read ≡ part → (made : List Draft)
-    → AreListed basis first (behaviour_of read) (profiles_in read) pairs made
-    → AreListed basis first (behaviour_of part) (profiles_in part) pairs made
+    → AreDraftsPlaced basis first (behaviour_of read) (profiles_in read) pairs made
+    → AreDraftsPlaced basis first (behaviour_of part) (profiles_in part) pairs made
 listed_read basis first pairs part read e made h = listed_form basis first pairs part read (sym e) made h
 
 -- the part of a gate `par` is less to list than its form, and so is the call of a process
@@ -162,10 +162,10 @@ module _ (basis : Basis) (first : ℕ) (pairs : List (ℕ × ProfiledTerm)) (g :
   par_placed_form p = subst (λ (x : Beh). IsPlaced basis first (par_gate g gates meet (behaviour_of x)) (profiles_in x) pairs) is p
 
   pub par_listed_form : (made : List Draft)
-      → AreListed basis first (par_gate g gates meet (behaviour_of form)) (profiles_in form) pairs made
-      → AreListed basis first (par_gate g gates meet (behaviour_of b)) (profiles_in b) pairs made
+      → AreDraftsPlaced basis first (par_gate g gates meet (behaviour_of form)) (profiles_in form) pairs made
+      → AreDraftsPlaced basis first (par_gate g gates meet (behaviour_of b)) (profiles_in b) pairs made
   par_listed_form made h =
-      subst (λ (x : Beh). AreListed basis first (par_gate g gates meet (behaviour_of x)) (profiles_in x) pairs made) (sym is) h
+      subst (λ (x : Beh). AreDraftsPlaced basis first (par_gate g gates meet (behaviour_of x)) (profiles_in x) pairs made) (sym is) h
 
 -- the part of a gate `par` is placed with it
 pub par_part_placed : (basis : Basis) (first : ℕ) (pairs : List (ℕ × ProfiledTerm)) (g : ℕ) (gates : List ℕ) (meet : SynchronisationSet)

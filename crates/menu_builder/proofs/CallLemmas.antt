@@ -2,8 +2,6 @@
 use Rattle.std.proofs.Common.{◌≡◌, ◌<◌, ◌≤◌, ℕ, ◌+◌, List, ◌++◌, map, length, get_or, slice_get, Option, Some, option_map, ap, sym, ◌∙◌, subst, arith}
 use Rattle.std.proofs.lemmas.List.{length-map}
 use Rattle.std.proofs.lemmas.Option.{slice_get-map, slice_get-get_or, slice_get_within}
-use Rattle.term_algebra.specs.Term.{Term}
-use Rattle.term_algebra.specs.Equation.{Data}
 use Rattle.behaviour_semantics.specs.Behaviour as plain
 use Rattle.behaviour_semantics.specs.Behaviour.{Behaviour, exit_with, action, guard, let_be, call, asked_variables}
 use Rattle.behaviour_semantics.proofs.OptionLemmas.{some_value}
@@ -22,17 +20,13 @@ use Rattle.behaviour_tree.specs.declared.behaviours.Offer.{Offer}
 use Rattle.behaviour_tree.specs.declared.behaviours.ExitValue.{ExitValue}
 use Rattle.behaviour_tree.specs.declared.definitions.Process.{Process}
 use Rattle.event_offers.specs.declared.drafts.Draft.{Draft}
-use Rattle.draft_parts.specs.Environments.{ArePairsOf, IsReady, SuitsTest, AreOffersReady, AreResultsReady}
+use Rattle.draft_parts.specs.Environments.{ArePairsOf, IsReadyForPairs, SuitsTest, AreOffersReady, AreResultsReady}
 use Rattle.draft_parts.specs.Offered.{asked_pairs}
 use Rattle.draft_parts.specs.OpenDrafts.{HasTests}
 use Rattle.draft_parts.proofs.GivenLemmas.{same_count, widened}
 use Rattle.menu_builder.specs.Bound.{AreBindingsReady, AreValuesReady}
-use Rattle.menu_builder.specs.Placed.{Basis, StandsAt, IsPlaced, AreListed}
+use Rattle.menu_builder.specs.Placed.{Basis, StandsAt, IsPlaced, AreDraftsPlaced}
 use Rattle.menu_builder.proofs.ReadyLemmas.{first_part, second_part, ready, offers_ready, results_ready, test_suits, bindings_ready, values_ready, has_tests, asked_of, asked_given}
-
--- what holds over some data and canon holds over the same ones
-pub on_same : (P : Data → (Term → Term) → Type 0) (d e : Data) (c f : Term → Term) → e ≡ d → f ≡ c → P d c → P e f
-on_same P d e c f same other h = subst (λ (x : Data). P x f) (sym same) (subst (λ (k : Term → Term). P d k) (sym other) h)
 
 module _ (basis : Basis) (first : ℕ) (pairs : List (ℕ × ProfiledTerm)) where
   abbrev pub Placed : Behaviour → List ProfiledTerm → Type 0
@@ -85,13 +79,13 @@ module _ (basis : Basis) (first : ℕ) (pairs : List (ℕ × ProfiledTerm)) wher
         (first_part (IsOf basis.data_.signature) (joined (map offer_profiles offers) ++ option_profiles test) terms p.stands.profiles))
 
   pub guard_left : (test : Test) (b : Behaviour) (terms : List ProfiledTerm)
-      → Placed (guard (test_of test) b) (test_profiles test ++ terms) → IsReady basis.data_.signature pairs (profiled_in test.left)
+      → Placed (guard (test_of test) b) (test_profiles test ++ terms) → IsReadyForPairs basis.data_.signature pairs (profiled_in test.left)
   guard_left test b terms p =
       ready basis.data_.signature p.at.base (p.at.base + p.at.next) p.at.scope pairs p.stands.below.gives p.stands.values
       p.stands.below.formed.0.sort (profiled_in test.left) p.stands.below.formed.0.left p.stands.profiles.0
 
   pub guard_right : (test : Test) (b : Behaviour) (terms : List ProfiledTerm)
-      → Placed (guard (test_of test) b) (test_profiles test ++ terms) → IsReady basis.data_.signature pairs (profiled_in test.right)
+      → Placed (guard (test_of test) b) (test_profiles test ++ terms) → IsReadyForPairs basis.data_.signature pairs (profiled_in test.right)
   guard_right test b terms p =
       ready basis.data_.signature p.at.base (p.at.base + p.at.next) p.at.scope pairs p.stands.below.gives p.stands.values
       p.stands.below.formed.0.sort (profiled_in test.right) p.stands.below.formed.0.right p.stands.profiles.1.0
@@ -141,6 +135,6 @@ module _ (basis : Basis) (first : ℕ) (pairs : List (ℕ × ProfiledTerm)) (b f
       → IsPlaced basis first (behaviour_of form) (profiles_in form) pairs
   placed_form p = subst (λ (x : Beh). IsPlaced basis first (behaviour_of x) (profiles_in x) pairs) is p
 
-  pub listed_form : (made : List Draft) → AreListed basis first (behaviour_of form) (profiles_in form) pairs made
-      → AreListed basis first (behaviour_of b) (profiles_in b) pairs made
-  listed_form made h = subst (λ (x : Beh). AreListed basis first (behaviour_of x) (profiles_in x) pairs made) (sym is) h
+  pub listed_form : (made : List Draft) → AreDraftsPlaced basis first (behaviour_of form) (profiles_in form) pairs made
+      → AreDraftsPlaced basis first (behaviour_of b) (profiles_in b) pairs made
+  listed_form made h = subst (λ (x : Beh). AreDraftsPlaced basis first (behaviour_of x) (profiles_in x) pairs made) (sym is) h

@@ -1,10 +1,10 @@
 -- The variables of an environment of values are in scope in what is closed below it.
 use Rattle.std.proofs.Common.{◌≡◌, ◌+◌, inr, ℕ, zero, suc, List, [], ◌∷◌, Bool, true, false, nat_eq, if◌then◌else◌, Some, slice_get, length, refl, ap, sym, ◌∙◌, subst, eqb-true, eq-eqb}
-use Rattle.term_algebra.specs.Signature.{Signature, IsSort, IsWellFormedSignature}
-use Rattle.term_algebra.specs.Sorting.{HasSort}
-use Rattle.term_algebra.specs.Term.{Term, variable, node}
-use Rattle.term_algebra.specs.Substitution.{binding}
-use Rattle.term_algebra.proofs.SubstitutionLemmas.{ground_no_variable}
+use Rattle.lotos_base.specs.Signature.{Signature, IsSort, IsWellFormedSignature}
+use Rattle.lotos_base.specs.Sorting.{HasSort}
+use Rattle.lotos_base.specs.Term.{Term, variable, node}
+use Rattle.lotos_base.specs.Substitution.{binding}
+use Rattle.lotos_base.proofs.SubstitutionLemmas.{ground_no_variable}
 use Rattle.behaviour_semantics.specs.WellFormed.{Every, sort_in}
 use Rattle.behaviour_semantics.proofs.OptionLemmas.{some_value}
 use Rattle.sort_terms.specs.ProfiledTerm.{ProfiledTerm, head_sort, IsOf}

@@ -1,10 +1,10 @@
 -- The drafts of a behaviour of each form, from those of its parts.
 use Rattle.std.proofs.Common.{◌≡◌, ◌≤◌, ℕ, suc, ◌+◌, max, List, [], ◌∷◌, ◌++◌, map, filter_map, slice_get, Option, Some, option_map, refl, ap, sym, ◌∙◌, subst, arith}
 use Rattle.std.specs.Prelude.{zip}
-use Rattle.term_algebra.specs.Signature.{Signature}
-use Rattle.term_algebra.specs.Term.{Term, variable}
-use Rattle.term_algebra.specs.Equation.{Variable}
-use Rattle.term_algebra.specs.Substitution.{Substitution, binding, without}
+use Rattle.lotos_base.specs.Signature.{Signature}
+use Rattle.lotos_base.specs.Term.{Term, variable}
+use Rattle.lotos_base.specs.Equation.{Variable}
+use Rattle.lotos_base.specs.Substitution.{Substitution, binding, without}
 use Rattle.behaviour_semantics.specs.Behaviour.{Behaviour, stop, exit_with, action, inner_action, guard, choice, parallel, hide, enable, disable, let_be, choose_value, choose_gate, par_gate, call, relabel, SynchronisationSet, Relabelling, Process, asked_variables, numbers_of, sorts_of, let_variables, let_terms}
 use Rattle.behaviour_semantics.specs.Draft as plain
 use Rattle.behaviour_semantics.specs.Draft.{above, above_variables, above_processes}
@@ -40,7 +40,7 @@ use Rattle.draft_parts.proofs.GivenLemmas.{from_base}
 use Rattle.draft_parts.proofs.RowLemmas.{rows}
 use Rattle.draft_parts.proofs.ShadowLemmas.{raises}
 use Rattle.draft_parts.specs.Made.{AreThese, inner_of}
-use Rattle.menu_builder.specs.Placed.{Basis, Position, StandsAt, AreListed, setting_on}
+use Rattle.menu_builder.specs.Placed.{Basis, Position, StandsAt, AreDraftsPlaced, setting_on}
 use Rattle.menu_builder.proofs.PlaceLemmas.{guard_part, choice_left, choice_right, parallel_left, parallel_right, hide_part, enable_part, disable_left, disable_right, gate_part, par_part, let_part, value_part, call_part}
 
 unchanged_gates : (gates : List ℕ) → map (gate_under []) gates ≡ gates
@@ -63,7 +63,7 @@ module _ (basis : Basis) (first : ℕ) (pairs : List (ℕ × ProfiledTerm)) wher
   Has at b drafts = HasDrafts (setting_on basis) at.base at.next (with_values values b) drafts
 
   abbrev pub Listed : Behaviour → List ProfiledTerm → List Draft → Type 0
-  Listed b terms made = AreListed basis first b terms pairs made
+  Listed b terms made = AreDraftsPlaced basis first b terms pairs made
 
   abbrev pub These : List plain.Draft → List Draft → Type 0
   These expected made = AreThese basis.data_.signature expected made
@@ -201,7 +201,7 @@ module _ (basis : Basis) (first : ℕ) (pairs : List (ℕ × ProfiledTerm)) wher
       ≡ binder_pairs basis.canon (let_variables (map let_of bindings)) (let_terms (map let_of bindings)) (bare_pairs pairs)
       ++ bare_pairs pairs
       → (ArePairsOf basis.data_.signature pairs → ArePairsOf basis.data_.signature inner)
-      → AreListed basis first b terms inner parts → These (all_within let_bound (plain_drafts parts)) made
+      → AreDraftsPlaced basis first b terms inner parts → These (all_within let_bound (plain_drafts parts)) made
       → Listed (let_be (map let_of bindings) b) (map let_profile bindings ++ terms) made
   let_listed bindings b terms inner parts made is of_signature h t =
       as_made (let_be (map let_of bindings) b) (map let_profile bindings ++ terms) _ made t
@@ -213,7 +213,7 @@ module _ (basis : Basis) (first : ℕ) (pairs : List (ℕ × ProfiledTerm)) wher
 
   pub value_listed : (x : code_variable.Variable) (b : Behaviour) (terms : List ProfiledTerm) (inner : List (ℕ × ProfiledTerm))
       (next : ℕ) (parts made : List Draft) → inner ≡ (x.number, profiled_variable first x.sort) ∷ pairs → next ≡ suc first
-      → AreListed basis next b terms inner parts
+      → AreDraftsPlaced basis next b terms inner parts
       → These (filter_map (λ (d : plain.Draft). Some (valued_draft (variable first x.sort) d)) (plain_drafts parts)) made
       → Listed (choose_value (variable_of x) b) terms made
   value_listed x b terms inner next parts made is later h t =
@@ -235,7 +235,7 @@ module _ (basis : Basis) (first : ℕ) (pairs : List (ℕ × ProfiledTerm)) wher
       → StandsAt basis at (call number gates arguments) terms pairs → slice_get basis.specification.processes number ≡ Some process
       → bare_pairs inner ≡ binder_pairs basis.canon process.parameters arguments (bare_pairs pairs)
       → ArePairsOf basis.data_.signature inner → AreTermsOf basis.data_.signature others
-      → AreListed basis first process.body others inner body
+      → AreDraftsPlaced basis first process.body others inner body
       → HasDrafts (setting_on basis) at.base at.next
       (with_values (binding (binder_pairs basis.canon process.parameters arguments (bare_pairs pairs))) process.body) (plain_drafts body)
   body_has at number gates arguments process terms others inner body numbered stands found is of_signature k h =
@@ -250,7 +250,7 @@ module _ (basis : Basis) (first : ℕ) (pairs : List (ℕ × ProfiledTerm)) wher
       → bare_pairs inner ≡ binder_pairs basis.canon process.parameters arguments (bare_pairs pairs)
       → ArePairsOf basis.data_.signature inner → AreTermsOf basis.data_.signature others
       → used ≡ zip process.gates (map (gate_under []) gates)
-      → AreListed basis first process.body others inner body → These (all_relabelled called used (plain_drafts body)) made
+      → AreDraftsPlaced basis first process.body others inner body → These (all_relabelled called used (plain_drafts body)) made
       → Listed (call number gates arguments) terms made
   call_listed number gates arguments process terms others inner used body made found is of_signature k with_gates h t =
       as_made (call number gates arguments) terms _ made t
@@ -278,7 +278,7 @@ module _ (basis : Basis) (first : ℕ) (pairs : List (ℕ × ProfiledTerm)) wher
       (body made : List Draft) → slice_get basis.specification.processes number ≡ Some process
       → bare_pairs inner ≡ binder_pairs basis.canon process.parameters arguments (bare_pairs pairs)
       → ArePairsOf basis.data_.signature inner → AreTermsOf basis.data_.signature others
-      → AreListed basis first process.body others inner body
+      → AreDraftsPlaced basis first process.body others inner body
       → These (row_drafts basis.data_.signature meet first (calls_copied g gates process.gates actuals (plain_drafts body))) made
       → Listed (par_gate g gates meet (call number actuals arguments)) terms made
   par_call_listed g gates meet number actuals arguments process terms others inner body made found is of_signature k h t =

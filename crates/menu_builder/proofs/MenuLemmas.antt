@@ -1,9 +1,9 @@
 -- The menu of a state, from the drafts of its node.
 use Rattle.std.proofs.Common.{◌≡◌, ◌≤◌, ℕ, max, List, map, sym, subst, arith}
-use Rattle.term_algebra.specs.Equation.{Data}
-use Rattle.term_algebra.specs.Signature.{IsWellFormedSignature}
-use Rattle.term_algebra.specs.Term.{Term}
-use Rattle.term_algebra.specs.Canon.{IsCanon}
+use Rattle.lotos_base.specs.Equation.{Data}
+use Rattle.lotos_base.specs.Signature.{IsWellFormedSignature}
+use Rattle.lotos_base.specs.Term.{Term}
+use Rattle.lotos_base.specs.Canon.{IsCanon}
 use Rattle.behaviour_semantics.specs.Draft.{above, above_processes}
 use Rattle.behaviour_semantics.specs.DraftOrder.{IsInOrder}
 use Rattle.behaviour_semantics.specs.Guardedness.{IsGuarded}

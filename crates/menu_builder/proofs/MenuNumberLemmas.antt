@@ -1,6 +1,6 @@
 -- Terms that are put in bind nothing.
 use Rattle.std.proofs.Common.{◌≡◌, ◌≤◌, ℕ, suc, max, [], ◌∷◌, refl, ap, ◌∙◌, arith}
-use Rattle.term_algebra.specs.Substitution.{Substitution, binding, without}
+use Rattle.lotos_base.specs.Substitution.{Substitution, binding, without}
 use Rattle.behaviour_semantics.specs.Behaviour.{Behaviour, stop, exit_with, action, inner_action, guard, choice, parallel, hide, enable, disable, let_be, choose_value, choose_gate, par_gate, call, relabel, asked_variables, numbers_of, let_variables}
 use Rattle.behaviour_semantics.specs.Draft.{above, above_variables}
 use Rattle.behaviour_semantics.specs.Replacement.{with_values}

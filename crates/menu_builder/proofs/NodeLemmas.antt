@@ -1,10 +1,10 @@
 -- The drafts of a node of each form, from those of its parts.
 use Rattle.std.proofs.Common.{◌≡◌, ◌<◌, ◌≤◌, ℕ, suc, ◌+◌, max, List, [], ◌∷◌, ◌++◌, map, filter_map, Some, ap, sym, subst, arith}
-use Rattle.term_algebra.specs.Signature.{Signature, IsWellFormedSignature}
-use Rattle.term_algebra.specs.Canon.{IsCanon}
-use Rattle.term_algebra.specs.Equation.{Variable}
-use Rattle.term_algebra.specs.Term.{Term}
-use Rattle.term_algebra.specs.Substitution.{binding}
+use Rattle.lotos_base.specs.Signature.{Signature, IsWellFormedSignature}
+use Rattle.lotos_base.specs.Canon.{IsCanon}
+use Rattle.lotos_base.specs.Equation.{Variable}
+use Rattle.lotos_base.specs.Term.{Term}
+use Rattle.lotos_base.specs.Substitution.{binding}
 use Rattle.behaviour_semantics.specs.Behaviour.{Behaviour, stop, call, parallel, hide, enable, disable, relabel, Relabelling, SynchronisationSet, sorts_of}
 use Rattle.behaviour_semantics.specs.Draft as plain
 use Rattle.behaviour_semantics.specs.Draft.{above, above_processes, above_variables, first_apart}
@@ -36,7 +36,7 @@ use Rattle.menu_builder.specs.NodeNumbers.{above_node}
 use Rattle.menu_builder.proofs.ClosedPartLemmas.{closed_parts}
 use Rattle.menu_builder.proofs.MenuNumberLemmas.{stands_below}
 use Rattle.draft_parts.specs.Made.{AreThese}
-use Rattle.menu_builder.specs.Placed.{Basis, StandsAt, IsPlaced, AreListed, setting_on}
+use Rattle.menu_builder.specs.Placed.{Basis, StandsAt, IsPlaced, AreDraftsPlaced, setting_on}
 use Rattle.menu_builder.proofs.ReadyLemmas.{first_part, second_part}
 use Rattle.menu_builder.specs.Nodes.{IsNodeOver, IsListedNode}
 
@@ -217,7 +217,7 @@ module _ (basis : Basis) (base : ℕ) where
       → stands_for node ≡ with_values (binding (environment_of environment)) (behaviour_of b)
       → StandsAt basis (record { base = base; next = 0; scope = variables_given (profiled_pairs environment) }) (behaviour_of b)
       (profiles_in b) (profiled_pairs environment)
-      → AreListed basis base (behaviour_of b) (profiles_in b) (profiled_pairs environment) made → Listed node made
+      → AreDraftsPlaced basis base (behaviour_of b) (profiles_in b) (profiled_pairs environment) made → Listed node made
   part_listed node b environment made e stands h = record {
     drafts = subst (λ (c : Behaviour). HasDrafts (setting_on basis) base 0 c (plain_drafts made)) (sym e)
         (subst (λ (ps : List (ℕ × Term)). HasDrafts (setting_on basis) base 0 (with_values (binding ps) (behaviour_of b))
@@ -242,7 +242,7 @@ module _ (basis : Basis) (base : ℕ) where
   pub call_listed : (node : Node) (process : ℕ) (gates : List ℕ) (terms : List Sorted) (made : List Draft)
       → stands_for node ≡ call process gates (terms_of terms)
       → StandsAt basis (record { base = base; next = 0; scope = [] }) (call process gates (terms_of terms)) (profiles_of terms) []
-      → AreListed basis base (call process gates (terms_of terms)) (profiles_of terms) [] made → Listed node made
+      → AreDraftsPlaced basis base (call process gates (terms_of terms)) (profiles_of terms) [] made → Listed node made
   call_listed node process gates terms made e stands h = record {
     drafts = subst (λ (c : Behaviour). HasDrafts (setting_on basis) base 0 c (plain_drafts made)) (sym e)
         (subst (λ (c : Behaviour). HasDrafts (setting_on basis) base 0 c (plain_drafts made)) (unchanged (call process gates (terms_of terms)))

@@ -1,7 +1,7 @@
 -- Whatever number above all variables the leaves begin at, the drafts with their variables numbered from 0 are the same.
 use Rattle.std.proofs.Common.{◌≡◌, ◌≤◌, inl, inr, ℕ, List, [], ◌∷◌, map, Some, option_map, refl, ap, sym, ◌∙◌, subst}
-use Rattle.term_algebra.specs.Term.{Term}
-use Rattle.term_algebra.specs.Equation.{Data}
+use Rattle.lotos_base.specs.Term.{Term}
+use Rattle.lotos_base.specs.Equation.{Data}
 use Rattle.behaviour_semantics.specs.Behaviour.{Behaviour, Specification}
 use Rattle.behaviour_semantics.specs.Draft.{Draft, draft_by, draft_of, first_apart, leaves_from}
 use Rattle.behaviour_semantics.specs.DraftOrder.{IsInOrder}

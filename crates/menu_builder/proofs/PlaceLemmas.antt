@@ -1,7 +1,7 @@
 -- Where the parts of a behaviour stand, with the terms in them.
 use Rattle.std.proofs.Common.{◌≡◌, ℕ, suc, ◌+◌, List, ◌∷◌, ◌++◌, map, slice_get, Some, sym, subst}
-use Rattle.term_algebra.specs.Term.{Term, variable}
-use Rattle.term_algebra.specs.Equation.{Variable}
+use Rattle.lotos_base.specs.Term.{Term, variable}
+use Rattle.lotos_base.specs.Equation.{Variable}
 use Rattle.behaviour_semantics.specs.Behaviour.{Behaviour, guard, choice, parallel, hide, enable, disable, let_be, choose_value, choose_gate, par_gate, call, SynchronisationSet, Process, let_variables, let_terms}
 use Rattle.sort_terms.specs.EquationView.{variable_of}
 use Rattle.sort_terms.specs.ProfiledTerm.{ProfiledTerm, profiled_variable, IsOf}
@@ -14,7 +14,7 @@ use Rattle.behaviour_tree.specs.Over.{AreTermsOf}
 use Rattle.behaviour_tree.specs.declared.behaviours.Test.{Test}
 use Rattle.draft_parts.specs.Environments.{ArePairsOf}
 use Rattle.draft_parts.specs.BelowLaws.{PartsAreBelow, binder_pairs}
-use Rattle.draft_parts.specs.RowLaws.{IsBelow}
+use Rattle.draft_parts.specs.RowLaws.{IsWellFormedBelow}
 use Rattle.draft_parts.proofs.BelowLemmas.{below as environments}
 use Rattle.menu_builder.specs.Placed.{Basis, Position, StandsAt}
 use Rattle.menu_builder.proofs.ReadyLemmas.{first_part, second_part}
@@ -30,7 +30,7 @@ module _ (basis : Basis) (at : Position) (pairs : List (ℕ × ProfiledTerm)) wh
   OfSignature terms = AreTermsOf basis.data_.signature terms
 
   abbrev pub Below : Behaviour → Type 0
-  Below b = IsBelow basis.data_ basis.canon basis.specification at.scope (bare_pairs pairs) at.base at.next b
+  Below b = IsWellFormedBelow basis.data_ basis.canon basis.specification at.scope (bare_pairs pairs) at.base at.next b
 
   first_terms : (terms others : List ProfiledTerm) → OfSignature (terms ++ others) → OfSignature terms
   first_terms = first_part (IsOf basis.data_.signature)
@@ -100,7 +100,7 @@ module _ (basis : Basis) (at : Position) (pairs : List (ℕ × ProfiledTerm)) wh
       → ArePairsOf basis.data_.signature inner
       → StandsAt basis (record { base = at.base; next = at.next; scope = let_variables (map let_of bindings) ++ at.scope }) b terms inner
   let_part bindings b terms inner h is values = record {
-    below = subst (λ (ps : List (ℕ × Term)). IsBelow basis.data_ basis.canon basis.specification
+    below = subst (λ (ps : List (ℕ × Term)). IsWellFormedBelow basis.data_ basis.canon basis.specification
         (let_variables (map let_of bindings) ++ at.scope) ps at.base at.next b) (sym is) (parts.of_let (map let_of bindings) b h.below);
     values = values;
     profiles = second_terms (map let_profile bindings) terms h.profiles;
@@ -115,7 +115,7 @@ module _ (basis : Basis) (at : Position) (pairs : List (ℕ × ProfiledTerm)) wh
       StandsAt basis (record { base = at.base; next = suc at.next; scope = variable_of x ∷ at.scope })
       b terms ps) (sym is)
       (record {
-        below = subst (λ (n : ℕ). IsBelow basis.data_ basis.canon basis.specification (variable_of x ∷ at.scope)
+        below = subst (λ (n : ℕ). IsWellFormedBelow basis.data_ basis.canon basis.specification (variable_of x ∷ at.scope)
             ((x.number, variable n x.sort) ∷ bare_pairs pairs) at.base (suc at.next) b) (sym numbered)
             (parts.of_value (variable_of x) b h.below);
         values = (h.below.formed.0, h.values);
@@ -129,7 +129,7 @@ module _ (basis : Basis) (at : Position) (pairs : List (ℕ × ProfiledTerm)) wh
       → ArePairsOf basis.data_.signature inner → OfSignature others
       → StandsAt basis (record { base = at.base; next = at.next; scope = process.parameters }) process.body others inner
   call_part number gates arguments process terms others inner h found is values k = record {
-    below = subst (λ (ps : List (ℕ × Term)). IsBelow basis.data_ basis.canon basis.specification process.parameters ps at.base at.next
+    below = subst (λ (ps : List (ℕ × Term)). IsWellFormedBelow basis.data_ basis.canon basis.specification process.parameters ps at.base at.next
         process.body) (sym is) (parts.of_call number gates arguments process h.below found);
     values = values;
     profiles = k;

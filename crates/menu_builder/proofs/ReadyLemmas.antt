@@ -1,10 +1,10 @@
 -- Terms that are ready to get those of an environment, and the leaves that offers ask for.
 use Rattle.std.proofs.Common.{◌≡◌, ◌≤◌, ℕ, suc, ◌+◌, List, [], ◌∷◌, ◌++◌, map, length, Bool, true, false, nat_eq, if◌then◌else◌, Option, None, Some, option_map, refl, ap, sym, ◌∙◌, arith}
-use Rattle.term_algebra.specs.Signature.{Signature}
-use Rattle.term_algebra.specs.Term.{variable}
-use Rattle.term_algebra.specs.Sorting.{HasSort}
-use Rattle.term_algebra.specs.Equation.{Variable}
-use Rattle.term_algebra.proofs.SortLemmas.{sort_of_sorted}
+use Rattle.lotos_base.specs.Signature.{Signature}
+use Rattle.lotos_base.specs.Term.{variable}
+use Rattle.lotos_base.specs.Sorting.{HasSort}
+use Rattle.lotos_base.specs.Equation.{Variable}
+use Rattle.lotos_base.proofs.SortLemmas.{sort_of_sorted}
 use Rattle.behaviour_semantics.specs.Behaviour.{asked_variables, let_variables, let_terms}
 use Rattle.behaviour_semantics.specs.WellFormed.{Every, sort_in, IsTermIn, AreTermsIn, IsTestOption, IsOffer, IsExitValue}
 use Rattle.behaviour_semantics.proofs.OptionLemmas.{some_value}
@@ -25,7 +25,7 @@ use Rattle.behaviour_tree.specs.declared.behaviours.ExitValue.TheVariants as exi
 use Rattle.event_offers.proofs.JoinLemmas.{sort_told}
 use Rattle.draft_parts.specs.EnvironmentRaises.{GivesScope}
 use Rattle.draft_parts.proofs.GivenLemmas.{with_leaf}
-use Rattle.draft_parts.specs.Environments.{ArePairsOf, IsReady, Suits, SuitsTest, AreOffersReady, AreResultsReady}
+use Rattle.draft_parts.specs.Environments.{ArePairsOf, IsReadyForPairs, Suits, SuitsTest, AreOffersReady, AreResultsReady}
 use Rattle.draft_parts.specs.Offered.{asked_pairs}
 use Rattle.draft_parts.specs.OpenDrafts.{HasTests}
 use Rattle.menu_builder.specs.Bound.{AreBindingsReady, AreValuesReady}
@@ -75,7 +75,7 @@ module _ (signature : Signature) (base limit : ℕ) (scope : List Variable) (pai
   pub suits : (s : ℕ) (t : ProfiledTerm) → IsTermIn signature scope s (bare t) → Suits pairs t
   suits s t h n r o = suited signature base limit scope pairs g values n r (h.bound n r o)
 
-  pub ready : (s : ℕ) (t : ProfiledTerm) → IsTermIn signature scope s (bare t) → IsOf signature t → IsReady signature pairs t
+  pub ready : (s : ℕ) (t : ProfiledTerm) → IsTermIn signature scope s (bare t) → IsOf signature t → IsReadyForPairs signature pairs t
   ready s t h k = record { term = k; values = values; sorts = suits s t h }
 
   pub offers_ready : (offers : List Offer) → Every (IsOffer signature scope) (map offer_of offers)

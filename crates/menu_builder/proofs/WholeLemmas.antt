@@ -1,6 +1,6 @@
 -- A behaviour of the code with its form, of which the parts are read from their boxes.
 use Rattle.std.proofs.Common.{◌≡◌, ◌<◌, ℕ, ◌+◌, ◌*◌, List, ◌++◌, ap, sym, ◌∙◌, subst}
-use Rattle.term_algebra.specs.Equation.{Variable}
+use Rattle.lotos_base.specs.Equation.{Variable}
 use Rattle.behaviour_semantics.specs.Behaviour as plain
 use Rattle.behaviour_semantics.specs.Behaviour.{Behaviour, enable}
 use Rattle.sort_terms.specs.ProfiledTerm.{ProfiledTerm}
@@ -8,7 +8,7 @@ use Rattle.behaviour_tree.specs.BehaviourTerms.{profiles_in}
 use Rattle.behaviour_tree.specs.BehaviourView.{behaviour_of}
 use Rattle.behaviour_tree.specs.declared.behaviours.Beh.{Beh}
 use Rattle.event_offers.specs.declared.drafts.Draft.{Draft}
-use Rattle.menu_builder.specs.Placed.{AreListed, Basis, IsPlaced}
+use Rattle.menu_builder.specs.Placed.{AreDraftsPlaced, Basis, IsPlaced}
 use Rattle.menu_builder.proofs.ArmLemmas.{even_below_odd}
 use Rattle.menu_builder.proofs.EffortLemmas.{effort}
 
@@ -21,10 +21,10 @@ module _ (basis : Basis) (first : ℕ) (pairs : List (ℕ × ProfiledTerm)) wher
       (subst (λ (x : Behaviour). IsPlaced basis first x terms pairs) is p)
 
   listed_as : (b c : Behaviour) (terms others : List ProfiledTerm) → b ≡ c → terms ≡ others → (made : List Draft)
-      → AreListed basis first c others pairs made → AreListed basis first b terms pairs made
+      → AreDraftsPlaced basis first c others pairs made → AreDraftsPlaced basis first b terms pairs made
   listed_as b c terms others is has made h =
-      subst (λ (x : Behaviour). AreListed basis first x terms pairs made) (sym is)
-      (subst (λ (ts : List ProfiledTerm). AreListed basis first c ts pairs made) (sym has) h)
+      subst (λ (x : Behaviour). AreDraftsPlaced basis first x terms pairs made) (sym is)
+      (subst (λ (ts : List ProfiledTerm). AreDraftsPlaced basis first c ts pairs made) (sym has) h)
 
   -- ---- One part.
   module _ (b : Beh) (form : Beh → Behaviour) (terms : Beh → List ProfiledTerm) (part read : Beh) (e : read ≡ part)
@@ -33,8 +33,8 @@ module _ (basis : Basis) (first : ℕ) (pairs : List (ℕ × ProfiledTerm)) wher
     whole_placed p =
         placed_as (behaviour_of b) (form read) (profiles_in b) (terms read) (is ∙ ap form (sym e)) (has ∙ ap terms (sym e)) p
 
-    pub whole_listed : (made : List Draft) → AreListed basis first (form read) (terms read) pairs made
-        → AreListed basis first (behaviour_of b) (profiles_in b) pairs made
+    pub whole_listed : (made : List Draft) → AreDraftsPlaced basis first (form read) (terms read) pairs made
+        → AreDraftsPlaced basis first (behaviour_of b) (profiles_in b) pairs made
     whole_listed made h =
         listed_as (behaviour_of b) (form read) (profiles_in b) (terms read) (is ∙ ap form (sym e)) (has ∙ ap terms (sym e)) made h
 
@@ -57,8 +57,8 @@ module _ (basis : Basis) (first : ℕ) (pairs : List (ℕ × ProfiledTerm)) wher
         same_form same_terms p
 
     pub both_listed : (made : List Draft)
-        → AreListed basis first (form first_read second_read) (profiles_in first_read ++ profiles_in second_read) pairs made
-        → AreListed basis first (behaviour_of b) (profiles_in b) pairs made
+        → AreDraftsPlaced basis first (form first_read second_read) (profiles_in first_read ++ profiles_in second_read) pairs made
+        → AreDraftsPlaced basis first (behaviour_of b) (profiles_in b) pairs made
     both_listed made h =
         listed_as (behaviour_of b) (form first_read second_read) (profiles_in b) (profiles_in first_read ++ profiles_in second_read)
         same_form same_terms made h
@@ -67,11 +67,11 @@ module _ (basis : Basis) (first : ℕ) (pairs : List (ℕ × ProfiledTerm)) wher
 pub enable_read : (basis : Basis) (first : ℕ) (pairs : List (ℕ × ProfiledTerm)) (part read : Beh) → read ≡ part
     → (variables : List Variable) (made : List Draft)
     → ((right : Behaviour) (terms : List ProfiledTerm)
-    → AreListed basis first (enable (behaviour_of read) variables right) (profiles_in read ++ terms) pairs made)
+    → AreDraftsPlaced basis first (enable (behaviour_of read) variables right) (profiles_in read ++ terms) pairs made)
     → (right : Behaviour) (terms : List ProfiledTerm)
-    → AreListed basis first (enable (behaviour_of part) variables right) (profiles_in part ++ terms) pairs made
+    → AreDraftsPlaced basis first (enable (behaviour_of part) variables right) (profiles_in part ++ terms) pairs made
 enable_read basis first pairs part read e variables made h right terms =
-    subst (λ (x : Beh). AreListed basis first (enable (behaviour_of x) variables right) (profiles_in x ++ terms) pairs made) e
+    subst (λ (x : Beh). AreDraftsPlaced basis first (enable (behaviour_of x) variables right) (profiles_in x ++ terms) pairs made) e
     (h right terms)
 
 -- the form is less to list than the behaviour

@@ -1,10 +1,10 @@
 -- A closed part of a state is below its environment.
 use Rattle.std.specs.Prelude.{◌≤◌, ℕ, List, [], map}
-use Rattle.term_algebra.specs.Signature.{IsWellFormedSignature}
-use Rattle.term_algebra.specs.Term.{Term}
-use Rattle.term_algebra.specs.Equation.{Data, Variable}
-use Rattle.term_algebra.specs.Canon.{IsCanon}
-use Rattle.term_algebra.specs.Substitution.{binding}
+use Rattle.lotos_base.specs.Signature.{IsWellFormedSignature}
+use Rattle.lotos_base.specs.Term.{Term}
+use Rattle.lotos_base.specs.Equation.{Data, Variable}
+use Rattle.lotos_base.specs.Canon.{IsCanon}
+use Rattle.lotos_base.specs.Substitution.{binding}
 use Rattle.behaviour_semantics.specs.Behaviour.{Behaviour, Specification}
 use Rattle.behaviour_semantics.specs.Draft.{above_variables, first_apart}
 use Rattle.behaviour_semantics.specs.Replacement.{with_values}
@@ -15,7 +15,7 @@ use Rattle.term_match.specs.ProfiledInstance.{bare_pairs}
 use Rattle.term_match.specs.SubstView.{profiled_pairs}
 use Rattle.behaviour_tree.specs.Closed.{IsClosedBy}
 use Rattle.behaviour_tree.specs.StateView.{environment_of}
-use Rattle.draft_parts.specs.RowLaws.{IsBelow}
+use Rattle.draft_parts.specs.RowLaws.{IsWellFormedBelow}
 
 -- the variables that pairs give terms, with the sorts that the heads of the terms tell; their names make no difference
 abbrev pub variables_given : List (ℕ × ProfiledTerm) → List Variable
@@ -33,4 +33,4 @@ ClosedPartsAreBelow =
     IsClosedBehaviour data_.signature specification (with_values (binding (environment_of pairs)) b) →
     first_apart specification.processes b ≤ base →
     above_variables (variables_given (profiled_pairs pairs)) ≤ base →
-    IsBelow data_ canon specification (variables_given (profiled_pairs pairs)) (bare_pairs (profiled_pairs pairs)) base 0 b
+    IsWellFormedBelow data_ canon specification (variables_given (profiled_pairs pairs)) (bare_pairs (profiled_pairs pairs)) base 0 b

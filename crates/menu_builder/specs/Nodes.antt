@@ -1,7 +1,7 @@
 -- Nodes of states whose moves are listed, and what their list is.
 use Rattle.std.specs.Prelude.{◌≤◌, ℕ, List, max}
-use Rattle.term_algebra.specs.Signature.{IsWellFormedSignature}
-use Rattle.term_algebra.specs.Canon.{IsCanon}
+use Rattle.lotos_base.specs.Signature.{IsWellFormedSignature}
+use Rattle.lotos_base.specs.Canon.{IsCanon}
 use Rattle.behaviour_semantics.specs.Draft.{above_processes}
 use Rattle.behaviour_semantics.specs.WellFormed.{Every, IsSpecification, IsClosedBehaviour}
 use Rattle.behaviour_tree.specs.Closed.{IsClosedNode}

@@ -1,8 +1,8 @@
 -- The drafts of a closed behaviour, with their variables numbered from 0, are in order, and solved one by one they are its
 -- exact menu.
 use Rattle.std.specs.Prelude.{◌≤◌, ℕ, List, map}
-use Rattle.term_algebra.specs.Term.{Term}
-use Rattle.term_algebra.specs.Equation.{Data}
+use Rattle.lotos_base.specs.Term.{Term}
+use Rattle.lotos_base.specs.Equation.{Data}
 use Rattle.behaviour_semantics.specs.Behaviour.{Behaviour, Specification}
 use Rattle.behaviour_semantics.specs.Draft as plain
 use Rattle.behaviour_semantics.specs.Draft.{draft_with, first_apart, numbered_from_zero}

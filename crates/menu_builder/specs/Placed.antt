@@ -1,8 +1,8 @@
 -- What a part of a behaviour is listed under: an environment for the variables in scope, and where its leaves begin.
 use Rattle.std.specs.Prelude.{◌≡◌, ◌+◌, ℕ, List}
-use Rattle.term_algebra.specs.Term.{Term}
-use Rattle.term_algebra.specs.Equation.{Data, Variable}
-use Rattle.term_algebra.specs.Substitution.{binding}
+use Rattle.lotos_base.specs.Term.{Term}
+use Rattle.lotos_base.specs.Equation.{Data, Variable}
+use Rattle.lotos_base.specs.Substitution.{binding}
 use Rattle.behaviour_semantics.specs.Behaviour.{Behaviour, Specification}
 use Rattle.behaviour_semantics.specs.Move.{Setting}
 use Rattle.behaviour_semantics.specs.Replacement.{with_values}
@@ -17,7 +17,7 @@ use Rattle.draft_parts.specs.DraftTerms.{HasTermsOf}
 use Rattle.draft_parts.specs.Lists.{plain_drafts}
 use Rattle.draft_parts.specs.Environments.{ArePairsOf}
 use Rattle.draft_parts.specs.HasDrafts.{HasDrafts}
-use Rattle.draft_parts.specs.RowLaws.{IsBelow, setting_over}
+use Rattle.draft_parts.specs.RowLaws.{IsWellFormedBelow, setting_over}
 
 -- What moves are listed over: data with a canon, and a specification.
 pub record Basis : Type 0 where
@@ -42,7 +42,7 @@ pub record Position : Type 0 where
 -- terms are of the signature.
 pub record StandsAt (basis : Basis) (at : Position) (b : Behaviour) (terms : List ProfiledTerm)
     (pairs : List (ℕ × ProfiledTerm)) : Type 0 where
-  pub below : IsBelow basis.data_ basis.canon basis.specification at.scope (bare_pairs pairs) at.base at.next b
+  pub below : IsWellFormedBelow basis.data_ basis.canon basis.specification at.scope (bare_pairs pairs) at.base at.next b
   pub values : ArePairsOf basis.data_.signature pairs
   pub profiles : AreTermsOf basis.data_.signature terms
 
@@ -54,7 +54,7 @@ pub record IsPlaced (basis : Basis) (first : ℕ) (b : Behaviour) (terms : List 
 
 -- The drafts are those of the moves of the behaviour with the terms of the pairs put in, wherever it stands with this
 -- first leaf, and their terms are of the signature.
-pub record AreListed (basis : Basis) (first : ℕ) (b : Behaviour) (terms : List ProfiledTerm)
+pub record AreDraftsPlaced (basis : Basis) (first : ℕ) (b : Behaviour) (terms : List ProfiledTerm)
     (pairs : List (ℕ × ProfiledTerm)) (made : List Draft) : Type 0 where
   pub drafts :
       (at : Position) →

@@ -1,6 +1,7 @@
 //! The drafts of the moves of a behaviour under an environment.
 
-ghost use Rattle.menu_builder.specs.Placed.{AreListed, IsPlaced, basis_of};
+ghost use Rattle.event_offers.specs.Keeping.{KeepsData};
+ghost use Rattle.menu_builder.specs.Placed.{AreDraftsPlaced, IsPlaced, basis_of};
 ghost use Rattle.behaviour_semantics.specs.Behaviour.{Behaviour, call, choice, choose_gate, choose_value, disable, enable, guard, hide, let_be, par_gate, parallel};
 ghost use Rattle.behaviour_tree.specs.BehaviourTerms.{let_profile, profiles_in, profiles_of, test_profiles};
 ghost use Rattle.behaviour_tree.specs.BehaviourView.{behaviour_of, let_of, meet_of, terms_of, test_of, variables_of};
@@ -8,7 +9,7 @@ ghost use Rattle.behaviour_tree.specs.Over.{IsSpecOver};
 ghost use Rattle.process_checks.specs.Ranks.{AreRanksOf};
 ghost use Rattle.sort_terms.specs.EquationView.{variable_of};
 ghost use Rattle.sort_terms.specs.ProfiledTerm.{ProfiledTerm};
-ghost use Rattle.std.specs.Prelude.{◌≡◌, ◌++◌, IfOk, List, map};
+ghost use Rattle.std.specs.Prelude.{◌++◌, IfOk, List, map};
 ghost use Rattle.term_match.specs.SubstView.{profiled_pairs};
 
 use crate::binders::{call_environment, let_environment, value_environment};
@@ -39,12 +40,11 @@ pub fn behaviour_moves<D: Deciding>(
         (basis_of (D.known_data decider.old) (D.canon decider.old) spec.now) first
         (behaviour_of behaviour.now) (profiles_in behaviour.now)
         (profiled_pairs environment.now.items) }
-    ensures listed { IfOk result (λ made. AreListed
+    ensures listed { IfOk result (λ made. AreDraftsPlaced
         (basis_of (D.known_data decider.old) (D.canon decider.old) spec.now) first
         (behaviour_of behaviour.now) (profiles_in behaviour.now)
         (profiled_pairs environment.now.items) made.items) }
-    ensures same_data { D.known_data decider.new ≡ D.known_data decider.old }
-    ensures same_canon { D.canon decider.new ≡ D.canon decider.old }
+    ensures same_known { KeepsData D.known_data D.canon decider.old decider.new }
 {
     match behaviour {
         Beh::Stop => Ok(Vec::new(*environment.allocator())),
@@ -170,12 +170,11 @@ fn guard_moves<D: Deciding>(
         (basis_of (D.known_data decider.old) (D.canon decider.old) spec.now) first
         (guard (test_of test.now) (behaviour_of part.now))
         (test_profiles test.now ++ profiles_in part.now) (profiled_pairs environment.now.items) }
-    ensures listed { IfOk result (λ made. AreListed
+    ensures listed { IfOk result (λ made. AreDraftsPlaced
         (basis_of (D.known_data decider.old) (D.canon decider.old) spec.now) first
         (guard (test_of test.now) (behaviour_of part.now))
         (test_profiles test.now ++ profiles_in part.now) (profiled_pairs environment.now.items) made.items) }
-    ensures same_data { D.known_data decider.new ≡ D.known_data decider.old }
-    ensures same_canon { D.canon decider.new ≡ D.canon decider.old }
+    ensures same_known { KeepsData D.known_data D.canon decider.old decider.new }
 {
     let parts = behaviour_moves(spec, ranks, part, environment, first, decider)?;
     guarded_drafts(test, environment, parts)
@@ -199,12 +198,11 @@ fn choice_moves<D: Deciding>(
         (basis_of (D.known_data decider.old) (D.canon decider.old) spec.now) first
         (choice (behaviour_of left.now) (behaviour_of right.now))
         (profiles_in left.now ++ profiles_in right.now) (profiled_pairs environment.now.items) }
-    ensures listed { IfOk result (λ made. AreListed
+    ensures listed { IfOk result (λ made. AreDraftsPlaced
         (basis_of (D.known_data decider.old) (D.canon decider.old) spec.now) first
         (choice (behaviour_of left.now) (behaviour_of right.now))
         (profiles_in left.now ++ profiles_in right.now) (profiled_pairs environment.now.items) made.items) }
-    ensures same_data { D.known_data decider.new ≡ D.known_data decider.old }
-    ensures same_canon { D.canon decider.new ≡ D.canon decider.old }
+    ensures same_known { KeepsData D.known_data D.canon decider.old decider.new }
 {
     let lefts = behaviour_moves(spec, ranks, left, environment, first, decider)?;
     let rights = behaviour_moves(spec, ranks, right, environment, first, decider)?;
@@ -230,12 +228,11 @@ fn parallel_moves<D: Deciding>(
         (basis_of (D.known_data decider.old) (D.canon decider.old) spec.now) first
         (parallel (meet_of meet.now) (behaviour_of left.now) (behaviour_of right.now))
         (profiles_in left.now ++ profiles_in right.now) (profiled_pairs environment.now.items) }
-    ensures listed { IfOk result (λ made. AreListed
+    ensures listed { IfOk result (λ made. AreDraftsPlaced
         (basis_of (D.known_data decider.old) (D.canon decider.old) spec.now) first
         (parallel (meet_of meet.now) (behaviour_of left.now) (behaviour_of right.now))
         (profiles_in left.now ++ profiles_in right.now) (profiled_pairs environment.now.items) made.items) }
-    ensures same_data { D.known_data decider.new ≡ D.known_data decider.old }
-    ensures same_canon { D.canon decider.new ≡ D.canon decider.old }
+    ensures same_known { KeepsData D.known_data D.canon decider.old decider.new }
 {
     let lefts = behaviour_moves(spec, ranks, left, environment, first, decider)?;
     let rights = behaviour_moves(spec, ranks, right, environment, first, decider)?;
@@ -260,12 +257,11 @@ fn hide_moves<D: Deciding>(
         (basis_of (D.known_data decider.old) (D.canon decider.old) spec.now) first
         (hide gates.now.items (behaviour_of part.now))
         (profiles_in part.now) (profiled_pairs environment.now.items) }
-    ensures listed { IfOk result (λ made. AreListed
+    ensures listed { IfOk result (λ made. AreDraftsPlaced
         (basis_of (D.known_data decider.old) (D.canon decider.old) spec.now) first
         (hide gates.now.items (behaviour_of part.now))
         (profiles_in part.now) (profiled_pairs environment.now.items) made.items) }
-    ensures same_data { D.known_data decider.new ≡ D.known_data decider.old }
-    ensures same_canon { D.canon decider.new ≡ D.canon decider.old }
+    ensures same_known { KeepsData D.known_data D.canon decider.old decider.new }
 {
     let parts = behaviour_moves(spec, ranks, part, environment, first, decider)?;
     Rule::Hidden(gates.as_slice()).apply_to_all(parts)
@@ -289,11 +285,10 @@ fn enable_moves<D: Deciding>(
         (basis_of (D.known_data decider.old) (D.canon decider.old) spec.now) first
         (behaviour_of left.now) (profiles_in left.now) (profiled_pairs environment.now.items) }
     ensures listed { IfOk result (λ made. (right : Behaviour) → (terms : List ProfiledTerm)
-        → AreListed (basis_of (D.known_data decider.old) (D.canon decider.old) spec.now) first
+        → AreDraftsPlaced (basis_of (D.known_data decider.old) (D.canon decider.old) spec.now) first
         (enable (behaviour_of left.now) (variables_of variables.now.items) right)
         (profiles_in left.now ++ terms) (profiled_pairs environment.now.items) made.items) }
-    ensures same_data { D.known_data decider.new ≡ D.known_data decider.old }
-    ensures same_canon { D.canon decider.new ≡ D.canon decider.old }
+    ensures same_known { KeepsData D.known_data D.canon decider.old decider.new }
 {
     let parts = behaviour_moves(spec, ranks, left, environment, first, decider)?;
     Rule::Enabled(variables).apply_to_all(parts)
@@ -317,12 +312,11 @@ fn disable_moves<D: Deciding>(
         (basis_of (D.known_data decider.old) (D.canon decider.old) spec.now) first
         (disable (behaviour_of left.now) (behaviour_of right.now))
         (profiles_in left.now ++ profiles_in right.now) (profiled_pairs environment.now.items) }
-    ensures listed { IfOk result (λ made. AreListed
+    ensures listed { IfOk result (λ made. AreDraftsPlaced
         (basis_of (D.known_data decider.old) (D.canon decider.old) spec.now) first
         (disable (behaviour_of left.now) (behaviour_of right.now))
         (profiles_in left.now ++ profiles_in right.now) (profiled_pairs environment.now.items) made.items) }
-    ensures same_data { D.known_data decider.new ≡ D.known_data decider.old }
-    ensures same_canon { D.canon decider.new ≡ D.canon decider.old }
+    ensures same_known { KeepsData D.known_data D.canon decider.old decider.new }
 {
     let lefts = behaviour_moves(spec, ranks, left, environment, first, decider)?;
     let rights = behaviour_moves(spec, ranks, right, environment, first, decider)?;
@@ -347,12 +341,11 @@ fn let_moves<D: Deciding>(
         (basis_of (D.known_data decider.old) (D.canon decider.old) spec.now) first
         (let_be (map let_of bindings.now.items) (behaviour_of part.now))
         (map let_profile bindings.now.items ++ profiles_in part.now) (profiled_pairs environment.now.items) }
-    ensures listed { IfOk result (λ made. AreListed
+    ensures listed { IfOk result (λ made. AreDraftsPlaced
         (basis_of (D.known_data decider.old) (D.canon decider.old) spec.now) first
         (let_be (map let_of bindings.now.items) (behaviour_of part.now))
         (map let_profile bindings.now.items ++ profiles_in part.now) (profiled_pairs environment.now.items) made.items) }
-    ensures same_data { D.known_data decider.new ≡ D.known_data decider.old }
-    ensures same_canon { D.canon decider.new ≡ D.canon decider.old }
+    ensures same_known { KeepsData D.known_data D.canon decider.old decider.new }
 {
     let inner = let_environment(bindings, environment, decider)?;
     let parts = behaviour_moves(spec, ranks, part, &inner, first, decider)?;
@@ -377,12 +370,11 @@ fn value_moves<D: Deciding>(
         (basis_of (D.known_data decider.old) (D.canon decider.old) spec.now) first
         (choose_value (variable_of variable.now) (behaviour_of part.now))
         (profiles_in part.now) (profiled_pairs environment.now.items) }
-    ensures listed { IfOk result (λ made. AreListed
+    ensures listed { IfOk result (λ made. AreDraftsPlaced
         (basis_of (D.known_data decider.old) (D.canon decider.old) spec.now) first
         (choose_value (variable_of variable.now) (behaviour_of part.now))
         (profiles_in part.now) (profiled_pairs environment.now.items) made.items) }
-    ensures same_data { D.known_data decider.new ≡ D.known_data decider.old }
-    ensures same_canon { D.canon decider.new ≡ D.canon decider.old }
+    ensures same_known { KeepsData D.known_data D.canon decider.old decider.new }
 {
     let inner = value_environment(variable, environment, first)?;
     let next = following(first)?;
@@ -410,12 +402,11 @@ fn gate_moves<D: Deciding>(
         (basis_of (D.known_data decider.old) (D.canon decider.old) spec.now) first
         (choose_gate gate gates.now.items (behaviour_of part.now))
         (profiles_in part.now) (profiled_pairs environment.now.items) }
-    ensures listed { IfOk result (λ made. AreListed
+    ensures listed { IfOk result (λ made. AreDraftsPlaced
         (basis_of (D.known_data decider.old) (D.canon decider.old) spec.now) first
         (choose_gate gate gates.now.items (behaviour_of part.now))
         (profiles_in part.now) (profiled_pairs environment.now.items) made.items) }
-    ensures same_data { D.known_data decider.new ≡ D.known_data decider.old }
-    ensures same_canon { D.canon decider.new ≡ D.canon decider.old }
+    ensures same_known { KeepsData D.known_data D.canon decider.old decider.new }
 {
     let parts = behaviour_moves(spec, ranks, part, environment, first, decider)?;
     at_gates(*environment.allocator(), gate, gates, &parts)
@@ -440,12 +431,11 @@ pub fn call_moves<D: Deciding>(
         (basis_of (D.known_data decider.old) (D.canon decider.old) spec.now) first
         (call process gates.now.items (terms_of values.now.items)) (profiles_of values.now.items)
         (profiled_pairs environment.now.items) }
-    ensures listed { IfOk result (λ made. AreListed
+    ensures listed { IfOk result (λ made. AreDraftsPlaced
         (basis_of (D.known_data decider.old) (D.canon decider.old) spec.now) first
         (call process gates.now.items (terms_of values.now.items)) (profiles_of values.now.items)
         (profiled_pairs environment.now.items) made.items) }
-    ensures same_data { D.known_data decider.new ≡ D.known_data decider.old }
-    ensures same_canon { D.canon decider.new ≡ D.canon decider.old }
+    ensures same_known { KeepsData D.known_data D.canon decider.old decider.new }
 {
     let called = &spec.processes[process as usize];
     let inner = call_environment(&called.parameters, values, environment, decider)?;
@@ -479,12 +469,11 @@ fn par_moves<D: Deciding>(
         (basis_of (D.known_data decider.old) (D.canon decider.old) spec.now) first
         (par_gate gate gates.now.items (meet_of meet.now) (behaviour_of part.now))
         (profiles_in part.now) (profiled_pairs environment.now.items) }
-    ensures listed { IfOk result (λ made. AreListed
+    ensures listed { IfOk result (λ made. AreDraftsPlaced
         (basis_of (D.known_data decider.old) (D.canon decider.old) spec.now) first
         (par_gate gate gates.now.items (meet_of meet.now) (behaviour_of part.now))
         (profiles_in part.now) (profiled_pairs environment.now.items) made.items) }
-    ensures same_data { D.known_data decider.new ≡ D.known_data decider.old }
-    ensures same_canon { D.canon decider.new ≡ D.canon decider.old }
+    ensures same_known { KeepsData D.known_data D.canon decider.old decider.new }
 {
     match part {
         Beh::Stop => Ok(Vec::new(*environment.allocator())),

@@ -1,6 +1,7 @@
 //! Environments of the parts below binders.
 
 ghost use Rattle.draft_parts.specs.Environments.{ArePairsOf};
+ghost use Rattle.event_offers.specs.Keeping.{KeepsData};
 ghost use Rattle.menu_builder.specs.Bound.{AreBindingsReady, AreValuesReady};
 ghost use Rattle.behaviour_semantics.specs.Behaviour.{let_terms, let_variables};
 ghost use Rattle.behaviour_tree.specs.BehaviourView.{let_of, terms_of, variables_of};
@@ -31,8 +32,7 @@ pub fn let_environment<D: Deciding>(
     ensures is_of { IfOk result (λ made. ArePairsOf (D.known_data decider.old).signature
         (profiled_pairs environment.now.items)
         → ArePairsOf (D.known_data decider.old).signature (profiled_pairs made.items)) }
-    ensures same_data { D.known_data decider.new ≡ D.known_data decider.old }
-    ensures same_canon { D.canon decider.new ≡ D.canon decider.old }
+    ensures same_known { KeepsData D.known_data D.canon decider.old decider.new }
 {
     let pairs = bound_values(bindings, environment, decider)?;
     extended(pairs, environment)
@@ -52,8 +52,7 @@ fn bound_values<D: Deciding>(
         (bare_pairs (profiled_pairs environment.now.items))) }
     ensures is_of { IfOk result (λ made.
         ArePairsOf (D.known_data decider.old).signature (profiled_pairs made.items)) }
-    ensures same_data { D.known_data decider.new ≡ D.known_data decider.old }
-    ensures same_canon { D.canon decider.new ≡ D.canon decider.old }
+    ensures same_known { KeepsData D.known_data D.canon decider.old decider.new }
 {
     let mut pairs = Vec::with_capacity(*environment.allocator(), bindings.len())?;
     for binding in bindings {
@@ -93,8 +92,7 @@ pub fn call_environment<D: Deciding>(
         (terms_of values.now.items) (bare_pairs (profiled_pairs environment.now.items))) }
     ensures is_of { IfOk result (λ made.
         ArePairsOf (D.known_data decider.old).signature (profiled_pairs made.items)) }
-    ensures same_data { D.known_data decider.new ≡ D.known_data decider.old }
-    ensures same_canon { D.canon decider.new ≡ D.canon decider.old }
+    ensures same_known { KeepsData D.known_data D.canon decider.old decider.new }
 {
     let mut pairs = Vec::with_capacity(*environment.allocator(), values.len())?;
     for i in 0..values.len() {

@@ -4,8 +4,9 @@ ghost use Rattle.draft_parts.specs.Environments.{AreOffersReady, ArePairsOf, Are
 ghost use Rattle.draft_parts.specs.Offered.{asked_pairs};
 ghost use Rattle.draft_parts.specs.OpenDrafts.{HasTests, acted, ended_with};
 ghost use Rattle.draft_parts.specs.Made.{AreThese, inner_of};
-ghost use Rattle.std.specs.Prelude.{◌≡◌, ◌++◌, ◌∷◌, [], IfOk};
-ghost use Rattle.term_algebra.specs.Signature.{Signature};
+ghost use Rattle.event_offers.specs.Keeping.{KeepsData};
+ghost use Rattle.std.specs.Prelude.{◌++◌, ◌∷◌, [], IfOk};
+ghost use Rattle.lotos_base.specs.Signature.{Signature};
 ghost use Rattle.term_match.specs.SubstView.{profiled_pairs};
 
 use behaviour_tree::{ExitValue, Offer, Test};
@@ -28,8 +29,7 @@ pub fn exit_moves<D: Deciding>(
     ensures these { IfOk result (λ made. AreThese (D.known_data decider.old).signature
         (ended_with (D.canon decider.old) results.now.items
         (profiled_pairs environment.now.items) first ∷ []) made.items) }
-    ensures same_data { D.known_data decider.new ≡ D.known_data decider.old }
-    ensures same_canon { D.canon decider.new ≡ D.canon decider.old }
+    ensures same_known { KeepsData D.known_data D.canon decider.old decider.new }
 {
     let draft = exit_draft(results, environment, first, decider)?;
     one(*environment.allocator(), draft)
@@ -56,8 +56,7 @@ pub fn action_moves<D: Deciding>(
         → AreThese (D.known_data decider.old).signature (acted (D.canon decider.old) gate
         offers.now.items test.now (profiled_pairs environment.now.items) first ∷ [])
         made.items) }
-    ensures same_data { D.known_data decider.new ≡ D.known_data decider.old }
-    ensures same_canon { D.canon decider.new ≡ D.canon decider.old }
+    ensures same_known { KeepsData D.known_data D.canon decider.old decider.new }
 {
     let draft = action_draft(gate, offers, test, environment, first, decider)?;
     one(*environment.allocator(), draft)

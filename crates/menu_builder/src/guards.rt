@@ -1,6 +1,6 @@
 //! The drafts below a guard.
 
-ghost use Rattle.draft_parts.specs.Environments.{IsReady, Suits};
+ghost use Rattle.draft_parts.specs.Environments.{IsReadyForPairs, Suits};
 ghost use Rattle.behaviour_semantics.specs.Replacement.{test_with};
 ghost use Rattle.behaviour_semantics.specs.WellFormed.{Every};
 ghost use Rattle.behaviour_tree.specs.BehaviourView.{test_of};
@@ -10,8 +10,8 @@ ghost use Rattle.draft_parts.specs.DraftRules.{guarded_draft};
 ghost use Rattle.draft_parts.specs.DraftTerms.{HasTermsOf};
 ghost use Rattle.sort_terms.specs.SortedView.{profiled_in};
 ghost use Rattle.std.specs.Prelude.{◌≡◌, IfOk, Some, filter_map};
-ghost use Rattle.term_algebra.specs.Signature.{Signature};
-ghost use Rattle.term_algebra.specs.Substitution.{binding};
+ghost use Rattle.lotos_base.specs.Signature.{Signature};
+ghost use Rattle.lotos_base.specs.Substitution.{binding};
 ghost use Rattle.term_match.specs.ProfiledInstance.{bare_pairs};
 ghost use Rattle.term_match.specs.SubstView.{profiled_pairs};
 
@@ -31,8 +31,8 @@ pub fn guarded_drafts(
     requires left { Suits (profiled_pairs environment.now.items) (profiled_in test.now.left) }
     requires right { Suits (profiled_pairs environment.now.items) (profiled_in test.now.right) }
     ensures { IfOk result (λ made. (signature : Signature)
-        → IsReady signature (profiled_pairs environment.now.items) (profiled_in test.now.left)
-        → IsReady signature (profiled_pairs environment.now.items) (profiled_in test.now.right)
+        → IsReadyForPairs signature (profiled_pairs environment.now.items) (profiled_in test.now.left)
+        → IsReadyForPairs signature (profiled_pairs environment.now.items) (profiled_in test.now.right)
         → Every (HasTermsOf signature) parts.items
         → AreThese signature (filter_map (λ d. Some (guarded_draft
         (test_with (binding (bare_pairs (profiled_pairs environment.now.items)))

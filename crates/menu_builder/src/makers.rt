@@ -7,13 +7,14 @@ ghost use Rattle.behaviour_tree.specs.DefinitionView.{specification_of};
 ghost use Rattle.behaviour_tree.specs.Over.{IsSpecOver, IsStateOf};
 ghost use Rattle.behaviour_tree.specs.StateView.{state_of};
 ghost use Rattle.behaviour_tree.specs.declared.definitions.Spec.{Spec};
+ghost use Rattle.event_offers.specs.Keeping.{KeepsData};
 ghost use Rattle.event_offers.specs.Offers.{IsEntryOver};
 ghost use Rattle.menu_builder.specs.Menus.{entries_in};
 ghost use Rattle.process_checks.specs.Ranks.{AreRanksOf};
-ghost use Rattle.std.specs.Prelude.{◌≡◌, IfOk};
-ghost use Rattle.term_algebra.specs.Equation.{Data};
-ghost use Rattle.term_algebra.specs.Signature.{IsWellFormedSignature};
-ghost use Rattle.term_algebra.specs.Term.{Term};
+ghost use Rattle.std.specs.Prelude.{IfOk};
+ghost use Rattle.lotos_base.specs.Equation.{Data};
+ghost use Rattle.lotos_base.specs.Signature.{IsWellFormedSignature};
+ghost use Rattle.lotos_base.specs.Term.{Term};
 
 use crate::menus::menu;
 use behaviour_tree::{Spec, State};
@@ -52,8 +53,7 @@ pub trait MenuMaker: Drop {
             (IsEntryOver (D.known_data decider.old).signature) menu.entries.items) }
         ensures suits_after { suits self.new spec.now (D.known_data decider.old)
             (D.canon decider.old) }
-        ensures same_data { D.known_data decider.new ≡ D.known_data decider.old }
-        ensures same_canon { D.canon decider.new ≡ D.canon decider.old };
+        ensures same_known { KeepsData D.known_data D.canon decider.old decider.new };
 }
 
 /// A maker that keeps nothing and lists each menu anew. It suits every specification.

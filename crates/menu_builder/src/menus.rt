@@ -10,6 +10,7 @@ ghost use Rattle.behaviour_tree.specs.DefinitionView.{specification_of};
 ghost use Rattle.behaviour_tree.specs.Over.{IsSpecOver, IsStateOf};
 ghost use Rattle.behaviour_tree.specs.StateView.{state_of};
 ghost use Rattle.draft_parts.specs.Lists.{plain_drafts};
+ghost use Rattle.event_offers.specs.Keeping.{KeepsData};
 ghost use Rattle.event_offers.specs.OfferView.{plain_draft, plain_entry};
 ghost use Rattle.event_offers.specs.Offers.{IsEntryOver};
 ghost use Rattle.draft_parts.specs.DraftTerms.{HasTermsOf};
@@ -17,7 +18,7 @@ ghost use Rattle.menu_builder.specs.OpenMenus.{lowered_drafts};
 ghost use Rattle.menu_builder.specs.Menus.{entries_in};
 ghost use Rattle.process_checks.specs.Ranks.{AreRanksOf};
 ghost use Rattle.std.specs.Prelude.{◌≡◌, ◌++◌, IfOk, map, option_to_list};
-ghost use Rattle.term_algebra.specs.Signature.{IsWellFormedSignature, Signature};
+ghost use Rattle.lotos_base.specs.Signature.{IsWellFormedSignature, Signature};
 
 use crate::nodes::node_moves;
 use crate::numbers::{above_node, above_processes};
@@ -47,8 +48,7 @@ pub fn menu<D: Deciding>(
         (specification_of spec.now).processes (state_of state.now) (entries_in menu)) }
     ensures over { IfOk result
         (λ menu. Every (IsEntryOver (D.known_data decider.old).signature) menu.entries.items) }
-    ensures same_data { D.known_data decider.new ≡ D.known_data decider.old }
-    ensures same_canon { D.canon decider.new ≡ D.canon decider.old }
+    ensures same_known { KeepsData D.known_data D.canon decider.old decider.new }
 {
     let node = state.node();
     let least = above_processes(spec, 0)?;
@@ -71,8 +71,7 @@ fn solved<D: Deciding>(
         (lowered_drafts base (plain_drafts drafts.items)) (map plain_entry made.items)) }
     ensures over { IfOk result
         (λ made. Every (IsEntryOver (D.known_data decider.old).signature) made.items) }
-    ensures same_data { D.known_data decider.new ≡ D.known_data decider.old }
-    ensures same_canon { D.canon decider.new ≡ D.canon decider.old }
+    ensures same_known { KeepsData D.known_data D.canon decider.old decider.new }
 {
     let mut entries = Vec::with_capacity(*drafts.allocator(), drafts.len())?;
     let mut rest = drafts;

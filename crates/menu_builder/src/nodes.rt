@@ -1,10 +1,11 @@
 //! The drafts of the moves of a node.
 
+ghost use Rattle.event_offers.specs.Keeping.{KeepsData};
 ghost use Rattle.menu_builder.specs.Placed.{basis_of};
 ghost use Rattle.behaviour_tree.specs.Over.{IsSpecOver};
 ghost use Rattle.menu_builder.specs.Nodes.{IsListedNode, IsNodeOver};
 ghost use Rattle.process_checks.specs.Ranks.{AreRanksOf};
-ghost use Rattle.std.specs.Prelude.{◌≡◌, IfOk};
+ghost use Rattle.std.specs.Prelude.{IfOk};
 
 use crate::{behaviour_moves, call_moves};
 use behaviour_tree::{Node, Spec};
@@ -31,8 +32,7 @@ pub fn node_moves<D: Deciding>(
     ensures listed { IfOk result (λ made. IsListedNode
         (basis_of (D.known_data decider.old) (D.canon decider.old) spec.now) first node.now
         made.items) }
-    ensures same_data { D.known_data decider.new ≡ D.known_data decider.old }
-    ensures same_canon { D.canon decider.new ≡ D.canon decider.old }
+    ensures same_known { KeepsData D.known_data D.canon decider.old decider.new }
 {
     match node {
         Node::Stop => Ok(Vec::new(alloc)),

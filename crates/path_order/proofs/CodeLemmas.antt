@@ -6,9 +6,9 @@ use Rattle.std.specs.declared.rc.Rc.{Rc}
 use Rattle.std.proofs.Math.Seq.{take-length}
 use Rattle.std.proofs.lemmas.List.{take_more}
 use Rattle.std.proofs.lemmas.Bool.Decides.{Decides-eqb}
-use Rattle.term_algebra.specs.Term.{Term as PlainTerm, Terms, variable, node, no_terms, term_then}
-use Rattle.term_algebra.specs.Tests.{term_eq}
-use Rattle.term_algebra.specs.Path.{argument_at}
+use Rattle.lotos_base.specs.Term.{Term as PlainTerm, Terms, variable, node, no_terms, term_then}
+use Rattle.lotos_base.specs.Tests.{term_eq}
+use Rattle.lotos_base.specs.Path.{argument_at}
 use Rattle.termination_theory.specs.Precedence.{Precedence, from_left}
 use Rattle.termination_theory.specs.OrderTest.{same_length, is_greater}
 use Rattle.sort_terms.specs.Operations.{operation_of}

@@ -4,8 +4,8 @@ use Rattle.std.specs.Prelude.{Some, slice_get, ◌⊎◌, nat_lt}
 use Rattle.std.proofs.lemmas.Option.{same_Some, slice_get_within}
 use Rattle.lotos_base.specs.Name.{spelling}
 use Rattle.lotos_base.specs.WrittenTerm.{ListedOperation}
-use Rattle.term_algebra.specs.Names.{folded}
-use Rattle.term_algebra.specs.Signature.{Signature, Operation, IsOperation}
+use Rattle.lotos_base.specs.Names.{folded}
+use Rattle.lotos_base.specs.Signature.{Signature, Operation, IsOperation}
 use Rattle.sort_terms.specs.Operations.{operation_of}
 use Rattle.sort_terms.specs.Positions.{positions_of}
 use Rattle.sort_terms.specs.SignatureView.{signature_of}
@@ -14,7 +14,7 @@ use Rattle.sort_terms.specs.declared.signatures.Signature.{Signature as CodeSign
 use Rattle.sort_terms.proofs.PositionMembers.{position_is}
 use Rattle.sort_terms.proofs.ScopeLemmas.{mapped_member, member_mapped}
 use Rattle.path_order.specs.Added.{IsSuitable, IsAddedIf}
-use Rattle.path_order.specs.Listed.{Suits, IsListedBy, AreListedBy}
+use Rattle.path_order.specs.Listed.{SuitsItem, IsListedBy, AreListedBy}
 use Rattle.path_order.proofs.Numbers.{joined_member, first_joined, second_joined}
 use Rattle.path_order.proofs.Places.{positions_rise, place_there}
 
@@ -206,6 +206,6 @@ operation_at signature ops number op are within is =
 
 pub suitable : (signature : Signature) (number : ℕ) (operation : Operation) (item : ListedOperation)
     → IsOperation signature number operation
-    → IsSuitable signature number item → Suits signature operation item
+    → IsSuitable signature number item → SuitsItem signature operation item
 suitable signature number operation item at is =
-    subst (λ (o : Operation). Suits signature o item) (same_Some is.0 operation (sym is.1 ∙ at)) is.2
+    subst (λ (o : Operation). SuitsItem signature o item) (same_Some is.0 operation (sym is.1 ∙ at)) is.2

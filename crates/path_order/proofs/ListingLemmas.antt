@@ -6,13 +6,13 @@ use Rattle.std.proofs.lemmas.Option.{same_Some, slice_get_within}
 use Rattle.lotos_base.specs.WrittenTerm.{ListedOperation}
 use Rattle.lotos_base.specs.WrittenView.{listed_operation_of}
 use Rattle.lotos_base.specs.declared.written_terms.OrderItem.{OrderItem}
-use Rattle.term_algebra.specs.Signature.{Signature}
+use Rattle.lotos_base.specs.Signature.{Signature}
 use Rattle.sort_terms.specs.Operations.{operation_of}
 use Rattle.sort_terms.specs.SignatureView.{signature_of}
 use Rattle.sort_terms.specs.declared.signatures.Signature.{Signature as CodeSignature}
 use Rattle.path_order.specs.Contains.{IsOnce}
 use Rattle.path_order.specs.Listed.{IsListedBy, AreListedBy}
-use Rattle.path_order.specs.Listing.{AreListed, none_listed, listed_then, IsIn, IsUnknown, IsTwice, IsFine}
+use Rattle.path_order.specs.Listing.{AreListed, none_listed, listed_then, IsNumberIn, IsUnknown, IsTwice, IsFineItem}
 use Rattle.path_order.specs.OrderFaultView.{IsOrderFault}
 use Rattle.path_order.specs.Steps.{HasCommon, IsItemFault}
 use Rattle.path_order.specs.declared.order_fault.OrderFault.{OrderFault}
@@ -31,21 +31,21 @@ listed_last {signature = signature} item fs (listed_then {item = first} {items =
 
 -- each operation there is listed by some item
 pub some_item : {signature : Signature} {items : List ListedOperation} {listing : List ℕ} → AreListed signature items listing → (f : ℕ)
-    → IsIn listing f
+    → IsNumberIn listing f
     → (k : ℕ) × (item : ListedOperation) × (slice_get items k ≡ Some item) × IsListedBy signature item f
 some_item none_listed f is = let none : None ≡ Some f = is.1 in cc
 some_item {signature = signature} (listed_then {item = first} {items = items} {fs = gs} {rest = rest} one later) f is =
     go (in_joined gs rest f is) (λ there. some_item later f there)
   where
-    go : IsIn gs f ⊎ IsIn rest f
-        → (IsIn rest f → (k : ℕ) × (item : ListedOperation) × (slice_get items k ≡ Some item) × IsListedBy signature item f)
+    go : IsNumberIn gs f ⊎ IsNumberIn rest f
+        → (IsNumberIn rest f → (k : ℕ) × (item : ListedOperation) × (slice_get items k ≡ Some item) × IsListedBy signature item f)
         → (k : ℕ) × (item : ListedOperation) × (slice_get (first ∷ items) k ≡ Some item) × IsListedBy signature item f
     go (inl here) below = (0, first, refl, one.listed here.0 f here.1)
     go (inr there) below = let at = below there in (suc at.0, at.1, at.2, at.3)
 
 -- and each that an item lists is there
 pub is_there : {signature : Signature} {items : List ListedOperation} {listing : List ℕ} → AreListed signature items listing → (f k : ℕ)
-    (item : ListedOperation) → slice_get items k ≡ Some item → IsListedBy signature item f → IsIn listing f
+    (item : ListedOperation) → slice_get items k ≡ Some item → IsListedBy signature item f → IsNumberIn listing f
 is_there none_listed f k item at by = let none : None ≡ Some item = at in cc
 is_there {signature = signature} (listed_then {item = first} {fs = gs} {rest = rest} one later) f zero item at by =
     let same : item ≡ first = sym (same_Some first item at) in
@@ -110,8 +110,8 @@ listed_more signature order i item old found new within is so_far by added =
 pub fine_more : (signature : Signature) (order : List OrderItem) (i : ℕ) (item : OrderItem) (old found : List ℕ) → i < length order
     → item ≡ get_or order i item → AreListed signature (map listed_operation_of (take i order)) old
     → AreListedBy signature (listed_operation_of item) found → (found ≡ [] → ⊥) → (HasCommon old found → ⊥)
-    → ((k : ℕ) → k < i → IsFine signature (map listed_operation_of order) k)
-    → (k : ℕ) → k < i + 1 → IsFine signature (map listed_operation_of order) k
+    → ((k : ℕ) → k < i → IsFineItem signature (map listed_operation_of order) k)
+    → (k : ℕ) → k < i + 1 → IsFineItem signature (map listed_operation_of order) k
 fine_more signature order i item old found within is so_far by some apart fine k before one at = go (nat_lt k i) refl
   where
     some_found : (ns : List ℕ) → (ns ≡ [] → ⊥) → (f : ℕ) × (slice_get ns 0 ≡ Some f)
@@ -142,7 +142,7 @@ fine_more signature order i item old found within is so_far by some apart fine k
 pub first_wrong : (signature : Signature) (order : List OrderItem) (i : ℕ) (item : OrderItem) (old found : List ℕ) (fault : OrderFault)
     → i < length order → item ≡ get_or order i item → AreListed signature (map listed_operation_of (take i order)) old
     → AreListedBy signature (listed_operation_of item) found
-    → ((k : ℕ) → k < i → IsFine signature (map listed_operation_of order) k)
+    → ((k : ℕ) → k < i → IsFineItem signature (map listed_operation_of order) k)
     → IsItemFault (listed_operation_of item) old found fault → IsOrderFault signature (map listed_operation_of order) fault
 first_wrong signature order i item old found (UnknownOperation place name) within is so_far by fine h = record {
   number = i;
@@ -180,8 +180,8 @@ first_wrong signature order i item old found NoMemory within is so_far by fine h
 
 -- all of them
 pub fine_all : (signature : Signature) (order : List OrderItem) (i : ℕ) → length order ≤ i
-    → ((k : ℕ) → k < i → IsFine signature (map listed_operation_of order) k)
-    → (k : ℕ) → IsFine signature (map listed_operation_of order) k
+    → ((k : ℕ) → k < i → IsFineItem signature (map listed_operation_of order) k)
+    → (k : ℕ) → IsFineItem signature (map listed_operation_of order) k
 fine_all signature order i end fine k item at =
     let within : k < length (map listed_operation_of order) = slice_get_within (map listed_operation_of order) k item at in
     let long : length (map listed_operation_of order) ≡ length order = length-map order listed_operation_of in

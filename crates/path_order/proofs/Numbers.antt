@@ -6,7 +6,7 @@ use Rattle.std.proofs.lemmas.Grind.{get_or_default_zero}
 use Rattle.std.proofs.lemmas.Option.{same_Some, slice_get_within}
 use Rattle.std.proofs.lemmas.Bool.Decides.{Decides-eqb}
 use Rattle.path_order.specs.Contains.{contains, flag_at, IsOnce}
-use Rattle.path_order.specs.Listing.{IsIn}
+use Rattle.path_order.specs.Listing.{IsNumberIn}
 use Rattle.path_order.specs.Steps.{HasCommon}
 
 eq_true : (g f : ℕ) → g ≡ f → nat_eq g f ≡ true
@@ -15,11 +15,11 @@ eq_true g f = (Decides-eqb g f).1
 eq_same : (g f : ℕ) → nat_eq g f ≡ true → g ≡ f
 eq_same g f = (Decides-eqb g f).0
 
-pub contains_in : (f : ℕ) (xs : List ℕ) → contains f xs ≡ true → IsIn xs f
+pub contains_in : (f : ℕ) (xs : List ℕ) → contains f xs ≡ true → IsNumberIn xs f
 contains_in f [] e = cc
 contains_in f (g ∷ xs) e = go (nat_eq g f) refl e (λ h. contains_in f xs h)
   where
-    go : (b : Bool) → nat_eq g f ≡ b → (b || contains f xs) ≡ true → (contains f xs ≡ true → IsIn xs f) → IsIn (g ∷ xs) f
+    go : (b : Bool) → nat_eq g f ≡ b → (b || contains f xs) ≡ true → (contains f xs ≡ true → IsNumberIn xs f) → IsNumberIn (g ∷ xs) f
     go true same h later = (0, ap (λ (n : ℕ). Some n) (eq_same g f same))
     go false differ h later = let at = later h in (suc at.0, at.1)
 
@@ -32,10 +32,10 @@ in_contains f (g ∷ xs) (suc j) at = go (nat_eq g f) (in_contains f xs j at)
     go true h = refl
     go false h = h
 
-pub not_contains : (f : ℕ) (xs : List ℕ) → contains f xs ≡ false → ¬ IsIn xs f
+pub not_contains : (f : ℕ) (xs : List ℕ) → contains f xs ≡ false → ¬ IsNumberIn xs f
 not_contains f xs e is = let yes : contains f xs ≡ true = in_contains f xs is.0 is.1 in let clash : true ≡ false = sym yes ∙ e in cc
 
-pub contains_not : (f : ℕ) (xs : List ℕ) → ¬ IsIn xs f → contains f xs ≡ false
+pub contains_not : (f : ℕ) (xs : List ℕ) → ¬ IsNumberIn xs f → contains f xs ≡ false
 contains_not f xs none = go (contains f xs) refl
   where
     go : (b : Bool) → contains f xs ≡ b → contains f xs ≡ false
@@ -79,10 +79,10 @@ second_joined (x ∷ xs) ys j f at =
     let same : suc (length xs) + j ≡ suc (length xs + j) = omega arith in
     ap (λ (i : ℕ). slice_get (x ∷ (xs ++ ys)) i) same ∙ second_joined xs ys j f at
 
-pub in_joined : (xs ys : List ℕ) (f : ℕ) → IsIn (xs ++ ys) f → IsIn xs f ⊎ IsIn ys f
+pub in_joined : (xs ys : List ℕ) (f : ℕ) → IsNumberIn (xs ++ ys) f → IsNumberIn xs f ⊎ IsNumberIn ys f
 in_joined xs ys f is = go (joined_member xs ys is.0 f is.1)
   where
-    go : (slice_get xs is.0 ≡ Some f) ⊎ ((j : ℕ) × (is.0 ≡ length xs + j) × (slice_get ys j ≡ Some f)) → IsIn xs f ⊎ IsIn ys f
+    go : (slice_get xs is.0 ≡ Some f) ⊎ ((j : ℕ) × (is.0 ≡ length xs + j) × (slice_get ys j ≡ Some f)) → IsNumberIn xs f ⊎ IsNumberIn ys f
     go (inl first) = inl (is.0, first)
     go (inr second) = inr (second.0, second.2)
 
@@ -152,7 +152,7 @@ next_is_new old found now i x are within is once apart =
     here : slice_get found i ≡ Some x
     here = member_at found i x within is
 
-    go : IsIn old x ⊎ IsIn (take i found) x → ⊥
+    go : IsNumberIn old x ⊎ IsNumberIn (take i found) x → ⊥
     go (inl before) = apart (x, before, (i, here))
     go (inr taken) =
         let at = taken_member found i taken.0 x taken.1 in

@@ -3,9 +3,9 @@ use Rattle.std.proofs.Common.{◌≡◌, ◌≢◌, ℕ, zero, suc, ◌+◌, ◌
 use Rattle.std.specs.Prelude.{Some, slice_get, true}
 use Rattle.std.proofs.lemmas.List.{take_more, length-map, length-take-le, map-append}
 use Rattle.std.proofs.lemmas.Option.{same_Some}
-use Rattle.term_algebra.specs.Signature.{Signature}
-use Rattle.term_algebra.specs.Equation.{Equation as PlainEquation, Data}
-use Rattle.term_algebra.specs.Equality.{Direction, forward, backward, old_side, new_side}
+use Rattle.lotos_base.specs.Signature.{Signature}
+use Rattle.lotos_base.specs.Equation.{Equation as PlainEquation, Data}
+use Rattle.lotos_base.specs.Equality.{Direction, forward, backward, old_side, new_side}
 use Rattle.termination_theory.specs.Precedence.{Precedence}
 use Rattle.termination_theory.specs.PathOrder.{IsGreater}
 use Rattle.termination_theory.specs.Orientation.{NumberedRule, rules_of, GiveRules, no_more, dropped, turned_next, IsUnorientable, IsFirstUnorientable}

@@ -3,7 +3,7 @@ use Rattle.std.proofs.Common.{◌≡◌, ℕ, zero, suc, ◌+◌, ◌<◌, ◌�
 use Rattle.std.specs.Prelude.{Some, slice_get}
 use Rattle.std.specs.Str.{bytes_eq}
 use Rattle.std.proofs.lemmas.Option.{none-some, same_Some}
-use Rattle.term_algebra.specs.Names.{folded}
+use Rattle.lotos_base.specs.Names.{folded}
 use Rattle.sort_terms.specs.Positions.{positions_from}
 use Rattle.sort_terms.proofs.NameIndexLemmas.{key_eq}
 use Rattle.sort_terms.proofs.PositionLemmas.{one_if}

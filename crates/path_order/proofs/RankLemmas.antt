@@ -10,7 +10,7 @@ use Rattle.sort_terms.specs.Operations.{operation_of}
 use Rattle.sort_terms.specs.SignatureView.{signature_of}
 use Rattle.sort_terms.specs.declared.operations.Op.{Op}
 use Rattle.sort_terms.specs.declared.signatures.Signature.{Signature as CodeSignature}
-use Rattle.path_order.specs.Listing.{AreListed, IsFine, IsIn, IsAbove, AreRanksBy}
+use Rattle.path_order.specs.Listing.{AreListed, IsFineItem, IsNumberIn, IsAbove, AreRanksBy}
 use Rattle.path_order.proofs.Numbers.{contains_in, not_contains, member_at}
 
 -- The first so many of the listed operations have their ranks, all others their numbers.
@@ -60,7 +60,7 @@ ranked_more listing old new i x v is value within x_is inside once so_far =
 
 pub ranks_tell : (listing ranks : List ℕ) (count f g : ℕ) → count < 2147483648 → length listing < 2147483648
     → ((k h : ℕ) → slice_get listing k ≡ Some h → slice_index ranks h ≡ 4294967295 - k)
-    → ((h : ℕ) → h < count → ¬ IsIn listing h → slice_index ranks h ≡ h) → f < count → g < count
+    → ((h : ℕ) → h < count → ¬ IsNumberIn listing h → slice_index ranks h ≡ h) → f < count → g < count
     → IsOnce listing → (slice_index ranks g < slice_index ranks f) ↔ IsAbove listing f g
 ranks_tell listing ranks count f g few short listed others in_f in_g once =
     (forth (contains f listing) refl (contains g listing) refl, back)
@@ -112,9 +112,9 @@ pub ranks_by : (signature : CodeSignature) (order : List OrderItem) (ops : List 
     → ops ≡ signature.ops.items → measured ≡ listing → given ≡ listing → length ops ≤ 2147483647 → length measured ≤ 2147483647
     → IsOnce listing
     → AreListed (signature_of signature) (map listed_operation_of order) listing
-    → ((k : ℕ) → IsFine (signature_of signature) (map listed_operation_of order) k)
+    → ((k : ℕ) → IsFineItem (signature_of signature) (map listed_operation_of order) k)
     → ((j f : ℕ) → slice_get given j ≡ Some f → slice_index ranks f ≡ 4294967295 - j)
-    → ((f : ℕ) → f < length ops → ¬ IsIn given f → slice_index ranks f ≡ f)
+    → ((f : ℕ) → f < length ops → ¬ IsNumberIn given f → slice_index ranks f ≡ f)
     → AreRanksBy (signature_of signature) (map listed_operation_of order) ranks
 ranks_by signature order ops listing measured given ranks ops_are measured_is given_is few short once in_order fine listed others = record {
   listing = listing;
@@ -134,5 +134,5 @@ ranks_by signature order ops listing measured given ranks ops_are measured_is gi
     listed_in : (k h : ℕ) → slice_get listing k ≡ Some h → slice_index ranks h ≡ 4294967295 - k
     listed_in k h at = listed k h (ap (λ (xs : List ℕ). slice_get xs k) given_is ∙ at)
 
-    others_in : (h : ℕ) → h < length ops → ¬ IsIn listing h → slice_index ranks h ≡ h
-    others_in h within none = others h within (subst (λ (xs : List ℕ). ¬ IsIn xs h) (sym given_is) none)
+    others_in : (h : ℕ) → h < length ops → ¬ IsNumberIn listing h → slice_index ranks h ≡ h
+    others_in h within none = others h within (subst (λ (xs : List ℕ). ¬ IsNumberIn xs h) (sym given_is) none)

@@ -3,11 +3,11 @@ use Rattle.std.proofs.Common.{◌≡◌, ◌≢◌, ℕ, suc, List, [], ◌∷�
 use Rattle.std.specs.Prelude.{◌&&◌, ◌||◌, ◌⊎◌, if◌then◌else◌}
 use Rattle.std.proofs.lemmas.Bool.{and_parts}
 use Rattle.std.proofs.lemmas.Bool.Decides.{Decides-eqb}
-use Rattle.term_algebra.specs.Tests.{term_eq}
-use Rattle.term_algebra.specs.Equation.{Equation}
-use Rattle.term_algebra.specs.Equality.{Direction, forward, backward, old_side, new_side}
-use Rattle.term_algebra.proofs.TestLemmas.{Decides-term_eq}
-use Rattle.rewriting_theory.specs.Rule.{Rule, IsTurned}
+use Rattle.lotos_base.specs.Tests.{term_eq}
+use Rattle.lotos_base.specs.Equation.{Equation}
+use Rattle.lotos_base.specs.Equality.{Direction, forward, backward, old_side, new_side}
+use Rattle.lotos_base.proofs.TestLemmas.{Decides-term_eq}
+use Rattle.termination_theory.specs.HandedOn.{Rule, IsTurned}
 use Rattle.termination_theory.specs.Precedence.{Precedence}
 use Rattle.termination_theory.specs.Orientation.{NumberedRule, TurnsToSmaller, GiveRules, no_more, dropped, turned_next}
 use Rattle.termination_theory.specs.OrderTest.{is_greater}

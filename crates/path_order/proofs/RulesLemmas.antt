@@ -4,14 +4,14 @@ use Rattle.std.proofs.Common.{◌≡◌, ℕ, zero, suc, List, [], ◌∷◌, ma
 use Rattle.std.specs.Prelude.{Some, None, slice_get, ◌&&◌}
 use Rattle.std.proofs.lemmas.Option.{same_Some}
 use Rattle.std.proofs.lemmas.Bool.{and_parts}
-use Rattle.term_algebra.specs.Signature.{Signature}
-use Rattle.term_algebra.specs.Equation.{Equation, Data, HasOneSort, HasSortedSides}
-use Rattle.term_algebra.specs.Equality.{forward}
-use Rattle.term_algebra.specs.Sorting.{HasSort}
-use Rattle.rewriting_theory.specs.Rule.{Rule as PlainRule, AreWellFormedRules, AreRulesOf, AreSortedRulesOf}
-use Rattle.rewriting_theory.specs.Rewriting.{Terminates}
-use Rattle.rewriting_theory.specs.Measure.{HaveChosenForms}
-use Rattle.rewriting_theory.proofs.PublicLemmas.{chosen_form}
+use Rattle.lotos_base.specs.Signature.{Signature}
+use Rattle.lotos_base.specs.Equation.{Equation, Data, HasOneSort, HasSortedSides}
+use Rattle.lotos_base.specs.Equality.{forward}
+use Rattle.lotos_base.specs.Sorting.{HasSort}
+use Rattle.termination_theory.specs.HandedOn.{Rule as PlainRule, AreWellFormedRules, AreRulesOf, AreSortedRulesOf}
+use Rattle.termination_theory.specs.HandedOn.{Terminates}
+use Rattle.termination_theory.specs.HandedOn.{HaveChosenForms}
+use Rattle.termination_theory.proofs.HandedOn.{chosen_form}
 use Rattle.termination_theory.specs.Precedence.{Precedence}
 use Rattle.termination_theory.specs.Orientation.{AreOriented}
 use Rattle.termination_theory.specs.OrderTest.{is_greater}

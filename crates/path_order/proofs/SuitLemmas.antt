@@ -7,8 +7,8 @@ use Rattle.std.proofs.lemmas.List.{length-map}
 use Rattle.std.proofs.lemmas.Option.{same_Some, slice_get_within}
 use Rattle.lotos_base.specs.Name.{spelling}
 use Rattle.lotos_base.specs.declared.names.Name.{Name}
-use Rattle.term_algebra.specs.Names.{folded, AreOneName}
-use Rattle.term_algebra.specs.Signature.{Signature, Sort}
+use Rattle.lotos_base.specs.Names.{folded, AreOneName}
+use Rattle.lotos_base.specs.Signature.{Signature, Sort}
 use Rattle.sort_terms.specs.Operations.{sort_of}
 use Rattle.sort_terms.specs.declared.operations.Sort.{Sort as CodeSort}
 use Rattle.sort_terms.proofs.ScopeLemmas.{member_mapped}

@@ -2,9 +2,9 @@
 use Rattle.std.proofs.Common.{◌≡◌, ℕ, zero, suc, Bool, true, false, nat_eq, refl, ap, sym, ◌∙◌}
 use Rattle.std.specs.Prelude.{Some, ◌&&◌, ◌||◌, nat_lt}
 use Rattle.std.specs.Option.{option_map}
-use Rattle.term_algebra.specs.Term.{Term, variable, node, Terms, no_terms, term_then}
-use Rattle.term_algebra.specs.Path.{argument_at}
-use Rattle.term_algebra.specs.Tests.{term_eq, terms_eq, occurs, occurs_among}
+use Rattle.lotos_base.specs.Term.{Term, variable, node, Terms, no_terms, term_then}
+use Rattle.lotos_base.specs.Path.{argument_at}
+use Rattle.lotos_base.specs.Tests.{term_eq, terms_eq, occurs, occurs_among}
 use Rattle.termination_theory.specs.Precedence.{Precedence, from_left}
 use Rattle.termination_theory.specs.OrderTest.{is_greater, same_length, some_reaches, list_exceeds, exceeds_all}
 use Rattle.termination_theory.proofs.OrderTestLemmas.{greater_by_parts}

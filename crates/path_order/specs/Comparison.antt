@@ -1,8 +1,8 @@
 -- A table of what a term is to each subterm of another term, in the shape of that term. The path order is told from
 -- such tables of the arguments, so that it costs the product of two sizes.
 use Rattle.std.specs.Prelude.{◌≡◌, ℕ, suc, List, [], ◌∷◌, Option, None, Some, Bool, true, false, zero, ◌&&◌, ◌||◌}
-use Rattle.term_algebra.specs.Term.{Term, variable, node, Terms, no_terms, term_then}
-use Rattle.term_algebra.specs.Tests.{term_eq}
+use Rattle.lotos_base.specs.Term.{Term, variable, node, Terms, no_terms, term_then}
+use Rattle.lotos_base.specs.Tests.{term_eq}
 use Rattle.termination_theory.specs.Precedence.{Precedence}
 use Rattle.termination_theory.specs.OrderTest.{is_greater}
 

@@ -20,3 +20,4 @@ pub mod Contains
 pub mod OrderFaultView
 pub mod Steps
 pub mod Added
+pub mod HandedOn

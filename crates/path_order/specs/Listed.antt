@@ -1,8 +1,8 @@
 -- Which operations an item of an order lists.
 use Rattle.std.specs.Prelude.{◌≡◌, ◌<◌, ℕ, List, [], ◌∷◌, Option, None, Some, slice_get}
 use Rattle.lotos_base.specs.WrittenTerm.{WrittenProfile, ListedOperation}
-use Rattle.term_algebra.specs.Names.{AreOneName}
-use Rattle.term_algebra.specs.Signature.{Signature, Operation, IsOperation}
+use Rattle.lotos_base.specs.Names.{AreOneName}
+use Rattle.lotos_base.specs.Signature.{Signature, Operation, IsOperation}
 use Rattle.sort_terms.specs.Reading.{IsSortNamed}
 
 -- The sorts have these names, one by one.
@@ -19,8 +19,8 @@ HasProfile signature operation (Some profile) =
     AreSortsNamed signature operation.arguments profile.arguments × IsSortNamed signature operation.result profile.result
 
 -- The operation has the form of the item, and its profile, where one is given.
-abbrev pub Suits : Signature → Operation → ListedOperation → Type 0
-Suits signature operation item = (operation.form ≡ item.form) × HasProfile signature operation item.profile
+abbrev pub SuitsItem : Signature → Operation → ListedOperation → Type 0
+SuitsItem signature operation item = (operation.form ≡ item.form) × HasProfile signature operation item.profile
 
 -- The item lists the operation with this number: it has the name and form of the item, and its profile, where one is
 -- given.
@@ -28,7 +28,7 @@ pub record IsListedBy (signature : Signature) (item : ListedOperation) (f : ℕ)
   pub operation : Operation
   pub is_there : IsOperation signature f operation
   pub named : AreOneName operation.name item.name
-  pub suits : Suits signature operation item
+  pub suits : SuitsItem signature operation item
 
 -- The list has the numbers of the operations that the item lists, the latest declared first.
 pub record AreListedBy (signature : Signature) (item : ListedOperation) (fs : List ℕ) : Type 0 where

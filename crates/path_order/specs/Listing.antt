@@ -1,8 +1,8 @@
 -- The order of operations that items give, and what is wrong with items.
 use Rattle.std.specs.Prelude.{◌≡◌, ◌⊎◌, ◌↔◌, ◌<◌, ℕ, List, [], ◌∷◌, ◌++◌, Some, slice_get, slice_index, length}
 use Rattle.lotos_base.specs.WrittenTerm.{ListedOperation}
-use Rattle.term_algebra.specs.Equation.{Place}
-use Rattle.term_algebra.specs.Signature.{Signature}
+use Rattle.lotos_base.specs.Equation.{Place}
+use Rattle.lotos_base.specs.Signature.{Signature}
 use Rattle.path_order.specs.Listed.{IsListedBy, AreListedBy}
 
 -- The numbers are those that the items list, item by item.
@@ -12,8 +12,8 @@ pub data AreListed (signature : Signature) : List ListedOperation → List ℕ �
       → AreListedBy signature item fs → AreListed signature items rest → AreListed signature (item ∷ items) (fs ++ rest)
 
 -- The number stands in the list.
-abbrev pub IsIn : List ℕ → ℕ → Type 0
-IsIn numbers f = (j : ℕ) × (slice_get numbers j ≡ Some f)
+abbrev pub IsNumberIn : List ℕ → ℕ → Type 0
+IsNumberIn numbers f = (j : ℕ) × (slice_get numbers j ≡ Some f)
 
 -- The first number stands in the list before the second one.
 pub record StandsBefore (numbers : List ℕ) (f g : ℕ) : Type 0 where
@@ -27,7 +27,7 @@ pub record StandsBefore (numbers : List ℕ) (f g : ℕ) : Type 0 where
 -- neither is, and it is declared later.
 abbrev pub IsAbove : List ℕ → ℕ → ℕ → Type 0
 IsAbove listing f g =
-    StandsBefore listing f g ⊎ ((IsIn listing f × (¬ IsIn listing g)) ⊎ ((¬ IsIn listing f) × (¬ IsIn listing g) × (g < f)))
+    StandsBefore listing f g ⊎ ((IsNumberIn listing f × (¬ IsNumberIn listing g)) ⊎ ((¬ IsNumberIn listing f) × (¬ IsNumberIn listing g) × (g < f)))
 
 -- The item lists no operation.
 abbrev pub IsUnknown : Signature → ListedOperation → Type 0
@@ -44,8 +44,8 @@ pub record IsTwice (signature : Signature) (items : List ListedOperation) (numbe
   pub was_listed : IsListedBy signature other operation
 
 -- Nothing is wrong with the item with this number.
-abbrev pub IsFine : Signature → List ListedOperation → ℕ → Type 0
-IsFine signature items number = (item : ListedOperation) → slice_get items number ≡ Some item
+abbrev pub IsFineItem : Signature → List ListedOperation → ℕ → Type 0
+IsFineItem signature items number = (item : ListedOperation) → slice_get items number ≡ Some item
     → (¬ IsUnknown signature item) × (¬ IsTwice signature items number item)
 
 -- The item with the place and the name is the first one with something wrong, and it is this.
@@ -57,12 +57,12 @@ pub record IsFirstWrong (signature : Signature) (items : List ListedOperation) (
   pub wrong : IsWrong number item
   pub placed : place ≡ item.place
   pub named : name ≡ item.name
-  pub fine_before : (k : ℕ) → k < number → IsFine signature items k
+  pub fine_before : (k : ℕ) → k < number → IsFineItem signature items k
 
 -- The ranks order the operations of the signature as the items say, and nothing is wrong with an item.
 pub record AreRanksBy (signature : Signature) (items : List ListedOperation) (ranks : List ℕ) : Type 0 where
   pub listing : List ℕ
   pub listed : AreListed signature items listing
-  pub fine : (k : ℕ) → IsFine signature items k
+  pub fine : (k : ℕ) → IsFineItem signature items k
   pub above : (f g : ℕ) → f < length signature.operations → g < length signature.operations
       → (slice_index ranks g < slice_index ranks f) ↔ IsAbove listing f g

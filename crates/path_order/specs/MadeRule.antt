@@ -1,6 +1,6 @@
 -- Rules made of two sides.
 use Rattle.std.specs.Prelude.{ℕ}
-use Rattle.term_algebra.specs.Term.{Term}
+use Rattle.lotos_base.specs.Term.{Term}
 use Rattle.sort_terms.specs.ProfiledTerm.{ProfiledTerm}
 use Rattle.termination_theory.specs.Orientation.{NumberedRule}
 use Rattle.path_order.specs.RuleSides.{Sides}

@@ -3,7 +3,7 @@ use Rattle.std.specs.Prelude.{List}
 use Rattle.lotos_base.specs.Name.{spelling}
 use Rattle.lotos_base.specs.WrittenTerm.{ListedOperation}
 use Rattle.lotos_base.specs.WrittenView.{text_place_of}
-use Rattle.term_algebra.specs.Signature.{Signature}
+use Rattle.lotos_base.specs.Signature.{Signature}
 use Rattle.path_order.specs.Listing.{IsUnknown, IsTwice, IsFirstWrong}
 use Rattle.path_order.specs.declared.order_fault.OrderFault.{OrderFault}
 use Rattle.path_order.specs.declared.order_fault.OrderFault.TheVariants.{UnknownOperation, TwiceListed, NoMemory}

@@ -1,15 +1,15 @@
 -- The precedence that the items of an order give.
 use Rattle.std.specs.Prelude.{◌↔◌, ◌<◌, ℕ, List, length}
 use Rattle.lotos_base.specs.WrittenTerm.{ListedOperation}
-use Rattle.term_algebra.specs.Signature.{Signature}
+use Rattle.lotos_base.specs.Signature.{Signature}
 use Rattle.termination_theory.specs.Precedence.{Precedence, IsOver}
-use Rattle.path_order.specs.Listing.{AreListed, IsAbove, IsFine}
+use Rattle.path_order.specs.Listing.{AreListed, IsAbove, IsFineItem}
 
 -- Nothing is wrong with an item, and an operation of the signature is over another one exactly where it is above it in
 -- the order that the items list.
 pub record IsPrecedenceBy (signature : Signature) (items : List ListedOperation) (precedence : Precedence) : Type 0 where
   pub listing : List ℕ
   pub listed : AreListed signature items listing
-  pub fine : (k : ℕ) → IsFine signature items k
+  pub fine : (k : ℕ) → IsFineItem signature items k
   pub over : (f g : ℕ) → f < length signature.operations → g < length signature.operations
       → IsOver precedence f g ↔ IsAbove listing f g

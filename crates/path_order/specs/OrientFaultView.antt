@@ -1,6 +1,6 @@
 -- What a fault of orientation says.
 use Rattle.std.specs.Prelude.{◌≡◌, ℕ, List}
-use Rattle.term_algebra.specs.Equation.{Equation}
+use Rattle.lotos_base.specs.Equation.{Equation}
 use Rattle.termination_theory.specs.Precedence.{Precedence}
 use Rattle.termination_theory.specs.Orientation.{IsUnorientable, IsFirstUnorientable}
 use Rattle.path_order.specs.declared.orient_fault.OrientFault.{OrientFault}

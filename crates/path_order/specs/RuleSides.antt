@@ -2,8 +2,8 @@
 use Rattle.std.specs.Prelude.{◌≡◌, ℕ, List, Some, slice_get, map}
 use Rattle.std.proofs.Props.{props}
 use Rattle.std.specs.Coded.{Unit-prop}
-use Rattle.term_algebra.specs.Signature.{Signature}
-use Rattle.term_algebra.specs.Sorting.{Occurs}
+use Rattle.lotos_base.specs.Signature.{Signature}
+use Rattle.lotos_base.specs.Sorting.{Occurs}
 use Rattle.sort_terms.specs.ProfiledTerm.{ProfiledTerm, ProfiledTerms, profiled_variable, profiled_node, no_profiled_terms, profiled_term_then, head_sort, FitsProfiles, bare, IsOf, AreOf}
 use Rattle.sort_terms.specs.SignatureLemmas.{FitsProfiles-prop}
 use Rattle.sort_terms.specs.SortedView.{profiled_in}

@@ -1,8 +1,8 @@
 -- A test that computes whether rules are those of equations, for facts that are kept beside code.
 use Rattle.std.specs.Prelude.{◌≡◌, ◌↔◌, ℕ, suc, Bool, true, false, ◌&&◌, ◌||◌, nat_eq, List, [], ◌∷◌, if◌then◌else◌}
-use Rattle.term_algebra.specs.Tests.{term_eq}
-use Rattle.term_algebra.specs.Equation.{Equation}
-use Rattle.rewriting_theory.specs.Rule.{Rule}
+use Rattle.lotos_base.specs.Tests.{term_eq}
+use Rattle.lotos_base.specs.Equation.{Equation}
+use Rattle.termination_theory.specs.HandedOn.{Rule}
 use Rattle.termination_theory.specs.Precedence.{Precedence}
 use Rattle.termination_theory.specs.Orientation.{NumberedRule, GiveRules}
 use Rattle.termination_theory.specs.OrderTest.{is_greater}

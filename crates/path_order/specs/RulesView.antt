@@ -1,7 +1,7 @@
 -- What rules of the code stand for.
 use Rattle.std.specs.Prelude.{List}
-use Rattle.term_algebra.specs.Signature.{Signature}
-use Rattle.rewriting_theory.specs.Rule.{Rule as PlainRule}
+use Rattle.lotos_base.specs.Signature.{Signature}
+use Rattle.termination_theory.specs.HandedOn.{Rule as PlainRule}
 use Rattle.sort_terms.specs.SignatureView.{signature_of}
 use Rattle.termination_theory.specs.Orientation.{NumberedRule, rules_of}
 use Rattle.termination_theory.specs.Precedence.{Precedence}

@@ -1,6 +1,6 @@
 -- What a turn of an equation says of its sides.
 use Rattle.std.specs.Prelude.{◌≡◌, ◌≢◌}
-use Rattle.term_algebra.specs.Term.{Term}
+use Rattle.lotos_base.specs.Term.{Term}
 use Rattle.termination_theory.specs.Precedence.{Precedence}
 use Rattle.termination_theory.specs.PathOrder.{IsGreater}
 use Rattle.path_order.specs.declared.turning.Turn.{Turn}

@@ -15,8 +15,8 @@ ghost use Rattle.path_order.specs.PrecedenceView.{precedence_of};
 ghost use Rattle.sort_terms.specs.SortedView.{term_in};
 ghost use Rattle.sort_terms.specs.TermView.{term_of, terms_of};
 ghost use Rattle.std.specs.Prelude.{◌≡◌, ◌↔◌, ◌&&◌, ◌||◌, IfOk, IsTrue, map, nat_eq, nat_lt};
-ghost use Rattle.term_algebra.specs.Term.{node, variable};
-ghost use Rattle.term_algebra.specs.Tests.{term_eq};
+ghost use Rattle.lotos_base.specs.Term.{node, variable};
+ghost use Rattle.lotos_base.specs.Tests.{term_eq};
 ghost use Rattle.termination_theory.specs.OrderTest.{same_length};
 ghost use Rattle.termination_theory.specs.PathOrder.{IsGreater};
 

@@ -2,7 +2,7 @@
 
 ghost use Rattle.lotos_base.specs.WrittenView.{listed_operation_of};
 ghost use Rattle.path_order.specs.Contains.{IsOnce, contains};
-ghost use Rattle.path_order.specs.Listing.{AreListed, IsFine};
+ghost use Rattle.path_order.specs.Listing.{AreListed, IsFineItem};
 ghost use Rattle.path_order.specs.OrderFaultView.{IsOrderFault};
 ghost use Rattle.path_order.specs.Steps.{HasCommon, IsItemFault, IsNewOf};
 ghost use Rattle.sort_terms.specs.SignatureView.{signature_of};
@@ -26,7 +26,7 @@ pub fn listing(
         made.order.items)
         (λ fault. IsOrderFault (signature_of signature.now) (map listed_operation_of order.now)
         fault) }
-    ensures fine { IfOk result (λ made. (k : ℕ) → IsFine (signature_of signature.now)
+    ensures fine { IfOk result (λ made. (k : ℕ) → IsFineItem (signature_of signature.now)
         (map listed_operation_of order.now) k) }
     ensures room { IfOk result
         (λ made. length made.listed.items ≡ length signature.now.ops.items) }

@@ -2,7 +2,7 @@
 
 ghost use Rattle.lotos_base.specs.WrittenView.{listed_operation_of};
 ghost use Rattle.path_order.specs.Contains.{IsOnce};
-ghost use Rattle.path_order.specs.Listing.{AreRanksBy, IsIn};
+ghost use Rattle.path_order.specs.Listing.{AreRanksBy, IsNumberIn};
 ghost use Rattle.path_order.specs.OrderFaultView.{IsOrderFault};
 ghost use Rattle.sort_terms.specs.SignatureView.{signature_of};
 ghost use Rattle.std.specs.Prelude.{◌≡◌, ◌<◌, ◌≤◌, ◌-◌, ◌^◌, ℕ, IfOk, MatchResult, Some, length, map, slice_get, slice_index};
@@ -52,7 +52,7 @@ fn ranked(alloc: Global, count: usize, listing: &[u32]) -> Result<Vec<u32>, NoMe
     requires once { IsOnce listing.now }
     ensures listed { IfOk result (λ ranks. (j f : ℕ) → slice_get listing.now j ≡ Some f
         → slice_index ranks.items f ≡ 4294967295 - j) }
-    ensures others { IfOk result (λ ranks. (f : ℕ) → f < count → ¬ IsIn listing.now f
+    ensures others { IfOk result (λ ranks. (f : ℕ) → f < count → ¬ IsNumberIn listing.now f
         → slice_index ranks.items f ≡ f) }
 {
     let mut ranks = numbers(alloc, count)?;

@@ -2,7 +2,7 @@
 
 ghost use Rattle.lotos_base.specs.Name.{spelling};
 ghost use Rattle.lotos_base.specs.WrittenView.{form_of, listed_operation_of, written_profile_of};
-ghost use Rattle.path_order.specs.Listed.{AreSortsNamed, HasProfile, Suits};
+ghost use Rattle.path_order.specs.Listed.{AreSortsNamed, HasProfile, SuitsItem};
 ghost use Rattle.sort_terms.specs.Operations.{operation_of};
 ghost use Rattle.sort_terms.specs.Reading.{IsSortNamed};
 ghost use Rattle.sort_terms.specs.SignatureView.{signature_of};
@@ -13,7 +13,7 @@ use sort_terms::{Op, Signature};
 
 /// Whether the operation has the form of the item, and its profile, where one is given.
 pub fn suits(signature: &Signature, op: &Op, item: &OrderItem) -> bool
-    ensures { IsTrue result ↔ Suits (signature_of signature.now) (operation_of op.now)
+    ensures { IsTrue result ↔ SuitsItem (signature_of signature.now) (operation_of op.now)
         (listed_operation_of item.now) }
 {
     if !is_form(op.form, item.form) {

@@ -1,31 +1,32 @@
 -- The places of behaviours in texts.
 use Rattle.std.proofs.Common.{◌≡◌, ℕ, List, [], ◌∷◌, ◌++◌, flat_map, refl, ap, sym, subst, inl, inr}
 use Rattle.std.specs.Prelude.{◌⊎◌, Option, None, true}
-use Rattle.term_algebra.specs.Equation.{Place}
+use Rattle.scope_parts.proofs.OrderLemmas.{in_either, both_before}
+use Rattle.lotos_base.specs.Equation.{Place}
 use Rattle.lotos_lexer.specs.declared.tokens.Token.{Token}
 use Rattle.syntax_trees.specs.WrittenEquation.{WrittenPremiss}
 use Rattle.syntax_trees.specs.WrittenBehaviour.{WrittenBehaviour, WrittenOffer, action, inner_action, guard, hide, let_be, choose_value, choose_gate, par_gate}
 use Rattle.syntax_trees.specs.Strength.{PlacedSign, strength_of, joined as with_sign}
 use Rattle.syntax_trees.specs.Grouping.{IsGrouped, alone, split}
-use Rattle.lotos_sentences.specs.Words.{Optional, left_out, there}
-use Rattle.lotos_sentences.specs.Names.{place_of, spelled}
-use Rattle.lotos_sentences.specs.Behaviours.{IsSelection, selection, AreOperands, hiding, letting, choosing_values, choosing_gates, parallel_over_gates, inner_prefix, guarding, acting, offering, last_operand, before_sign, before_first, IsAtom, stopping, exiting, calling, in_brackets, IsBehaviour, grouped_operands}
+use Rattle.lotos_rows.specs.Words.{Optional, left_out, there}
+use Rattle.lotos_rows.specs.Names.{place_of, spelled}
+use Rattle.lotos_rows.specs.Behaviours.{IsSelection, selection, AreOperands, hiding, letting, choosing_values, choosing_gates, parallel_over_gates, inner_prefix, guarding, acting, offering, last_operand, before_sign, before_first, IsAtom, stopping, exiting, calling, in_brackets, IsBehaviour, grouped_operands}
 use Rattle.behaviour_semantics.specs.WellFormed.{Every}
 use Rattle.scope_parts.specs.ScopeFault.{stands_before}
-use Rattle.scope_faults.specs.Order.{IsOneOf, Before, InTurn, joined}
-use Rattle.scope_faults.specs.TermPlaces.{name_places, premiss_places}
-use Rattle.scope_faults.specs.PartPlaces.{exit_places, value_places, let_places, variable_places, choice_places, sign_places, SignFollows, offers_places, OffersFollowOn}
-use Rattle.scope_faults.specs.BehaviourPlaces.{test_places, behaviour_places, Follows}
-use Rattle.place_laws.proofs.TokenOrder.{At, Rises, Within, AllWithin, rises_front, rises_back, nothing_within, here_within, in_left, in_right, in_rest, both_within, more_within, joined_within, one_split, one_left, one_right, before_parts, before_first as before_rest, before_all, before_third, both_before, first_before, before_joined, nothing_after, nothing_before, in_front, rises_two, every_map, every_front, every_back, all_in_right}
+use Rattle.scope_parts.specs.Order.{IsOneOf, StandWhollyBefore, InTurn, joined}
+use Rattle.scope_parts.specs.TermPlaces.{name_places, premiss_places}
+use Rattle.scope_parts.specs.PartPlaces.{exit_places, value_places, let_places, variable_places, choice_places, sign_places, SignFollows, offers_places, OffersFollowOn}
+use Rattle.scope_parts.specs.BehaviourPlaces.{test_places, behaviour_places, Follows}
+use Rattle.place_laws.proofs.TokenOrder.{At, Rises, Within, AllWithin, rises_front, rises_back, nothing_within, here_within, in_left, in_right, in_rest, both_within, more_within, joined_within, one_left, one_right, before_parts, before_first as before_rest, before_all, before_third, first_before, before_joined, nothing_after, nothing_before, in_front, rises_two, every_map, every_front, every_back, all_in_right}
 use Rattle.place_laws.proofs.TermPlaceLemmas.{optional_gates_in, optional_gates_rise, values_in, values_turn, premiss_in}
 use Rattle.place_laws.proofs.PartPlaceLemmas.{variables_in, variables_follow, exit_values_in, exit_values_turn, let_in, let_follows, offers_in, offers_follow_on, choices_in, choices_follow, parallel_sign_in, parallel_sign_follows, sign_in, sign_follows}
 
 -- ---- two and three parts in turn
 
-pub two_turn : (ps qs : List Place) → Before ps qs → InTurn (ps ∷ qs ∷ [])
+pub two_turn : (ps qs : List Place) → StandWhollyBefore ps qs → InTurn (ps ∷ qs ∷ [])
 two_turn ps qs h = ((h, tt), (tt, tt))
 
-pub three_turn : (ps qs rs : List Place) → Before ps qs → Before ps rs → Before qs rs → InTurn (ps ∷ qs ∷ rs ∷ [])
+pub three_turn : (ps qs rs : List Place) → StandWhollyBefore ps qs → StandWhollyBefore ps rs → StandWhollyBefore qs rs → InTurn (ps ∷ qs ∷ rs ∷ [])
 three_turn ps qs rs first second third = ((first, (second, tt)), two_turn qs rs third)
 
 -- ---- operands and the signs between them
@@ -70,7 +71,7 @@ lined_both (b ∷ bs) cs (s ∷ first) sign second one =
 
 joined_left : (p : Place) (pss qss : List (List Place)) → IsOneOf p (joined pss) → IsOneOf p (joined (pss ++ qss))
 joined_left p [] qss at = absurd at
-joined_left p (ps ∷ pss) qss at = go (one_split p ps (joined pss) at) (λ later. joined_left p pss qss later)
+joined_left p (ps ∷ pss) qss at = go (in_either p ps (joined pss) at) (λ later. joined_left p pss qss later)
   where
     go : IsOneOf p ps ⊎ IsOneOf p (joined pss) → (IsOneOf p (joined pss) → IsOneOf p (joined (pss ++ qss)))
         → IsOneOf p (ps ++ joined (pss ++ qss))
@@ -83,16 +84,16 @@ joined_right p (ps ∷ pss) qss at = one_right p ps (joined (pss ++ qss)) (joine
 
 turn_front : (pss qss : List (List Place)) → InTurn (pss ++ qss) → InTurn pss
 turn_front [] qss h = tt
-turn_front (ps ∷ pss) qss h = (every_front (Before ps) pss qss h.0, turn_front pss qss h.1)
+turn_front (ps ∷ pss) qss h = (every_front (StandWhollyBefore ps) pss qss h.0, turn_front pss qss h.1)
 
 turn_back : (pss qss : List (List Place)) → InTurn (pss ++ qss) → InTurn qss
 turn_back [] qss h = h
 turn_back (ps ∷ pss) qss h = turn_back pss qss h.1
 
-turn_across : (pss qss : List (List Place)) → InTurn (pss ++ qss) → Before (joined pss) (joined qss)
+turn_across : (pss qss : List (List Place)) → InTurn (pss ++ qss) → StandWhollyBefore (joined pss) (joined qss)
 turn_across [] qss h = λ p q here later. absurd here
 turn_across (ps ∷ pss) qss h =
-    both_before ps (joined pss) (joined qss) (before_joined ps qss (every_back (Before ps) pss qss h.0)) (turn_across pss qss h.1)
+    both_before ps (joined pss) (joined qss) (before_joined ps qss (every_back (StandWhollyBefore ps) pss qss h.0)) (turn_across pss qss h.1)
 
 -- ---- grouping
 
@@ -102,7 +103,7 @@ grouped_part (alone {operand = b}) p at = one_left p (behaviour_places b) [] at
 grouped_part (split {operands = bs} {others = cs} {before = first} {behind = second} {sign = sign} {left = l}
     {right = r} h k left right) p at =
     subst (λ (pss : List (List Place)). IsOneOf p (joined pss)) (sym (lined_both bs cs first sign second (fit_grouped left)))
-    (go (one_split p (behaviour_places l) (sign_places sign.sign ++ behaviour_places r) at) (λ here. grouped_part left p here)
+    (go (in_either p (behaviour_places l) (sign_places sign.sign ++ behaviour_places r) at) (λ here. grouped_part left p here)
     (λ here. grouped_part right p here))
   where
     signed : IsOneOf p (sign_places sign.sign) ⊎ IsOneOf p (behaviour_places r)
@@ -117,7 +118,7 @@ grouped_part (split {operands = bs} {others = cs} {before = first} {behind = sec
         → IsOneOf p (joined (lined bs first ++ (sign_places sign.sign ∷ lined cs second)))
     go (inl here) first_part second_part = joined_left p (lined bs first) (sign_places sign.sign ∷ lined cs second) (first_part here)
     go (inr later) first_part second_part = joined_right p (lined bs first) (sign_places sign.sign ∷ lined cs second)
-        (signed (one_split p (sign_places sign.sign) (behaviour_places r) later) second_part)
+        (signed (in_either p (sign_places sign.sign) (behaviour_places r) later) second_part)
 
 abbrev SignOf : PlacedSign → Type 0
 SignOf sign = SignFollows sign.sign
@@ -168,16 +169,16 @@ every_two P Q R onward [] one other = tt
 every_two P Q R onward (x ∷ xs) one other = (onward x one.0 other.0, every_two P Q R onward xs one.1 other.1)
 
 prefixed_turn : (prefix : WrittenBehaviour → WrittenBehaviour) (extra : List Place) (bs : List WrittenBehaviour) (signs : List PlacedSign)
-    (rest : List Token) → ((b : WrittenBehaviour) → Adds extra b (prefix b)) → ((qs : List Place) → Within qs rest → Before extra qs)
+    (rest : List Token) → ((b : WrittenBehaviour) → Adds extra b (prefix b)) → ((qs : List Place) → Within qs rest → StandWhollyBefore extra qs)
     → AllWithin (lined bs signs) rest → InTurn (lined bs signs) → InTurn (lined (before_first prefix bs) signs)
 prefixed_turn prefix extra [] signs rest adds after all turn = tt
 prefixed_turn prefix extra (b ∷ bs) signs rest adds after all turn = (
-  every_two (λ (qs : List Place). Within qs rest) (Before (behaviour_places b)) (Before (behaviour_places (prefix b)))
+  every_two (λ (qs : List Place). Within qs rest) (StandWhollyBefore (behaviour_places b)) (StandWhollyBefore (behaviour_places (prefix b)))
       (λ qs within before p q here later. go qs within before p q later (adds b p here)) (behind (lined bs) signs) all.1 turn.0,
   turn.1,
 )
   where
-    go : (qs : List Place) → Within qs rest → Before (behaviour_places b) qs → (p q : Place) → IsOneOf q qs
+    go : (qs : List Place) → Within qs rest → StandWhollyBefore (behaviour_places b) qs → (p q : Place) → IsOneOf q qs
         → IsOneOf p extra ⊎ IsOneOf p (behaviour_places b) → stands_before p q ≡ true
     go qs within before p q later (inl here) = after qs within p q here later
     go qs within before p q later (inr here) = before p q here later
@@ -209,7 +210,7 @@ alone_line : (b : WrittenBehaviour) → Follows b → Line (b ∷ []) []
 alone_line b h = record { turn = (tt, tt); each = (h, tt); between = tt }
 
 guard_adds : (place : Place) (test : WrittenPremiss) (b : WrittenBehaviour) → Adds (premiss_places test) b (guard place test b)
-guard_adds place test b p at = one_split p (premiss_places test) (behaviour_places b) at
+guard_adds place test b p at = in_either p (premiss_places test) (behaviour_places b) at
 
 inner_adds : (place : Place) (b : WrittenBehaviour) → Adds [] b (inner_action place b)
 inner_adds place b p at = inr at
@@ -217,7 +218,7 @@ inner_adds place b p at = inr at
 action_adds : (place : Place) (gate : List ℕ) (offers : List WrittenOffer) (test : Option WrittenPremiss) (b : WrittenBehaviour)
     → Adds (place ∷ (offers_places offers ++ test_places test)) b (action place gate offers test b)
 action_adds place gate offers test b p (inl same) = inl (inl same)
-action_adds place gate offers test b p (inr at) = go (one_split p (offers_places offers) (test_places test ++ behaviour_places b) at)
+action_adds place gate offers test b p (inr at) = go (in_either p (offers_places offers) (test_places test ++ behaviour_places b) at)
   where
     tests : IsOneOf p (test_places test) ⊎ IsOneOf p (behaviour_places b)
         → IsOneOf p (place ∷ (offers_places offers ++ test_places test)) ⊎ IsOneOf p (behaviour_places b)
@@ -227,12 +228,12 @@ action_adds place gate offers test b p (inr at) = go (one_split p (offers_places
     go : IsOneOf p (offers_places offers) ⊎ IsOneOf p (test_places test ++ behaviour_places b)
         → IsOneOf p (place ∷ (offers_places offers ++ test_places test)) ⊎ IsOneOf p (behaviour_places b)
     go (inl here) = inl (inr (one_left p (offers_places offers) (test_places test) here))
-    go (inr later) = tests (one_split p (test_places test) (behaviour_places b) later)
+    go (inr later) = tests (in_either p (test_places test) (behaviour_places b) later)
 
 action_follows : (place : Place) (gate : List ℕ) (offers : List WrittenOffer) (test : Option WrittenPremiss) (b : WrittenBehaviour)
-    → Before (place ∷ []) (offers_places offers) → Before (place ∷ []) (test_places test) → Before (place ∷ []) (behaviour_places b)
-    → Before (offers_places offers) (test_places test) → Before (offers_places offers) (behaviour_places b)
-    → Before (test_places test) (behaviour_places b)
+    → StandWhollyBefore (place ∷ []) (offers_places offers) → StandWhollyBefore (place ∷ []) (test_places test) → StandWhollyBefore (place ∷ []) (behaviour_places b)
+    → StandWhollyBefore (offers_places offers) (test_places test) → StandWhollyBefore (offers_places offers) (behaviour_places b)
+    → StandWhollyBefore (test_places test) (behaviour_places b)
     → InTurn ((place ∷ []) ∷ offers_places offers ∷ test_places test ∷ behaviour_places b ∷ [])
 action_follows place gate offers test b one two three four five six =
     ((one, (two, (three, tt))), three_turn (offers_places offers) (test_places test) (behaviour_places b) four five six)
@@ -266,30 +267,30 @@ offering_line text gate semicolon fs os us ts offers test bs signs h offered fol
     behind_both : (qs : List Place) → Within qs (us ++ semicolon ∷ ts) → Within qs (fs ++ (os ++ (us ++ semicolon ∷ ts)))
     behind_both qs within = in_right qs fs (os ++ (us ++ semicolon ∷ ts)) (in_right qs os (us ++ semicolon ∷ ts) within)
 
-    first_offers : Before (place_of gate ∷ []) (offers_places offers)
+    first_offers : StandWhollyBefore (place_of gate ∷ []) (offers_places offers)
     first_offers = before_rest gate (offers_places offers) (fs ++ (os ++ (us ++ semicolon ∷ ts))) h
         (in_front (offers_places offers) fs os (us ++ semicolon ∷ ts) offered)
 
-    first_test : Before (place_of gate ∷ []) (test_places test)
+    first_test : StandWhollyBefore (place_of gate ∷ []) (test_places test)
     first_test = before_rest gate (test_places test) (fs ++ (os ++ (us ++ semicolon ∷ ts))) h (behind_both (test_places test) test_there)
 
-    first_rest : (qs : List Place) → Within qs ts → Before (place_of gate ∷ []) qs
+    first_rest : (qs : List Place) → Within qs ts → StandWhollyBefore (place_of gate ∷ []) qs
     first_rest qs within =
         before_rest gate qs (fs ++ (os ++ (us ++ semicolon ∷ ts))) h (behind_both qs (rest_there qs within))
 
-    offers_test : Before (offers_places offers) (test_places test)
+    offers_test : StandWhollyBefore (offers_places offers) (test_places test)
     offers_test = before_third (offers_places offers) (test_places test) fs os (us ++ semicolon ∷ ts) h.1 offered test_there
 
-    offers_rest : (qs : List Place) → Within qs ts → Before (offers_places offers) qs
+    offers_rest : (qs : List Place) → Within qs ts → StandWhollyBefore (offers_places offers) qs
     offers_rest qs within = before_third (offers_places offers) qs fs os (us ++ semicolon ∷ ts) h.1 offered (rest_there qs within)
 
-    test_rest : (qs : List Place) → Within qs ts → Before (test_places test) qs
+    test_rest : (qs : List Place) → Within qs ts → StandWhollyBefore (test_places test) qs
     test_rest qs within =
         before_parts (test_places test) qs us (semicolon ∷ ts)
         (rises_back os (us ++ semicolon ∷ ts) (rises_back fs (os ++ (us ++ semicolon ∷ ts)) h.1)) tested
         (in_rest qs semicolon ts within)
 
-    after : (qs : List Place) → Within qs ts → Before (place_of gate ∷ (offers_places offers ++ test_places test)) qs
+    after : (qs : List Place) → Within qs ts → StandWhollyBefore (place_of gate ∷ (offers_places offers ++ test_places test)) qs
     after qs within =
         first_before (place_of gate) (offers_places offers ++ test_places test) qs (first_rest qs within)
         (both_before (offers_places offers) (test_places test) qs (offers_rest qs within) (test_rest qs within))
@@ -475,7 +476,7 @@ mutual
   operands_line (guarding {left = left} {right = right} {arrow = arrow} {test_tokens = us} {tokens = ts} {test = test} {operands = bs}
       {signs = signs} left_is is right_is arrow_is are) h =
       let line = operands_line are (rises_back us (right ∷ arrow ∷ ts) h.1).1.1 in
-      let after : (qs : List Place) → Within qs ts → Before (premiss_places test) qs =
+      let after : (qs : List Place) → Within qs ts → StandWhollyBefore (premiss_places test) qs =
       λ qs within. before_parts (premiss_places test) qs us (right ∷ arrow ∷ ts) h.1 (premiss_in is)
       (in_rest qs right (arrow ∷ ts) (in_rest qs arrow ts within)) in
       record {
@@ -493,7 +494,7 @@ mutual
       {signs = signs} gate_is semicolon_is
       are) h =
       let line = operands_line are h.1.1 in
-      let after : (qs : List Place) → Within qs ts → Before (place_of gate ∷ []) qs =
+      let after : (qs : List Place) → Within qs ts → StandWhollyBefore (place_of gate ∷ []) qs =
       λ qs within. before_rest gate qs (semicolon ∷ ts) h (in_rest qs semicolon ts within) in
       record {
         turn = prefixed_turn (action (place_of gate) (spelled text gate) [] None) (place_of gate ∷ []) bs signs ts

@@ -1,5 +1,6 @@
 -- The lists of gates in a text.
-use Rattle.std.proofs.Common.{refl, ap, sym, ◌≡◌, ◌≢◌, subst, ℕ, List, [], ◌∷◌, ◌++◌, flat_map}
+use Rattle.std.proofs.Common.{refl, ap, sym, ◌≡◌, ◌≢◌, subst, ℕ, List, [], ◌∷◌, flat_map}
+use Rattle.place_laws.proofs.TokenOrder.{every_both, every_front, every_back}
 use Rattle.lotos_base.specs.WrittenTerm.{PlacedName}
 use Rattle.lotos_lexer.specs.declared.kinds.TheConstants.{COMMA}
 use Rattle.lotos_lexer.specs.declared.tokens.Token.{Token}
@@ -8,11 +9,11 @@ use Rattle.syntax_trees.specs.WrittenDefinition.{WrittenInner, WrittenInners, in
 use Rattle.syntax_trees.specs.TakenItems.{process_then as with_process, processes_of}
 use Rattle.syntax_trees.specs.Strength.{PlacedSign, strength_of, joined}
 use Rattle.syntax_trees.specs.Grouping.{IsGrouped, alone, split}
-use Rattle.lotos_sentences.specs.Words.{Separated, last, before_more, between}
-use Rattle.lotos_sentences.specs.Names.{AreNames, AreGates}
-use Rattle.lotos_sentences.specs.Behaviours.{gate_choices_among, AreGateChoicesAmong, among, AreGateChoices, gate_choices, before_first, AreOperands, hiding, letting, choosing_values, choosing_gates, parallel_over_gates, inner_prefix, guarding, acting, offering, last_operand, before_sign, IsAtom, stopping, exiting, calling, in_brackets, IsBehaviour, grouped_operands}
-use Rattle.lotos_sentences.specs.Definitions.{IsProcess, a_process, IsWhere, no_where, a_where, AreInner, no_more_inner, item_then, process_then}
-use Rattle.lotos_sentences.specs.Starts.{IsSpecification, a_specification}
+use Rattle.lotos_rows.specs.Words.{Separated, last, before_more, between}
+use Rattle.lotos_rows.specs.Names.{AreNames, AreWrittenGates}
+use Rattle.lotos_rows.specs.Behaviours.{gate_choices_among, AreGateChoicesAmong, among, AreGateChoices, gate_choices, before_first, AreOperands, hiding, letting, choosing_values, choosing_gates, parallel_over_gates, inner_prefix, guarding, acting, offering, last_operand, before_sign, IsAtom, stopping, exiting, calling, in_brackets, IsBehaviour, grouped_operands}
+use Rattle.lotos_rows.specs.Definitions.{IsProcess, a_process, IsWhere, no_where, a_where, AreInner, no_more_inner, item_then, process_then}
+use Rattle.lotos_rows.specs.Starts.{IsWrittenSpecification, a_specification}
 use Rattle.behaviour_semantics.specs.WellFormed.{Every}
 use Rattle.scope_parts.specs.GateLists.{HaveGates, HasGateLists, InnerHasGateLists, InnersHaveGateLists, TextHasGateLists}
 use Rattle.place_laws.specs.ReadGateLists.{ReadTextsHaveGateLists, GateListsStay}
@@ -26,25 +27,13 @@ IsFull (x ∷ xs) = Unit {0}
 full : {X : Type 0} (x : X) (xs : List X) → (x ∷ xs) ≡ [] → ⊥
 full {X} x xs e = subst (λ (l : List X). IsFull l) e tt
 
-every_both : {X : Type 0} (P : X → Type 0) (xs ys : List X) → Every P xs → Every P ys → Every P (xs ++ ys)
-every_both P [] ys first second = second
-every_both P (x ∷ xs) ys first second = (first.0, every_both P xs ys first.1 second)
-
-every_front : {X : Type 0} (P : X → Type 0) (xs ys : List X) → Every P (xs ++ ys) → Every P xs
-every_front P [] ys all = tt
-every_front P (x ∷ xs) ys all = (all.0, every_front P xs ys all.1)
-
-every_back : {X : Type 0} (P : X → Type 0) (xs ys : List X) → Every P (xs ++ ys) → Every P ys
-every_back P [] ys all = all
-every_back P (x ∷ xs) ys all = every_back P xs ys all.1
-
 -- ---- Lists of gates
 
 names_there : {text : List ℕ} {tokens : List Token} {names : List PlacedName} → AreNames text tokens names → names ≡ [] → ⊥
 names_there (last {value = name} is) e = full name [] e
 names_there (before_more {value = name} {values = names} is comma rest) e = full name names e
 
-gates_there : {text : List ℕ} {tokens : List Token} {gates : List PlacedName} → AreGates text tokens gates → gates ≡ [] → ⊥
+gates_there : {text : List ℕ} {tokens : List Token} {gates : List PlacedName} → AreWrittenGates text tokens gates → gates ≡ [] → ⊥
 gates_there (between left names right) = names_there names
 
 choices_have : (names gates : List PlacedName) → (gates ≡ [] → ⊥) → HaveGates (gate_choices_among names gates)
@@ -123,7 +112,7 @@ mutual
   inner_have (item_then item rest) = (tt, inner_have rest)
   inner_have (process_then definition rest) = (process_has definition, inner_have rest)
 
-text_has : {text : List ℕ} {tokens : List Token} {tree : WrittenSpecification} → IsSpecification text tokens tree → TextHasGateLists tree
+text_has : {text : List ℕ} {tokens : List Token} {tree : WrittenSpecification} → IsWrittenSpecification text tokens tree → TextHasGateLists tree
 text_has (a_specification word head items behaviour body inner end) = (behaviour_has body, where_has inner)
 
 pub read_texts_have_gate_lists : ReadTextsHaveGateLists

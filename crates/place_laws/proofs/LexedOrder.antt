@@ -3,7 +3,7 @@ use Rattle.std.proofs.Common.{◌≡◌, ◌<◌, ◌≤◌, ◌+◌, ◌-◌, �
 use Rattle.std.specs.Prelude.{◌⊎◌, ◌||◌, ◌&&◌, ◌==◌, nat_lt, if◌then◌else◌}
 use Rattle.std.proofs.lemmas.Bool.{lt-ltb}
 use Rattle.std.proofs.lemmas.Bool.Decides.{Decides-eqb}
-use Rattle.term_algebra.specs.Equation.{Place}
+use Rattle.lotos_base.specs.Equation.{Place}
 use Rattle.lotos_lexer.specs.declared.lexemes.Lexeme.{Lexeme}
 use Rattle.lotos_lexer.specs.declared.positions.Position.{Position}
 use Rattle.lotos_lexer.specs.declared.tokens.Token.{Token}
@@ -12,7 +12,7 @@ use Rattle.lotos_lexer.specs.declared.pieces.Piece.TheVariants as piece
 use Rattle.lotos_lexer.specs.Pieces.{piece_at}
 use Rattle.lotos_lexer.specs.Tokens as lexed
 use Rattle.lotos_lexer.specs.Tokens.{Lexed, behind, at_next_line, at_next_column, token_at, with_token, list_open_behind, cut, start, tokens_of}
-use Rattle.lotos_sentences.specs.Names.{place_of}
+use Rattle.lotos_rows.specs.Names.{place_of}
 use Rattle.scope_parts.specs.ScopeFault.{stands_before}
 use Rattle.place_laws.proofs.TokenOrder.{At, Rises}
 

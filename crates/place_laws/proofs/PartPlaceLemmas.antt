@@ -1,24 +1,24 @@
 -- The places of declarations, values, offers and signs in texts.
 use Rattle.std.proofs.Common.{◌≡◌, ℕ, List, [], ◌∷◌, ◌++◌, map, flat_map, refl, ap, sym, subst, inl, inr}
 use Rattle.std.specs.Prelude.{◌⊎◌}
-use Rattle.term_algebra.specs.Equation.{Place}
+use Rattle.lotos_base.specs.Equation.{Place}
 use Rattle.lotos_base.specs.WrittenTerm.{PlacedName, WrittenTerm}
 use Rattle.lotos_lexer.specs.declared.kinds.TheConstants.{COMMA, LEFT_PARENTHESIS, RIGHT_PARENTHESIS, ACCEPT, IN}
 use Rattle.lotos_lexer.specs.declared.tokens.Token.{Token}
 use Rattle.syntax_trees.specs.WrittenVariable.{WrittenVariable}
 use Rattle.syntax_trees.specs.WrittenBehaviour.{WrittenGateChoice, WrittenExitValue, WrittenOffer, offer_value, offer_variable}
 use Rattle.syntax_trees.specs.Strength.{PlacedSign}
-use Rattle.lotos_sentences.specs.Words.{Separated, last, before_more, Many, no_more, and_then, Optional, left_out, there, Between, between}
-use Rattle.lotos_sentences.specs.Names.{place_of, named, variables_of_sort, AreVariablesOfSort, of_sort, AreVariables, variables, AreParameters}
-use Rattle.lotos_sentences.specs.Behaviours.{IsLetDeclaration, let_declaration, gate_choices_among, AreGateChoicesAmong, among, AreGateChoices, gate_choices, IsOffer, giving, asking, IsExitValue, any_value, value_given, IsParallelSign, sign_interleaving, sign_full, sign_gates, IsSign, sign_choice, sign_parallel, sign_disabling, sign_enabling}
+use Rattle.lotos_rows.specs.Words.{Separated, last, before_more, Many, no_more, and_then, Optional, left_out, there, Between, between}
+use Rattle.lotos_rows.specs.Names.{place_of, named, variables_of_sort, AreVariablesOfSort, of_sort, AreVariables, variables, AreParameters}
+use Rattle.lotos_rows.specs.Behaviours.{IsLetDeclaration, let_declaration, gate_choices_among, AreGateChoicesAmong, among, AreGateChoices, gate_choices, IsWrittenOffer, giving, asking, IsWrittenExitValue, any_value, value_given, IsParallelSign, sign_interleaving, sign_full, sign_gates, IsSign, sign_choice, sign_parallel, sign_disabling, sign_enabling}
 use Rattle.behaviour_semantics.specs.WellFormed.{Every}
 use Rattle.scope_parts.specs.Numbering.{asked_for}
 use Rattle.scope_parts.specs.Sorts.{placed_variables}
 use Rattle.scope_parts.specs.Terms.{let_names}
 use Rattle.scope_parts.specs.Choices.{placed_choices}
-use Rattle.scope_faults.specs.Order.{IsOneOf, Before, Rising, InTurn, joined}
-use Rattle.scope_faults.specs.TermPlaces.{name_places, term_places}
-use Rattle.scope_faults.specs.PartPlaces.{sort_places, variable_places, SortsFollow, VariablesFollow, exit_value_places, exit_places, binding_places, bindings_places, let_places, LetFollows, offer_places, offered_places, offers_places, OfferFollows, OffersInTurn, OffersFollowOn, choice_places, AmongFollow, ChoicesFollow, sign_places, SignFollows}
+use Rattle.scope_parts.specs.Order.{IsOneOf, StandWhollyBefore, Rising, InTurn, joined}
+use Rattle.scope_parts.specs.TermPlaces.{name_places, term_places}
+use Rattle.scope_parts.specs.PartPlaces.{sort_places, variable_places, SortsFollow, VariablesFollow, exit_value_places, exit_places, binding_places, bindings_places, let_places, LetFollows, offer_places, offered_places, offers_places, OfferFollows, OffersInTurn, OffersFollowOn, choice_places, AmongFollow, ChoicesFollow, sign_places, SignFollows}
 use Rattle.place_laws.proofs.TokenOrder.{Rises, Within, AllWithin, rises_front, rises_back, nothing_within, here_within, in_left, in_right, in_rest, both_within, more_within, joined_within, before_parts, before_all, nothing_after, rising_both, every_both, all_in_left, all_in_right, all_in_rest}
 use Rattle.place_laws.proofs.TermPlaceLemmas.{names_in, names_rise, optional_names_in, optional_names_rise, gates_in, gates_rise, term_in}
 
@@ -43,7 +43,7 @@ sorts_of_group (name ∷ names) sort ts one =
     more_within sort.place (sort_places (variables_of_sort names sort)) ts one (sorts_of_group names sort ts one)
 
 same_sorts : (names : List PlacedName) (sort : PlacedName)
-    → Every (λ (y : WrittenVariable). (sort.place ≡ y.sort_place) ⊎ Before (sort.place ∷ []) (y.sort_place ∷ []))
+    → Every (λ (y : WrittenVariable). (sort.place ≡ y.sort_place) ⊎ StandWhollyBefore (sort.place ∷ []) (y.sort_place ∷ []))
     (variables_of_sort names sort)
 same_sorts [] sort = tt
 same_sorts (name ∷ names) sort = (inl refl, same_sorts names sort)
@@ -88,8 +88,8 @@ in_rest_too xs t ts h = record {
   sorts = in_rest (sort_places xs) t ts h.sorts;
 }
 
-sorts_behind : (p : Place) (ys : List WrittenVariable) → Before (p ∷ []) (sort_places ys)
-    → Every (λ (y : WrittenVariable). (p ≡ y.sort_place) ⊎ Before (p ∷ []) (y.sort_place ∷ [])) ys
+sorts_behind : (p : Place) (ys : List WrittenVariable) → StandWhollyBefore (p ∷ []) (sort_places ys)
+    → Every (λ (y : WrittenVariable). (p ≡ y.sort_place) ⊎ StandWhollyBefore (p ∷ []) (y.sort_place ∷ [])) ys
 sorts_behind p [] h = tt
 sorts_behind p (y ∷ ys) h = (inr (λ x q here at. h x q here (first q at)), sorts_behind p ys (λ x q here at. h x q here (inr at)))
   where
@@ -97,15 +97,15 @@ sorts_behind p (y ∷ ys) h = (inr (λ x q here at. h x q here (first q at)), so
     first q (inl same) = inl same
     first q (inr at) = absurd at
 
-front_before : (p : Place) (ps qs : List Place) → Before (p ∷ ps) qs → Before (p ∷ []) qs
+front_before : (p : Place) (ps qs : List Place) → StandWhollyBefore (p ∷ ps) qs → StandWhollyBefore (p ∷ []) qs
 front_before p ps qs h x q (inl same) at = h x q (inl same) at
 front_before p ps qs h x q (inr here) at = absurd here
 
-sorts_follow_both : (xs ys : List WrittenVariable) → SortsFollow xs → SortsFollow ys → Before (sort_places xs) (sort_places ys)
+sorts_follow_both : (xs ys : List WrittenVariable) → SortsFollow xs → SortsFollow ys → StandWhollyBefore (sort_places xs) (sort_places ys)
     → SortsFollow (xs ++ ys)
 sorts_follow_both [] ys one other h = other
 sorts_follow_both (x ∷ xs) ys one other h = (
-  every_both (λ (y : WrittenVariable). (x.sort_place ≡ y.sort_place) ⊎ Before (x.sort_place ∷ []) (y.sort_place ∷ [])) xs ys one.0
+  every_both (λ (y : WrittenVariable). (x.sort_place ≡ y.sort_place) ⊎ StandWhollyBefore (x.sort_place ∷ []) (y.sort_place ∷ [])) xs ys one.0
       (sorts_behind x.sort_place ys (front_before x.sort_place (sort_places xs) (sort_places ys) h)),
   sorts_follow_both xs ys one.1 other (λ p q here at. h p q (inr here) at),
 )
@@ -183,12 +183,12 @@ parameters_follow (there (between {close_token = right} {tokens = ts} left_is ar
 
 -- ---- values of `exit`
 
-value_in : {text : List ℕ} {tokens : List Token} {value : WrittenExitValue} → IsExitValue text tokens value
+value_in : {text : List ℕ} {tokens : List Token} {value : WrittenExitValue} → IsWrittenExitValue text tokens value
     → Within (exit_value_places value) tokens
 value_in (any_value {word = word} {sort = sort} word_is sort_is) = in_rest (place_of sort ∷ []) word (sort ∷ []) (here_within sort [])
 value_in (value_given is) = term_in is
 
-values_in : {text : List ℕ} {tokens : List Token} {values : List WrittenExitValue} → Separated COMMA (IsExitValue text) tokens values
+values_in : {text : List ℕ} {tokens : List Token} {values : List WrittenExitValue} → Separated COMMA (IsWrittenExitValue text) tokens values
     → AllWithin (exit_places values) tokens
 values_in (last is) = (value_in is, tt)
 values_in (before_more {tokens = ts} {rest = rest} {token = comma} {value = value} {values = values} is comma_is more) = (
@@ -196,7 +196,7 @@ values_in (before_more {tokens = ts} {rest = rest} {token = comma} {value = valu
   all_in_right (exit_places values) ts (comma ∷ rest) (all_in_rest (exit_places values) comma rest (values_in more)),
 )
 
-values_turn : {text : List ℕ} {tokens : List Token} {values : List WrittenExitValue} → Separated COMMA (IsExitValue text) tokens values
+values_turn : {text : List ℕ} {tokens : List Token} {values : List WrittenExitValue} → Separated COMMA (IsWrittenExitValue text) tokens values
     → Rises tokens → InTurn (exit_places values)
 values_turn (last is) h = (tt, tt)
 values_turn (before_more {tokens = ts} {rest = rest} {token = comma} {value = value} {values = values} is comma_is more) h = (
@@ -206,10 +206,10 @@ values_turn (before_more {tokens = ts} {rest = rest} {token = comma} {value = va
 )
 
 abbrev AreExitValues : List ℕ → List Token → List WrittenExitValue → Type 0
-AreExitValues text = Optional [] (Between LEFT_PARENTHESIS RIGHT_PARENTHESIS (Separated COMMA (IsExitValue text)))
+AreExitValues text = Optional [] (Between LEFT_PARENTHESIS RIGHT_PARENTHESIS (Separated COMMA (IsWrittenExitValue text)))
 
 pub exit_values_in : {text : List ℕ} {tokens : List Token} {values : List WrittenExitValue}
-    → Optional [] (Between LEFT_PARENTHESIS RIGHT_PARENTHESIS (Separated COMMA (IsExitValue text))) tokens values
+    → Optional [] (Between LEFT_PARENTHESIS RIGHT_PARENTHESIS (Separated COMMA (IsWrittenExitValue text))) tokens values
     → Within (joined (exit_places values)) tokens
 exit_values_in left_out = nothing_within []
 exit_values_in {values = values} (there (between {open_token = left} {close_token = right} {tokens = ts} left_is are right_is)) =
@@ -217,7 +217,7 @@ exit_values_in {values = values} (there (between {open_token = left} {close_toke
     (all_in_rest (exit_places values) left (ts ++ right ∷ []) (all_in_left (exit_places values) ts (right ∷ []) (values_in are)))
 
 pub exit_values_turn : {text : List ℕ} {tokens : List Token} {values : List WrittenExitValue}
-    → Optional [] (Between LEFT_PARENTHESIS RIGHT_PARENTHESIS (Separated COMMA (IsExitValue text))) tokens values → Rises tokens
+    → Optional [] (Between LEFT_PARENTHESIS RIGHT_PARENTHESIS (Separated COMMA (IsWrittenExitValue text))) tokens values → Rises tokens
     → InTurn (exit_places values)
 exit_values_turn left_out h = tt
 exit_values_turn (there (between {close_token = right} {tokens = ts} left_is are right_is)) h = values_turn are (rises_front ts
@@ -335,7 +335,7 @@ asked_names_of : (names : List PlacedName) (sort : PlacedName)
 asked_names_of names sort =
     subst (λ vs. variable_names vs ≡ name_places names) (sym (asked_of_group (variables_of_sort names sort))) (names_of_group names sort)
 
-offer_in : {text : List ℕ} {tokens : List Token} {offers : List WrittenOffer} → IsOffer text tokens offers → OffersIn offers tokens
+offer_in : {text : List ℕ} {tokens : List Token} {offers : List WrittenOffer} → IsWrittenOffer text tokens offers → OffersIn offers tokens
 offer_in (giving {mark = mark} {tokens = ts} {term = term} mark_is is) = record {
   names = nothing_within (mark ∷ ts);
   parts = (in_rest (term_places term) mark ts (term_in is), tt);
@@ -361,7 +361,7 @@ asked_turn (name ∷ names) sort = (
   asked_turn names sort,
 )
 
-offer_follows_on : {text : List ℕ} {tokens : List Token} {offers : List WrittenOffer} → IsOffer text tokens offers → Rises tokens
+offer_follows_on : {text : List ℕ} {tokens : List Token} {offers : List WrittenOffer} → IsWrittenOffer text tokens offers → Rises tokens
     → OffersFollowOn offers
 offer_follows_on (giving mark_is is) h = (tt, (tt, tt))
 offer_follows_on {text = text} (asking {mark = mark} {colon = colon} {sort = sort} {tokens = ts}
@@ -371,12 +371,12 @@ offer_follows_on {text = text} (asking {mark = mark} {colon = colon} {sort = sor
     )
 
 -- an offer before another one
-before_offer : (x y : WrittenOffer) → Before (offer_places x) (offer_places y) → OfferFollows x y
+before_offer : (x y : WrittenOffer) → StandWhollyBefore (offer_places x) (offer_places y) → OfferFollows x y
 before_offer (offer_value term) y h = h
 before_offer (offer_variable x) (offer_value term) h = h
 before_offer (offer_variable x) (offer_variable y) h = inr h
 
-behind_offer : (x : WrittenOffer) (ys : List WrittenOffer) → Every (Before (offer_places x)) (offered_places ys) → Every (OfferFollows x) ys
+behind_offer : (x : WrittenOffer) (ys : List WrittenOffer) → Every (StandWhollyBefore (offer_places x)) (offered_places ys) → Every (OfferFollows x) ys
 behind_offer x [] all = tt
 behind_offer x (y ∷ ys) all = (before_offer x y all.0, behind_offer x ys all.1)
 
@@ -397,14 +397,14 @@ offers_follow_both xs ys ts us h one other first second = (
   offers_turn xs ys ts us h one.parts other.parts first.1 second.1,
 )
 
-more_offers_in : {text : List ℕ} {tokens : List Token} {groups : List (List WrittenOffer)} → Many (IsOffer text) tokens groups
+more_offers_in : {text : List ℕ} {tokens : List Token} {groups : List (List WrittenOffer)} → Many (IsWrittenOffer text) tokens groups
     → OffersIn (all_of groups) tokens
 more_offers_in no_more = record { names = nothing_within []; parts = tt }
 more_offers_in (and_then {tokens = ts} {rest = rest} {value = group} {values = groups} is more) =
     offers_both group (all_of groups) (ts ++ rest) (offers_left group ts rest (offer_in is))
     (offers_right (all_of groups) ts rest (more_offers_in more))
 
-more_offers_follow : {text : List ℕ} {tokens : List Token} {groups : List (List WrittenOffer)} → Many (IsOffer text) tokens groups
+more_offers_follow : {text : List ℕ} {tokens : List Token} {groups : List (List WrittenOffer)} → Many (IsWrittenOffer text) tokens groups
     → Rises tokens → OffersFollowOn (all_of groups)
 more_offers_follow no_more h = (tt, tt)
 more_offers_follow (and_then {tokens = ts} {rest = rest} {value = group} {values = groups} is more) h =
@@ -412,13 +412,13 @@ more_offers_follow (and_then {tokens = ts} {rest = rest} {value = group} {values
     (more_offers_follow more (rises_back ts rest h))
 
 all_offers_in : {text : List ℕ} {ts us : List Token} {first : List WrittenOffer} {groups : List (List WrittenOffer)}
-    → IsOffer text ts first → Many (IsOffer text) us groups → OffersIn (first ++ all_of groups) (ts ++ us)
+    → IsWrittenOffer text ts first → Many (IsWrittenOffer text) us groups → OffersIn (first ++ all_of groups) (ts ++ us)
 all_offers_in {ts = ts} {us = us} {first = first} {groups = groups} one more =
     offers_both first (all_of groups) (ts ++ us) (offers_left first ts us (offer_in one))
     (offers_right (all_of groups) ts us (more_offers_in more))
 
 pub offers_in : {text : List ℕ} {ts us : List Token} {first : List WrittenOffer} {groups : List (List WrittenOffer)}
-    → IsOffer text ts first → Many (IsOffer text) us groups
+    → IsWrittenOffer text ts first → Many (IsWrittenOffer text) us groups
     → Within (offers_places (first ++ flat_map (λ group. group) groups)) (ts ++ us)
 offers_in {ts = ts} {us = us} {first = first} {groups = groups} one more =
     let all = all_offers_in one more in
@@ -426,7 +426,7 @@ offers_in {ts = ts} {us = us} {first = first} {groups = groups} one more =
     (joined_within (offered_places (first ++ all_of groups)) (ts ++ us) all.parts)
 
 pub offers_follow_on : {text : List ℕ} {ts us : List Token} {first : List WrittenOffer} {groups : List (List WrittenOffer)}
-    → IsOffer text ts first → Many (IsOffer text) us groups → Rises (ts ++ us)
+    → IsWrittenOffer text ts first → Many (IsWrittenOffer text) us groups → Rises (ts ++ us)
     → OffersFollowOn (first ++ flat_map (λ group. group) groups)
 offers_follow_on {ts = ts} {us = us} {first = first} {groups = groups} one more h =
     offers_follow_both first (all_of groups) ts us h (offer_in one) (more_offers_in more) (offer_follows_on one (rises_front ts us h))
@@ -493,7 +493,7 @@ choice_group_in (among {tokens = ts} {rest = rest} {word = word} {names = names}
 }
 
 same_among : (names gates : List PlacedName)
-    → Every (λ (e : WrittenGateChoice). (gates ≡ e.among) ⊎ Before (name_places gates) (name_places e.among))
+    → Every (λ (e : WrittenGateChoice). (gates ≡ e.among) ⊎ StandWhollyBefore (name_places gates) (name_places e.among))
     (gate_choices_among names gates)
 same_among [] gates = tt
 same_among (name ∷ names) gates = (inl refl, same_among names gates)
@@ -509,8 +509,8 @@ choice_group_follows (among {tokens = ts} {rest = rest} {word = word} {names = n
   group_among_follow names gates (gates_rise is (rises_back ts (word ∷ rest) h).1),
 )
 
-behind_among : (gates : List PlacedName) (ys : List WrittenGateChoice) → Every (Before (name_places gates)) (among_lists ys)
-    → Every (λ (e : WrittenGateChoice). (gates ≡ e.among) ⊎ Before (name_places gates) (name_places e.among)) ys
+behind_among : (gates : List PlacedName) (ys : List WrittenGateChoice) → Every (StandWhollyBefore (name_places gates)) (among_lists ys)
+    → Every (λ (e : WrittenGateChoice). (gates ≡ e.among) ⊎ StandWhollyBefore (name_places gates) (name_places e.among)) ys
 behind_among gates [] all = tt
 behind_among gates (y ∷ ys) all = (inr all.0, behind_among gates ys all.1)
 
@@ -519,7 +519,7 @@ among_follow_both : (xs ys : List WrittenGateChoice) (ts us : List Token) → Ri
 among_follow_both [] ys ts us h one other first second = second
 among_follow_both (x ∷ xs) ys ts us h one other first second = (
   first.0,
-  every_both (λ (e : WrittenGateChoice). (x.among ≡ e.among) ⊎ Before (name_places x.among) (name_places e.among)) xs ys first.1
+  every_both (λ (e : WrittenGateChoice). (x.among ≡ e.among) ⊎ StandWhollyBefore (name_places x.among) (name_places e.among)) xs ys first.1
       (behind_among x.among ys (before_all (name_places x.among) (among_lists ys) ts us h one.0 other)),
   among_follow_both xs ys ts us h one.1 other first.2 second,
 )
@@ -549,7 +549,7 @@ choice_groups_follow (last {tokens = ts} {value = group} is) h = alone_follows g
     among_alone [] one = tt
     among_alone (x ∷ xs) one = (
       one.0,
-      every_both (λ (e : WrittenGateChoice). (x.among ≡ e.among) ⊎ Before (name_places x.among) (name_places e.among)) xs [] one.1 tt,
+      every_both (λ (e : WrittenGateChoice). (x.among ≡ e.among) ⊎ StandWhollyBefore (name_places x.among) (name_places e.among)) xs [] one.1 tt,
       among_alone xs one.2,
     )
 

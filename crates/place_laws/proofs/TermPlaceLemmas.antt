@@ -1,19 +1,19 @@
 -- The places of names, terms and premisses in texts.
 use Rattle.std.proofs.Common.{◌≡◌, ℕ, List, [], ◌∷◌, ◌++◌, inl, inr}
 use Rattle.std.specs.Prelude.{◌⊎◌}
-use Rattle.term_algebra.specs.Equation.{Place}
+use Rattle.lotos_base.specs.Equation.{Place}
 use Rattle.lotos_base.specs.WrittenTerm.{PlacedName, WrittenTerm, written, written_terms}
 use Rattle.lotos_lexer.specs.declared.tokens.Token.{Token}
 use Rattle.syntax_trees.specs.WrittenEquation.{WrittenPremiss}
 use Rattle.syntax_trees.specs.LeftGrouping.{IsGroupedLeft, only, at_last}
-use Rattle.lotos_sentences.specs.Words.{last, before_more, left_out, there, between}
-use Rattle.lotos_sentences.specs.Names.{place_of, named, a_name, AreNames, AreOptionalNames, AreGates, AreOptionalGates, IsOperationName, word_name, digit_name, sign_name}
-use Rattle.lotos_sentences.specs.Terms.{of_sort, infix_term, applied, IsTerm, grouped_factors, AreFactors, one_factor, more_factors, IsFactor, without_sort, with_sort, IsBase, without_arguments, with_arguments, bracketed, AreTerms, one_term, more_terms, AreArguments, no_arguments, some_arguments}
-use Rattle.lotos_sentences.specs.Equations.{IsPremiss, true_term, equal_terms}
+use Rattle.lotos_rows.specs.Words.{last, before_more, left_out, there, between}
+use Rattle.lotos_rows.specs.Names.{place_of, named, a_name, AreNames, AreOptionalNames, AreWrittenGates, AreOptionalGates, IsOperationName, word_name, digit_name, sign_name}
+use Rattle.lotos_rows.specs.Terms.{of_sort, infix_term, applied, IsTerm, grouped_factors, AreFactors, one_factor, more_factors, IsFactor, without_sort, with_sort, IsBase, without_arguments, with_arguments, bracketed, AreTerms, one_term, more_terms, AreArguments, no_arguments, some_arguments}
+use Rattle.lotos_rows.specs.Equations.{IsPremiss, true_term, equal_terms}
 use Rattle.behaviour_semantics.specs.WellFormed.{Every}
-use Rattle.scope_faults.specs.Order.{IsOneOf, Rising, InTurn}
-use Rattle.scope_faults.specs.TermPlaces.{name_places, term_places, terms_places, premiss_places}
-use Rattle.scope_faults.specs.PartPlaces.{value_places}
+use Rattle.scope_parts.specs.Order.{IsOneOf, Rising, InTurn}
+use Rattle.scope_parts.specs.TermPlaces.{name_places, term_places, terms_places, premiss_places}
+use Rattle.scope_parts.specs.PartPlaces.{value_places}
 use Rattle.place_laws.proofs.TokenOrder.{At, Rises, Within, AllWithin, rises_front, rises_back, nothing_within, here_within, in_left, in_right, in_rest, both_within, more_within, before_parts, before_all, every_map, every_front, every_back, all_in_left, all_in_right, all_in_rest}
 
 -- ---- names
@@ -44,12 +44,12 @@ pub optional_names_rise : {text : List ℕ} {tokens : List Token} {names : List 
 optional_names_rise left_out h = tt
 optional_names_rise (there are) h = names_rise are h
 
-pub gates_in : {text : List ℕ} {tokens : List Token} {gates : List PlacedName} → AreGates text tokens gates
+pub gates_in : {text : List ℕ} {tokens : List Token} {gates : List PlacedName} → AreWrittenGates text tokens gates
     → Within (name_places gates) tokens
 gates_in (between {open_token = left} {close_token = right} {tokens = tokens} {value = gates} left_is are right_is) =
     in_rest (name_places gates) left (tokens ++ right ∷ []) (in_left (name_places gates) tokens (right ∷ []) (names_in are))
 
-pub gates_rise : {text : List ℕ} {tokens : List Token} {gates : List PlacedName} → AreGates text tokens gates → Rises tokens
+pub gates_rise : {text : List ℕ} {tokens : List Token} {gates : List PlacedName} → AreWrittenGates text tokens gates → Rises tokens
     → Rising (name_places gates)
 gates_rise (between {close_token = right} {tokens = tokens} left_is are right_is) h = names_rise are (rises_front tokens (right ∷ []) h.1)
 

@@ -1,7 +1,8 @@
 -- The places of definitions in texts.
 use Rattle.std.proofs.Common.{◌≡◌, ℕ, List, [], ◌∷◌, ◌++◌, refl, ap, sym, subst, inl, inr}
 use Rattle.std.specs.Prelude.{◌⊎◌, Option}
-use Rattle.term_algebra.specs.Equation.{Place}
+use Rattle.scope_parts.proofs.OrderLemmas.{before_both, both_before, in_either}
+use Rattle.lotos_base.specs.Equation.{Place}
 use Rattle.lotos_base.specs.WrittenTerm.{PlacedName}
 use Rattle.lotos_lexer.specs.declared.kinds.TheConstants.{LEFT_PARENTHESIS, RIGHT_PARENTHESIS}
 use Rattle.lotos_lexer.specs.declared.tokens.Token.{Token}
@@ -9,16 +10,16 @@ use Rattle.syntax_trees.specs.WrittenVariable.{WrittenVariable}
 use Rattle.syntax_trees.specs.WrittenBehaviour.{WrittenBehaviour}
 use Rattle.syntax_trees.specs.WrittenDefinition.{WrittenHeading, WrittenInner, WrittenInners, inner_item, process, no_inner, inner_then, inners_of, list_of_inners, WrittenSpecification}
 use Rattle.syntax_trees.specs.TakenItems.{processes_of, without_items}
-use Rattle.lotos_sentences.specs.Words.{Optional, left_out, there, Between, between}
-use Rattle.lotos_sentences.specs.Names.{AreNames}
-use Rattle.lotos_sentences.specs.Definitions.{IsFunctionality, no_exit, exit_of, IsHeading, heading, IsProcess, a_process, IsWhere, no_where, a_where, AreInner, no_more_inner, item_then, process_then}
-use Rattle.lotos_sentences.specs.Starts.{IsSpecification, a_specification}
-use Rattle.scope_faults.specs.Order.{IsOneOf, Before, Rising, InTurn}
-use Rattle.scope_faults.specs.TermPlaces.{name_places}
-use Rattle.scope_faults.specs.PartPlaces.{variable_places}
-use Rattle.scope_faults.specs.BehaviourPlaces.{behaviour_places, Follows}
-use Rattle.scope_faults.specs.TextOrder.{functionality_places, heading_places, HeadingFollows, definition_places, DefinitionFollows, inner_places, inners_places, InnerFollows, InnersFollow, PlacesRise}
-use Rattle.place_laws.proofs.TokenOrder.{Rises, Within, rises_front, rises_back, nothing_within, here_within, in_left, in_right, in_rest, both_within, more_within, before_parts, before_first, before_both, both_before, nothing_before, one_split, one_left, one_right}
+use Rattle.lotos_rows.specs.Words.{Optional, left_out, there, Between, between}
+use Rattle.lotos_rows.specs.Names.{AreNames}
+use Rattle.lotos_rows.specs.Definitions.{IsWrittenFunctionality, no_exit, exit_of, IsHeading, heading, IsProcess, a_process, IsWhere, no_where, a_where, AreInner, no_more_inner, item_then, process_then}
+use Rattle.lotos_rows.specs.Starts.{IsWrittenSpecification, a_specification}
+use Rattle.scope_parts.specs.Order.{IsOneOf, StandWhollyBefore, Rising, InTurn}
+use Rattle.scope_parts.specs.TermPlaces.{name_places}
+use Rattle.scope_parts.specs.PartPlaces.{variable_places}
+use Rattle.scope_parts.specs.BehaviourPlaces.{behaviour_places, Follows}
+use Rattle.scope_parts.specs.TextOrder.{functionality_places, heading_places, HeadingFollows, definition_places, DefinitionFollows, inner_places, inners_places, InnerFollows, InnersFollow, PlacesRise}
+use Rattle.place_laws.proofs.TokenOrder.{Rises, Within, rises_front, rises_back, nothing_within, here_within, in_left, in_right, in_rest, both_within, more_within, before_parts, before_first, nothing_before, one_left, one_right}
 use Rattle.place_laws.proofs.TermPlaceLemmas.{names_in, names_rise, optional_gates_in, optional_gates_rise}
 use Rattle.place_laws.proofs.PartPlaceLemmas.{parameters_in, parameters_follow}
 use Rattle.place_laws.proofs.BehaviourPlaceLemmas.{two_turn, three_turn, behaviour_in, behaviour_follows}
@@ -38,12 +39,12 @@ exit_sorts_rise (there (between {close_token = right} {tokens = ts} left_is are 
     (right ∷ []) h.1)
 
 functionality_in : {text : List ℕ} {tokens : List Token} {functionality : Option (List PlacedName)}
-    → IsFunctionality text tokens functionality → Within (functionality_places functionality) tokens
+    → IsWrittenFunctionality text tokens functionality → Within (functionality_places functionality) tokens
 functionality_in (no_exit {word = word} is) = nothing_within (word ∷ [])
 functionality_in (exit_of {word = word} {tokens = ts} {sorts = sorts} is are) = in_rest (name_places sorts) word ts (exit_sorts_in are)
 
 functionality_rises : {text : List ℕ} {tokens : List Token} {functionality : Option (List PlacedName)}
-    → IsFunctionality text tokens functionality → Rises tokens → Rising (functionality_places functionality)
+    → IsWrittenFunctionality text tokens functionality → Rises tokens → Rising (functionality_places functionality)
 functionality_rises (no_exit is) h = tt
 functionality_rises (exit_of is are) h = exit_sorts_rise are h.1
 
@@ -75,7 +76,7 @@ heading_in {head = head} (heading {name = name} {colon = colon} {gate_tokens = g
     (functionality_in exit))
 
 heading_first : {text : List ℕ} {tokens : List Token} {head : WrittenHeading} → IsHeading text tokens head → Rises tokens
-    → Before (head.place ∷ []) (heading_places head)
+    → StandWhollyBefore (head.place ∷ []) (heading_places head)
 heading_first {head = head} (heading {name = name} {colon = colon} {gate_tokens = gs} {parameter_tokens = ps} {tokens = ts}
     {gates = gates} {parameters = parameters} {functionality = functionality} name_is gates_are params colon_is exit) h =
     before_first name (heading_places head) (gs ++ (ps ++ colon ∷ ts)) h
@@ -139,21 +140,21 @@ mutual
 
 definition_before : {text : List ℕ} (hs ts ws us : List Token) (sign : Token) (head : WrittenHeading) (body : WrittenBehaviour)
     (ps : List Place) → IsHeading text hs head → Within (behaviour_places body) ts → Within ps ws → Rises (hs ++ sign ∷ (ts ++ (ws ++ us)))
-    → Before (definition_places head body) ps
+    → StandWhollyBefore (definition_places head body) ps
 definition_before hs ts ws us sign head body ps head_is body_in_ own h = go
   where
     behind : Within ps (ts ++ (ws ++ us))
     behind = in_right ps ts (ws ++ us) (in_left ps ws us own)
 
-    first : Before (heading_places head) ps
+    first : StandWhollyBefore (heading_places head) ps
     first = before_parts (heading_places head) ps hs (sign ∷ (ts ++ (ws ++ us))) h (heading_in head_is) (in_rest ps sign (ts ++
         (ws ++ us)) behind)
 
-    second : Before (behaviour_places body) ps
+    second : StandWhollyBefore (behaviour_places body) ps
     second = before_parts (behaviour_places body) ps ts (ws ++ us) (rises_back hs (sign ∷ (ts ++ (ws ++ us))) h).1 body_in_
         (in_left ps ws us own)
 
-    go : Before (heading_places head ++ behaviour_places body) ps
+    go : StandWhollyBefore (heading_places head ++ behaviour_places body) ps
     go = both_before (heading_places head) (behaviour_places body) ps first second
 
 definition_follows : {text : List ℕ} (hs ts us : List Token) (sign : Token) (head : WrittenHeading) (body : WrittenBehaviour)
@@ -225,7 +226,7 @@ spaced_follows hs is ts us word head body head_is body_in_ h onward = (
   onward (rises_front ts us (rises_back is (word ∷ (ts ++ us)) (rises_back hs (is ++ word ∷ (ts ++ us)) h)).1),
 )
 
-pub text_rises : {text : List ℕ} {tokens : List Token} {tree : WrittenSpecification} → IsSpecification text tokens tree → Rises tokens
+pub text_rises : {text : List ℕ} {tokens : List Token} {tree : WrittenSpecification} → IsWrittenSpecification text tokens tree → Rises tokens
     → PlacesRise tree
 text_rises (a_specification {specification = first} {word = word} {end = end} {heading_tokens = hs} {item_tokens = is} {tokens = ts}
     {where_tokens = ws} {heading = head} {body = body} {inner = inner} first_is head_is items_are word_is body_is where_is end_is) h =
@@ -248,7 +249,7 @@ text_rises (a_specification {specification = first} {word = word} {end = end} {h
 abbrev Sub : List Place → List Place → Type 0
 Sub ps qs = (p : Place) → IsOneOf p ps → IsOneOf p qs
 
-sub_before : (ps qs rs ss : List Place) → Sub ps qs → Sub rs ss → Before qs ss → Before ps rs
+sub_before : (ps qs rs ss : List Place) → Sub ps qs → Sub rs ss → StandWhollyBefore qs ss → StandWhollyBefore ps rs
 sub_before ps qs rs ss one other h p q here later = h p q (one p here) (other q later)
 
 same_sub : (ps : List Place) → Sub ps ps
@@ -256,14 +257,14 @@ same_sub ps p at = at
 
 process_sub : (place : Place) (ds is js : List Place) → Sub is js → Sub (place ∷ (ds ++ is)) (place ∷ (ds ++ js))
 process_sub place ds is js one p (inl same) = inl same
-process_sub place ds is js one p (inr at) = inr (go (one_split p ds is at))
+process_sub place ds is js one p (inr at) = inr (go (in_either p ds is at))
   where
     go : IsOneOf p ds ⊎ IsOneOf p is → IsOneOf p (ds ++ js)
     go (inl here) = one_left p ds js here
     go (inr later) = one_right p ds js (one p later)
 
 both_sub : (ps qs rs ss : List Place) → Sub ps qs → Sub rs ss → Sub (ps ++ rs) (qs ++ ss)
-both_sub ps qs rs ss one other p at = go (one_split p ps rs at)
+both_sub ps qs rs ss one other p at = go (in_either p ps rs at)
   where
     go : IsOneOf p ps ⊎ IsOneOf p rs → IsOneOf p (qs ++ ss)
     go (inl here) = one_left p qs ss (one p here)

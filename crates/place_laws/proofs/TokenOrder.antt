@@ -1,12 +1,13 @@
 -- Tokens whose places rise, and places of tokens.
 use Rattle.std.proofs.Common.{◌≡◌, List, [], ◌∷◌, ◌++◌, true, sym, subst, inl, inr}
 use Rattle.std.specs.Prelude.{◌⊎◌}
-use Rattle.term_algebra.specs.Equation.{Place}
+use Rattle.scope_parts.proofs.OrderLemmas.{in_either, before_both}
+use Rattle.lotos_base.specs.Equation.{Place}
 use Rattle.lotos_lexer.specs.declared.tokens.Token.{Token}
-use Rattle.lotos_sentences.specs.Names.{place_of}
+use Rattle.lotos_rows.specs.Names.{place_of}
 use Rattle.scope_parts.specs.ScopeFault.{stands_before}
 use Rattle.behaviour_semantics.specs.WellFormed.{Every}
-use Rattle.scope_faults.specs.Order.{IsOneOf, Before, Rising, InTurn, joined}
+use Rattle.scope_parts.specs.Order.{IsOneOf, StandWhollyBefore, Rising, InTurn, joined}
 
 -- The place is that of one of the tokens.
 abbrev pub At : Place → List Token → Type 0
@@ -64,15 +65,6 @@ in_right ps xs ys h p at = at_right xs ys p (h p at)
 pub in_rest : (ps : List Place) (t : Token) (ts : List Token) → Within ps ts → Within ps (t ∷ ts)
 in_rest ps t ts h p at = inr (h p at)
 
-pub one_split : (p : Place) (ps qs : List Place) → IsOneOf p (ps ++ qs) → IsOneOf p ps ⊎ IsOneOf p qs
-one_split p [] qs at = inr at
-one_split p (q ∷ ps) qs (inl same) = inl (inl same)
-one_split p (q ∷ ps) qs (inr at) = go (one_split p ps qs at)
-  where
-    go : IsOneOf p ps ⊎ IsOneOf p qs → (((p ≡ q) ⊎ IsOneOf p ps) ⊎ IsOneOf p qs)
-    go (inl here) = inl (inr here)
-    go (inr there) = inr there
-
 pub one_left : (p : Place) (ps qs : List Place) → IsOneOf p ps → IsOneOf p (ps ++ qs)
 one_left p [] qs at = absurd at
 one_left p (q ∷ ps) qs (inl same) = inl same
@@ -83,7 +75,7 @@ one_right p [] qs at = at
 one_right p (q ∷ ps) qs at = inr (one_right p ps qs at)
 
 pub both_within : (ps qs : List Place) (ts : List Token) → Within ps ts → Within qs ts → Within (ps ++ qs) ts
-both_within ps qs ts one other p at = go (one_split p ps qs at)
+both_within ps qs ts one other p at = go (in_either p ps qs at)
   where
     go : IsOneOf p ps ⊎ IsOneOf p qs → At p ts
     go (inl here) = one p here
@@ -96,39 +88,25 @@ more_within q ps ts one other p (inr at) = other p at
 -- ---- the order of places
 
 -- what stands in two parts, one behind the other
-pub before_parts : (ps qs : List Place) (xs ys : List Token) → Rises (xs ++ ys) → Within ps xs → Within qs ys → Before ps qs
+pub before_parts : (ps qs : List Place) (xs ys : List Token) → Rises (xs ++ ys) → Within ps xs → Within qs ys → StandWhollyBefore ps qs
 before_parts ps qs xs ys h one other p q here there = apart xs ys h p q (one p here) (other q there)
 
-pub before_first : (t : Token) (qs : List Place) (ts : List Token) → Rises (t ∷ ts) → Within qs ts → Before (place_of t ∷ []) qs
+pub before_first : (t : Token) (qs : List Place) (ts : List Token) → Rises (t ∷ ts) → Within qs ts → StandWhollyBefore (place_of t ∷ []) qs
 before_first t qs ts h other p q (inl same) there =
     subst (λ (y : Place). stands_before y q ≡ true) (sym same) (h.0 q (other q there))
 before_first t qs ts h other p q (inr here) there = absurd here
 
-pub before_both : (ps qs rs : List Place) → Before ps qs → Before ps rs → Before ps (qs ++ rs)
-before_both ps qs rs one other p q here there = go (one_split q qs rs there)
-  where
-    go : IsOneOf q qs ⊎ IsOneOf q rs → stands_before p q ≡ true
-    go (inl at) = one p q here at
-    go (inr at) = other p q here at
-
-pub both_before : (ps qs rs : List Place) → Before ps rs → Before qs rs → Before (ps ++ qs) rs
-both_before ps qs rs one other p q here there = go (one_split p ps qs here)
-  where
-    go : IsOneOf p ps ⊎ IsOneOf p qs → stands_before p q ≡ true
-    go (inl at) = one p q at there
-    go (inr at) = other p q at there
-
-pub first_before : (p : Place) (ps rs : List Place) → Before (p ∷ []) rs → Before ps rs → Before (p ∷ ps) rs
+pub first_before : (p : Place) (ps rs : List Place) → StandWhollyBefore (p ∷ []) rs → StandWhollyBefore ps rs → StandWhollyBefore (p ∷ ps) rs
 first_before p ps rs one other x q (inl same) there = one x q (inl same) there
 first_before p ps rs one other x q (inr at) there = other x q at there
 
-pub nothing_after : (ps : List Place) → Before ps []
+pub nothing_after : (ps : List Place) → StandWhollyBefore ps []
 nothing_after ps p q here there = absurd there
 
-pub nothing_before : (ps : List Place) → Before [] ps
+pub nothing_before : (ps : List Place) → StandWhollyBefore [] ps
 nothing_before ps p q here there = absurd here
 
-pub rising_both : (ps qs : List Place) → Rising ps → Rising qs → Before ps qs → Rising (ps ++ qs)
+pub rising_both : (ps qs : List Place) → Rising ps → Rising qs → StandWhollyBefore ps qs → Rising (ps ++ qs)
 rising_both [] qs one other h = other
 rising_both (p ∷ ps) qs one other h = (
   before_both (p ∷ []) ps qs one.0 (λ x q here there. go x q here there),
@@ -160,7 +138,7 @@ apart_third (x ∷ xs) ys zs h p q (inl same) other =
 apart_third (x ∷ xs) ys zs h p q (inr one) other = apart_third xs ys zs h.1 p q one other
 
 pub before_third : (ps qs : List Place) (xs ys zs : List Token) → Rises (xs ++ (ys ++ zs)) → Within ps (xs ++ ys) → Within qs zs
-    → Before ps qs
+    → StandWhollyBefore ps qs
 before_third ps qs xs ys zs h one other p q here there = apart_third xs ys zs h p q (one p here) (other q there)
 
 -- ---- lists of parts
@@ -202,15 +180,15 @@ all_in_rest [] t ts all = tt
 all_in_rest (ps ∷ pss) t ts all = (in_rest ps t ts all.0, all_in_rest pss t ts all.1)
 
 pub before_all : (ps : List Place) (pss : List (List Place)) (xs ys : List Token) → Rises (xs ++ ys) → Within ps xs → AllWithin pss ys
-    → Every (Before ps) pss
+    → Every (StandWhollyBefore ps) pss
 before_all ps [] xs ys h one all = tt
 before_all ps (qs ∷ pss) xs ys h one all = (before_parts ps qs xs ys h one all.0, before_all ps pss xs ys h one all.1)
 
-pub before_joined : (ps : List Place) (pss : List (List Place)) → Every (Before ps) pss → Before ps (joined pss)
+pub before_joined : (ps : List Place) (pss : List (List Place)) → Every (StandWhollyBefore ps) pss → StandWhollyBefore ps (joined pss)
 before_joined ps [] all = nothing_after ps
 before_joined ps (qs ∷ pss) all = before_both ps qs (joined pss) all.0 (before_joined ps pss all.1)
 
-pub turn_both : (pss qss : List (List Place)) → InTurn pss → InTurn qss → Every (λ (ps : List Place). Every (Before ps) qss) pss
+pub turn_both : (pss qss : List (List Place)) → InTurn pss → InTurn qss → Every (λ (ps : List Place). Every (StandWhollyBefore ps) qss) pss
     → InTurn (pss ++ qss)
 turn_both [] qss one other h = other
-turn_both (ps ∷ pss) qss one other h = (every_both (Before ps) pss qss one.0 h.0, turn_both pss qss one.1 other h.1)
+turn_both (ps ∷ pss) qss one other h = (every_both (StandWhollyBefore ps) pss qss one.0 h.0, turn_both pss qss one.1 other h.1)

@@ -4,7 +4,7 @@ use Rattle.std.specs.Prelude.{ℕ, List}
 use Rattle.syntax_trees.specs.WrittenDefinition.{WrittenSpecification}
 use Rattle.syntax_trees.specs.TakenItems.{without_items}
 use Rattle.sentence_trees.specs.Reading.{IsSpecificationReading}
-use Rattle.scope_faults.specs.TextOrder.{PlacesRise}
+use Rattle.scope_parts.specs.TextOrder.{PlacesRise}
 
 abbrev pub ReadTextsRise : Type 0
 ReadTextsRise = (number : ℕ) (text : List ℕ) (tree : WrittenSpecification) → IsSpecificationReading number text tree → PlacesRise tree

@@ -2,7 +2,7 @@
 use Rattle.std.proofs.Common.{◌≡◌, ℕ, zero, suc, ◌-◌, ◌<◌, arith, subst, List, [], ◌∷◌, zip, ap, sym, ◌∙◌, Option, None, Some, option_map, option_and_then}
 use Rattle.std.specs.Prelude.{filter_map, slice_get}
 use Rattle.std.proofs.Math.Path.{fun_ext}
-use Rattle.term_algebra.specs.Signature.{Signature}
+use Rattle.lotos_base.specs.Signature.{Signature}
 use Rattle.behaviour_semantics.specs.Behaviour as plain
 use Rattle.behaviour_semantics.specs.Behaviour.{Behaviour, SynchronisationSet, Process, Relabelling}
 use Rattle.behaviour_semantics.specs.Label.{gate_event}
@@ -10,7 +10,7 @@ use Rattle.behaviour_semantics.specs.Listing.{ShapedMove, one_behind, each_below
 use Rattle.behaviour_semantics.specs.Move.{Setting, alone, hiding, opened, relabelling}
 use Rattle.behaviour_semantics.specs.Replacement.{binding_of}
 use Rattle.behaviour_semantics.specs.Shape.{act, left_side, right_side, hidden, called, relabelled}
-use Rattle.plain_moves.specs.Listed.{IsListed, IsListedByForm, process_of}
+use Rattle.plain_moves.specs.Listed.{IsPlainListing, IsListedByForm, process_of}
 use Rattle.plain_moves.specs.View.{without_values}
 use Rattle.plain_moves.specs.declared.behaviour.PlainBehaviour.{PlainBehaviour}
 use Rattle.plain_moves.specs.declared.listing.PlainProcess.{PlainProcess}
@@ -25,19 +25,19 @@ action_listed processes depth gate next target moves same listed = λ signature 
     ap (λ (b : Behaviour). Some (record { shape = act; move = record { label = gate_event gate []; target = b; asked = []; sorts = [] } } ∷ [])) (same_with_values (binding_of [] []) next ∙ sym same)
     ∙ sym listed
 
-pub hide_listed : (processes : List Process) (depth : ℕ) (gates used : List ℕ) (b : Behaviour) (parts moves : Option (List ShapedMove)) → used ≡ gates → IsListed processes depth b parts →
+pub hide_listed : (processes : List Process) (depth : ℕ) (gates used : List ℕ) (b : Behaviour) (parts moves : Option (List ShapedMove)) → used ≡ gates → IsPlainListing processes depth b parts →
     moves ≡ option_map (filter_map (below hidden (λ m. Some (hiding used m)))) parts → IsListedByForm processes depth (plain.hide gates b) moves
 hide_listed processes depth gates used b parts moves same part listed = λ signature represent leaves n.
     ap (each_below hidden (λ m. Some (hiding gates m))) (part signature represent leaves n)
     ∙ ap (λ (gs : List ℕ). option_map (filter_map (below hidden (λ m. Some (hiding gs m)))) parts) (sym same) ∙ sym listed
 
-pub enable_listed : (processes : List Process) (depth : ℕ) (b c used : Behaviour) (parts moves : Option (List ShapedMove)) → used ≡ c → IsListed processes depth b parts →
+pub enable_listed : (processes : List Process) (depth : ℕ) (b c used : Behaviour) (parts moves : Option (List ShapedMove)) → used ≡ c → IsPlainListing processes depth b parts →
     ((signature : Signature) → moves ≡ option_map (filter_map (below_enable signature [] used)) parts) → IsListedByForm processes depth (plain.enable b [] c) moves
 enable_listed processes depth b c used parts moves same part listed = λ signature represent leaves n.
     ap (λ o. option_map (filter_map (below_enable signature [] c)) o) (part signature represent leaves n)
     ∙ ap (λ (d : Behaviour). option_map (filter_map (below_enable signature [] d)) parts) (sym same) ∙ sym (listed signature)
 
-pub relabel_listed : (processes : List Process) (depth : ℕ) (pairs used : Relabelling) (b : Behaviour) (parts moves : Option (List ShapedMove)) → used ≡ pairs → IsListed processes depth b parts →
+pub relabel_listed : (processes : List Process) (depth : ℕ) (pairs used : Relabelling) (b : Behaviour) (parts moves : Option (List ShapedMove)) → used ≡ pairs → IsPlainListing processes depth b parts →
     moves ≡ option_map (filter_map (below relabelled (λ m. Some (relabelling used m)))) parts → IsListedByForm processes depth (plain.relabel pairs b) moves
 relabel_listed processes depth pairs used b parts moves same part listed = λ signature represent leaves n.
     ap (each_below relabelled (λ m. Some (relabelling pairs m))) (part signature represent leaves n)
@@ -59,7 +59,7 @@ parallel_list signature meet next b c lefts rights =
 
 pub parallel_listed : (processes : List Process) (depth : ℕ) (meet : SynchronisationSet) (b c used_left used_right : Behaviour)
     (lefts rights moves : Option (List ShapedMove)) →
-    used_left ≡ b → used_right ≡ c → IsListed processes depth b lefts → IsListed processes depth c rights →
+    used_left ≡ b → used_right ≡ c → IsPlainListing processes depth b lefts → IsPlainListing processes depth c rights →
     ((signature : Signature) (next : ℕ) → moves ≡ parallel_list signature meet next used_left used_right lefts rights) →
     IsListedByForm processes depth (plain.parallel meet b c) moves
 parallel_listed processes depth meet b c used_left used_right lefts rights moves same_left same_right left right listed =
@@ -73,7 +73,7 @@ parallel_listed processes depth meet b c used_left used_right lefts rights moves
 
 pub call_listed : (processes : List Process) (depth number : ℕ) (gates : List ℕ) (process : PlainProcess) (used : Relabelling) (parts moves : Option (List ShapedMove)) →
     slice_get processes number ≡ Some (process_of process) → used ≡ zip process.gates.items gates
-    → IsListed processes depth (without_values process.body.value) parts →
+    → IsPlainListing processes depth (without_values process.body.value) parts →
     moves ≡ option_map (filter_map (below called (λ m. Some (relabelling used m)))) parts →
     IsListedByForm processes depth (plain.call number gates []) moves
 call_listed processes depth number gates process used parts moves found same part listed = λ signature represent leaves n.
@@ -86,7 +86,7 @@ call_listed processes depth number gates process used parts moves found same par
 
 -- one step deeper
 pub deeper_listed : (processes : List Process) (depth : ℕ) (b : Behaviour) (moves : Option (List ShapedMove)) → 0 < depth →
-    IsListedByForm processes (depth - 1) (opened b) moves → IsListed processes depth b moves
+    IsListedByForm processes (depth - 1) (opened b) moves → IsPlainListing processes depth b moves
 deeper_listed processes zero b moves h listed = absurd (omega arith)
 deeper_listed processes (suc d) b moves h listed =
     let one_less : suc d - 1 ≡ d = omega arith in

@@ -1,6 +1,6 @@
 -- Behaviours without values stay where terms are put in.
 use Rattle.std.proofs.Common.{◌≡◌, [], refl}
-use Rattle.term_algebra.specs.Substitution.{Substitution, without}
+use Rattle.lotos_base.specs.Substitution.{Substitution, without}
 use Rattle.behaviour_semantics.specs.Replacement.{with_values}
 use Rattle.plain_moves.specs.declared.behaviour.PlainBehaviour.{PlainBehaviour, Stop, Exit, Action', Inner', Choice', Parallel', Hide', Enable', Disable', ChooseGate', ParGate', Call, Relabel'}
 use Rattle.plain_moves.specs.View.{without_values}

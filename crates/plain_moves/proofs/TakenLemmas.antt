@@ -1,7 +1,7 @@
 -- What a rule makes of a move without values asks nothing and has no leaves.
 use Rattle.std.proofs.Common.{◌≡◌, [], refl, sym, Bool, true, false, Option, None, Some, option_map, if◌then◌else◌}
 use Rattle.std.specs.Prelude.{IfSome}
-use Rattle.term_algebra.specs.Signature.{Signature}
+use Rattle.lotos_base.specs.Signature.{Signature}
 use Rattle.behaviour_semantics.specs.Behaviour.{Behaviour}
 use Rattle.behaviour_semantics.specs.Label.{Label}
 use Rattle.behaviour_semantics.specs.Listing.{ShapedMove}

@@ -1,8 +1,8 @@
 -- What it means that a list is the list of the moves of a behaviour without values.
 use Rattle.std.specs.Prelude.{◌≡◌, ℕ, List, [], None, Option}
-use Rattle.term_algebra.specs.Signature.{Signature}
-use Rattle.term_algebra.specs.Term.{Term}
-use Rattle.term_algebra.specs.Substitution.{Substitution}
+use Rattle.lotos_base.specs.Signature.{Signature}
+use Rattle.lotos_base.specs.Term.{Term}
+use Rattle.lotos_base.specs.Substitution.{Substitution}
 use Rattle.behaviour_semantics.specs.Behaviour.{Behaviour, Process}
 use Rattle.behaviour_semantics.specs.Listing.{ShapedMove, listed_moves, moves_by_form}
 use Rattle.behaviour_semantics.specs.Move.{Setting}
@@ -14,8 +14,8 @@ abbrev pub process_of : PlainProcess → Process
 process_of p = record { name = []; gates = p.gates.items; parameters = []; exit = None; body = without_values p.body.value }
 
 -- whatever signature, form of values and leaves: no value occurs
-abbrev pub IsListed : List Process → ℕ → Behaviour → Option (List ShapedMove) → Type 0
-IsListed processes depth b moves =
+abbrev pub IsPlainListing : List Process → ℕ → Behaviour → Option (List ShapedMove) → Type 0
+IsPlainListing processes depth b moves =
     (signature : Signature) (represent : Term → Term) (leaves : Substitution) (next : ℕ) →
     listed_moves (record { signature = signature; represent = represent; processes = processes }) leaves depth next b ≡ moves
 

@@ -1,6 +1,6 @@
 -- What a rule makes of a move of a part, in the words of the definitions.
 use Rattle.std.specs.Prelude.{[], ◌∷◌, Option, Some}
-use Rattle.term_algebra.specs.Signature.{Signature}
+use Rattle.lotos_base.specs.Signature.{Signature}
 use Rattle.behaviour_semantics.specs.Behaviour.{parallel}
 use Rattle.behaviour_semantics.specs.Listing.{ShapedMove, below, below_enable}
 use Rattle.behaviour_semantics.specs.Move.{alone, together, hiding, disabling, relabelling}

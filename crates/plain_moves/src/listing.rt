@@ -3,7 +3,7 @@
 ghost use Rattle.std.specs.Prelude.{◌≡◌, [], IfOk, map};
 ghost use Rattle.behaviour_semantics.specs.Behaviour as plain;
 ghost use Rattle.behaviour_semantics.specs.Move as table;
-ghost use Rattle.plain_moves.specs.Listed.{IsListed, IsListedByForm, process_of};
+ghost use Rattle.plain_moves.specs.Listed.{IsPlainListing, IsListedByForm, process_of};
 ghost use Rattle.plain_moves.specs.MoveView.{list_of};
 ghost use Rattle.plain_moves.specs.View.{without_values};
 
@@ -33,7 +33,7 @@ pub fn moves(
     body: &Rc<PlainBehaviour>,
 ) -> Result<Option<Vec<PlainMove>>, AllocError>
     ensures { IfOk result
-        (λ o. IsListed (map process_of processes.now) depth (without_values body.now.value) (list_of o)) }
+        (λ o. IsPlainListing (map process_of processes.now) depth (without_values body.now.value) (list_of o)) }
 {
     if depth == 0 {
         return Ok(None);

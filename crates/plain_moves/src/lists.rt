@@ -5,7 +5,7 @@ ghost use Rattle.behaviour_semantics.specs.Behaviour as plain;
 ghost use Rattle.behaviour_semantics.specs.Listing as listing;
 ghost use Rattle.behaviour_semantics.specs.Move as table;
 ghost use Rattle.behaviour_semantics.specs.Shape as shapes;
-ghost use Rattle.term_algebra.specs.Signature.{Signature};
+ghost use Rattle.lotos_base.specs.Signature.{Signature};
 ghost use Rattle.plain_moves.specs.MoveView.{list_of, shaped_of};
 ghost use Rattle.plain_moves.specs.Taken.{taken_of};
 ghost use Rattle.plain_moves.specs.View.{without_values, label_of, meet_of, shape_of};

@@ -2,8 +2,8 @@
 
 ghost use Rattle.std.specs.Prelude.{◌≡◌};
 ghost use Rattle.behaviour_semantics.specs.Rule as rules_of;
-ghost use Rattle.term_algebra.specs.Signature.{Signature};
-ghost use Rattle.term_algebra.specs.Substitution.{is_listed as is_listed_in};
+ghost use Rattle.lotos_base.specs.Signature.{Signature};
+ghost use Rattle.lotos_base.specs.Substitution.{is_listed as is_listed_in};
 ghost use Rattle.plain_moves.specs.View.{label_of, meet_of};
 
 use crate::behaviour::PlainMeet;

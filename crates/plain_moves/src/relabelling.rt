@@ -3,7 +3,7 @@
 ghost use Rattle.std.specs.Prelude.{◌≡◌, IfOk, filter, map, not, zip};
 ghost use Rattle.behaviour_semantics.specs.Label as labels;
 ghost use Rattle.behaviour_semantics.specs.Rule as rules_of;
-ghost use Rattle.term_algebra.specs.Substitution.{is_listed};
+ghost use Rattle.lotos_base.specs.Substitution.{is_listed};
 ghost use Rattle.plain_moves.specs.View.{without_values, label_of, meet_of};
 
 use crate::behaviour::{PlainBehaviour, PlainMeet, parallel, shared};

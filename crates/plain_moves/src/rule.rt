@@ -3,7 +3,7 @@
 ghost use Rattle.std.specs.Prelude.{◌≡◌, [], if◌then◌else◌, IfOk, IfSome, filter_map, map, option_map};
 ghost use Rattle.behaviour_semantics.specs.Listing.{ShapedMove};
 ghost use Rattle.behaviour_semantics.specs.Rule as rules_of;
-ghost use Rattle.term_algebra.specs.Signature.{Signature};
+ghost use Rattle.lotos_base.specs.Signature.{Signature};
 ghost use Rattle.plain_moves.specs.Taken.{taken_of};
 ghost use Rattle.plain_moves.specs.MoveView.{shaped_of};
 ghost use Rattle.plain_moves.specs.View.{without_values, label_of, shape_of};

@@ -1,6 +1,6 @@
 use Rattle.std.proofs.Common.{◌≡◌, ◌<◌, ℕ, ◌+◌, zero, suc, List, [], ◌∷◌, ◌++◌, Bool, true, false, codes, map, length, slice_get, drop, refl, sym, ◌∙◌, ap, append_assoc, add-one, arith}
 use Rattle.lotos_base.specs.declared.names.Name.{Name}
-use Rattle.behaviour_tree.specs.BehaviourView.{terms_of}
+use Rattle.event_offers.specs.HandedOn.{terms_of}
 use Rattle.event_offers.specs.OfferView.{conditions_of}
 use Rattle.sort_terms.specs.SignatureView.{signature_of}
 use Rattle.sort_terms.specs.declared.signatures.Signature.{Signature as KeptSignature}

@@ -3,8 +3,8 @@ use Rattle.std.proofs.lemmas.List.{append-nil}
 use Rattle.std.specs.Prelude.{Vec}
 use Rattle.std.specs.declared.rc.Rc.{Rc}
 use Rattle.std.specs.declared.alloc.Global.{Global}
-use Rattle.term_algebra.specs.Signature.{Signature, Operation, Form, prefix_form, infix_form}
-use Rattle.term_algebra.specs.Twins.{has_twin}
+use Rattle.lotos_base.specs.Signature.{Signature, Operation, Form, prefix_form, infix_form}
+use Rattle.lotos_base.specs.Twins.{has_twin}
 use Rattle.sort_terms.specs.Operations.{operation_of}
 use Rattle.sort_terms.specs.SignatureView.{signature_of}
 use Rattle.sort_terms.specs.EquationView.{variable_of}

@@ -6,3 +6,4 @@ pub mod ReportLines
 pub mod TextView
 pub mod Samples
 pub mod TextCases
+pub mod HandedOn

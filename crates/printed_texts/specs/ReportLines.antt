@@ -1,6 +1,6 @@
 -- The head of a report, and the lines that stand alone.
 use Rattle.std.specs.Prelude.{ℕ, List, ◌++◌, length, codes, decimal}
-use Rattle.term_algebra.specs.Equation.{Data}
+use Rattle.lotos_base.specs.Equation.{Data}
 
 -- the head of a report: the name of the specification and the sizes of its data
 abbrev pub head_text : List ℕ → Data → List ℕ

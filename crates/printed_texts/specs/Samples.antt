@@ -1,8 +1,8 @@
 -- Small data for the worked cases: sorts A and B, names that need care, and operations with twins.
 use Rattle.std.specs.Prelude.{ℕ, List, [], ◌∷◌, codes, None}
-use Rattle.term_algebra.specs.Signature.{Signature, Sort, Operation, Form, prefix_form, infix_form}
-use Rattle.term_algebra.specs.Term.{Term, variable, node, no_terms, term_then}
-use Rattle.term_algebra.specs.Equation.{Variable}
+use Rattle.lotos_base.specs.Signature.{Signature, Sort, Operation, Form, prefix_form, infix_form}
+use Rattle.lotos_base.specs.Term.{Term, variable, node, no_terms, term_then}
+use Rattle.lotos_base.specs.Equation.{Variable}
 use Rattle.behaviour_semantics.specs.Behaviour.{Behaviour, Process, Specification, stop}
 
 abbrev pub sort_named : List ℕ → Sort

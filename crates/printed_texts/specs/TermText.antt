@@ -1,10 +1,10 @@
 -- The text of a term: a constant is its name, a prefix operation `f(a, b)`, an infix operation `l + r`. An operand that is
 -- infix stands in brackets. An operation with a twin has ` of S` behind it, with brackets round an infix one.
 use Rattle.std.specs.Prelude.{ℕ, ◌+◌, List, [], ◌∷◌, ◌++◌, map, Bool, true, false, not, nat_eq, if◌then◌else◌, Option, Some, None, slice_get, codes, decimal}
-use Rattle.term_algebra.specs.Signature.{Signature, Sort, Operation, Form, prefix_form, infix_form}
-use Rattle.term_algebra.specs.Twins.{has_twin}
-use Rattle.term_algebra.specs.Term.{Term, variable, node, Terms, no_terms, term_then}
-use Rattle.term_algebra.specs.Equation.{Variable}
+use Rattle.lotos_base.specs.Signature.{Signature, Sort, Operation, Form, prefix_form, infix_form}
+use Rattle.lotos_base.specs.Twins.{has_twin}
+use Rattle.lotos_base.specs.Term.{Term, variable, node, Terms, no_terms, term_then}
+use Rattle.lotos_base.specs.Equation.{Variable}
 use Rattle.printed_texts.specs.Brackets.{bracketed, round, commas}
 
 -- the name of a sort

@@ -2,7 +2,7 @@
 use Rattle.std.specs.Prelude.{ℕ, List, [], map, Bool, false, nat_eq, Option, None, Some}
 use Rattle.lotos_base.specs.Name.{spelling}
 use Rattle.lotos_base.specs.declared.names.Name.{Name}
-use Rattle.term_algebra.specs.Signature.{Form, prefix_form, infix_form}
+use Rattle.lotos_base.specs.Signature.{Form, prefix_form, infix_form}
 use Rattle.sort_terms.specs.EquationView.{variable_of}
 use Rattle.sort_terms.specs.Operations.{operation_of}
 use Rattle.sort_terms.specs.SignatureView.{signature_of}
@@ -13,8 +13,8 @@ use Rattle.sort_terms.specs.declared.operations.Op.{Op}
 use Rattle.sort_terms.specs.declared.signatures.Signature.{Signature}
 use Rattle.sort_terms.specs.declared.sorted.Sorted.{Sorted}
 use Rattle.sort_terms.specs.declared.terms.Term.{Term}
-use Rattle.behaviour_tree.specs.MoveView.{label_of}
-use Rattle.behaviour_tree.specs.declared.moves.Label.{Label}
+use Rattle.event_offers.specs.HandedOn.{label_of}
+use Rattle.event_offers.specs.HandedOn.{Label}
 use Rattle.event_offers.specs.OfferView.{plain_entry, condition_of}
 use Rattle.event_offers.specs.declared.drafts.Entry.{Entry}
 use Rattle.event_offers.specs.declared.menus.Menu.{Menu}

@@ -7,8 +7,7 @@ ghost use Rattle.std.specs.Prelude.{◌≡◌, ◌++◌, MatchResult};
 use crate::labels::push_label;
 use crate::menus::push_menu;
 use crate::terms::push_phrase;
-use behaviour_tree::{Label, Spec};
-use event_offers::Menu;
+use event_offers::{Label, Menu, Spec};
 use lotos_base::NoMemory;
 use sort_terms::{Signature, Sorted, Variable};
 

@@ -3,13 +3,13 @@
 ghost use Rattle.lotos_base.specs.Name.{spelling};
 ghost use Rattle.printed_texts.specs.MenuText.{exit_values_text, name_text, values_text};
 ghost use Rattle.printed_texts.specs.TextView.{written_label, written_value};
-ghost use Rattle.behaviour_tree.specs.BehaviourView.{terms_of};
+ghost use Rattle.event_offers.specs.HandedOn.{terms_of};
 ghost use Rattle.sort_terms.specs.SignatureView.{signature_of};
 ghost use Rattle.std.specs.Prelude.{◌≡◌, ◌++◌, OnOk, map, slice_get};
 
 use crate::brackets::{close_bracket, open_bracket, push_separator, push_text};
 use crate::terms::push_phrase;
-use behaviour_tree::Label;
+use event_offers::Label;
 use lotos_base::{Name, NoMemory};
 use sort_terms::{Signature, Sorted};
 

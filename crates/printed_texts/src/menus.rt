@@ -1,6 +1,6 @@
 //! The texts of entries and menus.
 
-ghost use Rattle.behaviour_tree.specs.BehaviourView.{terms_of};
+ghost use Rattle.event_offers.specs.HandedOn.{terms_of};
 ghost use Rattle.event_offers.specs.OfferView.{conditions_of};
 ghost use Rattle.printed_texts.specs.MenuText.{for_text, if_text, sorted_text};
 ghost use Rattle.printed_texts.specs.TextView.{

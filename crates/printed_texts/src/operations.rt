@@ -7,7 +7,7 @@ ghost use Rattle.sort_terms.specs.Operations.{operation_of};
 ghost use Rattle.sort_terms.specs.SignatureView.{signature_of};
 ghost use Rattle.std.specs.Option.{option_map};
 ghost use Rattle.std.specs.Prelude.{◌≡◌, ◌++◌, OnOk, slice_get};
-ghost use Rattle.term_algebra.specs.Twins.{are_twins, form_eq, has_twin};
+ghost use Rattle.lotos_base.specs.Twins.{are_twins, form_eq, has_twin};
 
 use crate::brackets::push_text;
 use lotos_base::{Form, NoMemory};

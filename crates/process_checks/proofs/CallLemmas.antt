@@ -10,7 +10,7 @@ use Rattle.behaviour_tree.specs.DefinitionView.{process_of}
 use Rattle.behaviour_tree.specs.declared.behaviours.Beh.{Beh, Stop, Exit, Action', Inner', Guard', Choice', Parallel', Hide', Enable', Disable', Let', ChooseValue', ChooseGate', ParGate', Call}
 use Rattle.behaviour_tree.specs.declared.definitions.Process.{Process}
 use Rattle.process_checks.specs.Calls.{process_at, calls_of, called_in, graph_of}
-use Rattle.process_checks.specs.Ways.{Calls, IsWay, HasCycle}
+use Rattle.process_checks.specs.Ways.{Calls, IsWay, CallsHaveCycle}
 
 two_sides : (left right : Beh) → called_in left ≡ unguarded_calls (behaviour_of left)
     → called_in right ≡ unguarded_calls (behaviour_of right)
@@ -69,7 +69,7 @@ walk_of_way processes (suc n) from to way =
     record { walk = way.0 ∷ rest.walk; is_walk = (edge_of_call processes from way.0 way.1.0, rest.is_walk); ends = rest.ends }
 
 -- A cycle of the graph is one of the plain graph.
-pub not_guarded : (processes : List Process) → HasCycle (graph_of processes) → IsGuarded (map process_of processes) → ⊥
+pub not_guarded : (processes : List Process) → CallsHaveCycle (graph_of processes) → IsGuarded (map process_of processes) → ⊥
 not_guarded processes cycle guarded =
     let way : IsWay (graph_of processes) cycle.0 (suc cycle.1.0) cycle.0 = cycle.1.1 in
     let rest : Walked processes way.0 cycle.1.0 cycle.0 = walk_of_way processes cycle.1.0 way.0 cycle.0 way.1.1 in

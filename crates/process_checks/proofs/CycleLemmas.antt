@@ -2,8 +2,8 @@
 use Rattle.std.proofs.Common.{◌≡◌, ◌<◌, ◌≤◌, ◌⊎◌, inl, inr, ℕ, suc, List, [], ◌∷◌, length, Option, None, Some, refl, ap, sym, ◌∙◌, subst, arith}
 use Rattle.std.proofs.lemmas.Option.{same_Some, none-some}
 use Rattle.process_checks.specs.Cycles.{IsFirstBack, IsNextNear}
-use Rattle.process_checks.specs.Graph.{IsCallAt, Leads, LiesOnCycle, StandsBefore, IsFirstOnCycle, ComeNoLater, IsKeptWay}
-use Rattle.process_checks.specs.Ways.{AreDistances, HasCycle, IsWay, distance_in}
+use Rattle.process_checks.specs.Graph.{IsCallAt, CallsLead, LiesOnCycle, CallStandsBefore, IsFirstOnCycle, ComeNoLater, IsKeptWay}
+use Rattle.process_checks.specs.Ways.{AreDistances, CallsHaveCycle, IsWay, distance_in}
 use Rattle.process_checks.specs.declared.cycles.Back.{Back}
 use Rattle.process_checks.proofs.WayLemmas.{Led, leads_of_way, way_of_leads, calls_within}
 
@@ -17,7 +17,7 @@ pub none_on_cycle : (graph : List (List ℕ)) (distances : List (Option ℕ)) (p
     → (k : ℕ) → LiesOnCycle graph process k → ⊥
 none_on_cycle graph distances process exact far k on = by on.way on.leads
   where
-    by : (way : List ℕ) → Leads graph process (k ∷ on.positions) way process → ⊥
+    by : (way : List ℕ) → CallsLead graph process (k ∷ on.positions) way process → ⊥
     by [] leads = leads
     by (p ∷ way) leads =
         let next : ℕ = leads.1.0 in
@@ -46,14 +46,14 @@ first_on_cycle graph distances process back exact is none_earlier = record {
     in_this : (k : ℕ) → k < back.position → LiesOnCycle graph process k → ⊥
     in_this k lt on = by on.way on.leads
       where
-        by : (way : List ℕ) → Leads graph process (k ∷ on.positions) way process → ⊥
+        by : (way : List ℕ) → CallsLead graph process (k ∷ on.positions) way process → ⊥
         by [] leads = leads
         by (p ∷ way) leads =
             let near : (m : ℕ) × ((distance_in distances leads.1.0 ≡ Some m) × (m ≤ length on.positions)) =
             exact.shortest leads.1.0 (length on.positions) (way_of_leads graph leads.1.0 on.positions way process leads.1.1.1) in
             none-some near.0 (sym (is.first k leads.1.0 lt leads.1.1.0) ∙ near.1.0)
 
-    no_earlier : (other_process other_position : ℕ) → StandsBefore other_process other_position process back.position
+    no_earlier : (other_process other_position : ℕ) → CallStandsBefore other_process other_position process back.position
         → LiesOnCycle graph other_process other_position → ⊥
     no_earlier q k (inl before) on = none_earlier q k before on
     no_earlier q k (inr here) on = in_this k here.1 (subst (λ (n : ℕ). LiesOnCycle graph n k) here.0 on)
@@ -101,7 +101,7 @@ module _ (graph : List (List ℕ)) (distances : List (Option ℕ)) (process curr
       let le : length kept.positions ≤ length led.positions = kept.shortest led.positions led.way led.leads in
       omega (arith, le, led.long)
 
-  other_long : (other : ℕ) (others other_way : List ℕ) (k : ℕ) → IsCallAt graph current k other → Leads graph other others other_way process
+  other_long : (other : ℕ) (others other_way : List ℕ) (k : ℕ) → IsCallAt graph current k other → CallsLead graph other others other_way process
       → left ≤ length others
   other_long other others other_way k calls leads =
       let w : IsWay graph current (suc (length others)) process =
@@ -109,7 +109,7 @@ module _ (graph : List (List ℕ)) (distances : List (Option ℕ)) (process curr
       let le : suc left ≤ suc (length others) = no_nearer graph distances process current (suc left) (suc (length others)) exact near w in
       omega (arith, le)
 
-  shortest_here : (others other_way : List ℕ) → Leads graph current others other_way process → suc (length kept.positions) ≤ length others
+  shortest_here : (others other_way : List ℕ) → CallsLead graph current others other_way process → suc (length kept.positions) ≤ length others
   shortest_here [] [] leads =
       let le : suc left ≤ 0 = no_nearer graph distances process current (suc left) 0 exact near leads in
       absurd (omega (arith, le))
@@ -121,7 +121,7 @@ module _ (graph : List (List ℕ)) (distances : List (Option ℕ)) (process curr
       omega (arith, le, s)
 
   -- a call from which a shortest way goes on has the distance
-  is_near : (other : ℕ) (others other_way : List ℕ) (k : ℕ) → IsCallAt graph current k other → Leads graph other others other_way process
+  is_near : (other : ℕ) (others other_way : List ℕ) (k : ℕ) → IsCallAt graph current k other → CallsLead graph other others other_way process
       → length others ≡ length kept.positions → distance_in distances other ≡ Some left
   is_near other others other_way k calls leads long =
       let h : (m : ℕ) × ((distance_in distances other ≡ Some m) × (m ≤ length others)) =
@@ -133,7 +133,7 @@ module _ (graph : List (List ℕ)) (distances : List (Option ℕ)) (process curr
       let e : h.0 ≡ left = omega (arith, le, other_le, s, long) in
       h.1.0 ∙ ap (λ (n : ℕ). Some n) e
 
-  earliest_here : (others other_way : List ℕ) → Leads graph current others other_way process
+  earliest_here : (others other_way : List ℕ) → CallsLead graph current others other_way process
       → length others ≡ suc (length kept.positions) → ComeNoLater (is.position ∷ kept.positions) others
   earliest_here [] other_way leads long = absurd (omega (arith, long))
   earliest_here (k ∷ others) [] leads long = absurd leads
@@ -155,7 +155,7 @@ module _ (graph : List (List ℕ)) (distances : List (Option ℕ)) (process curr
           inr (
             same,
             kept.earliest others other_way
-                (subst (λ (n : ℕ). Leads graph n others other_way process) (same_call same) leads.1.1.1) rest_long,
+                (subst (λ (n : ℕ). CallsLead graph n others other_way process) (same_call same) leads.1.1.1) rest_long,
           )
 
   pub kept_further : IsKeptWay graph current (current ∷ way) process
@@ -167,7 +167,7 @@ module _ (graph : List (List ℕ)) (distances : List (Option ℕ)) (process curr
   }
 
 -- A graph with a cycle has a call that lies on one.
-pub call_on_cycle : (graph : List (List ℕ)) → HasCycle graph
+pub call_on_cycle : (graph : List (List ℕ)) → CallsHaveCycle graph
     → (process : ℕ) × ((process < length graph) × ((k : ℕ) × LiesOnCycle graph process k))
 call_on_cycle graph cycle =
     let way : IsWay graph cycle.0 (suc cycle.1.0) cycle.0 = cycle.1.1 in

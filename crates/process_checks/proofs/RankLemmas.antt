@@ -8,8 +8,8 @@ use Rattle.behaviour_tree.specs.DefinitionView.{specification_of}
 use Rattle.behaviour_tree.specs.declared.definitions.Spec.{Spec}
 use Rattle.process_checks.specs.Calls.{called_by, graph_of}
 use Rattle.process_checks.specs.Graph.{IsCallAt, LiesOnCycle}
-use Rattle.process_checks.specs.Ranks.{AreRanksOf, IsCyclic, Refuses, rank_in}
-use Rattle.process_checks.specs.Ways.{AreDistances, Calls, HasCycle, RanksOf, distance_in}
+use Rattle.process_checks.specs.Ranks.{AreRanksOf, IsCyclic, RefusesRanks, rank_in}
+use Rattle.process_checks.specs.Ways.{AreDistances, Calls, CallsHaveCycle, RanksOf, distance_in}
 use Rattle.process_checks.specs.declared.rank_table.RankFault.{RankFault}
 use Rattle.process_checks.specs.declared.rank_table.RankFault.TheVariants.{Unguarded, NoMemory}
 use Rattle.process_checks.specs.declared.rank_table.Ranks.{Ranks}
@@ -34,19 +34,19 @@ ranks_of_graph spec graph ranks numbers is falling made = record {
 
 -- The ranks that were found.
 pub found_ranks : (graph : List (List ℕ)) (found : Option (Vec ℕ Global)) (numbers : Vec ℕ Global) → found ≡ Some numbers
-    → MatchOption found (HasCycle graph) (λ ranks. RanksOf graph ranks.items) → RanksOf graph numbers.items
+    → MatchOption found (CallsHaveCycle graph) (λ ranks. RanksOf graph ranks.items) → RanksOf graph numbers.items
 found_ranks graph found numbers is told =
-    subst (λ (o : Option (Vec ℕ Global)). MatchOption o (HasCycle graph) (λ ranks. RanksOf graph ranks.items)) is told
+    subst (λ (o : Option (Vec ℕ Global)). MatchOption o (CallsHaveCycle graph) (λ ranks. RanksOf graph ranks.items)) is told
 
 pub guarded_by : (spec : Spec) (ranks : Ranks) → AreRanksOf spec ranks → IsGuarded (specification_of spec).processes
 guarded_by spec ranks h = no_cycle (specification_of spec).processes (rank_in ranks) h.fall
 
 -- A refusal for a cycle: recursion is not guarded.
-cycle_of : (graph : List (List ℕ)) (process position : ℕ) → LiesOnCycle graph process position → HasCycle graph
+cycle_of : (graph : List (List ℕ)) (process position : ℕ) → LiesOnCycle graph process position → CallsHaveCycle graph
 cycle_of graph process position on =
     (process, (length on.positions, way_of_leads graph process (position ∷ on.positions) on.way process on.leads))
 
-pub refused_cycle : (spec : Spec) (fault : RankFault) → Refuses spec fault → IsCyclic fault → IsGuarded (specification_of spec).processes
+pub refused_cycle : (spec : Spec) (fault : RankFault) → RefusesRanks spec fault → IsCyclic fault → IsGuarded (specification_of spec).processes
     → ⊥
 refused_cycle spec (Unguarded place process cycle) refuses cyclic guarded =
     not_guarded spec.processes.items
@@ -66,7 +66,7 @@ none_below_next graph distances process exact far none earlier k lt on = by (sam
     by (inr apart) = none earlier k (omega (arith, lt, apart)) on
 
 -- Some process of the graph has a call on a cycle.
-pub cycle_below : (graph : List (List ℕ)) (done : ℕ) → HasCycle graph
+pub cycle_below : (graph : List (List ℕ)) (done : ℕ) → CallsHaveCycle graph
     → ((earlier k : ℕ) → earlier < done → LiesOnCycle graph earlier k → ⊥) → length graph ≤ done → ⊥
 cycle_below graph done cycle none all_done =
     let on : (process : ℕ) × ((process < length graph) × ((k : ℕ) × LiesOnCycle graph process k)) = call_on_cycle graph cycle in

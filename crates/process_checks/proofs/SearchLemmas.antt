@@ -3,8 +3,8 @@ use Rattle.std.proofs.Common.{◌≡◌, ◌≢◌, ◌<◌, ◌≤◌, ◌⊎�
 use Rattle.std.proofs.lemmas.List.{get_or-set_same, get_or-set_other, get_or-replicate, get_or_past, length-replicate, length-map}
 use Rattle.std.proofs.lemmas.Option.{none-some, slice_get_within}
 use Rattle.process_checks.specs.Graph.{IsCallAt}
-use Rattle.process_checks.specs.Ways.{Calls, IsListed, HasCycle, RanksOf}
-use Rattle.process_checks.specs.Search.{status_at, IsRanked, new_ones, rank_of, Reaches, IsSearch}
+use Rattle.process_checks.specs.Ways.{Calls, IsListed, CallsHaveCycle, RanksOf}
+use Rattle.process_checks.specs.Search.{status_at, IsRanked, new_ones, rank_of, CallsReach, IsSearch}
 use Rattle.process_checks.specs.declared.search.Status.{Status}
 use Rattle.process_checks.specs.declared.search.Status.TheVariants as status
 use Rattle.process_checks.proofs.ListLemmas.{same_or_other, within, in_longer, stays, stands_last}
@@ -135,7 +135,7 @@ backward statuses q p put s there other is = by (same_or_other p q)
 
 -- A process comes onto the chain.
 module _ (graph : List (List ℕ)) (statuses : List Status) (chain : List ℕ) (next q : ℕ) (s : IsSearch graph statuses chain next)
-    (new : status_at statuses q ≡ status.New) (linked_to : (i p : ℕ) → slice_get chain i ≡ Some p → Reaches graph p q) where
+    (new : status_at statuses q ≡ status.New) (linked_to : (i p : ℕ) → slice_get chain i ≡ Some p → CallsReach graph p q) where
   abbrev after : List Status
   after = set statuses q (status.Open 0)
 
@@ -206,13 +206,13 @@ module _ (graph : List (List ℕ)) (statuses : List Status) (chain : List ℕ) (
       by (inr a) (inr b) = a.0 ∙ sym b.0
 
   linked_after : (i j p other : ℕ) → i ≤ j → slice_get (chain ++ q ∷ []) i ≡ Some p → slice_get (chain ++ q ∷ []) j ≡ Some other
-      → Reaches graph p other
+      → CallsReach graph p other
   linked_after i j p other le at_i at_j = by (in_longer chain q i p at_i) (in_longer chain q j other at_j)
     where
       by : (slice_get chain i ≡ Some p) ⊎ ((i ≡ length chain) × (q ≡ p))
-          → (slice_get chain j ≡ Some other) ⊎ ((j ≡ length chain) × (q ≡ other)) → Reaches graph p other
+          → (slice_get chain j ≡ Some other) ⊎ ((j ≡ length chain) × (q ≡ other)) → CallsReach graph p other
       by (inl a) (inl b) = s.linked i j p other le a b
-      by (inl a) (inr b) = subst (λ (n : ℕ). Reaches graph p n) b.1 (linked_to i p a)
+      by (inl a) (inr b) = subst (λ (n : ℕ). CallsReach graph p n) b.1 (linked_to i p a)
       by (inr a) (inl b) =
           let w : j < length chain = slice_get_within chain j other b in
           absurd (omega (arith, a.0))
@@ -421,13 +421,13 @@ module _ (graph : List (List ℕ)) (statuses : List Status) (rest : List ℕ) (n
 
 -- A call of an open process by the latest one makes a cycle.
 pub open_call : (graph : List (List ℕ)) (statuses : List Status) (rest : List ℕ) (next p q j : ℕ)
-    → IsSearch graph statuses (rest ++ p ∷ []) next → Calls graph p q → status_at statuses q ≡ status.Open j → HasCycle graph
+    → IsSearch graph statuses (rest ++ p ∷ []) next → Calls graph p q → status_at statuses q ≡ status.Open j → CallsHaveCycle graph
 open_call graph statuses rest next p q j s calls open_ =
     let h : IsListed (rest ++ p ∷ []) q = s.waiting q j open_ in
     let w : h.0 < length (rest ++ p ∷ []) = slice_get_within (rest ++ p ∷ []) h.0 q h.1 in
     let longer : length (rest ++ p ∷ []) ≡ length rest + 1 = length-append rest (p ∷ []) in
     let le : h.0 ≤ length rest = omega (arith, w, longer) in
-    let way : Reaches graph q p = s.linked h.0 (length rest) q p le h.1 (stands_last rest p) in
+    let way : CallsReach graph q p = s.linked h.0 (length rest) q p le h.1 (stands_last rest p) in
     (q, (way.0, way_further graph way.0 q p q way.1 calls))
 
 -- Where nothing is open and all processes are known, all have ranks, and these fall.

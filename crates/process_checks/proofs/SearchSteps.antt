@@ -2,8 +2,8 @@
 use Rattle.std.proofs.Common.{◌≡◌, ◌≢◌, ◌<◌, ◌≤◌, ◌⊎◌, inl, inr, ℕ, suc, ◌+◌, List, [], ◌∷◌, ◌++◌, set, map, replicate, length, length-append, slice_get, Some, refl, ap, sym, ◌∙◌, subst, arith}
 use Rattle.std.proofs.lemmas.Option.{none-some, slice_get_within}
 use Rattle.process_checks.specs.Graph.{IsCallAt}
-use Rattle.process_checks.specs.Ways.{HasCycle, RanksOf}
-use Rattle.process_checks.specs.Search.{status_at, IsRanked, new_ones, position_of, rank_of, Reaches, IsSearch, IsLatest, IsPending, IsSound, left_in, AreKept, IsStep, IsRoundFrom}
+use Rattle.process_checks.specs.Ways.{CallsHaveCycle, RanksOf}
+use Rattle.process_checks.specs.Search.{status_at, IsRanked, new_ones, position_of, rank_of, CallsReach, IsSearch, IsLatest, IsPending, IsSoundSearch, left_in, AreKept, IsStep, IsRoundFrom}
 use Rattle.process_checks.specs.declared.search.Pending.{Pending}
 use Rattle.process_checks.specs.declared.search.Search.{Search}
 use Rattle.process_checks.specs.declared.search.Status.{Status}
@@ -19,13 +19,13 @@ latest_open graph statuses rest next p s = s.opened (length rest) p (stands_last
 
 -- A call of a process that is not new and has no rank makes a cycle.
 pub cycle_found : (graph : List (List ℕ)) (statuses : List Status) (chain : List ℕ) (next p k q : ℕ) → IsSearch graph statuses chain next
-    → IsLatest chain p → IsCallAt graph p k q → (IsRanked statuses q → ⊥) → (status_at statuses q ≡ status.New → ⊥) → HasCycle graph
+    → IsLatest chain p → IsCallAt graph p k q → (IsRanked statuses q → ⊥) → (status_at statuses q ≡ status.New → ⊥) → CallsHaveCycle graph
 cycle_found graph statuses chain next p k q s latest calls unranked known = by (status_at statuses q) refl
   where
     here : IsSearch graph statuses (latest.0 ++ p ∷ []) next
     here = subst (λ (ns : List ℕ). IsSearch graph statuses ns next) latest.1 s
 
-    by : (t : Status) → status_at statuses q ≡ t → HasCycle graph
+    by : (t : Status) → status_at statuses q ≡ t → CallsHaveCycle graph
     by status.New is = absurd (known is)
     by (status.Ranked r) is = absurd (unranked (r, is))
     by (status.Open j) is = open_call graph statuses latest.0 next p q j here (k, calls) is
@@ -47,7 +47,7 @@ abbrev pub after_call : List Status → ℕ → Pending → List Status
 after_call statuses p found = set (at_call statuses p found) found.process (status.Open 0)
 
 -- A step that follows a call.
-pub followed : (graph : List (List ℕ)) (before after : Search) (p : ℕ) (found : Pending) → IsSound graph before
+pub followed : (graph : List (List ℕ)) (before after : Search) (p : ℕ) (found : Pending) → IsSoundSearch graph before
     → IsLatest before.chain.items p
     → IsPending graph before.statuses.items p (position_of (status_at before.statuses.items p)) found
     → status_at before.statuses.items found.process ≡ status.New
@@ -79,7 +79,7 @@ followed graph before after p found s latest pending new statuses_are chain_is n
     last_at : slice_get before.chain.items (length latest.0) ≡ Some p
     last_at = ap (λ (ns : List ℕ). slice_get ns (length latest.0)) latest.1 ∙ stands_last latest.0 p
 
-    leads_on : (i q : ℕ) → slice_get before.chain.items i ≡ Some q → Reaches graph q found.process
+    leads_on : (i q : ℕ) → slice_get before.chain.items i ≡ Some q → CallsReach graph q found.process
     leads_on i q at =
         reaches_further graph q p found.process
         (s.linked i (length latest.0) q p (before_last i q at) at last_at) (found.position, pending.calls)
@@ -91,7 +91,7 @@ followed graph before after p found s latest pending new statuses_are chain_is n
             let longer : length (latest.0 ++ p ∷ []) ≡ length latest.0 + 1 = length-append latest.0 (p ∷ []) in
             omega (arith, w, longer)
 
-    sound_ : IsSound graph after
+    sound_ : IsSoundSearch graph after
     sound_ =
         subst (λ (ss : List Status). IsSearch graph ss after.chain.items after.next) (sym statuses_are)
         (subst (λ (ns : List ℕ). IsSearch graph (after_call before.statuses.items p found) ns after.next) (sym chain_is)
@@ -126,7 +126,7 @@ followed graph before after p found s latest pending new statuses_are chain_is n
         omega (arith, counted, fewer, same, longer)
 
 -- A step that gives a rank.
-pub ranked : (graph : List (List ℕ)) (before after : Search) (p : ℕ) → IsSound graph before → IsLatest before.chain.items p
+pub ranked : (graph : List (List ℕ)) (before after : Search) (p : ℕ) → IsSoundSearch graph before → IsLatest before.chain.items p
     →
     ((k other : ℕ) → position_of (status_at before.statuses.items p) ≤ k → IsCallAt graph p k other → IsRanked before.statuses.items other)
     → after.statuses.items ≡ set before.statuses.items p (status.Ranked before.next)
@@ -147,7 +147,7 @@ ranked graph before after p s latest settled_from statuses_are chain_was next_is
         by (inl early) = s.settled p open_.0 j other open_.1 early at
         by (inr late) = settled_from j other (subst (λ (n : ℕ). n ≤ j) (sym (ap position_of open_.1)) late) at
 
-    sound_ : IsSound graph after
+    sound_ : IsSoundSearch graph after
     sound_ =
         subst (λ (ss : List Status). IsSearch graph ss after.chain.items after.next) (sym statuses_are)
         (subst (λ (n : ℕ). IsSearch graph (set before.statuses.items p (status.Ranked before.next)) after.chain.items n) (sym next_is)
@@ -184,14 +184,14 @@ pub steps : (graph : List (List ℕ)) (before between after : Search) → IsStep
     → IsStep graph before after
 steps graph before between after f g = record { sound = g.sound; kept = λ q is. f.kept q (g.kept q is) }
 
-pub no_step : (graph : List (List ℕ)) (search : Search) → IsSound graph search → IsStep graph search search
+pub no_step : (graph : List (List ℕ)) (search : Search) → IsSoundSearch graph search → IsStep graph search search
 no_step graph search s = record { sound = s; kept = λ q is. is }
 
 -- A process comes onto an empty chain.
-pub begun_from : (graph : List (List ℕ)) (before after : Search) (root : ℕ) → IsSound graph before → before.chain.items ≡ []
+pub begun_from : (graph : List (List ℕ)) (before after : Search) (root : ℕ) → IsSoundSearch graph before → before.chain.items ≡ []
     → status_at before.statuses.items root ≡ status.New
     → after.statuses.items ≡ set before.statuses.items root (status.Open 0) → after.chain.items ≡ before.chain.items ++ root ∷ []
-    → after.next ≡ before.next → IsSound graph after
+    → after.next ≡ before.next → IsSoundSearch graph after
 begun_from graph before after root s empty new statuses_are chain_is next_is =
     subst (λ (ss : List Status). IsSearch graph ss after.chain.items after.next) (sym statuses_are)
     (subst (λ (ns : List ℕ). IsSearch graph (set before.statuses.items root (status.Open 0)) ns after.next) (sym chain_is)
@@ -199,7 +199,7 @@ begun_from graph before after root s empty new statuses_are chain_is next_is =
     (entered graph before.statuses.items before.chain.items before.next root s new
     (λ i p at. absurd (none-some p (ap (λ (ns : List ℕ). slice_get ns i) (sym empty) ∙ at))))))
 
-pub round_from : (graph : List (List ℕ)) (before between after : Search) (root : ℕ) → IsSound graph before
+pub round_from : (graph : List (List ℕ)) (before between after : Search) (root : ℕ) → IsSoundSearch graph before
     → status_at before.statuses.items root ≡ status.New
     → between.statuses.items ≡ set before.statuses.items root (status.Open 0) → IsStep graph between after → after.chain.items ≡ []
     → IsRoundFrom graph before after root
@@ -221,7 +221,7 @@ round_from graph before between after root s new statuses_are step empty = recor
 
 -- The walk over no process yet, as the code makes it.
 pub begun_made : (graph : List (List ℕ)) (search : Search) (n : ℕ) → n ≡ length graph → search.statuses.items ≡ replicate n status.New
-    → search.chain.items ≡ [] → search.next ≡ 1 → IsSound graph search
+    → search.chain.items ≡ [] → search.next ≡ 1 → IsSoundSearch graph search
 begun_made graph search n long statuses_are chain_is next_is =
     subst (λ (ss : List Status). IsSearch graph ss search.chain.items search.next)
     (sym (statuses_are ∙ ap (λ (k : ℕ). replicate k status.New) long))
@@ -229,7 +229,7 @@ begun_made graph search n long statuses_are chain_is next_is =
     (subst (λ (k : ℕ). IsSearch graph (replicate (length graph) status.New) [] k) (sym next_is) (begun_search graph)))
 
 -- The ranks at the end.
-pub ranks_made : (graph : List (List ℕ)) (search : Search) (made : List ℕ) (root : ℕ) → IsSound graph search → search.chain.items ≡ []
+pub ranks_made : (graph : List (List ℕ)) (search : Search) (made : List ℕ) (root : ℕ) → IsSoundSearch graph search → search.chain.items ≡ []
     → ((p : ℕ) → p < root → status_at search.statuses.items p ≡ status.New → ⊥) → length graph ≤ root
     → made ≡ map rank_of search.statuses.items → RanksOf graph made
 ranks_made graph search made root s empty known all_done is =

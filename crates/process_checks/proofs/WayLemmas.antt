@@ -1,9 +1,9 @@
 -- Ways one behind another, and ways with the processes that they lead over.
 use Rattle.std.proofs.Common.{◌≡◌, ◌<◌, ℕ, zero, suc, List, [], ◌∷◌, length, refl, ap, sym, subst, arith}
 use Rattle.std.proofs.lemmas.Option.{none-some}
-use Rattle.process_checks.specs.Graph.{Leads}
+use Rattle.process_checks.specs.Graph.{CallsLead}
 use Rattle.process_checks.specs.Ways.{Calls, IsWay}
-use Rattle.process_checks.specs.Search.{Reaches}
+use Rattle.process_checks.specs.Search.{CallsReach}
 
 -- One more call at the end of a way.
 pub way_further : (graph : List (List ℕ)) (n from between to : ℕ) → IsWay graph from n between → Calls graph between to
@@ -12,12 +12,12 @@ way_further graph zero from between to way calls = (to, (subst (λ (p : ℕ). Ca
 way_further graph (suc n) from between to way calls =
     (way.0, (way.1.0, way_further graph n way.0 between to way.1.1 calls))
 
-pub reaches_further : (graph : List (List ℕ)) (from between to : ℕ) → Reaches graph from between → Calls graph between to
-    → Reaches graph from to
+pub reaches_further : (graph : List (List ℕ)) (from between to : ℕ) → CallsReach graph from between → Calls graph between to
+    → CallsReach graph from to
 reaches_further graph from between to way calls = (suc way.0, way_further graph way.0 from between to way.1 calls)
 
 -- The number of calls of a way over processes.
-pub way_of_leads : (graph : List (List ℕ)) (from : ℕ) (positions way : List ℕ) (to : ℕ) → Leads graph from positions way to
+pub way_of_leads : (graph : List (List ℕ)) (from : ℕ) (positions way : List ℕ) (to : ℕ) → CallsLead graph from positions way to
     → IsWay graph from (length positions) to
 way_of_leads graph from [] [] to leads = leads
 way_of_leads graph from [] (p ∷ way) to leads = absurd leads
@@ -30,7 +30,7 @@ pub record Led (graph : List (List ℕ)) (from n to : ℕ) : Type 0 where
   pub positions : List ℕ
   pub way : List ℕ
   pub long : length positions ≡ n
-  pub leads : Leads graph from positions way to
+  pub leads : CallsLead graph from positions way to
 
 led_further : (graph : List (List ℕ)) (from n next to : ℕ) → (calls : Calls graph from next) → Led graph next n to
     → Led graph from (suc n) to

@@ -13,21 +13,21 @@ IsCallAt graph process position other = slice_get (calls_at graph process) posit
 -- Beginning in one process, the calls at these positions lead to another one: the first position is one in the body of
 -- the first process, each later one in the body of the process called before. The bodies on the way are those of the
 -- listed processes.
-abbrev pub Leads : List (List ℕ) → ℕ → List ℕ → List ℕ → ℕ → Type 0
-Leads graph from [] [] to = from ≡ to
-Leads graph from (position ∷ positions) (process ∷ way) to =
-    (process ≡ from) × ((next : ℕ) × (IsCallAt graph from position next × Leads graph next positions way to))
-Leads graph from _ _ to = ⊥
+abbrev pub CallsLead : List (List ℕ) → ℕ → List ℕ → List ℕ → ℕ → Type 0
+CallsLead graph from [] [] to = from ≡ to
+CallsLead graph from (position ∷ positions) (process ∷ way) to =
+    (process ≡ from) × ((next : ℕ) × (IsCallAt graph from position next × CallsLead graph next positions way to))
+CallsLead graph from _ _ to = ⊥
 
 -- The call at the position lies on a cycle: it and further calls lead back to its process.
 pub record LiesOnCycle (graph : List (List ℕ)) (process position : ℕ) : Type 0 where
   pub positions : List ℕ
   pub way : List ℕ
-  pub leads : Leads graph process (position ∷ positions) way process
+  pub leads : CallsLead graph process (position ∷ positions) way process
 
 -- One call stands before another in the text: in an earlier body, or earlier in one body.
-abbrev pub StandsBefore : ℕ → ℕ → ℕ → ℕ → Type 0
-StandsBefore process position other_process other_position =
+abbrev pub CallStandsBefore : ℕ → ℕ → ℕ → ℕ → Type 0
+CallStandsBefore process position other_process other_position =
     (process < other_process) ⊎ ((process ≡ other_process) × (position < other_position))
 
 -- The call is the first of all that lie on a cycle.
@@ -35,7 +35,7 @@ pub record IsFirstOnCycle (graph : List (List ℕ)) (process position : ℕ) : T
   pub on_cycle : LiesOnCycle graph process position
   pub first :
       (other_process other_position : ℕ) →
-      StandsBefore other_process other_position process position →
+      CallStandsBefore other_process other_position process position →
       LiesOnCycle graph other_process other_position →
       ⊥
 
@@ -48,14 +48,14 @@ ComeNoLater (i ∷ positions) [] = ⊥
 -- The way is the one that is kept: a shortest one, and among the shortest the one whose calls come earliest.
 pub record IsKeptWay (graph : List (List ℕ)) (from : ℕ) (way : List ℕ) (to : ℕ) : Type 0 where
   pub positions : List ℕ
-  pub leads : Leads graph from positions way to
+  pub leads : CallsLead graph from positions way to
   pub shortest :
       (others other_way : List ℕ) →
-      Leads graph from others other_way to →
+      CallsLead graph from others other_way to →
       length positions ≤ length others
   pub earliest :
       (others other_way : List ℕ) →
-      Leads graph from others other_way to →
+      CallsLead graph from others other_way to →
       length others ≡ length positions →
       ComeNoLater positions others
 

@@ -39,9 +39,9 @@ pub record IsUnguarded (spec : Spec) (place : Place) (process : ℕ) (cycle : Li
   pub kept : IsKeptCycle (graph_of spec.processes.items) process position cycle
 
 -- What a refusal says.
-abbrev pub Refuses : Spec → RankFault → Type 0
-Refuses spec (Unguarded place process cycle) = IsUnguarded spec place process cycle.items
-Refuses spec NoMemory = Unit {0}
+abbrev pub RefusesRanks : Spec → RankFault → Type 0
+RefusesRanks spec (Unguarded place process cycle) = IsUnguarded spec place process cycle.items
+RefusesRanks spec NoMemory = Unit {0}
 
 -- The refusal is for a cycle.
 abbrev pub IsCyclic : RankFault → Type 0

@@ -29,8 +29,8 @@ rank_of (status.Open position) = 0
 rank_of (status.Ranked rank) = rank
 
 -- Some calls lead from one process to the other, or none where it is the same.
-abbrev pub Reaches : List (List ℕ) → ℕ → ℕ → Type 0
-Reaches graph from to = (n : ℕ) × IsWay graph from n to
+abbrev pub CallsReach : List (List ℕ) → ℕ → ℕ → Type 0
+CallsReach graph from to = (n : ℕ) × IsWay graph from n to
 
 -- All that the walk keeps: ranks that fall and are below the next one; of an open process the calls before its position
 -- lead to ranked processes; the open processes are those of the chain, each once, and an earlier one reaches a later one.
@@ -57,7 +57,7 @@ pub record IsSearch (graph : List (List ℕ)) (statuses : List Status) (chain : 
       i ≤ j →
       slice_get chain i ≡ Some process →
       slice_get chain j ≡ Some other →
-      Reaches graph process other
+      CallsReach graph process other
   pub room : next + new_ones statuses + length chain ≡ length graph + 1
 
 -- The process is the latest of the chain.
@@ -81,8 +81,8 @@ pub record IsPending (graph : List (List ℕ)) (statuses : List Status) (process
   pub first : (k other : ℕ) → from ≤ k → k < found.position → IsCallAt graph process k other → IsRanked statuses other
 
 -- The walk keeps what it has to.
-abbrev pub IsSound : List (List ℕ) → Search → Type 0
-IsSound graph search = IsSearch graph search.statuses.items search.chain.items search.next
+abbrev pub IsSoundSearch : List (List ℕ) → Search → Type 0
+IsSoundSearch graph search = IsSearch graph search.statuses.items search.chain.items search.next
 
 -- What is left to do: two steps for a process of which nothing is known, one for each of the chain.
 abbrev pub left_in : Search → ℕ
@@ -90,12 +90,12 @@ left_in search = new_ones search.statuses.items + new_ones search.statuses.items
 
 -- The walk goes from here to there.
 pub record IsStep (graph : List (List ℕ)) (before after : Search) : Type 0 where
-  pub sound : IsSound graph after
+  pub sound : IsSoundSearch graph after
   pub kept : AreKept before.statuses.items after.statuses.items
 
 -- A round of the walk that begins with a process and ends with nothing open.
 pub record IsRoundFrom (graph : List (List ℕ)) (before after : Search) (root : ℕ) : Type 0 where
-  pub sound : IsSound graph after
+  pub sound : IsSoundSearch graph after
   pub kept : AreKept before.statuses.items after.statuses.items
   pub idle : after.chain.items ≡ []
   pub reached : status_at after.statuses.items root ≡ status.New → ⊥

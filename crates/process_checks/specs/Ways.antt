@@ -16,8 +16,8 @@ IsWay graph from zero to = from ≡ to
 IsWay graph from (suc n) to = (next : ℕ) × (Calls graph from next × IsWay graph next n to)
 
 -- Some process leads back to itself.
-abbrev pub HasCycle : List (List ℕ) → Type 0
-HasCycle graph = (process : ℕ) × ((n : ℕ) × IsWay graph process (suc n) process)
+abbrev pub CallsHaveCycle : List (List ℕ) → Type 0
+CallsHaveCycle graph = (process : ℕ) × ((n : ℕ) × IsWay graph process (suc n) process)
 
 -- The ranks fall along every call.
 pub record RanksOf (graph : List (List ℕ)) (ranks : List ℕ) : Type 0 where

@@ -6,8 +6,8 @@ ghost use Rattle.process_checks.specs.Calls.{graph_of};
 ghost use Rattle.process_checks.specs.Cycles.{IsFirstBack};
 ghost use Rattle.process_checks.specs.Graph.{IsCallAt, LiesOnCycle};
 ghost use Rattle.process_checks.specs.GraphView.{lists_of};
-ghost use Rattle.process_checks.specs.Ranks.{AreRanksOf, IsCyclic, IsSiteAt, Refuses};
-ghost use Rattle.process_checks.specs.Ways.{AreDistances, HasCycle};
+ghost use Rattle.process_checks.specs.Ranks.{AreRanksOf, IsCyclic, IsSiteAt, RefusesRanks};
+ghost use Rattle.process_checks.specs.Ways.{AreDistances, CallsHaveCycle};
 ghost use Rattle.std.specs.Prelude.{
   ◌≡◌,
   ◌+◌,
@@ -34,7 +34,7 @@ use std::alloc::Global;
 /// 4,294,967,295 processes or more has no ranks for want of memory.
 pub fn ranks(alloc: Global, spec: &Spec) -> Result<Ranks, RankFault>
     ensures exact { MatchResult result (λ ranks. AreRanksOf spec.now ranks)
-        (λ fault. Refuses spec.now fault) }
+        (λ fault. RefusesRanks spec.now fault) }
     ensures guarded { IfOk result (λ _. IsGuarded (specification_of spec.now).processes) }
     ensures unguarded { IfErr result
         (λ fault. IsCyclic fault → IsGuarded (specification_of spec.now).processes → ⊥) }
@@ -52,9 +52,9 @@ pub fn ranks(alloc: Global, spec: &Spec) -> Result<Ranks, RankFault>
 // The refusal of a graph that has a cycle.
 fn unguarded(alloc: Global, spec: &Spec, graph: &Vec<Vec<u32>>) -> Result<RankFault, NoMemory>
     requires graph { lists_of graph.now.items ≡ graph_of spec.now.processes.items }
-    requires cyclic { HasCycle (lists_of graph.now.items) }
+    requires cyclic { CallsHaveCycle (lists_of graph.now.items) }
     requires room { length graph.now.items + 1 < 2 ^ 32 }
-    ensures { IfOk result (λ fault. Refuses spec.now fault) }
+    ensures { IfOk result (λ fault. RefusesRanks spec.now fault) }
 {
     let callers = callers(alloc, graph)?;
     for process in 0..graph.len() as u32 {
@@ -79,7 +79,7 @@ fn refusal(
     requires distances { AreDistances (lists_of graph.now.items) process distances.now.items }
     requires back { IsFirstBack (lists_of graph.now.items) distances.now.items process back }
     requires first { (earlier k : ℕ) → earlier < process → LiesOnCycle (lists_of graph.now.items) earlier k → ⊥ }
-    ensures { IfOk result (λ fault. Refuses spec.now fault) }
+    ensures { IfOk result (λ fault. RefusesRanks spec.now fault) }
 {
     let cycle = kept_cycle(alloc, graph, distances, process, back)?;
     let place = place_of(alloc, spec, process, back.position)?;

@@ -8,14 +8,14 @@ ghost use Rattle.process_checks.specs.Search.{
   IsPending,
   IsRanked,
   IsRoundFrom,
-  IsSound,
+  IsSoundSearch,
   IsStep,
   left_in,
   position_of,
   rank_of,
   status_at,
 };
-ghost use Rattle.process_checks.specs.Ways.{HasCycle, RanksOf};
+ghost use Rattle.process_checks.specs.Ways.{CallsHaveCycle, RanksOf};
 ghost use Rattle.process_checks.specs.declared.search.Status.TheVariants as status;
 ghost use Rattle.std.specs.Prelude.{
   ◌≡◌,
@@ -75,7 +75,7 @@ pub struct Search {
 /// Ranks for the processes of the graph, unless it has a cycle.
 pub fn order(alloc: Global, graph: &Vec<Vec<u32>>) -> Result<Option<Vec<u32>>, NoMemory>
     requires { length graph.now.items + 1 < 2 ^ 32 }
-    ensures { IfOk result (λ found. MatchOption found (HasCycle (lists_of graph.now.items))
+    ensures { IfOk result (λ found. MatchOption found (CallsHaveCycle (lists_of graph.now.items))
         (λ ranks. RanksOf (lists_of graph.now.items) ranks.items)) }
 {
     let mut search = begun(alloc, graph)?;
@@ -228,13 +228,13 @@ fn is_new(statuses: &Vec<Status>, process: u32) -> bool
 impl Search {
     // Gives the process a rank, unless it leads to a cycle.
     fn rank_from(&mut self, graph: &Vec<Vec<u32>>, root: u32) -> Result<bool, NoMemory>
-        requires search { IsSound (lists_of graph.now.items) self.old }
+        requires search { IsSoundSearch (lists_of graph.now.items) self.old }
         requires idle { self.old.chain.items ≡ [] }
         requires room { length graph.now.items + 1 < 2 ^ 32 }
         ensures ranked { IfOk result (λ going. going ≡ true
             → IsRoundFrom (lists_of graph.now.items) self.old self.new root) }
         ensures cyclic { IfOk result (λ going. going ≡ false
-            → HasCycle (lists_of graph.now.items)) }
+            → CallsHaveCycle (lists_of graph.now.items)) }
     {
         if !is_new(&self.statuses, root) {
             return Ok(true);
@@ -245,12 +245,12 @@ impl Search {
 
     // Goes on until the chain is empty, unless there is a cycle.
     fn finish(&mut self, graph: &Vec<Vec<u32>>) -> Result<bool, NoMemory>
-        requires search { IsSound (lists_of graph.now.items) self.old }
+        requires search { IsSoundSearch (lists_of graph.now.items) self.old }
         requires room { length graph.now.items + 1 < 2 ^ 32 }
         ensures finished { IfOk result (λ going. going ≡ true
             → IsStep (lists_of graph.now.items) self.old self.new × (self.new.chain.items ≡ [])) }
         ensures cyclic { IfOk result (λ going. going ≡ false
-            → HasCycle (lists_of graph.now.items)) }
+            → CallsHaveCycle (lists_of graph.now.items)) }
     {
         while let Some(process) = self.latest() {
             if !self.advance(graph, process)? {
@@ -270,13 +270,13 @@ impl Search {
 
     // Takes the latest process on: to its next call whose process has no rank, or to its own rank.
     fn advance(&mut self, graph: &Vec<Vec<u32>>, process: u32) -> Result<bool, NoMemory>
-        requires search { IsSound (lists_of graph.now.items) self.old }
+        requires search { IsSoundSearch (lists_of graph.now.items) self.old }
         requires latest { IsLatest self.old.chain.items process }
         requires room { length graph.now.items + 1 < 2 ^ 32 }
         ensures going { IfOk result (λ going. going ≡ true
             → IsStep (lists_of graph.now.items) self.old self.new × (left_in self.new < left_in self.old)) }
         ensures cyclic { IfOk result (λ going. going ≡ false
-            → HasCycle (lists_of graph.now.items)) }
+            → CallsHaveCycle (lists_of graph.now.items)) }
     {
         let from = position(status_in(&self.statuses, process));
         match first_pending(graph, &self.statuses, process, from) {
@@ -296,14 +296,14 @@ impl Search {
         process: u32,
         found: Pending,
     ) -> Result<bool, NoMemory>
-        requires search { IsSound (lists_of graph.now.items) self.old }
+        requires search { IsSoundSearch (lists_of graph.now.items) self.old }
         requires latest { IsLatest self.old.chain.items process }
         requires found { IsPending (lists_of graph.now.items) self.old.statuses.items process
             (position_of (status_at self.old.statuses.items process)) found }
         ensures going { IfOk result (λ going. going ≡ true
             → IsStep (lists_of graph.now.items) self.old self.new × (left_in self.new < left_in self.old)) }
         ensures cyclic { IfOk result (λ going. going ≡ false
-            → HasCycle (lists_of graph.now.items)) }
+            → CallsHaveCycle (lists_of graph.now.items)) }
     {
         if !is_new(&self.statuses, found.process) {
             return Ok(false);

@@ -1,8 +1,8 @@
 -- Refusals without a detail, and the sorts of a functionality in their brackets.
 use Rattle.std.proofs.Common.{◌≡◌, ℕ, List, [], ◌∷◌, ◌++◌, map, length, Bool, true, false, Option, refl, sym, arith}
 use Rattle.std.proofs.lemmas.List.{append-nil}
-use Rattle.term_algebra.specs.Equation.{Data}
-use Rattle.term_algebra.specs.Signature.{Signature}
+use Rattle.lotos_base.specs.Equation.{Data}
+use Rattle.lotos_base.specs.Signature.{Signature}
 use Rattle.behaviour_semantics.specs.Behaviour.{Specification}
 use Rattle.printed_texts.specs.Brackets.{bracketed, commas}
 use Rattle.printed_texts.specs.TermText.{sort_text}

@@ -4,3 +4,4 @@ pub mod TextNames
 pub mod RefusalDetail
 pub mod RefusalText
 pub mod LineView
+pub mod HandedOn

@@ -1,7 +1,7 @@
 -- What the code prints of its faults. Want of memory, which no refusal holds, has no words, no place and no detail.
 use Rattle.std.specs.Prelude.{ℕ, List, [], ◌++◌, map, Option, None, Some, option_map, codes}
 use Rattle.lotos_base.specs.Name.{spelling}
-use Rattle.term_algebra.specs.Equation.{Place, Data}
+use Rattle.lotos_base.specs.Equation.{Place, Data}
 use Rattle.behaviour_semantics.specs.Behaviour.{Specification}
 use Rattle.behaviour_tree.specs.DefinitionView.{specification_of}
 use Rattle.behaviour_tree.specs.declared.definitions.Spec.{Spec}

@@ -1,10 +1,10 @@
 -- What stands behind the place of a refusal, behind a blank, if anything does.
 use Rattle.std.specs.Prelude.{ℕ, List, [], ◌∷◌, ◌++◌, map, Option, None, Some, slice_get, codes, decimal}
-use Rattle.term_algebra.specs.Equation.{Place, Equation, Data}
-use Rattle.term_algebra.specs.Signature.{Signature}
-use Rattle.term_algebra.specs.Term.{Term}
+use Rattle.lotos_base.specs.Equation.{Place, Equation, Data}
+use Rattle.lotos_base.specs.Signature.{Signature}
+use Rattle.lotos_base.specs.Term.{Term}
 use Rattle.behaviour_semantics.specs.Behaviour.{Process, Specification}
-use Rattle.type_mentions.specs.MentionFaults.{MentionFault, double_type, unknown_type, type_cycle}
+use Rattle.type_definitions.specs.MentionFaults.{MentionFault, double_type, unknown_type, type_cycle}
 use Rattle.type_definitions.specs.TypeFault.{TypeFault, double_sort, unknown_sort, double_operation, unknown_operation as no_operation, not_formal, missing_actual, premised, unknown_name, no_reading, two_readings, too_large}
 use Rattle.scope_parts.specs.ScopeFault as scope
 use Rattle.printed_texts.specs.Brackets.{round, commas}

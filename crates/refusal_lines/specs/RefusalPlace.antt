@@ -1,8 +1,8 @@
 -- Where each refusal stands: that of an equation that cannot be oriented at the equation, that of a critical pair at the
 -- equation of its first rule, that of a number of start values nowhere.
 use Rattle.std.specs.Prelude.{ℕ, Option, None, Some, option_map, slice_get}
-use Rattle.term_algebra.specs.Equation.{Place, Equation, Data}
-use Rattle.type_mentions.specs.MentionFaults.{MentionFault, double_type, unknown_type, type_cycle}
+use Rattle.lotos_base.specs.Equation.{Place, Equation, Data}
+use Rattle.type_definitions.specs.MentionFaults.{MentionFault, double_type, unknown_type, type_cycle}
 use Rattle.type_definitions.specs.TypeFault.{TypeFault, double_sort, unknown_sort, double_operation, unknown_operation as no_operation, not_formal, missing_actual, premised, unknown_name, no_reading, two_readings, too_large}
 use Rattle.scope_parts.specs.ScopeFault.{fault_place, refusal_place}
 use Rattle.start_values.specs.Refusal.{Refusal, too_long, bad_byte, open_comment, wrong_syntax, too_deep, too_many_libraries, wrong_names, wrong_types, wrong_scopes, mismatch, unguarded, unknown_operation, twice_listed, unorientable, unjoined, start_values, start_term}

@@ -1,7 +1,7 @@
 -- The number and the name of each refusal.
 use Rattle.std.specs.Prelude.{ℕ, List, codes}
 use Rattle.sort_terms.specs.ReadingOutcome as reading
-use Rattle.type_mentions.specs.MentionFaults.{MentionFault, double_type, unknown_type, type_cycle}
+use Rattle.type_definitions.specs.MentionFaults.{MentionFault, double_type, unknown_type, type_cycle}
 use Rattle.type_definitions.specs.TypeFault.{TypeFault, double_sort, unknown_sort, double_operation, unknown_operation as no_operation, not_formal, missing_actual, premised, unknown_name, no_reading, two_readings, too_large}
 use Rattle.scope_parts.specs.ScopeFault as scope
 use Rattle.start_values.specs.Refusal.{Refusal, too_long, bad_byte, open_comment, wrong_syntax, too_deep, too_many_libraries, wrong_names, wrong_types, wrong_scopes, mismatch, unguarded, unknown_operation, twice_listed, unorientable, unjoined, start_values, start_term}
@@ -27,7 +27,7 @@ words_of_types (two_readings place) = codes "213 TwoReadings"
 words_of_types (too_large place name) = codes "214 TooLarge"
 
 -- of a term
-abbrev pub words_of_term : reading.Refusal → List ℕ
+abbrev pub words_of_term : reading.ReadingRefusal → List ℕ
 words_of_term (reading.unknown_name place) = codes "211 UnknownName"
 words_of_term (reading.unknown_sort place) = codes "205 UnknownSort"
 words_of_term (reading.no_reading place) = codes "212 NoReading"

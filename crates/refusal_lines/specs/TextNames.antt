@@ -1,9 +1,9 @@
 -- How texts and places in them are named: the specification and the order file by the words of the command line, a library by
 -- its file, or by `library` and its name where it is shipped, and the start values by `with`.
 use Rattle.std.specs.Prelude.{ℕ, ◌-◌, List, [], ◌++◌, Option, None, Some, slice_get, nat_eq, if◌then◌else◌, codes, decimal}
-use Rattle.term_algebra.specs.Equation.{Place}
+use Rattle.lotos_base.specs.Equation.{Place}
 use Rattle.lotos_library.specs.Library.{library_text}
-use Rattle.lotos_grammar.specs.Gathering.{library_file}
+use Rattle.start_values.specs.HandedOn.{library_file}
 
 -- the two words, and the names of the libraries that were read, in the order of the numbers of their texts
 pub record TextNames : Type 0 where

@@ -15,7 +15,7 @@ ghost use Rattle.start_values.specs.RefusalView.{
 ghost use Rattle.scope_parts.specs.FaultView.{told_by};
 ghost use Rattle.std.specs.Prelude.{◌≡◌, ◌++◌, OnOk, Option};
 ghost use Rattle.behaviour_semantics.specs.Behaviour.{Specification};
-ghost use Rattle.term_algebra.specs.Equation.{Data};
+ghost use Rattle.lotos_base.specs.Equation.{Data};
 
 use crate::evidence::{Forms, push_cycle, push_equation, push_mismatch, push_pair};
 use crate::text_names::TextNames;

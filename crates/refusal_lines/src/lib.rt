@@ -9,3 +9,5 @@ pub mod text_names;
 pub mod words;
 
 pub use lines::refusal_line;
+pub use start_values::limits::{WORD_BYTES_LIMIT, WORDS_LIMIT, are_within_limits};
+pub use start_values::{Refused, SpecFault};

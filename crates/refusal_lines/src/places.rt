@@ -18,7 +18,7 @@ ghost use Rattle.scope_parts.specs.FaultView.{term_told, told_by};
 ghost use Rattle.std.specs.Option.{option_map};
 ghost use Rattle.sort_terms.specs.EquationView.{data_of};
 ghost use Rattle.std.specs.Prelude.{◌≡◌, Option, Some};
-ghost use Rattle.term_algebra.specs.Equation.{Data};
+ghost use Rattle.lotos_base.specs.Equation.{Data};
 
 use equation_book::BookFault;
 use lotos_base::Place;

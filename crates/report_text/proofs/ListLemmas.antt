@@ -1,6 +1,6 @@
 -- Lists of texts, with brackets where they have members.
 use Rattle.std.proofs.Common.{◌≡◌, ◌++◌, ℕ, List, [], ◌∷◌, codes, length, map, refl, ap, sym, ◌∙◌, append_assoc}
-use Rattle.term_algebra.specs.Equation.{Variable}
+use Rattle.lotos_base.specs.Equation.{Variable}
 use Rattle.sort_terms.specs.EquationView.{variable_of}
 use Rattle.sort_terms.specs.declared.equations.Variable as kept
 use Rattle.behaviour_tree.specs.BehaviourView.{variables_of}

@@ -1,6 +1,6 @@
 -- Texts that are written piece by piece, and the texts of parts.
 use Rattle.std.proofs.Common.{◌≡◌, ◌++◌, ℕ, List, ap, ◌∙◌, append_assoc}
-use Rattle.term_algebra.specs.Equation.{Variable}
+use Rattle.lotos_base.specs.Equation.{Variable}
 use Rattle.behaviour_semantics.specs.Behaviour.{Behaviour}
 use Rattle.printed_texts.specs.BehaviourText.{Naming, behaviour_text, unit_text}
 

@@ -1,6 +1,6 @@
 -- The texts of what stands in lists between commas, and what a name in a behaviour is looked up in.
 use Rattle.std.specs.Prelude.{ℕ, List, map}
-use Rattle.term_algebra.specs.Equation.{Variable}
+use Rattle.lotos_base.specs.Equation.{Variable}
 use Rattle.sort_terms.specs.EquationView.{variable_of}
 use Rattle.sort_terms.specs.SignatureView.{signature_of}
 use Rattle.sort_terms.specs.SortedView.{term_in}

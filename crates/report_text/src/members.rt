@@ -15,7 +15,7 @@ ghost use Rattle.printed_texts.specs.BehaviourText.{Naming, declared_text, gate_
 ghost use Rattle.printed_texts.specs.TextView.{written_term};
 ghost use Rattle.sort_terms.specs.EquationView.{variable_of};
 ghost use Rattle.std.specs.Prelude.{◌≡◌, ◌++◌, ℕ, List, OnOk};
-ghost use Rattle.term_algebra.specs.Equation as equation;
+ghost use Rattle.lotos_base.specs.Equation as equation;
 
 use behaviour_tree::{ExitValue, Spec};
 use lotos_base::NoMemory;

@@ -19,7 +19,7 @@ ghost use Rattle.printed_texts.specs.BehaviourText.{
   unit_text,
 };
 ghost use Rattle.std.specs.Prelude.{◌≡◌, ◌++◌, [], IfOk, OnOk};
-ghost use Rattle.term_algebra.specs.Substitution.{binding, without};
+ghost use Rattle.lotos_base.specs.Substitution.{binding, without};
 
 use crate::behaviours::{is_bracketed, push_behaviour, push_unit};
 use crate::heads::{push_call, push_hide, push_relabel};

@@ -1,8 +1,8 @@
 -- Every term has exactly one chosen form, which is irreducible and reached by rewriting.
 use Rattle.std.proofs.Common.{◌≡◌, ◌+◌, ℕ, zero, suc, List, refl, ap, sym, subst, inl, inr}
 use Rattle.std.specs.Prelude.{◌⊎◌}
-use Rattle.term_algebra.specs.Term.{Term, variable, node, Terms, no_terms, term_then}
-use Rattle.term_algebra.specs.Substitution.{Substitution, substituted}
+use Rattle.lotos_base.specs.Term.{Term, variable, node, Terms, no_terms, term_then}
+use Rattle.lotos_base.specs.Substitution.{Substitution, substituted}
 use Rattle.rewriting_theory.specs.Rule.{Rule, IsNode, AreWellFormedRules}
 use Rattle.rewriting_theory.specs.Reduction.{Reaches, reached_already, reached_after, IsIrreducible, EndsFor}
 use Rattle.rewriting_theory.specs.Step.{Step, at_root, in_arguments, StepAmong, here, there}

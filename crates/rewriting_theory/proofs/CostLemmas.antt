@@ -2,8 +2,8 @@
 use Rattle.std.proofs.Common.{◌≡◌, ◌<◌, ◌+◌, ℕ, zero, suc, List, refl, sym, subst, arith}
 use Rattle.std.specs.Prelude.{Some}
 use Rattle.std.proofs.lemmas.Option.{same_Some}
-use Rattle.term_algebra.specs.Term.{Term, node, Terms}
-use Rattle.term_algebra.specs.Path.{argument_at}
+use Rattle.lotos_base.specs.Term.{Term, node, Terms}
+use Rattle.lotos_base.specs.Path.{argument_at}
 use Rattle.rewriting_theory.specs.Rule.{Rule, AreWellFormedRules}
 use Rattle.rewriting_theory.specs.Matching.{NoMatch, FirstStep}
 use Rattle.rewriting_theory.specs.ChosenForm.{Chosen, chosen_done, chosen_next, AllChosen, all_chosen, chosen_then}

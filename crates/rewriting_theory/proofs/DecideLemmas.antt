@@ -3,12 +3,12 @@
 use Rattle.std.proofs.Common.{◌≡◌, ◌≤◌, ◌<◌, ℕ, zero, suc, List, [], ◌∷◌, ◌++◌, length, Bool, true, false, nat_eq, refl, ap, sym, ◌∙◌, subst, inl, inr, arith}
 use Rattle.std.specs.Prelude.{◌⊎◌, ◌&&◌, if◌then◌else◌}
 use Rattle.std.proofs.lemmas.Bool.Decides.{Decides-eqb, Decides-and}
-use Rattle.term_algebra.specs.Term.{Term, variable, node, Terms, no_terms, term_then}
-use Rattle.term_algebra.specs.Sorting.{Occurs, OccursAmong}
-use Rattle.term_algebra.specs.Tests.{term_eq, occurs}
-use Rattle.term_algebra.specs.Substitution.{Substitution, substituted, all_substituted, followed_by}
-use Rattle.term_algebra.proofs.TestLemmas.{Decides-term_eq, Decides-occurs}
-use Rattle.term_algebra.proofs.SubstitutionLemmas.{substituted_occurs, all_substituted_occurs, all_substituted_agree, all_substituted_variables}
+use Rattle.lotos_base.specs.Term.{Term, variable, node, Terms, no_terms, term_then}
+use Rattle.lotos_base.specs.Sorting.{Occurs, OccursAmong}
+use Rattle.lotos_base.specs.Tests.{term_eq, occurs}
+use Rattle.lotos_base.specs.Substitution.{Substitution, substituted, all_substituted, followed_by}
+use Rattle.lotos_base.proofs.TestLemmas.{Decides-term_eq, Decides-occurs}
+use Rattle.lotos_base.proofs.SubstitutionLemmas.{substituted_occurs, all_substituted_occurs, all_substituted_agree, all_substituted_variables}
 use Rattle.rewriting_theory.proofs.StepLemmas.{updated}
 use Rattle.rewriting_theory.proofs.UnifyLemmas.{IsSolution, AreSolution, absorbed_instances, solution_same, solution_none, solution_variable, no_occurring_unifier, solution_back, solution_node, solution_then}
 use Rattle.rewriting_theory.proofs.PlaceListLemmas.{IsIn, in_left, in_right}

@@ -2,14 +2,14 @@
 use Rattle.std.proofs.Common.{◌≡◌, ℕ, List, ◌++◌, ap, sym, ◌∙◌, subst, inl, inr}
 use Rattle.std.specs.Prelude.{Some, ◌⊎◌}
 use Rattle.std.proofs.lemmas.Option.{same_Some}
-use Rattle.term_algebra.specs.Term.{Term, variable, node, Terms, no_terms, term_then}
-use Rattle.term_algebra.specs.Sorting.{HasSort, IsGround, AreGround, Occurs, OccursAmong}
-use Rattle.term_algebra.specs.Path.{subterm, put_at}
-use Rattle.term_algebra.specs.Substitution.{Substitution, substituted, all_substituted, IsGrounding}
-use Rattle.term_algebra.specs.Equation.{Equation, Data, HasSortedSides}
-use Rattle.term_algebra.specs.Equality.{Direction, forward, backward, old_side, new_side, Link, Equal, same_term, link_then}
-use Rattle.term_algebra.proofs.PathLemmas.{subterm-put_at, put_at-subterm, put_at_twice, subterm-append, put_at-append}
-use Rattle.term_algebra.proofs.SortLemmas.{link_ground, subterm_ground, subterm_sort}
+use Rattle.lotos_base.specs.Term.{Term, variable, node, Terms, no_terms, term_then}
+use Rattle.lotos_base.specs.Sorting.{HasSort, IsGround, AreGround, Occurs, OccursAmong}
+use Rattle.lotos_base.specs.Path.{subterm, put_at}
+use Rattle.lotos_base.specs.Substitution.{Substitution, substituted, all_substituted, IsGrounding}
+use Rattle.lotos_base.specs.Equation.{Equation, Data, HasSortedSides}
+use Rattle.lotos_base.specs.Equality.{Direction, forward, backward, old_side, new_side, Link, Equal, same_term, link_then}
+use Rattle.lotos_base.proofs.PathLemmas.{subterm-put_at, put_at-subterm, put_at_twice, subterm-append, put_at-append}
+use Rattle.lotos_base.proofs.SortLemmas.{link_ground, subterm_ground, subterm_sort}
 use Rattle.rewriting_theory.specs.Rule.{Rule, IsRule, AreWellFormedRules, IsTurned, AreRulesOf}
 use Rattle.rewriting_theory.specs.Reduction.{Reaches, reached_already, reached_after}
 use Rattle.rewriting_theory.specs.Rewriting.{Rewrites}

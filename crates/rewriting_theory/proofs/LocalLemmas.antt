@@ -3,11 +3,11 @@ use Rattle.std.proofs.Common.{◌≡◌, ℕ, List, [], ◌∷◌, Bool, true, f
 use Rattle.std.specs.Prelude.{Some, ◌⊎◌, slice_get}
 use Rattle.std.proofs.lemmas.Option.{same_Some}
 use Rattle.std.proofs.lemmas.Bool.Decides.{Decides-eqb}
-use Rattle.term_algebra.specs.Term.{Term, variable, node, Terms, no_terms, term_then}
-use Rattle.term_algebra.specs.Sorting.{Occurs, OccursAmong}
-use Rattle.term_algebra.specs.Path.{subterm, put_at}
-use Rattle.term_algebra.specs.Substitution.{Substitution, substituted, all_substituted}
-use Rattle.term_algebra.proofs.SubstitutionLemmas.{substituted_agree}
+use Rattle.lotos_base.specs.Term.{Term, variable, node, Terms, no_terms, term_then}
+use Rattle.lotos_base.specs.Sorting.{Occurs, OccursAmong}
+use Rattle.lotos_base.specs.Path.{subterm, put_at}
+use Rattle.lotos_base.specs.Substitution.{Substitution, substituted, all_substituted}
+use Rattle.lotos_base.proofs.SubstitutionLemmas.{substituted_agree}
 use Rattle.rewriting_theory.specs.Rule.{Rule, IsRule, IsRuleAt, AreWellFormedRules}
 use Rattle.rewriting_theory.specs.Reduction.{reached_already, Join, IsLocallyConfluent}
 use Rattle.rewriting_theory.specs.Step.{IsRootStep, RootStep, Step, at_root, in_arguments, StepAmong, here, there}

@@ -3,12 +3,12 @@ use Rattle.std.proofs.Common.{◌≡◌, ◌<◌, ℕ, zero, suc, List, [], ◌�
 use Rattle.std.specs.Prelude.{Option, Some, None, ◌⊎◌, ◌&&◌, if◌then◌else◌, slice_get}
 use Rattle.std.proofs.lemmas.Option.{same_Some}
 use Rattle.std.proofs.lemmas.Bool.Decides.{Decides-eqb, Decides-and}
-use Rattle.term_algebra.specs.Term.{Term, variable, node, Terms, no_terms, term_then}
-use Rattle.term_algebra.specs.Sorting.{Occurs, OccursAmong}
-use Rattle.term_algebra.specs.Tests.{term_eq}
-use Rattle.term_algebra.specs.Substitution.{Substitution, substituted, all_substituted}
-use Rattle.term_algebra.proofs.TestLemmas.{Decides-term_eq}
-use Rattle.term_algebra.proofs.SubstitutionLemmas.{substituted_agree}
+use Rattle.lotos_base.specs.Term.{Term, variable, node, Terms, no_terms, term_then}
+use Rattle.lotos_base.specs.Sorting.{Occurs, OccursAmong}
+use Rattle.lotos_base.specs.Tests.{term_eq}
+use Rattle.lotos_base.specs.Substitution.{Substitution, substituted, all_substituted}
+use Rattle.lotos_base.proofs.TestLemmas.{Decides-term_eq}
+use Rattle.lotos_base.proofs.SubstitutionLemmas.{substituted_agree}
 use Rattle.rewriting_theory.specs.Rule.{Rule, IsRuleAt, AreWellFormedRules}
 use Rattle.rewriting_theory.specs.Step.{IsRootStep, RootStep}
 use Rattle.rewriting_theory.specs.Matching.{Matches, NoMatch, FirstStep}

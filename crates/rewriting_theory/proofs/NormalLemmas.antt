@@ -1,13 +1,13 @@
 -- Where rewriting is confluent, a function that gives each term an irreducible term that it reaches is a canon.
 use Rattle.std.proofs.Common.{◌≡◌, ℕ, List, refl, ap, sym, ◌∙◌, subst, inl, inr}
-use Rattle.term_algebra.specs.Term.{Term, variable}
-use Rattle.term_algebra.specs.Sorting.{IsTermOf, Occurs}
-use Rattle.term_algebra.specs.Substitution.{Substitution, substituted, renaming, IsGrounding}
-use Rattle.term_algebra.specs.Equation.{Data, HasSortedSides}
-use Rattle.term_algebra.specs.Equality.{Link, Equal, same_term, link_then}
-use Rattle.term_algebra.specs.Canon.{KeepsApart, IsCanon}
-use Rattle.term_algebra.proofs.SubstitutionLemmas.{substituted_sort, instance_ground}
-use Rattle.term_algebra.proofs.EqualityLemmas.{equal_back}
+use Rattle.lotos_base.specs.Term.{Term, variable}
+use Rattle.lotos_base.specs.Sorting.{IsTermOf, Occurs}
+use Rattle.lotos_base.specs.Substitution.{Substitution, substituted, renaming, IsGrounding}
+use Rattle.lotos_base.specs.Equation.{Data, HasSortedSides}
+use Rattle.lotos_base.specs.Equality.{Link, Equal, same_term, link_then}
+use Rattle.lotos_base.specs.Canon.{KeepsApart, IsCanon}
+use Rattle.lotos_base.proofs.SubstitutionLemmas.{substituted_sort, instance_ground}
+use Rattle.lotos_base.proofs.EqualityLemmas.{equal_back}
 use Rattle.rewriting_theory.specs.Rule.{Rule, AreWellFormedRules, AreRulesOf, AreSortedRulesOf}
 use Rattle.rewriting_theory.specs.Reduction.{Reaches, IsIrreducible, IsConfluent}
 use Rattle.rewriting_theory.specs.Rewriting.{AreConfluent}

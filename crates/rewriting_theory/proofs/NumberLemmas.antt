@@ -3,10 +3,11 @@ use Rattle.std.proofs.Common.{◌≡◌, ◌<◌, ℕ, zero, suc, List, [], ◌�
 use Rattle.std.specs.Prelude.{◌⊎◌, ◌&&◌, if◌then◌else◌, Some, None, slice_get}
 use Rattle.std.proofs.lemmas.Option.{same_Some}
 use Rattle.std.proofs.lemmas.Bool.Decides.{Decides-eqb, Decides-and}
-use Rattle.term_algebra.specs.Term.{Term}
-use Rattle.term_algebra.specs.Substitution.{substituted, renaming}
-use Rattle.term_algebra.specs.Canon.{KeepsApart}
-use Rattle.term_algebra.proofs.SubstitutionLemmas.{substituted_occurs}
+use Rattle.list_laws.proofs.Numbers.{smaller}
+use Rattle.lotos_base.specs.Term.{Term}
+use Rattle.lotos_base.specs.Substitution.{substituted, renaming}
+use Rattle.lotos_base.specs.Canon.{KeepsApart}
+use Rattle.lotos_base.proofs.SubstitutionLemmas.{substituted_occurs}
 use Rattle.rewriting_theory.specs.Numbering.{IsByAppearance, IsNumbered}
 use Rattle.rewriting_theory.proofs.PlaceListLemmas.{IsIn}
 use Rattle.rewriting_theory.proofs.UniqueLemmas.{variable_list, occurs_member, numbers_of_list, list_renumbered, first_of_pair, renumbered}
@@ -25,9 +26,6 @@ StandsBefore next ns i m = (m < next) ⊎ ((j : ℕ) × (j < i) × (slice_get ns
 later : (next n i m : ℕ) (ns : List ℕ) → StandsBefore next ns i m → StandsBefore next (n ∷ ns) (suc i) m
 later next n i m ns (inl less) = inl less
 later next n i m ns (inr (j, less, e)) = inr (suc j, omega (arith, less), e)
-
-smaller : (n m next : ℕ) → n ≡ next → m < suc next → (n ≡ m → ⊥) → m < next
-smaller n m next same less differ = grind (arith, same, less, differ)
 
 later_new : (next n i m : ℕ) (ns : List ℕ) → n ≡ next → StandsBefore (suc next) ns i m → StandsBefore next (n ∷ ns) (suc i) m
 later_new next n i m ns same (inr (j, less, e)) = inr (suc j, omega (arith, less), e)

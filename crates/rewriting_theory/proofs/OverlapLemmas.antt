@@ -3,13 +3,13 @@ use Rattle.std.proofs.Common.{◌≡◌, ℕ, zero, suc, List, [], ◌∷◌, Bo
 use Rattle.std.specs.Prelude.{Option, Some, None, ◌&&◌, if◌then◌else◌}
 use Rattle.std.proofs.lemmas.Option.{same_Some}
 use Rattle.std.proofs.lemmas.Bool.Decides.{Decides-eqb, Decides-and}
-use Rattle.term_algebra.specs.Term.{Term, variable, node, Terms, no_terms, term_then}
-use Rattle.term_algebra.specs.Sorting.{Occurs, OccursAmong}
-use Rattle.term_algebra.specs.Path.{argument_at, subterm, put_at}
-use Rattle.term_algebra.specs.Substitution.{Substitution, substituted, followed_by, renaming}
-use Rattle.term_algebra.specs.Canon.{KeepsApart}
-use Rattle.term_algebra.proofs.PathLemmas.{subterm_below}
-use Rattle.term_algebra.proofs.SubstitutionLemmas.{substituted_twice, substituted_agree, substituted_occurs, occurs_substituted, put_at-substituted}
+use Rattle.lotos_base.specs.Term.{Term, variable, node, Terms, no_terms, term_then}
+use Rattle.lotos_base.specs.Sorting.{Occurs, OccursAmong}
+use Rattle.lotos_base.specs.Path.{argument_at, subterm, put_at}
+use Rattle.lotos_base.specs.Substitution.{Substitution, substituted, followed_by, renaming}
+use Rattle.lotos_base.specs.Canon.{KeepsApart}
+use Rattle.lotos_base.proofs.PathLemmas.{subterm_below}
+use Rattle.lotos_base.proofs.SubstitutionLemmas.{substituted_twice, substituted_agree, substituted_occurs, occurs_substituted, put_at-substituted}
 use Rattle.rewriting_theory.specs.Rule.{Rule, AreWellFormedRules}
 use Rattle.rewriting_theory.specs.Reduction.{Join}
 use Rattle.rewriting_theory.specs.Step.{Step}

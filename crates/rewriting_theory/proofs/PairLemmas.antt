@@ -1,13 +1,13 @@
 -- The critical pair lemma: rules are confluent exactly where their critical pairs join.
 use Rattle.std.proofs.Common.{◌≡◌, ◌≤◌, ◌+◌, ℕ, List, refl, ap, sym, ◌∙◌, subst, inl, inr, arith}
 use Rattle.std.proofs.lemmas.Option.{same_Some}
-use Rattle.term_algebra.specs.Term.{Term, variable, node, Terms, no_terms, term_then}
-use Rattle.term_algebra.specs.Sorting.{Occurs, OccursAmong}
-use Rattle.term_algebra.specs.Path.{subterm, put_at}
-use Rattle.term_algebra.specs.Substitution.{Substitution, substituted, followed_by, renaming}
-use Rattle.term_algebra.specs.Canon.{KeepsApart}
-use Rattle.term_algebra.proofs.PathLemmas.{put_at_possible}
-use Rattle.term_algebra.proofs.SubstitutionLemmas.{substituted_twice, substituted_occurs, subterm-substituted}
+use Rattle.lotos_base.specs.Term.{Term, variable, node, Terms, no_terms, term_then}
+use Rattle.lotos_base.specs.Sorting.{Occurs, OccursAmong}
+use Rattle.lotos_base.specs.Path.{subterm, put_at}
+use Rattle.lotos_base.specs.Substitution.{Substitution, substituted, followed_by, renaming}
+use Rattle.lotos_base.specs.Canon.{KeepsApart}
+use Rattle.lotos_base.proofs.PathLemmas.{put_at_possible}
+use Rattle.lotos_base.proofs.SubstitutionLemmas.{substituted_twice, substituted_occurs, subterm-substituted}
 use Rattle.rewriting_theory.specs.Rule.{Rule, AreWellFormedRules}
 use Rattle.rewriting_theory.specs.Reduction.{Join, EndsFor, IsConfluent}
 use Rattle.rewriting_theory.specs.Step.{Step, at_root}

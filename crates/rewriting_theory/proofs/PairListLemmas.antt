@@ -2,9 +2,9 @@
 use Rattle.std.proofs.Common.{◌≡◌, ◌<◌, ℕ, zero, suc, List, [], ◌∷◌, Bool, true, false, refl, ap, ◌∙◌, subst, inl, inr, arith, sym}
 use Rattle.std.specs.Prelude.{◌⊎◌, None, Some, slice_get}
 use Rattle.std.proofs.lemmas.Option.{same_Some}
-use Rattle.term_algebra.specs.Term.{Term}
-use Rattle.term_algebra.specs.Tests.{term_eq}
-use Rattle.term_algebra.proofs.TestLemmas.{Decides-term_eq}
+use Rattle.lotos_base.specs.Term.{Term}
+use Rattle.lotos_base.specs.Tests.{term_eq}
+use Rattle.lotos_base.proofs.TestLemmas.{Decides-term_eq}
 use Rattle.rewriting_theory.specs.Rule.{Rule, AreWellFormedRules}
 use Rattle.rewriting_theory.specs.Reduction.{Join}
 use Rattle.rewriting_theory.specs.Rewriting.{Terminates, AreConfluent}

@@ -2,10 +2,10 @@
 use Rattle.std.proofs.Common.{◌≡◌, ℕ, zero, suc, List, [], ◌∷◌, refl, ap, sym, ◌∙◌, subst}
 use Rattle.std.specs.Prelude.{Some}
 use Rattle.std.proofs.lemmas.Option.{same_Some}
-use Rattle.term_algebra.specs.Term.{Term, variable, node, Terms, no_terms, term_then}
-use Rattle.term_algebra.specs.Path.{argument_at, with_argument, subterm, put_at}
-use Rattle.term_algebra.specs.Substitution.{substituted}
-use Rattle.term_algebra.proofs.PathLemmas.{subterm_below, put_below, put_under, subterm_under}
+use Rattle.lotos_base.specs.Term.{Term, variable, node, Terms, no_terms, term_then}
+use Rattle.lotos_base.specs.Path.{argument_at, with_argument, subterm, put_at}
+use Rattle.lotos_base.specs.Substitution.{substituted}
+use Rattle.lotos_base.proofs.PathLemmas.{subterm_below, put_below, put_under, subterm_under}
 use Rattle.rewriting_theory.specs.Rule.{Rule}
 use Rattle.rewriting_theory.specs.Rewriting.{Rewrites}
 use Rattle.rewriting_theory.specs.Step.{RootStep, Step, at_root, in_arguments, StepAmong, here, there}

@@ -3,9 +3,9 @@ use Rattle.std.proofs.Common.{◌≡◌, ◌<◌, ◌≤◌, ◌+◌, ℕ, zero,
 use Rattle.std.specs.Prelude.{◌⊎◌, ◌&&◌, if◌then◌else◌, Some, None, slice_get}
 use Rattle.std.proofs.lemmas.Option.{same_Some}
 use Rattle.std.proofs.lemmas.Bool.Decides.{Decides-eqb}
-use Rattle.term_algebra.specs.Term.{Term, variable, node, Terms, no_terms, term_then}
-use Rattle.term_algebra.specs.Path.{argument_at, subterm}
-use Rattle.term_algebra.proofs.PathLemmas.{subterm_below}
+use Rattle.lotos_base.specs.Term.{Term, variable, node, Terms, no_terms, term_then}
+use Rattle.lotos_base.specs.Path.{argument_at, subterm}
+use Rattle.lotos_base.proofs.PathLemmas.{subterm_below}
 use Rattle.rewriting_theory.specs.Rule.{Rule, IsRuleAt, IsNode}
 use Rattle.rewriting_theory.specs.CriticalPair.{OverlapPlace, Overlaps, CriticalPair, IsCriticalPair}
 use Rattle.rewriting_theory.specs.Numbering.{IsNumbered}

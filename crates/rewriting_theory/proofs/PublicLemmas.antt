@@ -1,6 +1,6 @@
 -- What holds of steps by recursion holds of links at a path.
 use Rattle.std.proofs.Common.{◌≡◌, List, sym, subst}
-use Rattle.term_algebra.specs.Term.{Term}
+use Rattle.lotos_base.specs.Term.{Term}
 use Rattle.rewriting_theory.specs.Rule.{Rule, AreWellFormedRules}
 use Rattle.rewriting_theory.specs.Reduction.{Reaches, reached_after, Join, IsIrreducible, EndsFor, IsConfluent}
 use Rattle.rewriting_theory.specs.Rewriting.{Rewrites, IsNormal, Terminates, AreConfluent, AreLocallyConfluent}

@@ -1,10 +1,10 @@
 -- Rewriting and chosen forms of renamed terms.
 use Rattle.std.proofs.Common.{◌≡◌, ℕ, List, ap, sym, ◌∙◌, subst, inl, inr}
-use Rattle.term_algebra.specs.Term.{Term, variable, node, Terms}
-use Rattle.term_algebra.specs.Sorting.{Occurs, OccursAmong}
-use Rattle.term_algebra.specs.Substitution.{Substitution, substituted, all_substituted, renaming, followed_by}
-use Rattle.term_algebra.specs.Canon.{KeepsApart}
-use Rattle.term_algebra.proofs.SubstitutionLemmas.{substituted_twice, substituted_agree, substituted_variables, substituted_occurs, occurs_substituted}
+use Rattle.lotos_base.specs.Term.{Term, variable, node, Terms}
+use Rattle.lotos_base.specs.Sorting.{Occurs, OccursAmong}
+use Rattle.lotos_base.specs.Substitution.{Substitution, substituted, all_substituted, renaming, followed_by}
+use Rattle.lotos_base.specs.Canon.{KeepsApart}
+use Rattle.lotos_base.proofs.SubstitutionLemmas.{substituted_twice, substituted_agree, substituted_variables, substituted_occurs, occurs_substituted}
 use Rattle.rewriting_theory.specs.Rule.{Rule, AreWellFormedRules}
 use Rattle.rewriting_theory.specs.Step.{IsRootStep, Step}
 use Rattle.rewriting_theory.specs.Matching.{Matches, FirstStep}

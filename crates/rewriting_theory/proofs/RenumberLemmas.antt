@@ -1,12 +1,12 @@
 -- A critical pair whose variables are renamed apart is a critical pair.
 use Rattle.std.proofs.Common.{◌≡◌, ℕ, List, ap, sym, ◌∙◌, subst, inl, inr}
 use Rattle.std.specs.Prelude.{Some}
-use Rattle.term_algebra.specs.Term.{Term, variable}
-use Rattle.term_algebra.specs.Sorting.{Occurs}
-use Rattle.term_algebra.specs.Path.{subterm, put_at}
-use Rattle.term_algebra.specs.Substitution.{substituted, followed_by, renaming}
-use Rattle.term_algebra.specs.Canon.{KeepsApart}
-use Rattle.term_algebra.proofs.SubstitutionLemmas.{substituted_twice, substituted_occurs, occurs_substituted, put_at-substituted}
+use Rattle.lotos_base.specs.Term.{Term, variable}
+use Rattle.lotos_base.specs.Sorting.{Occurs}
+use Rattle.lotos_base.specs.Path.{subterm, put_at}
+use Rattle.lotos_base.specs.Substitution.{substituted, followed_by, renaming}
+use Rattle.lotos_base.specs.Canon.{KeepsApart}
+use Rattle.lotos_base.proofs.SubstitutionLemmas.{substituted_twice, substituted_occurs, occurs_substituted, put_at-substituted}
 use Rattle.rewriting_theory.specs.Rule.{Rule}
 use Rattle.rewriting_theory.specs.Unification.{OccursInEither}
 use Rattle.rewriting_theory.specs.CriticalPair.{CriticalPair, IsCriticalPair}

@@ -1,13 +1,13 @@
 -- Steps keep the sort of a term and bring in no variable.
 use Rattle.std.proofs.Common.{◌≡◌, ℕ, List, [], ◌∷◌, ap, sym, ◌∙◌, subst, inl, inr}
 use Rattle.std.proofs.lemmas.Option.{same_Some}
-use Rattle.term_algebra.specs.Signature.{Signature, Operation}
-use Rattle.term_algebra.specs.Term.{Term, variable, node, Terms, no_terms, term_then}
-use Rattle.term_algebra.specs.Sorting.{HasSort, HaveSorts, Occurs, OccursAmong}
-use Rattle.term_algebra.specs.Substitution.{Substitution, substituted, all_substituted, KeepsSorts}
-use Rattle.term_algebra.specs.Equation.{Equation, Data, HasOneSort, HasSortedSides}
-use Rattle.term_algebra.specs.Equality.{Direction, forward, backward}
-use Rattle.term_algebra.proofs.SubstitutionLemmas.{substituted_sort, substituted_occurs, occurs_substituted}
+use Rattle.lotos_base.specs.Signature.{Signature, Operation}
+use Rattle.lotos_base.specs.Term.{Term, variable, node, Terms, no_terms, term_then}
+use Rattle.lotos_base.specs.Sorting.{HasSort, HaveSorts, Occurs, OccursAmong}
+use Rattle.lotos_base.specs.Substitution.{Substitution, substituted, all_substituted, KeepsSorts}
+use Rattle.lotos_base.specs.Equation.{Equation, Data, HasOneSort, HasSortedSides}
+use Rattle.lotos_base.specs.Equality.{Direction, forward, backward}
+use Rattle.lotos_base.proofs.SubstitutionLemmas.{substituted_sort, substituted_occurs, occurs_substituted}
 use Rattle.rewriting_theory.specs.Rule.{Rule, IsRule, IsNode, IsWellFormedRule, AreWellFormedRules, IsTurned, AreRulesOf}
 use Rattle.rewriting_theory.specs.Reduction.{Reaches, reached_already, reached_after}
 use Rattle.rewriting_theory.specs.Step.{Step, at_root, in_arguments, StepAmong, here, there}

@@ -3,11 +3,11 @@ use Rattle.std.proofs.Common.{◌≡◌, ℕ, suc, List, [], ◌∷◌, Bool, tr
 use Rattle.std.specs.Prelude.{Some, ◌⊎◌, ◌&&◌, if◌then◌else◌}
 use Rattle.std.specs.Option.{option_map}
 use Rattle.std.proofs.lemmas.Bool.Decides.{Decides-eqb, Decides-and}
-use Rattle.term_algebra.specs.Term.{Term, variable, node, Terms, no_terms, term_then}
-use Rattle.term_algebra.specs.Path.{argument_at, with_argument, subterm, put_at}
-use Rattle.term_algebra.specs.Substitution.{Substitution, substituted, all_substituted, followed_by}
-use Rattle.term_algebra.proofs.PathLemmas.{put_under, subterm_under}
-use Rattle.term_algebra.proofs.SubstitutionLemmas.{substituted_twice, argument_at-all_substituted}
+use Rattle.lotos_base.specs.Term.{Term, variable, node, Terms, no_terms, term_then}
+use Rattle.lotos_base.specs.Path.{argument_at, with_argument, subterm, put_at}
+use Rattle.lotos_base.specs.Substitution.{Substitution, substituted, all_substituted, followed_by}
+use Rattle.lotos_base.proofs.PathLemmas.{put_under, subterm_under}
+use Rattle.lotos_base.proofs.SubstitutionLemmas.{substituted_twice, argument_at-all_substituted}
 use Rattle.rewriting_theory.specs.Rule.{Rule, IsNode}
 use Rattle.rewriting_theory.specs.Reduction.{Reaches, reached_already}
 use Rattle.rewriting_theory.specs.Step.{RootStep, Step, at_root, in_arguments, StepAmong, here, there}

@@ -2,12 +2,12 @@
 use Rattle.std.proofs.Common.{◌≡◌, ◌≤◌, ◌+◌, ◌<◌, ℕ, zero, suc, Bool, true, false, refl, ap, sym, ◌∙◌, subst, inl, inr, arith}
 use Rattle.std.specs.Prelude.{◌⊎◌, ◌||◌}
 use Rattle.std.proofs.lemmas.Bool.Decides.{Decides-or}
-use Rattle.term_algebra.specs.Term.{Term, variable, node, Terms, no_terms, term_then}
-use Rattle.term_algebra.specs.Sorting.{Occurs, OccursAmong}
-use Rattle.term_algebra.specs.Tests.{term_eq, occurs}
-use Rattle.term_algebra.specs.Substitution.{Substitution, substituted, all_substituted, followed_by}
-use Rattle.term_algebra.proofs.TestLemmas.{Decides-term_eq, Decides-occurs}
-use Rattle.term_algebra.proofs.SubstitutionLemmas.{substituted_twice, all_substituted_twice, substituted_agree, all_substituted_agree, substituted_variables}
+use Rattle.lotos_base.specs.Term.{Term, variable, node, Terms, no_terms, term_then}
+use Rattle.lotos_base.specs.Sorting.{Occurs, OccursAmong}
+use Rattle.lotos_base.specs.Tests.{term_eq, occurs}
+use Rattle.lotos_base.specs.Substitution.{Substitution, substituted, all_substituted, followed_by}
+use Rattle.lotos_base.proofs.TestLemmas.{Decides-term_eq, Decides-occurs}
+use Rattle.lotos_base.proofs.SubstitutionLemmas.{substituted_twice, all_substituted_twice, substituted_agree, all_substituted_agree, substituted_variables}
 use Rattle.rewriting_theory.specs.Unification.{IsUnifier, IsMostGeneral, OccursInEither, KeepsTo}
 use Rattle.rewriting_theory.proofs.StepLemmas.{updated, updated_cases, updated_here}
 

@@ -1,15 +1,16 @@
 -- Terms that are instances of one another, with their variables numbered by first appearance and of one sort, are one
 -- term; so two critical pairs at one place are one pair.
 use Rattle.std.proofs.Common.{◌≡◌, ◌<◌, ℕ, zero, suc, List, [], ◌∷◌, ◌++◌, map, refl, ap, sym, ◌∙◌, subst, inl, inr, arith}
-use Rattle.std.specs.Prelude.{◌⊎◌, Some, None, slice_get}
+use Rattle.std.specs.Prelude.{◌⊎◌, Some, slice_get}
 use Rattle.std.proofs.lemmas.Option.{same_Some}
 use Rattle.std.proofs.lemmas.List.{map-append}
-use Rattle.term_algebra.specs.Signature.{Signature}
-use Rattle.term_algebra.specs.Term.{Term, variable, node, Terms, no_terms, term_then}
-use Rattle.term_algebra.specs.Sorting.{HasSort, Occurs, OccursAmong}
-use Rattle.term_algebra.specs.Substitution.{Substitution, substituted, all_substituted, followed_by, renaming}
-use Rattle.term_algebra.proofs.SubstitutionLemmas.{occurs_substituted, substituted_twice, substituted_agree, substituted_variables}
-use Rattle.term_algebra.specs.Path.{put_at}
+use Rattle.list_laws.proofs.Members.{from_map, at_map}
+use Rattle.lotos_base.specs.Signature.{Signature}
+use Rattle.lotos_base.specs.Term.{Term, variable, node, Terms, no_terms, term_then}
+use Rattle.lotos_base.specs.Sorting.{HasSort, Occurs, OccursAmong}
+use Rattle.lotos_base.specs.Substitution.{Substitution, substituted, all_substituted, followed_by, renaming}
+use Rattle.lotos_base.proofs.SubstitutionLemmas.{occurs_substituted, substituted_twice, substituted_agree, substituted_variables}
+use Rattle.lotos_base.specs.Path.{put_at}
 use Rattle.rewriting_theory.specs.Rule.{Rule, AreWellFormedRules}
 use Rattle.rewriting_theory.specs.CriticalPair.{CriticalPair, IsCriticalPair}
 use Rattle.rewriting_theory.specs.PairList.{PairPlace, place_of}
@@ -103,18 +104,6 @@ mutual
   all_occurs_member (term_then t ts) n s (inr o) =
       in_right (n, s) (variable_list t) (all_variable_list ts) (all_occurs_member ts n s o)
 
--- what stands at a position of a mapped list is the image of what stands there
-mapped : {X Y : Type 0} (f : X → Y) (xs : List X) (i : ℕ) (y : Y) → slice_get (map f xs) i ≡ Some y
-    → (x : X) × (slice_get xs i ≡ Some x) × (f x ≡ y)
-mapped f [] i y e = let none : None ≡ Some y = e in cc
-mapped f (x ∷ xs) zero y e = (x, refl, same_Some (f x) y e)
-mapped f (x ∷ xs) (suc i) y e = mapped f xs i y e
-
-map_at : {X Y : Type 0} (f : X → Y) (xs : List X) (i : ℕ) (x : X) → slice_get xs i ≡ Some x → slice_get (map f xs) i ≡ Some (f x)
-map_at f [] i x e = let none : None ≡ Some x = e in cc
-map_at f (z ∷ xs) zero x e = ap (λ y. Some (f y)) (same_Some z x e)
-map_at f (z ∷ xs) (suc i) x e = map_at f xs i x e
-
 -- ---- Instances of one another
 
 -- The two terms are instances of one another, of one sort, and their variables are numbered by first appearance.
@@ -201,26 +190,26 @@ occurs_at t i v at = member_occurs t v (index_in v (variable_list t) i at)
 
 -- the number at a position of the first term, and of the second one
 number_here : (t : Term) (i : ℕ) (v : ℕ × ℕ) → slice_get (variable_list t) i ≡ Some v → slice_get (variable_numbers t) i ≡ Some v.0
-number_here t i v at = ap (λ ns. slice_get ns i) (numbers_of_list t) ∙ map_at first_of_pair (variable_list t) i v at
+number_here t i v at = ap (λ ns. slice_get ns i) (numbers_of_list t) ∙ at_map first_of_pair (variable_list t) i v at
 
 number_there : {signature : Signature} {sort : ℕ} {t u : Term} {on back : Substitution} → AreMutual signature sort t u on back
     → (i : ℕ) (v : ℕ × ℕ) → slice_get (variable_list t) i ≡ Some v → slice_get (variable_numbers u) i ≡ Some (new_number on v)
 number_there {t = t} {on = on} both i v at =
     ap (λ ns. slice_get ns i) (other_numbers both)
-    ∙ map_at first_of_pair (map (renumbered on) (variable_list t)) i (renumbered on v) (map_at (renumbered on) (variable_list t) i v at)
+    ∙ at_map first_of_pair (map (renumbered on) (variable_list t)) i (renumbered on v) (at_map (renumbered on) (variable_list t) i v at)
 
 -- the variable with a number at a position of the first term, and of the second one
 variable_here : (t : Term) (i n : ℕ) → slice_get (variable_numbers t) i ≡ Some n
     → (v : ℕ × ℕ) × (slice_get (variable_list t) i ≡ Some v) × (v.0 ≡ n)
-variable_here t i n at = mapped first_of_pair (variable_list t) i n (sym (ap (λ ns. slice_get ns i) (numbers_of_list t)) ∙ at)
+variable_here t i n at = from_map first_of_pair (variable_list t) i n (sym (ap (λ ns. slice_get ns i) (numbers_of_list t)) ∙ at)
 
 variable_there : {signature : Signature} {sort : ℕ} {t u : Term} {on back : Substitution} → AreMutual signature sort t u on back
     → (i n : ℕ) → slice_get (variable_numbers u) i ≡ Some n
     → (v : ℕ × ℕ) × (slice_get (variable_list t) i ≡ Some v) × (new_number on v ≡ n)
 variable_there {t = t} {on = on} both i n at =
-    let image = mapped first_of_pair (map (renumbered on) (variable_list t)) i n (sym (ap (λ ns. slice_get ns i) (other_numbers both))
+    let image = from_map first_of_pair (map (renumbered on) (variable_list t)) i n (sym (ap (λ ns. slice_get ns i) (other_numbers both))
     ∙ at) in
-    let found = mapped (renumbered on) (variable_list t) i image.0 image.1 in
+    let found = from_map (renumbered on) (variable_list t) i image.0 image.1 in
     (found.0, found.1, ap (λ (w : ℕ × ℕ). w.0) found.2 ∙ image.2)
 
 keeps_at : {signature : Signature} {sort : ℕ} {t u : Term} {on back : Substitution} → AreMutual signature sort t u on back → (i : ℕ)

@@ -2,7 +2,7 @@
 -- is used, and so on. Any link at any path would do; this choice only fixes which irreducible term is found where there
 -- are several (Baader and Nipkow, 4.1, normal forms).
 use Rattle.std.specs.Prelude.{ℕ, List}
-use Rattle.term_algebra.specs.Term.{Term, variable, node, Terms, no_terms, term_then}
+use Rattle.lotos_base.specs.Term.{Term, variable, node, Terms, no_terms, term_then}
 use Rattle.rewriting_theory.specs.Rule.{Rule}
 use Rattle.rewriting_theory.specs.Matching.{NoMatch, FirstStep}
 

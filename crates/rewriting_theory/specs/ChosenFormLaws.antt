@@ -1,6 +1,6 @@
 -- Laws of chosen forms: each term has exactly one, where rewriting ends.
 use Rattle.std.specs.Prelude.{◌≡◌, ◌↔◌, List}
-use Rattle.term_algebra.specs.Term.{Term}
+use Rattle.lotos_base.specs.Term.{Term}
 use Rattle.rewriting_theory.specs.Rule.{Rule, AreWellFormedRules}
 use Rattle.rewriting_theory.specs.Reduction.{Reaches, Join}
 use Rattle.rewriting_theory.specs.Rewriting.{Rewrites, IsNormal, Terminates, AreConfluent}

@@ -1,7 +1,7 @@
 -- Laws of confluence: Newman's lemma, and the critical pair lemma for all terms, variables allowed (Baader and Nipkow,
 -- 2.7 and 6.2).
 use Rattle.std.specs.Prelude.{◌≡◌, ◌↔◌, ℕ, List}
-use Rattle.term_algebra.specs.Term.{Term}
+use Rattle.lotos_base.specs.Term.{Term}
 use Rattle.rewriting_theory.specs.Rule.{Rule, AreWellFormedRules}
 use Rattle.rewriting_theory.specs.Reduction.{Reaches, Join}
 use Rattle.rewriting_theory.specs.Rewriting.{Rewrites, IsNormal, Terminates, AreConfluent, AreLocallyConfluent}

@@ -1,10 +1,10 @@
 -- Critical pairs: the ways in which two left sides overlap, and what the two rules make of the overlap (Baader and
 -- Nipkow, 6.2).
 use Rattle.std.specs.Prelude.{◌≡◌, ℕ, List, [], Some}
-use Rattle.term_algebra.specs.Term.{Term}
-use Rattle.term_algebra.specs.Path.{subterm, put_at}
-use Rattle.term_algebra.specs.Substitution.{Substitution, substituted, renaming}
-use Rattle.term_algebra.specs.Canon.{KeepsApart}
+use Rattle.lotos_base.specs.Term.{Term}
+use Rattle.lotos_base.specs.Path.{subterm, put_at}
+use Rattle.lotos_base.specs.Substitution.{Substitution, substituted, renaming}
+use Rattle.lotos_base.specs.Canon.{KeepsApart}
 use Rattle.rewriting_theory.specs.Rule.{Rule, IsRuleAt, IsNode}
 use Rattle.rewriting_theory.specs.Unification.{IsMostGeneral, HasCommonInstance, OccursInEither, AreApart}
 

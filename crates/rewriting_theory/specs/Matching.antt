@@ -1,7 +1,7 @@
 -- Matching: which rule fits a term at its root, and which one is the first.
 use Rattle.std.specs.Prelude.{◌≡◌, ◌<◌, ℕ, List}
-use Rattle.term_algebra.specs.Term.{Term}
-use Rattle.term_algebra.specs.Substitution.{Substitution, substituted}
+use Rattle.lotos_base.specs.Term.{Term}
+use Rattle.lotos_base.specs.Substitution.{Substitution, substituted}
 use Rattle.rewriting_theory.specs.Rule.{Rule, IsRule, IsRuleAt}
 use Rattle.rewriting_theory.specs.Step.{IsRootStep}
 

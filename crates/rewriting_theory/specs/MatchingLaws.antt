@@ -1,9 +1,9 @@
 -- Laws of matching and unification: both are decided, and terms with a common instance have a most general unifier.
 use Rattle.std.specs.Prelude.{◌≡◌, ◌↔◌, ◌⊎◌, ℕ, List}
-use Rattle.term_algebra.specs.Term.{Term}
-use Rattle.term_algebra.specs.Sorting.{Occurs}
-use Rattle.term_algebra.specs.Substitution.{Substitution, substituted, renaming}
-use Rattle.term_algebra.specs.Canon.{KeepsApart}
+use Rattle.lotos_base.specs.Term.{Term}
+use Rattle.lotos_base.specs.Sorting.{Occurs}
+use Rattle.lotos_base.specs.Substitution.{Substitution, substituted, renaming}
+use Rattle.lotos_base.specs.Canon.{KeepsApart}
 use Rattle.rewriting_theory.specs.Rule.{Rule, AreWellFormedRules}
 use Rattle.rewriting_theory.specs.Matching.{Matches, NoMatch, FirstStep}
 use Rattle.rewriting_theory.specs.Unification.{IsUnifier, IsMostGeneral, HasCommonInstance, OccursInEither, AreApart, KeepsTo}

@@ -1,8 +1,8 @@
 -- A measure of terms by which a program that makes chosen forms ends: it is smaller for each argument of an operation, and
 -- for what the first rule that matches makes of the operation on the chosen forms of its arguments.
 use Rattle.std.specs.Prelude.{◌≡◌, ◌<◌, ◌+◌, ℕ, zero, suc, List, Some}
-use Rattle.term_algebra.specs.Term.{Term, node, Terms}
-use Rattle.term_algebra.specs.Path.{argument_at}
+use Rattle.lotos_base.specs.Term.{Term, node, Terms}
+use Rattle.lotos_base.specs.Path.{argument_at}
 use Rattle.rewriting_theory.specs.Rule.{Rule, AreWellFormedRules}
 use Rattle.rewriting_theory.specs.Matching.{FirstStep}
 use Rattle.rewriting_theory.specs.Rewriting.{Terminates}

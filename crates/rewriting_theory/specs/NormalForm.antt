@@ -1,6 +1,6 @@
 -- Functions that give every term a normal form (Baader and Nipkow, 2.1).
 use Rattle.std.specs.Prelude.{List}
-use Rattle.term_algebra.specs.Term.{Term}
+use Rattle.lotos_base.specs.Term.{Term}
 use Rattle.rewriting_theory.specs.Rule.{Rule}
 use Rattle.rewriting_theory.specs.Reduction.{Reaches}
 use Rattle.rewriting_theory.specs.Rewriting.{Rewrites, IsNormal}

@@ -1,12 +1,12 @@
 -- Laws of rewriting by the rules of data: sorts, variables, renamings, and equality. Normal forms are canons.
 use Rattle.std.specs.Prelude.{◌≡◌, ◌↔◌, ◌⊎◌, ℕ, List, Some}
-use Rattle.term_algebra.specs.Term.{Term}
-use Rattle.term_algebra.specs.Sorting.{HasSort, IsGroundOf, Occurs}
-use Rattle.term_algebra.specs.Path.{put_at}
-use Rattle.term_algebra.specs.Substitution.{Substitution, substituted, renaming}
-use Rattle.term_algebra.specs.Equation.{Data}
-use Rattle.term_algebra.specs.Equality.{Link, Equal}
-use Rattle.term_algebra.specs.Canon.{KeepsApart, IsCanon}
+use Rattle.lotos_base.specs.Term.{Term}
+use Rattle.lotos_base.specs.Sorting.{HasSort, IsGroundOf, Occurs}
+use Rattle.lotos_base.specs.Path.{put_at}
+use Rattle.lotos_base.specs.Substitution.{Substitution, substituted, renaming}
+use Rattle.lotos_base.specs.Equation.{Data}
+use Rattle.lotos_base.specs.Equality.{Link, Equal}
+use Rattle.lotos_base.specs.Canon.{KeepsApart, IsCanon}
 use Rattle.rewriting_theory.specs.Rule.{Rule, AreWellFormedRules, AreRulesOf, AreSortedRulesOf}
 use Rattle.rewriting_theory.specs.Rewriting.{Rewrites, AreConfluent}
 use Rattle.rewriting_theory.specs.ChosenForm.{Chosen, Chooses}

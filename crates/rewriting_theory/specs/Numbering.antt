@@ -1,8 +1,8 @@
 -- Variables numbered by first appearance: read from left to right, the first variable has the number 0, and each one that
 -- was not met before has the next number.
 use Rattle.std.specs.Prelude.{◌≡◌, ◌<◌, ℕ, List, [], ◌∷◌, ◌++◌, Some, slice_get}
-use Rattle.term_algebra.specs.Term.{Term, variable, node, Terms, no_terms, term_then}
-use Rattle.term_algebra.specs.Sorting.{Occurs}
+use Rattle.lotos_base.specs.Term.{Term, variable, node, Terms, no_terms, term_then}
+use Rattle.lotos_base.specs.Sorting.{Occurs}
 
 abbrev mutual
   -- The numbers of the variables of the term, from left to right, each as often as it stands there.

@@ -1,7 +1,7 @@
 -- The list of all critical pairs of rules, in order: by the first rule, then by the second rule, then by the path in
 -- preorder. The variables of each pair are numbered by first appearance in its peak.
 use Rattle.std.specs.Prelude.{◌≡◌, ◌<◌, ◌⊎◌, ℕ, List, [], ◌∷◌, Some, slice_get}
-use Rattle.term_algebra.specs.Term.{Term}
+use Rattle.lotos_base.specs.Term.{Term}
 use Rattle.rewriting_theory.specs.Rule.{Rule}
 use Rattle.rewriting_theory.specs.ChosenForm.{Chosen}
 use Rattle.rewriting_theory.specs.CriticalPair.{OverlapPlace, Overlaps, CriticalPair, IsCriticalPair}

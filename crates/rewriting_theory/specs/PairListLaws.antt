@@ -1,11 +1,11 @@
 -- Laws of the list of critical pairs: it decides confluence, and its first unjoined pair shows that the rules are not
 -- confluent.
 use Rattle.std.specs.Prelude.{◌≡◌, ◌⊎◌, ◌↔◌, ℕ, List, ◌++◌, map, Some, slice_get}
-use Rattle.term_algebra.specs.Signature.{Signature}
-use Rattle.term_algebra.specs.Term.{Term}
-use Rattle.term_algebra.specs.Sorting.{HasSort}
-use Rattle.term_algebra.specs.Substitution.{substituted, renaming}
-use Rattle.term_algebra.specs.Canon.{KeepsApart}
+use Rattle.lotos_base.specs.Signature.{Signature}
+use Rattle.lotos_base.specs.Term.{Term}
+use Rattle.lotos_base.specs.Sorting.{HasSort}
+use Rattle.lotos_base.specs.Substitution.{substituted, renaming}
+use Rattle.lotos_base.specs.Canon.{KeepsApart}
 use Rattle.rewriting_theory.specs.Rule.{Rule, AreWellFormedRules}
 use Rattle.rewriting_theory.specs.Reduction.{Reaches}
 use Rattle.rewriting_theory.specs.Rewriting.{Rewrites, IsNormal, Terminates, AreConfluent}

@@ -1,8 +1,8 @@
 -- Rewriting: one side of a rule's instance is replaced by the other one, at one path (Baader and Nipkow, 4.2).
 use Rattle.std.specs.Prelude.{◌≡◌, ℕ, List, Some}
-use Rattle.term_algebra.specs.Term.{Term}
-use Rattle.term_algebra.specs.Path.{subterm, put_at}
-use Rattle.term_algebra.specs.Substitution.{Substitution, substituted}
+use Rattle.lotos_base.specs.Term.{Term}
+use Rattle.lotos_base.specs.Path.{subterm, put_at}
+use Rattle.lotos_base.specs.Substitution.{Substitution, substituted}
 use Rattle.rewriting_theory.specs.Rule.{Rule, IsRule}
 use Rattle.rewriting_theory.specs.Reduction.{IsIrreducible, IsConfluent, IsLocallyConfluent, EndsFor}
 

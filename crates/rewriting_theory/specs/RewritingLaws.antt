@@ -1,6 +1,6 @@
 -- Laws of rewriting: a chain has a length, and rewriting at a path is rewriting by recursion on the term.
 use Rattle.std.specs.Prelude.{◌↔◌, ℕ, List}
-use Rattle.term_algebra.specs.Term.{Term}
+use Rattle.lotos_base.specs.Term.{Term}
 use Rattle.rewriting_theory.specs.Rule.{Rule}
 use Rattle.rewriting_theory.specs.Reduction.{Chain, Reaches}
 use Rattle.rewriting_theory.specs.Rewriting.{Rewrites}

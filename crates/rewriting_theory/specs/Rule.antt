@@ -1,9 +1,9 @@
 -- Rewrite rules: pairs of terms, of which the left one is replaced by the right one (Baader and Nipkow, 4.2).
 use Rattle.std.specs.Prelude.{◌≡◌, ◌⊎◌, ℕ, List, Some, slice_get}
-use Rattle.term_algebra.specs.Term.{Term, variable, node}
-use Rattle.term_algebra.specs.Sorting.{Occurs}
-use Rattle.term_algebra.specs.Equation.{Equation, Data, IsEquation, HasSortedSides}
-use Rattle.term_algebra.specs.Equality.{Direction, old_side, new_side}
+use Rattle.lotos_base.specs.Term.{Term, variable, node}
+use Rattle.lotos_base.specs.Sorting.{Occurs}
+use Rattle.lotos_base.specs.Equation.{Equation, Data, IsEquation, HasSortedSides}
+use Rattle.lotos_base.specs.Equality.{Direction, old_side, new_side}
 
 -- A rule has two sides. Its left side is replaced by its right side.
 pub record Rule : Type 0 where

@@ -1,7 +1,7 @@
 -- Rewriting by recursion on the term, as proofs want it: a step at the root, or a step in one of the arguments.
 use Rattle.std.specs.Prelude.{◌≡◌, ℕ, List}
-use Rattle.term_algebra.specs.Term.{Term, node, Terms, term_then}
-use Rattle.term_algebra.specs.Substitution.{Substitution, substituted}
+use Rattle.lotos_base.specs.Term.{Term, node, Terms, term_then}
+use Rattle.lotos_base.specs.Substitution.{Substitution, substituted}
 use Rattle.rewriting_theory.specs.Rule.{Rule, IsRule}
 
 -- The rule makes the second term of the first one, at its root.

@@ -1,8 +1,8 @@
 -- Unification: substitutions that make two terms one (Baader and Nipkow, 4.5).
 use Rattle.std.specs.Prelude.{◌≡◌, ◌⊎◌, ℕ}
-use Rattle.term_algebra.specs.Term.{Term, variable}
-use Rattle.term_algebra.specs.Sorting.{Occurs}
-use Rattle.term_algebra.specs.Substitution.{Substitution, substituted}
+use Rattle.lotos_base.specs.Term.{Term, variable}
+use Rattle.lotos_base.specs.Sorting.{Occurs}
+use Rattle.lotos_base.specs.Substitution.{Substitution, substituted}
 
 -- The substitution makes the two terms one.
 abbrev pub IsUnifier : Term → Term → Substitution → Type 0

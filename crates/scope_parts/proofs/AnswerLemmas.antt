@@ -7,7 +7,7 @@ use Rattle.lotos_base.specs.declared.places.Place.{Place}
 use Rattle.lotos_base.specs.declared.names.Name.{Name}
 use Rattle.lotos_base.specs.WrittenView.{placed_name_of}
 use Rattle.scope_parts.specs.ScopeFault as plain
-use Rattle.scope_parts.specs.Resolution.{Resolution, resolved, faulty, and_then, put_in_front, beside, Is, Then, InFront, Beside}
+use Rattle.scope_parts.specs.Resolution.{Resolution, resolved, faulty, and_then, put_in_front, beside, Is, ThenResolves, InFront, Beside}
 use Rattle.scope_parts.specs.FaultView.{Told, nothing_told, never_told, told, told_by, OfTold, FaultIs, Answers, IsBeside, ErrBeside}
 use Rattle.scope_parts.specs.declared.scope_faults.ScopeFault.{ScopeFault}
 
@@ -118,14 +118,14 @@ abbrev pub Leads : {A B : Type 0} → (Resolution (List B) → Type 0) → (List
 Leads {A} {B} Whole Here items made = (o : Resolution (List B)) → Here items o → Whole (prefixed made o)
 
 pub then_front : {B C : Type 0} (Each : Resolution C → Type 0) (f : C → B) (Next : Resolution (List B) → Type 0) (y : C)
-    (o : Resolution (List B)) → Each (resolved y) → Next o → Then Each (λ z. InFront (f z) Next) (put_in_front (f y) o)
+    (o : Resolution (List B)) → Each (resolved y) → Next o → ThenResolves Each (λ z. InFront (f z) Next) (put_in_front (f y) o)
 then_front Each f Next y (resolved ys) first later = (y, first, (refl, later))
 then_front Each f Next y (faulty fault) first later = inr (y, first, later)
 
 -- one member more: what comes of it goes in front of what comes of the others
 pub question_step : {A B C : Type 0} (Whole : Resolution (List B) → Type 0) (Here Next : List A → Resolution (List B) → Type 0)
     (First : Resolution C → Type 0) (f : C → B) (items : List A) (i : ℕ) (x : A) (made after : List B) (y : C)
-    → ((xs : List A) (o : Resolution (List B)) → Then First (λ z. InFront (f z) (Next xs)) o → Here (x ∷ xs) o)
+    → ((xs : List A) (o : Resolution (List B)) → ThenResolves First (λ z. InFront (f z) (Next xs)) o → Here (x ∷ xs) o)
     → i < length items → x ≡ get_or items i x
     → Leads Whole Here (drop i items) made → First (resolved y) → after ≡ made ++ f y ∷ [] → Leads Whole Next (drop (i + 1) items) after
 question_step Whole Here Next First f items i x made after y shape within is leads first are o later =
@@ -138,7 +138,7 @@ question_step Whole Here Next First f items i x made after y shape within is lea
 -- a fault at the next member
 pub question_fault : {A B C : Type 0} (Whole : Resolution (List B) → Type 0) (Here Next : List A → Resolution (List B) → Type 0)
     (First : Resolution C → Type 0) (f : C → B) (items : List A) (i : ℕ) (x : A) (made : List B) (fault : ScopeFault)
-    → ((xs : List A) (o : Resolution (List B)) → Then First (λ z. InFront (f z) (Next xs)) o → Here (x ∷ xs) o)
+    → ((xs : List A) (o : Resolution (List B)) → ThenResolves First (λ z. InFront (f z) (Next xs)) o → Here (x ∷ xs) o)
     → i < length items → x ≡ get_or items i x
     → Leads Whole Here (drop i items) made → FaultIs fault (λ g. First (faulty g)) → FaultIs fault (λ g. Whole (faulty g))
 question_fault Whole Here Next First f items i x made fault shape within is leads =

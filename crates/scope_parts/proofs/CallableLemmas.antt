@@ -6,7 +6,7 @@ use Rattle.std.proofs.Math.Seq.{drop-append_seam}
 use Rattle.std.proofs.lemmas.List.{reverse-append, map-append, take-append-drop, length-drop, length-map, length-reverse, reverse-reverse}
 use Rattle.std.proofs.lemmas.Option.{none-some}
 use Rattle.lotos_base.specs.Name.{spelling}
-use Rattle.term_algebra.specs.Names.{folded}
+use Rattle.lotos_base.specs.Names.{folded}
 use Rattle.scope_parts.specs.Scope.{Binding, Callable, bind, bound_to, callable_named}
 use Rattle.scope_parts.specs.CallablesView.{callable_in, callables_of, process_positions}
 use Rattle.scope_parts.specs.declared.callable.Callable as code

@@ -3,8 +3,8 @@ use Rattle.std.proofs.Common.{◌≡◌, ℕ, suc, ◌+◌, ◌<◌, ◌≤◌, 
 use Rattle.std.specs.Prelude.{◌≢◌, Option, None, Some, slice_get, nat_eq, if◌then◌else◌}
 use Rattle.std.proofs.lemmas.Bool.{eqb-true}
 use Rattle.std.proofs.lemmas.List.{length-append}
-use Rattle.term_algebra.specs.Signature.{Signature}
-use Rattle.term_algebra.specs.Equation.{Place, Variable}
+use Rattle.lotos_base.specs.Signature.{Signature}
+use Rattle.lotos_base.specs.Equation.{Place, Variable}
 use Rattle.lotos_base.specs.WrittenTerm.{PlacedName, WrittenTerm}
 use Rattle.syntax_trees.specs.WrittenVariable.{WrittenVariable}
 use Rattle.syntax_trees.specs.WrittenBehaviour as written

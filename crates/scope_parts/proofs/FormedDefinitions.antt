@@ -5,9 +5,9 @@ use Rattle.std.specs.Option.{option_or}
 use Rattle.std.specs.Str.{bytes_eq}
 use Rattle.std.proofs.lemmas.List.{length-append}
 use Rattle.std.proofs.lemmas.Option.{none-some, same_Some}
-use Rattle.term_algebra.specs.Names.{folded}
-use Rattle.term_algebra.specs.Signature.{Signature}
-use Rattle.term_algebra.specs.Equation.{Variable}
+use Rattle.lotos_base.specs.Names.{folded}
+use Rattle.lotos_base.specs.Signature.{Signature}
+use Rattle.lotos_base.specs.Equation.{Variable}
 use Rattle.lotos_base.specs.WrittenTerm.{PlacedName}
 use Rattle.syntax_trees.specs.WrittenVariable.{WrittenVariable}
 use Rattle.syntax_trees.specs.WrittenBehaviour.{WrittenBehaviour}

@@ -3,11 +3,11 @@
 use Rattle.std.proofs.Common.{◌≡◌, ℕ, zero, suc, ◌+◌, ◌<◌, ◌≤◌, ◌⊎◌, List, [], ◌∷◌, ◌++◌, inl, inr, refl, ap, sym, ◌∙◌, subst, arith, length}
 use Rattle.std.specs.Prelude.{Bool, true, false, Option, None, Some, slice_get, nat_eq, if◌then◌else◌}
 use Rattle.std.proofs.lemmas.Option.{none-some, same_Some}
-use Rattle.term_algebra.specs.Names.{folded}
+use Rattle.lotos_base.specs.Names.{folded}
 use Rattle.std.specs.Str.{bytes_eq}
 use Rattle.lotos_base.specs.WrittenTerm.{PlacedName}
-use Rattle.term_algebra.specs.Signature.{Signature, IsSort, Sort}
-use Rattle.term_algebra.specs.Equation.{Place, Variable}
+use Rattle.lotos_base.specs.Signature.{Signature, IsSort, Sort}
+use Rattle.lotos_base.specs.Equation.{Place, Variable}
 use Rattle.sort_terms.specs.Reading.{IsScopeOver}
 use Rattle.sort_terms.specs.ReadingOutcome.{one_name}
 use Rattle.syntax_trees.specs.WrittenVariable.{WrittenVariable}

@@ -2,12 +2,12 @@
 use Rattle.std.proofs.Common.{◌≡◌, ℕ, List, [], ◌∷◌, inl, inr, ap, sym, ◌∙◌, subst}
 use Rattle.std.specs.Prelude.{None, Some, slice_get}
 use Rattle.lotos_base.specs.WrittenTerm.{WrittenTerm, WrittenTerms, written, no_written, written_then}
-use Rattle.term_algebra.specs.Signature.{Signature}
-use Rattle.term_algebra.specs.Term.{Term, Terms, variable, node, no_terms, term_then}
-use Rattle.term_algebra.specs.Sorting.{Occurs, OccursAmong}
-use Rattle.term_algebra.specs.Equation.{Place, Variable}
+use Rattle.lotos_base.specs.Signature.{Signature}
+use Rattle.lotos_base.specs.Term.{Term, Terms, variable, node, no_terms, term_then}
+use Rattle.lotos_base.specs.Sorting.{Occurs, OccursAmong}
+use Rattle.lotos_base.specs.Equation.{Place, Variable}
 use Rattle.sort_terms.specs.Reading.{Reads, AllRead, IsScopeOver}
-use Rattle.sort_terms.specs.ReadingOutcome.{Refusal, answered, ComesTo, IsReading, IsPairReading, unknown_in}
+use Rattle.sort_terms.specs.ReadingOutcome.{ReadingRefusal, answered, ComesTo, IsReading, IsPairReading, unknown_in}
 use Rattle.sort_terms.proofs.ReadsLemmas.{reads_sorted}
 use Rattle.behaviour_semantics.specs.Behaviour.{Test}
 use Rattle.behaviour_semantics.specs.WellFormed.{sort_in, IsTermIn, IsTestIn}
@@ -18,7 +18,7 @@ use Rattle.scope_parts.specs.Terms.{TermIs, PairIs}
 abbrev pub AreIn : List Variable → List Variable → Type 0
 AreIn variables scope = (i : ℕ) (v : Variable) → slice_get variables i ≡ Some v → sort_in scope v.number ≡ Some v.sort
 
-answered_is : {A : Type 0} (unknown : List Refusal) (place : Place) (P : A → Type 0) (x : A) → ComesTo unknown place P (answered x) → P x
+answered_is : {A : Type 0} (unknown : List ReadingRefusal) (place : Place) (P : A → Type 0) (x : A) → ComesTo unknown place P (answered x) → P x
 answered_is (r ∷ rs) place P x h = absurd h
 answered_is [] place P x h = h.is_answer
 

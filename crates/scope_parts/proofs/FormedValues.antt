@@ -3,11 +3,11 @@ use Rattle.std.proofs.Common.{◌≡◌, ℕ, suc, ◌+◌, Bool, true, false, L
 use Rattle.std.specs.Prelude.{◌&&◌, Option, None, Some, slice_get, nat_eq, codes, if◌then◌else◌}
 use Rattle.std.proofs.lemmas.Bool.{and_parts, eqb-true}
 use Rattle.std.proofs.lemmas.Option.{none-some, same_Some}
-use Rattle.term_algebra.specs.Signature.{Signature, Operation, prefix_form}
-use Rattle.term_algebra.specs.Sorting.{HasSort, HaveSorts as HaveArgumentSorts}
-use Rattle.term_algebra.specs.Term.{Term, node, no_terms}
-use Rattle.term_algebra.specs.Twins.{form_eq}
-use Rattle.term_algebra.specs.Equation.{Variable}
+use Rattle.lotos_base.specs.Signature.{Signature, Operation, prefix_form}
+use Rattle.lotos_base.specs.Sorting.{HasSort, HaveSorts as HaveArgumentSorts}
+use Rattle.lotos_base.specs.Term.{Term, node, no_terms}
+use Rattle.lotos_base.specs.Twins.{form_eq}
+use Rattle.lotos_base.specs.Equation.{Variable}
 use Rattle.lotos_base.specs.WrittenTerm.{WrittenTerm}
 use Rattle.sort_terms.specs.Reading.{IsScopeOver}
 use Rattle.sort_terms.specs.ReadingOutcome.{one_name}

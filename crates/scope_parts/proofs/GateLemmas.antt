@@ -3,7 +3,7 @@ use Rattle.std.proofs.Common.{◌≡◌, ℕ, suc, ◌+◌, ◌-◌, ◌≤◌, 
 use Rattle.std.specs.List.{filter_map}
 use Rattle.std.proofs.Math.Seq.{drop-append_seam}
 use Rattle.std.proofs.lemmas.List.{length-append}
-use Rattle.term_algebra.specs.Names.{folded}
+use Rattle.lotos_base.specs.Names.{folded}
 use Rattle.syntax_trees.specs.TreeViews.{gate_choice_of, gate_choices_of}
 use Rattle.syntax_trees.specs.WrittenBehaviour.{WrittenSign, WrittenGateChoice}
 use Rattle.syntax_trees.specs.declared.behaviours.GateText.{GateText}

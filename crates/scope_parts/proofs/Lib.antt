@@ -17,3 +17,13 @@ pub mod FormedDefinitions
 pub mod ProfileLemmas
 pub mod ValueLemmas
 pub mod ConstantLemmas
+pub mod OrderLemmas
+pub mod TellsLemmas
+pub mod DoubledLemmas
+pub mod TermsWithin
+pub mod PartsWithin
+pub mod BehavioursWithin
+pub mod PartsTell
+pub mod BehavioursTell
+pub mod TextsTell
+pub mod SampleLemmas

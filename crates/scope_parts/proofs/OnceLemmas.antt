@@ -1,10 +1,10 @@
 -- Each part of a text comes to one thing: the ways to put questions together keep this.
 use Rattle.std.proofs.Common.{◌≡◌, List, [], ◌∷◌, inl, inr, refl, ap, sym, ◌∙◌, subst}
 use Rattle.std.specs.Prelude.{Option}
-use Rattle.sort_terms.specs.ReadingOutcome.{Outcome, answered, refused}
+use Rattle.sort_terms.specs.ReadingOutcome.{ReadingOutcome, answered, refused}
 use Rattle.lotos_base.specs.WrittenTerm.{PlacedName}
 use Rattle.scope_parts.specs.ScopeFault.{ScopeFault, unknown_gate, unknown_process, unknown_sort, double_name, gate_count, value_count, no_bool, refused_term}
-use Rattle.scope_parts.specs.Resolution.{Resolution, resolved, faulty, beside, Is, Then, Made, InFront, Beside}
+use Rattle.scope_parts.specs.Resolution.{Resolution, resolved, faulty, beside, Is, ThenResolves, Made, InFront, Beside}
 use Rattle.scope_parts.specs.Terms.{AsResolution}
 
 -- the question comes to one thing
@@ -21,7 +21,7 @@ pub is_once : {A : Type 0} (r : Resolution A) → Once (Is r)
 is_once r one other h k = h ∙ sym k
 
 pub then_once : {A B : Type 0} {First : Resolution A → Type 0} {next : A → Resolution B → Type 0}
-    → Once First → ((x : A) → Once (next x)) → Once (Then First next)
+    → Once First → ((x : A) → Once (next x)) → Once (ThenResolves First next)
 then_once {next = next} first later (resolved y) (resolved z) h k =
     let same = same_value h.0 k.0 (first _ _ h.1 k.1) in
     later k.0 _ _ (subst (λ x. next x (resolved y)) same h.2) k.2
@@ -64,11 +64,11 @@ pub beside_once : {A : Type 0} {Others : Resolution A → Type 0} (double : Opti
 beside_once double others one other h k = h.2 ∙ ap (beside double) (others _ _ h.1 k.1) ∙ sym k.2
 
 -- the resolution that an outcome is
-abbrev from_outcome : {A : Type 0} → Outcome A → Resolution A
+abbrev from_outcome : {A : Type 0} → ReadingOutcome A → Resolution A
 from_outcome (answered x) = resolved x
 from_outcome (refused r) = faulty (refused_term r)
 
-outcome_of : {A : Type 0} (C : Outcome A → Type 0) (r : Resolution A) → AsResolution C r → (o : Outcome A) × C o × (r ≡ from_outcome o)
+outcome_of : {A : Type 0} (C : ReadingOutcome A → Type 0) (r : Resolution A) → AsResolution C r → (o : ReadingOutcome A) × C o × (r ≡ from_outcome o)
 outcome_of C (resolved x) h = (answered x, h, refl)
 outcome_of C (faulty (unknown_gate place name)) h = absurd h
 outcome_of C (faulty (unknown_process place name)) h = absurd h
@@ -79,7 +79,7 @@ outcome_of C (faulty (value_count place wanted given)) h = absurd h
 outcome_of C (faulty (no_bool place)) h = absurd h
 outcome_of C (faulty (refused_term r)) h = (refused r, h, refl)
 
-pub outcome_once : {A : Type 0} (C : Outcome A → Type 0) → ((one other : Outcome A) → C one → C other → one ≡ other) → Once (AsResolution C)
+pub outcome_once : {A : Type 0} (C : ReadingOutcome A → Type 0) → ((one other : ReadingOutcome A) → C one → C other → one ≡ other) → Once (AsResolution C)
 outcome_once C once one other h k =
     let first = outcome_of C one h in
     let second = outcome_of C other k in

@@ -1,6 +1,6 @@
 -- The terms of lists, each of which is of a signature.
 use Rattle.std.proofs.Common.{◌≡◌, List, [], ◌∷◌, ◌++◌, refl, ap, sym, ◌∙◌, subst}
-use Rattle.term_algebra.specs.Signature.{Signature}
+use Rattle.lotos_base.specs.Signature.{Signature}
 use Rattle.sort_terms.specs.ProfiledTerm.{ProfiledTerm}
 use Rattle.behaviour_tree.specs.BehaviourTerms.{joined}
 use Rattle.behaviour_tree.specs.Over.{AreTermsOf}

@@ -5,13 +5,13 @@ use Rattle.std.specs.Option.{option_or}
 use Rattle.std.specs.Str.{bytes_eq}
 use Rattle.std.proofs.lemmas.Bool.{cases_order}
 use Rattle.std.proofs.lemmas.Option.{none-some, same_Some}
-use Rattle.term_algebra.specs.Names.{folded, AreOneName}
-use Rattle.term_algebra.specs.Signature.{Signature}
-use Rattle.term_algebra.specs.Equation.{Place, Variable}
-use Rattle.term_algebra.specs.Term.{Term, Terms, variable, node, no_terms, term_then}
+use Rattle.lotos_base.specs.Names.{folded, AreOneName}
+use Rattle.lotos_base.specs.Signature.{Signature}
+use Rattle.lotos_base.specs.Equation.{Place, Variable}
+use Rattle.lotos_base.specs.Term.{Term, Terms, variable, node, no_terms, term_then}
 use Rattle.lotos_base.specs.WrittenTerm.{WrittenTerm, WrittenTerms, written, no_written, written_then, written_head}
 use Rattle.sort_terms.specs.Reading.{IsLastNamed, NoneNamed, Reads, AllRead}
-use Rattle.sort_terms.specs.ReadingOutcome.{Refusal, Outcome, answered, refused, ComesTo, SortedTerm, SortedPair, one_name, is_variable_name, unknown_in, unknown_in_each, in_text_order, unknown_at, unknown_sorts, IsReading, IsPairReading, ReadingIs, PairReadingIs}
+use Rattle.sort_terms.specs.ReadingOutcome.{ReadingRefusal, ReadingOutcome, answered, refused, ComesTo, SortedTerm, SortedPair, one_name, is_variable_name, unknown_in, unknown_in_each, in_text_order, unknown_at, unknown_sorts, IsReading, IsPairReading, ReadingIs, PairReadingIs}
 use Rattle.scope_parts.specs.Seen.{visible_named, found_list, seen_in, seen_in_each}
 use Rattle.scope_parts.proofs.BindingLemmas.{same_key, key_eq}
 
@@ -181,8 +181,8 @@ mutual
       named_visible scope head.name ∙ ap is_some agree.0 ∙ sym (named_visible other head.name) in
       let here : unknown_at signature scope head ≡ unknown_at signature other head = rw named refl in
       let each = each_unknown_agrees signature scope other ws agree.1 in
-      ap (λ (rs : List Refusal). in_text_order head.form rs (unknown_in_each signature scope ws) ++ unknown_sorts signature head.sorts) here
-      ∙ ap (λ (rs : List (List Refusal)). in_text_order head.form
+      ap (λ (rs : List ReadingRefusal). in_text_order head.form rs (unknown_in_each signature scope ws) ++ unknown_sorts signature head.sorts) here
+      ∙ ap (λ (rs : List (List ReadingRefusal)). in_text_order head.form
       (unknown_at signature other head) rs ++ unknown_sorts signature head.sorts)
       each
 
@@ -196,8 +196,8 @@ mutual
 
 -- ---- What a question comes to
 
-comes_moved : {A : Type 0} (unknown : List Refusal) (place : Place) (P Q : A → Type 0) → ((x : A) → P x → Q x) → ((x : A) → Q x → P x)
-    → (o : Outcome A) → ComesTo unknown place P o → ComesTo unknown place Q o
+comes_moved : {A : Type 0} (unknown : List ReadingRefusal) (place : Place) (P Q : A → Type 0) → ((x : A) → P x → Q x) → ((x : A) → Q x → P x)
+    → (o : ReadingOutcome A) → ComesTo unknown place P o → ComesTo unknown place Q o
 comes_moved (first ∷ rest) place P Q out back (answered x) h = absurd h
 comes_moved (first ∷ rest) place P Q out back (refused r) h = h
 comes_moved [] place P Q out back (answered x) h =
@@ -214,17 +214,17 @@ comes_moved [] place P Q out back (refused r) (inr h) = inr (
   h.1,
 )
 
-pub reading_moved : (signature : Signature) (scope other : List Variable) (w : WrittenTerm) (expected : Option ℕ) (o : Outcome SortedTerm)
+pub reading_moved : (signature : Signature) (scope other : List Variable) (w : WrittenTerm) (expected : Option ℕ) (o : ReadingOutcome SortedTerm)
     → AgreeIn scope other w → ReadingIs signature scope w expected o → ReadingIs signature other w expected o
 reading_moved signature scope other w expected o agree reading =
     comes_moved (unknown_in signature other w) (written_head w).place (IsReading signature scope w expected)
     (IsReading signature other w expected)
     (λ t h. (reads_moved signature scope other w t.term t.sort agree h.0, h.1))
     (λ t h. (reads_moved signature other scope w t.term t.sort (agree_back scope other w agree) h.0, h.1)) o
-    (subst (λ (unknown : List Refusal). ComesTo unknown (written_head w).place (IsReading signature scope w expected) o)
+    (subst (λ (unknown : List ReadingRefusal). ComesTo unknown (written_head w).place (IsReading signature scope w expected) o)
     (unknown_agrees signature scope other w agree) reading)
 
-pub pair_moved : (signature : Signature) (scope other : List Variable) (left right : WrittenTerm) (o : Outcome SortedPair)
+pub pair_moved : (signature : Signature) (scope other : List Variable) (left right : WrittenTerm) (o : ReadingOutcome SortedPair)
     → AgreeIn scope other left → AgreeIn scope other right → PairReadingIs signature scope left right o
     → PairReadingIs signature other left right o
 pair_moved signature scope other left right o on_left on_right reading =
@@ -238,9 +238,9 @@ pair_moved signature scope other left right o on_left on_right reading =
       reads_moved signature other scope left t.left t.sort (agree_back scope other left on_left) h.0,
       reads_moved signature other scope right t.right t.sort (agree_back scope other right on_right) h.1,
     )) o
-    (subst (λ (unknown : List Refusal). ComesTo unknown (written_head left).place (IsPairReading signature scope left right) o)
-    (ap (λ (rs : List Refusal). rs ++ unknown_in signature scope right) (unknown_agrees signature scope other left on_left)
-    ∙ ap (λ (rs : List Refusal). unknown_in signature other left ++ rs) (unknown_agrees signature scope other right on_right)) reading)
+    (subst (λ (unknown : List ReadingRefusal). ComesTo unknown (written_head left).place (IsPairReading signature scope left right) o)
+    (ap (λ (rs : List ReadingRefusal). rs ++ unknown_in signature scope right) (unknown_agrees signature scope other left on_left)
+    ∙ ap (λ (rs : List ReadingRefusal). unknown_in signature other left ++ rs) (unknown_agrees signature scope other right on_right)) reading)
 
 -- ---- The variables that the names mean
 
@@ -364,13 +364,13 @@ mutual
 
 -- ---- So reading over these variables alone comes to the same
 
-pub read_over_seen : (signature : Signature) (scope : List Variable) (w : WrittenTerm) (expected : Option ℕ) (o : Outcome SortedTerm)
+pub read_over_seen : (signature : Signature) (scope : List Variable) (w : WrittenTerm) (expected : Option ℕ) (o : ReadingOutcome SortedTerm)
     → ReadingIs signature (seen_in scope w) w expected o → ReadingIs signature scope w expected o
 read_over_seen signature scope w expected o =
     reading_moved signature (seen_in scope w) scope w expected o
     (seen_agrees scope (seen_in scope w) w (seen_visible scope w) (λ name h. h))
 
-pub pair_over_seen : (signature : Signature) (scope : List Variable) (left right : WrittenTerm) (o : Outcome SortedPair)
+pub pair_over_seen : (signature : Signature) (scope : List Variable) (left right : WrittenTerm) (o : ReadingOutcome SortedPair)
     → PairReadingIs signature (seen_in scope left ++ seen_in scope right) left right o → PairReadingIs signature scope left right o
 pair_over_seen signature scope left right o =
     let both = visible_both scope _ _ (seen_visible scope left) (seen_visible scope right) in

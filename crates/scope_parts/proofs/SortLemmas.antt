@@ -2,8 +2,8 @@
 use Rattle.std.proofs.Common.{◌≡◌, ℕ, zero, suc, ◌+◌, Bool, true, false, List, [], ◌∷◌, refl, ap, ◌∙◌, arith}
 use Rattle.std.specs.Prelude.{Option, None, Some, MatchOption, slice_get, if◌then◌else◌}
 use Rattle.std.proofs.lemmas.Option.{none-some, same_Some}
-use Rattle.term_algebra.specs.Names.{folded, AreOneName}
-use Rattle.term_algebra.specs.Signature.{Signature, Sort}
+use Rattle.lotos_base.specs.Names.{folded, AreOneName}
+use Rattle.lotos_base.specs.Signature.{Signature, Sort}
 use Rattle.sort_terms.specs.Reading.{IsSortNamed}
 use Rattle.sort_terms.specs.ReadingOutcome.{one_name}
 use Rattle.scope_parts.specs.Sorts.{sort_from, sort_named}

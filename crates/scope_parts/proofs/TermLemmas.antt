@@ -2,11 +2,11 @@
 use Rattle.std.proofs.Common.{◌≡◌, ℕ, List, ◌++◌, refl, ap, sym, subst}
 use Rattle.std.specs.Prelude.{Option, None, Some}
 use Rattle.lotos_base.specs.WrittenTerm.{WrittenTerm}
-use Rattle.term_algebra.specs.Signature.{Signature}
-use Rattle.term_algebra.specs.Term.{Term, node, no_terms}
-use Rattle.term_algebra.specs.Equation.{Variable}
+use Rattle.lotos_base.specs.Signature.{Signature}
+use Rattle.lotos_base.specs.Term.{Term, node, no_terms}
+use Rattle.lotos_base.specs.Equation.{Variable}
 use Rattle.sort_terms.specs.Reading.{IsScopeOver}
-use Rattle.sort_terms.specs.ReadingOutcome.{Refusal, Outcome, answered, refused, SortedTerm, SortedPair, ReadingIs, PairReadingIs}
+use Rattle.sort_terms.specs.ReadingOutcome.{ReadingRefusal, ReadingOutcome, answered, refused, SortedTerm, SortedPair, ReadingIs, PairReadingIs}
 use Rattle.sort_terms.specs.RefusalView.{UnlessNoMemory}
 use Rattle.sort_terms.specs.declared.sort_faults.SortFault.{SortFault}
 use Rattle.sort_terms.specs.declared.sort_faults.SortFault.TheVariants as sort
@@ -42,7 +42,7 @@ both_over signature scope vs left right are over =
     (visible_both scope (seen_in scope left) (seen_in scope right) (seen_visible scope left) (seen_visible scope right)))
 
 -- a refusal of a reader as a fault
-refusal_means : {A : Type 0} (C : Outcome A → Type 0) (fault : SortFault) → UnlessNoMemory fault (λ r. C (refused r))
+refusal_means : {A : Type 0} (C : ReadingOutcome A → Type 0) (fault : SortFault) → UnlessNoMemory fault (λ r. C (refused r))
     → FaultIs (fault_of_term fault) (λ f. AsResolution C (faulty f))
 refusal_means C (sort.UnknownName place) h = h
 refusal_means C (sort.UnknownSort place) h = h
@@ -50,7 +50,7 @@ refusal_means C (sort.NoReading place) h = h
 refusal_means C (sort.TwoReadings place) h = h
 refusal_means C sort.NoMemory h = tt
 
-unless_moved : (fault : SortFault) (P Q : Refusal → Type 0) → ((r : Refusal) → P r → Q r) → UnlessNoMemory fault P → UnlessNoMemory fault Q
+unless_moved : (fault : SortFault) (P Q : ReadingRefusal → Type 0) → ((r : ReadingRefusal) → P r → Q r) → UnlessNoMemory fault P → UnlessNoMemory fault Q
 unless_moved (sort.UnknownName place) P Q out h = out _ h
 unless_moved (sort.UnknownSort place) P Q out h = out _ h
 unless_moved (sort.NoReading place) P Q out h = out _ h

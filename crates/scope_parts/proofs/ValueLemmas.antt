@@ -4,9 +4,9 @@ use Rattle.std.specs.Prelude.{Option, None, Some}
 use Rattle.std.proofs.Math.ListN.{drop_of_length-le}
 use Rattle.lotos_base.specs.WrittenView.{written_term_of, written_terms_of}
 use Rattle.lotos_base.specs.declared.written_terms.Written.{Written}
-use Rattle.term_algebra.specs.Signature.{Signature}
-use Rattle.term_algebra.specs.Term.{Term}
-use Rattle.term_algebra.specs.Equation.{Variable}
+use Rattle.lotos_base.specs.Signature.{Signature}
+use Rattle.lotos_base.specs.Term.{Term}
+use Rattle.lotos_base.specs.Equation.{Variable}
 use Rattle.scope_parts.specs.Resolution.{Resolution, resolved, faulty, put_in_front}
 use Rattle.scope_parts.specs.FaultView.{FaultIs}
 use Rattle.scope_parts.specs.Terms.{TermIs, ValuesAre}

@@ -11,8 +11,8 @@ use Rattle.lotos_base.specs.Name.{spelling}
 use Rattle.lotos_base.specs.WrittenTerm.{written_terms}
 use Rattle.lotos_base.specs.WrittenView.{written_term_of, written_terms_of}
 use Rattle.lotos_base.specs.declared.written_terms.Written.{Written, out-Written}
-use Rattle.term_algebra.specs.Names.{folded}
-use Rattle.term_algebra.specs.Equation.{Variable}
+use Rattle.lotos_base.specs.Names.{folded}
+use Rattle.lotos_base.specs.Equation.{Variable}
 use Rattle.sort_terms.specs.EquationView.{variable_of}
 use Rattle.sort_terms.specs.ReadingOutcome.{one_name}
 use Rattle.sort_terms.specs.declared.equations.Variable as code

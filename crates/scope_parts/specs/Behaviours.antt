@@ -1,13 +1,13 @@
 -- Which behaviour a behaviour as it is written stands for, or the first rule that it breaks.
 use Rattle.std.specs.Prelude.{ℕ, ◌+◌, List, [], ◌∷◌, ◌++◌, length, nat_eq, if◌then◌else◌}
-use Rattle.term_algebra.specs.Signature.{Signature}
-use Rattle.term_algebra.specs.Equation.{Place, Variable}
+use Rattle.lotos_base.specs.Signature.{Signature}
+use Rattle.lotos_base.specs.Equation.{Place, Variable}
 use Rattle.lotos_base.specs.WrittenTerm.{PlacedName, WrittenTerm}
 use Rattle.syntax_trees.specs.WrittenBehaviour as written
 use Rattle.syntax_trees.specs.WrittenBehaviour.{WrittenBehaviour, WrittenSign, choice_sign, interleaving, full_synchronisation, synchronising, disabling, enabling}
 use Rattle.behaviour_semantics.specs.Behaviour.{Behaviour, stop, exit_with, action, inner_action, guard, choice, parallel, hide, enable, disable, let_be, call, no_gates, all_gates, at_gates, asked_variables, let_variables}
 use Rattle.scope_parts.specs.ScopeFault.{gate_count, value_count}
-use Rattle.scope_parts.specs.Resolution.{Resolution, resolved, faulty, and_then, Is, Then, Made}
+use Rattle.scope_parts.specs.Resolution.{Resolution, resolved, faulty, and_then, Is, ThenResolves, Made}
 use Rattle.scope_parts.specs.Scope.{Scope, Callable, gate_at, gates_at, bind_all, callable_named, found_process}
 use Rattle.scope_parts.specs.Numbering.{Numbers, spelled, each_once, asked_for, choice_names, past_gates, past_variables, past}
 use Rattle.scope_parts.specs.Sorts.{variables_at}
@@ -50,8 +50,8 @@ called_at scope place name gates values =
 -- a call: its process and the counts, then its gates, then its values
 abbrev pub CallIs : Signature → Scope → Place → List ℕ → List PlacedName → List WrittenTerm → Resolution Behaviour → Type 0
 CallIs signature scope place name gates values =
-    Then (Is (called_at scope place name (length gates) (length values)))
-    (λ (callable : Callable). Then (Is (gates_at scope.gates gates))
+    ThenResolves (Is (called_at scope place name (length gates) (length values)))
+    (λ (callable : Callable). ThenResolves (Is (gates_at scope.gates gates))
     (λ numbers. Made (λ terms. call callable.number numbers terms) (ValuesAre signature scope.variables callable.sorts values)))
 
 -- what a sign with a behaviour on its left and one on its right stands for. The right one is related to its resolution, given
@@ -62,10 +62,10 @@ SignIs signature scope numbers choice_sign left Right = Made (λ right. choice l
 SignIs signature scope numbers interleaving left Right = Made (λ right. parallel no_gates left right) (Right scope numbers)
 SignIs signature scope numbers full_synchronisation left Right = Made (λ right. parallel all_gates left right) (Right scope numbers)
 SignIs signature scope numbers (synchronising names) left Right =
-    Then (Is (gates_at scope.gates names)) (λ gates. Made (λ right. parallel (at_gates gates) left right) (Right scope numbers))
+    ThenResolves (Is (gates_at scope.gates names)) (λ gates. Made (λ right. parallel (at_gates gates) left right) (Right scope numbers))
 SignIs signature scope numbers disabling left Right = Made (λ right. disable left right) (Right scope numbers)
 SignIs signature scope numbers (enabling accepted) left Right =
-    Then (Is (variables_at signature numbers.variable accepted))
+    ThenResolves (Is (variables_at signature numbers.variable accepted))
     (λ variables. Made (λ right. enable left variables right)
     (Right (with_variables variables scope) (past_variables (length accepted) numbers)))
 
@@ -77,36 +77,36 @@ BehaviourIs signature scope numbers (written.exit place values) =
     Made (λ results. exit_with results) (ExitValuesAre signature scope.variables values)
 BehaviourIs signature scope numbers (written.call place name gates values) = CallIs signature scope place name gates values
 BehaviourIs signature scope numbers (written.action place gate offers test next) =
-    Then (Is (gate_at scope.gates (record { place = place; name = gate })))
-    (λ number. Then (OffersAre signature scope.variables numbers.variable offers)
-    (λ given. Then (TestOptionIs signature (with_variables (asked_variables given) scope).variables test)
+    ThenResolves (Is (gate_at scope.gates (record { place = place; name = gate })))
+    (λ number. ThenResolves (OffersAre signature scope.variables numbers.variable offers)
+    (λ given. ThenResolves (TestOptionIs signature (with_variables (asked_variables given) scope).variables test)
     (λ predicate. Made (λ behind. action number given predicate behind)
     (BehaviourIs signature (with_variables (asked_variables given) scope) (past_variables (length (asked_for offers)) numbers) next))))
 BehaviourIs signature scope numbers (written.inner_action place next) =
     Made (λ behind. inner_action behind) (BehaviourIs signature scope numbers next)
 BehaviourIs signature scope numbers (written.guard place test next) =
-    Then (TestIs signature scope.variables test)
+    ThenResolves (TestIs signature scope.variables test)
     (λ premiss. Made (λ behind. guard premiss behind) (BehaviourIs signature scope numbers next))
 BehaviourIs signature scope numbers (written.hide place gates inside) =
     Made (λ within. hide (numbers_from numbers.gate (each_once (spelled gates))) within)
     (BehaviourIs signature (with_gates (each_once (spelled gates)) numbers.gate scope)
     (past_gates (length (each_once (spelled gates))) numbers) inside)
 BehaviourIs signature scope numbers (written.let_be place values inside) =
-    Then (LetIs signature scope.variables numbers.variable values)
+    ThenResolves (LetIs signature scope.variables numbers.variable values)
     (λ bindings. Made (λ within. let_be bindings within)
     (BehaviourIs signature (with_variables (let_variables bindings) scope) (past_variables (length values) numbers) inside))
 BehaviourIs signature scope numbers (written.choose_value place variables inside) =
-    Then (Is (variables_at signature numbers.variable variables))
+    ThenResolves (Is (variables_at signature numbers.variable variables))
     (λ chosen. Made (λ within. under_values chosen within)
     (BehaviourIs signature (with_variables chosen scope) (past_variables (length variables) numbers) inside))
 BehaviourIs signature scope numbers (written.choose_gate place gates inside) =
-    Then (Is (choices_at scope.gates numbers.gate gates))
+    ThenResolves (Is (choices_at scope.gates numbers.gate gates))
     (λ choices. Made (λ within. under_gates choices within)
     (BehaviourIs signature (with_gates (choice_names gates) numbers.gate scope) (past_gates (length gates) numbers) inside))
 BehaviourIs signature scope numbers (written.par_gate place gates sign inside) =
-    Then (Is (par_choices_at scope.gates numbers.gate sign gates))
+    ThenResolves (Is (par_choices_at scope.gates numbers.gate sign gates))
     (λ pars. Made (λ within. under_par pars within)
     (BehaviourIs signature (with_gates (choice_names gates) numbers.gate scope) (past_gates (length gates) numbers) inside))
 BehaviourIs signature scope numbers (written.binary place sign left right) =
-    Then (BehaviourIs signature scope numbers left)
+    ThenResolves (BehaviourIs signature scope numbers left)
     (λ first. SignIs signature scope (past left numbers) sign first (λ inside behind. BehaviourIs signature inside behind right))

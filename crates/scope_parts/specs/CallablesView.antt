@@ -1,7 +1,7 @@
 -- The processes of a table of processes.
 use Rattle.std.specs.Prelude.{List, [], ◌∷◌, length, map, reverse}
 use Rattle.lotos_base.specs.Name.{spelling}
-use Rattle.term_algebra.specs.Names.{folded}
+use Rattle.lotos_base.specs.Names.{folded}
 use Rattle.scope_parts.specs.Scope as plain
 use Rattle.scope_parts.specs.Scope.{Binding}
 use Rattle.scope_parts.specs.declared.callable.Callable.{Callable}

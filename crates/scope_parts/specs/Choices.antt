@@ -4,7 +4,7 @@ use Rattle.std.specs.Prelude.{ℕ, suc, List, [], ◌∷◌, map}
 use Rattle.lotos_base.specs.WrittenTerm.{PlacedName}
 use Rattle.syntax_trees.specs.WrittenBehaviour.{WrittenSign, choice_sign, interleaving, full_synchronisation, synchronising, disabling, enabling, WrittenGateChoice}
 use Rattle.behaviour_semantics.specs.Behaviour.{Behaviour, choose_gate, par_gate, choose_value, SynchronisationSet, no_gates, all_gates, at_gates}
-use Rattle.term_algebra.specs.Equation.{Variable}
+use Rattle.lotos_base.specs.Equation.{Variable}
 use Rattle.scope_parts.specs.Resolution.{Resolution, resolved, and_then, put_in_front, beside}
 use Rattle.scope_parts.specs.Scope.{Binding, bind, gates_at, first_double}
 

@@ -2,14 +2,14 @@
 -- and parameters alone. It sees the processes of its own `where`, and those that are visible where it is declared, itself
 -- among them; inner ones hide outer ones.
 use Rattle.std.specs.Prelude.{ℕ, suc, ◌+◌, List, [], ◌∷◌, ◌++◌, length, Option, if◌then◌else◌}
-use Rattle.term_algebra.specs.Signature.{Signature}
-use Rattle.term_algebra.specs.Equation.{Variable}
+use Rattle.lotos_base.specs.Signature.{Signature}
+use Rattle.lotos_base.specs.Equation.{Variable}
 use Rattle.lotos_base.specs.WrittenTerm.{PlacedName}
 use Rattle.syntax_trees.specs.WrittenBehaviour.{WrittenBehaviour}
 use Rattle.syntax_trees.specs.WrittenDefinition.{WrittenHeading, WrittenInner, WrittenInners, inner_item, process, no_inner, inner_then, inners_of, WrittenSpecification}
 use Rattle.behaviour_semantics.specs.Behaviour.{Behaviour, Process, Specification}
 use Rattle.scope_parts.specs.ScopeFault.{double_name}
-use Rattle.scope_parts.specs.Resolution.{Resolution, resolved, faulty, and_then, beside, Is, Then, Made}
+use Rattle.scope_parts.specs.Resolution.{Resolution, resolved, faulty, and_then, beside, Is, ThenResolves, Made}
 use Rattle.scope_parts.specs.Scope.{Scope, Callable, Binding, bind, bind_all, is_bound, first_double}
 use Rattle.scope_parts.specs.Numbering.{Numbers, spelled, own_gates, inners_gates, past_heading, past_own, past_inner, process_count}
 use Rattle.scope_parts.specs.Sorts.{variables_at, functionality_at, sorts_if}
@@ -44,7 +44,7 @@ own_scope processes numbers heading resolved_heading = record {
 abbrev pub DefinitionIs : Signature → List Callable → Numbers → WrittenHeading → WrittenBehaviour → Resolution (Heading × Behaviour)
     → Type 0
 DefinitionIs signature processes numbers heading body =
-    Then (Is (heading_at signature numbers heading))
+    ThenResolves (Is (heading_at signature numbers heading))
     (λ (first : Heading). Made (λ behaviour. (first, behaviour))
     (BehaviourIs signature (own_scope processes numbers heading first) (past_heading heading numbers) body))
 
@@ -93,8 +93,8 @@ abbrev mutual
   pub InnerIs : Signature → List Callable → List Binding → Numbers → WrittenInner → Resolution (List Process) → Type 0
   InnerIs signature visible before numbers (inner_item item) = Is (resolved [])
   InnerIs signature visible before numbers (process heading body inner) =
-      Then (Is (new_process before heading))
-      (λ name. Then (DefinitionIs signature (callables signature (suc numbers.process) inner ++ visible) (past_name numbers) heading body)
+      ThenResolves (Is (new_process before heading))
+      (λ name. ThenResolves (DefinitionIs signature (callables signature (suc numbers.process) inner ++ visible) (past_name numbers) heading body)
       (λ definition. Made (λ within. process_with heading definition ∷ within)
       (InnersAre signature (callables signature (suc numbers.process) inner ++ visible) [] (past_own heading body
       (past_name numbers)) inner)))
@@ -103,7 +103,7 @@ abbrev mutual
   pub InnersAre : Signature → List Callable → List Binding → Numbers → WrittenInners → Resolution (List Process) → Type 0
   InnersAre signature visible before numbers no_inner = Is (resolved [])
   InnersAre signature visible before numbers (inner_then inner others) =
-      Then (InnerIs signature visible before numbers inner)
+      ThenResolves (InnerIs signature visible before numbers inner)
       (λ first. Made (λ rest. first ++ rest)
       (InnersAre signature visible (with_name inner before) (past_inner inner numbers) others))
 
@@ -130,7 +130,7 @@ specification_with text definition processes = record {
 -- of the text.
 abbrev pub SpecificationIs : Signature → WrittenSpecification → Resolution Specification → Type 0
 SpecificationIs signature text =
-    Then (DefinitionIs signature (callables signature 0 (inners_of text.inner)) first_numbers text.heading text.body)
+    ThenResolves (DefinitionIs signature (callables signature 0 (inners_of text.inner)) first_numbers text.heading text.body)
     (λ definition. Made (λ processes. specification_with text definition processes)
     (InnersAre signature (callables signature 0 (inners_of text.inner)) [] (past_own text.heading text.body first_numbers)
     (inners_of text.inner)))

@@ -21,3 +21,13 @@ pub mod VisibleView
 pub mod TermsView
 pub mod GateLists
 pub mod WellFormedLaw
+pub mod Order
+pub mod TermPlaces
+pub mod PartFaults
+pub mod BehaviourFaults
+pub mod TextFaults
+pub mod PartPlaces
+pub mod BehaviourPlaces
+pub mod TextOrder
+pub mod FirstFault
+pub mod Sample

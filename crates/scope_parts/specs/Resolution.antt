@@ -32,9 +32,9 @@ abbrev pub Is : {A : Type 0} → Resolution A → Resolution A → Type 0
 Is computed resolution = resolution ≡ computed
 
 -- first one question, then one that hangs on its answer: the first fault counts
-abbrev pub Then : {A B : Type 0} → (Resolution A → Type 0) → (A → Resolution B → Type 0) → Resolution B → Type 0
-Then {A} First next (resolved y) = (x : A) × First (resolved x) × next x (resolved y)
-Then {A} First next (faulty fault) = First (faulty fault) ⊎ ((x : A) × First (resolved x) × next x (faulty fault))
+abbrev pub ThenResolves : {A B : Type 0} → (Resolution A → Type 0) → (A → Resolution B → Type 0) → Resolution B → Type 0
+ThenResolves {A} First next (resolved y) = (x : A) × First (resolved x) × next x (resolved y)
+ThenResolves {A} First next (faulty fault) = First (faulty fault) ⊎ ((x : A) × First (resolved x) × next x (faulty fault))
 
 -- what is made of the answer
 abbrev pub Made : {A B : Type 0} → (A → B) → (Resolution A → Type 0) → Resolution B → Type 0

@@ -1,6 +1,6 @@
 -- Laws of resolution: a text stands for one specification at most, and breaks one rule first at most.
 use Rattle.std.specs.Prelude.{◌≡◌}
-use Rattle.term_algebra.specs.Signature.{Signature}
+use Rattle.lotos_base.specs.Signature.{Signature}
 use Rattle.syntax_trees.specs.WrittenBehaviour.{WrittenBehaviour}
 use Rattle.syntax_trees.specs.WrittenDefinition.{WrittenSpecification}
 use Rattle.behaviour_semantics.specs.Behaviour.{Behaviour, Specification}

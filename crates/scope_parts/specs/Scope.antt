@@ -2,8 +2,8 @@
 -- semantics). Inner declarations hide outer ones. Names are compared without regard to letter case.
 use Rattle.std.specs.Prelude.{ℕ, suc, Bool, List, [], ◌∷◌, Option, None, Some, is_some, if◌then◌else◌}
 use Rattle.std.specs.Str.{bytes_eq}
-use Rattle.term_algebra.specs.Names.{folded}
-use Rattle.term_algebra.specs.Equation.{Place, Variable}
+use Rattle.lotos_base.specs.Names.{folded}
+use Rattle.lotos_base.specs.Equation.{Place, Variable}
 use Rattle.lotos_base.specs.WrittenTerm.{PlacedName}
 use Rattle.scope_parts.specs.ScopeFault.{unknown_gate, unknown_process}
 use Rattle.scope_parts.specs.Resolution.{Resolution, resolved, faulty, and_then, put_in_front}

@@ -1,7 +1,7 @@
 -- What breaks a rule on names, counts, `Bool` or terms in the definitions and behaviours of a text, each with its place.
 use Rattle.std.specs.Prelude.{ℕ, List, Bool, ◌&&◌, ◌||◌, nat_eq, nat_lt, if◌then◌else◌}
-use Rattle.term_algebra.specs.Equation.{Place}
-use Rattle.sort_terms.specs.ReadingOutcome.{Refusal, unknown_name, unknown_sort as unknown_of, no_reading, two_readings}
+use Rattle.lotos_base.specs.Equation.{Place}
+use Rattle.sort_terms.specs.ReadingOutcome.{ReadingRefusal, unknown_name, unknown_sort as unknown_of, no_reading, two_readings}
 
 -- A gate, a process or a sort that nothing visible has the name of; a second declaration of a name where one is allowed; a
 -- call with another number of gates or values than its process has; a premiss of one term without a sort `Bool` that has a
@@ -10,10 +10,10 @@ pub data ScopeFault : Type 0 where
   unknown_gate unknown_process unknown_sort double_name : (place : Place) (name : List ℕ) → ScopeFault
   gate_count value_count : (place : Place) (wanted given : ℕ) → ScopeFault
   no_bool : (place : Place) → ScopeFault
-  refused_term : Refusal → ScopeFault
+  refused_term : ReadingRefusal → ScopeFault
 
 -- where a term is refused
-abbrev pub refusal_place : Refusal → Place
+abbrev pub refusal_place : ReadingRefusal → Place
 refusal_place (unknown_name place) = place
 refusal_place (unknown_of place) = place
 refusal_place (no_reading place) = place

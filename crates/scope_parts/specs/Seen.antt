@@ -1,8 +1,8 @@
 -- The variables that the names of a term mean: what is read over these alone is what is read over all that is visible.
 use Rattle.std.specs.Prelude.{ℕ, suc, List, [], ◌∷◌, ◌++◌, Option, None, Some, reverse, if◌then◌else◌}
 use Rattle.std.specs.Option.{option_or}
-use Rattle.term_algebra.specs.Names.{folded}
-use Rattle.term_algebra.specs.Equation.{Variable}
+use Rattle.lotos_base.specs.Names.{folded}
+use Rattle.lotos_base.specs.Equation.{Variable}
 use Rattle.lotos_base.specs.WrittenTerm.{WrittenTerm, WrittenTerms, written, no_written, written_then}
 use Rattle.sort_terms.specs.ReadingOutcome.{one_name}
 use Rattle.scope_parts.specs.Scope.{Binding}

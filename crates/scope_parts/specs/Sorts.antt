@@ -1,8 +1,8 @@
 -- Sorts by their names, variables with their sorts, and the constant `true` of the sort `Bool`.
 use Rattle.std.specs.Prelude.{ℕ, suc, Bool, ◌&&◌, nat_eq, List, [], ◌∷◌, length, Option, None, Some, map, codes, if◌then◌else◌}
-use Rattle.term_algebra.specs.Signature.{Signature, Sort, Operation, prefix_form}
-use Rattle.term_algebra.specs.Twins.{form_eq}
-use Rattle.term_algebra.specs.Equation.{Place, Variable}
+use Rattle.lotos_base.specs.Signature.{Signature, Sort, Operation, prefix_form}
+use Rattle.lotos_base.specs.Twins.{form_eq}
+use Rattle.lotos_base.specs.Equation.{Place, Variable}
 use Rattle.lotos_base.specs.WrittenTerm.{PlacedName}
 use Rattle.syntax_trees.specs.WrittenVariable.{WrittenVariable}
 use Rattle.sort_terms.specs.ReadingOutcome.{one_name}

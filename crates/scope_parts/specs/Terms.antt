@@ -1,22 +1,22 @@
 -- What the terms in behaviours stand for: values of `exit`, actual values, terms of `let`, premisses and offers.
 use Rattle.std.specs.Prelude.{ℕ, suc, List, [], ◌∷◌, Option, None, Some}
-use Rattle.term_algebra.specs.Signature.{Signature}
-use Rattle.term_algebra.specs.Term.{Term, node, no_terms}
-use Rattle.term_algebra.specs.Equation.{Variable}
+use Rattle.lotos_base.specs.Signature.{Signature}
+use Rattle.lotos_base.specs.Term.{Term, node, no_terms}
+use Rattle.lotos_base.specs.Equation.{Variable}
 use Rattle.lotos_base.specs.WrittenTerm.{WrittenTerm}
 use Rattle.syntax_trees.specs.WrittenVariable.{WrittenVariable}
 use Rattle.syntax_trees.specs.WrittenEquation.{WrittenPremiss}
 use Rattle.syntax_trees.specs.WrittenBehaviour.{WrittenExitValue, exit_term, exit_any, WrittenOffer, offer_value, offer_variable}
-use Rattle.sort_terms.specs.ReadingOutcome.{Outcome, answered, refused, SortedTerm, SortedPair, ReadingIs, PairReadingIs}
+use Rattle.sort_terms.specs.ReadingOutcome.{ReadingOutcome, answered, refused, SortedTerm, SortedPair, ReadingIs, PairReadingIs}
 use Rattle.behaviour_semantics.specs.Behaviour.{Test, Offer, give, ask, ExitValue, exit_value, any_of}
 use Rattle.scope_parts.specs.ScopeFault.{unknown_gate, unknown_process, unknown_sort, double_name, gate_count, value_count, no_bool, refused_term}
-use Rattle.scope_parts.specs.Resolution.{Resolution, resolved, faulty, Is, Then, Made, InFront, Beside}
+use Rattle.scope_parts.specs.Resolution.{Resolution, resolved, faulty, Is, ThenResolves, Made, InFront, Beside}
 use Rattle.scope_parts.specs.Scope.{first_double}
 use Rattle.scope_parts.specs.Numbering.{asked_for}
 use Rattle.scope_parts.specs.Sorts.{Truth, truth_in, variable_at, sort_at, placed_variables}
 
 -- what a question about terms comes to, as a resolution: a refusal is the fault
-abbrev pub AsResolution : {A : Type 0} → (Outcome A → Type 0) → Resolution A → Type 0
+abbrev pub AsResolution : {A : Type 0} → (ReadingOutcome A → Type 0) → Resolution A → Type 0
 AsResolution ComesTo (resolved x) = ComesTo (answered x)
 AsResolution ComesTo (faulty (unknown_gate place name)) = ⊥
 AsResolution ComesTo (faulty (unknown_process place name)) = ⊥
@@ -69,7 +69,7 @@ ExitValueIs signature scope (exit_any sort) = Made (λ s. any_of s) (Is (sort_at
 abbrev pub ExitValuesAre : Signature → List Variable → List WrittenExitValue → Resolution (List ExitValue) → Type 0
 ExitValuesAre signature scope [] = Is (resolved [])
 ExitValuesAre signature scope (value ∷ values) =
-    Then (ExitValueIs signature scope value) (λ x. InFront x (ExitValuesAre signature scope values))
+    ThenResolves (ExitValueIs signature scope value) (λ x. InFront x (ExitValuesAre signature scope values))
 
 -- actual values, read at the sorts of their parameters. A value whose parameter has a sort that the data lack is not read
 abbrev pub ValuesAre : Signature → List Variable → List (Option ℕ) → List WrittenTerm → Resolution (List Term) → Type 0
@@ -77,20 +77,20 @@ ValuesAre signature scope [] terms = Is (resolved [])
 ValuesAre signature scope (sort ∷ sorts) [] = Is (resolved [])
 ValuesAre signature scope (None ∷ sorts) (term ∷ terms) = ValuesAre signature scope sorts terms
 ValuesAre signature scope (Some sort ∷ sorts) (term ∷ terms) =
-    Then (TermIs signature scope term (Some sort)) (λ t. InFront t (ValuesAre signature scope sorts terms))
+    ThenResolves (TermIs signature scope term (Some sort)) (λ t. InFront t (ValuesAre signature scope sorts terms))
 
 -- a variable of a `let` with its number and its term, which is read at the variable's sort and does not see the variables of
 -- this `let`
 abbrev pub BindingIs : Signature → List Variable → ℕ → WrittenVariable × WrittenTerm → Resolution (Variable × Term) → Type 0
 BindingIs signature scope number binding =
-    Then (Is (variable_at signature number binding.0))
+    ThenResolves (Is (variable_at signature number binding.0))
     (λ (x : Variable). Made (λ t. (x, t)) (TermIs signature scope binding.1 (Some x.sort)))
 
 -- those of a list, numbered from a number on
 abbrev pub BindingsAre : Signature → List Variable → ℕ → List (WrittenVariable × WrittenTerm) → Resolution (List (Variable × Term)) → Type 0
 BindingsAre signature scope next [] = Is (resolved [])
 BindingsAre signature scope next (binding ∷ bindings) =
-    Then (BindingIs signature scope next binding) (λ x. InFront x (BindingsAre signature scope (suc next) bindings))
+    ThenResolves (BindingIs signature scope next binding) (λ x. InFront x (BindingsAre signature scope (suc next) bindings))
 
 -- the variables that a `let` binds
 abbrev pub let_names : List (WrittenVariable × WrittenTerm) → List WrittenVariable
@@ -117,7 +117,7 @@ past_offer (offer_variable variable) number = suc number
 abbrev pub OffersFollow : Signature → List Variable → ℕ → List WrittenOffer → Resolution (List Offer) → Type 0
 OffersFollow signature scope next [] = Is (resolved [])
 OffersFollow signature scope next (offer ∷ offers) =
-    Then (OfferIs signature scope next offer) (λ x. InFront x (OffersFollow signature scope (past_offer offer next) offers))
+    ThenResolves (OfferIs signature scope next offer) (λ x. InFront x (OffersFollow signature scope (past_offer offer next) offers))
 
 -- the same, in which no variable may stand twice
 abbrev pub OffersAre : Signature → List Variable → ℕ → List WrittenOffer → Resolution (List Offer) → Type 0

@@ -1,6 +1,6 @@
 -- The sort `Bool` with its constant `true`, as the code keeps them.
 use Rattle.std.specs.Prelude.{◌≡◌, List, [], Some, slice_get}
-use Rattle.term_algebra.specs.Signature.{Signature, Operation}
+use Rattle.lotos_base.specs.Signature.{Signature, Operation}
 use Rattle.sort_terms.specs.Operations.{operation_of}
 use Rattle.scope_parts.specs.Sorts as sorts
 use Rattle.scope_parts.specs.declared.truth.Truth.{Truth}

@@ -1,6 +1,6 @@
 -- The variables of a table of variables.
 use Rattle.std.specs.Prelude.{List, map}
-use Rattle.term_algebra.specs.Equation as plain
+use Rattle.lotos_base.specs.Equation as plain
 use Rattle.sort_terms.specs.EquationView.{variable_of}
 use Rattle.scope_parts.specs.declared.visible.Visible.{Visible}
 

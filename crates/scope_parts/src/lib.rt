@@ -1,5 +1,6 @@
 //! Parts of behaviours and definitions with their names, counts and sorts resolved: gates, variables,
-//! offers, terms (ISO 8807:1989, static semantics).
+//! offers, terms (ISO 8807:1989, static semantics); and which faults a text has, each with its place,
+//! with the law that the one that is answered comes first of them.
 #![tactic(auto)]
 
 pub mod bindings;
@@ -9,6 +10,7 @@ pub mod callables;
 pub mod constants;
 pub mod doubles;
 pub mod exits;
+pub mod fault_laws;
 pub mod fault_order;
 pub mod gate_choices;
 pub mod gate_table;

@@ -3,7 +3,7 @@ use Rattle.std.proofs.Common.{◌≡◌, ◌∙◌, ℕ, true, List, [], ◌∷�
 use Rattle.std.specs.Prelude.{Option, Some, option_map, option_and_then}
 use Rattle.std.specs.List.{list_all}
 use Rattle.ll_engine.specs.declared.symbol.Symbol.TheVariants.{Part}
-use Rattle.ll_engine.specs.Derivation.{Production, Forest, Derives, leaves}
+use Rattle.ll_engine.specs.Derivation.{Production, Forest, DerivesSymbols, leaves}
 use Rattle.ll_engine.specs.Language.{ContextFree, IsSentence, IsLeftmostDerivation}
 use Rattle.ll_engine.proofs.Uniqueness.{one_tree}
 use Rattle.ll_engine.specs.Fold.{kept_in_front, first_value, value_of_tree}
@@ -12,7 +12,7 @@ use Rattle.lotos_rows.specs.declared.starts.TheConstants as starts
 use Rattle.lotos_rows.specs.Kept.{is_kept_kind}
 use Rattle.lotos_rows.specs.Rows as lotos
 use Rattle.lotos_rows.specs.Rows.{grammar_from}
-use Rattle.lotos_sentences.specs.Starts.{IsSpecification, AreItems, AreOrderItems, AreOptionalTerms}
+use Rattle.lotos_rows.specs.Starts.{IsWrittenSpecification, AreItems, AreOrderItems, AreOptionalTerms}
 use Rattle.lotos_base.specs.WrittenTerm.{WrittenTerm, ListedOperation}
 use Rattle.syntax_trees.specs.WrittenItem.{WrittenItem}
 use Rattle.syntax_trees.specs.WrittenDefinition.{WrittenSpecification}
@@ -35,18 +35,18 @@ kept_in_rows g is = ap (λ (all : List Production). list_all (λ row. kept_in_fr
 
 -- the value of the tree of a derivation is the one meaning that its tokens have
 pub value_is : (text : List ℕ) (g : ContextFree) → IsLotosGrammar g → (tokens : List Token) (tree : Forest) →
-    Derives g.rows tree (Part g.start ∷ []) → leaves tree ≡ map kind_of tokens → (found : Meaning) → Derived text g.start tokens found →
+    DerivesSymbols g.rows tree (Part g.start ∷ []) → leaves tree ≡ map kind_of tokens → (found : Meaning) → Derived text g.start tokens found →
     value_of_tree (numbered_row_means text) is_kept_kind tree tokens ≡ Some found
 value_is text g is tokens tree derives leaves_are found derived =
-    let other : Derives g.rows derived.0 (Part g.start ∷ []) =
-    subst (λ (all : List Production). Derives all derived.0 (Part g.start ∷ [])) (sym is.lotos_rows) derived.1 in
+    let other : DerivesSymbols g.rows derived.0 (Part g.start ∷ []) =
+    subst (λ (all : List Production). DerivesSymbols all derived.0 (Part g.start ∷ [])) (sym is.lotos_rows) derived.1 in
     let same : tree ≡ derived.0 =
     one_tree g is.well_formed is.predictive tree derived.0 derives other (leaves_are ∙ sym derived.2) in
     ap (λ (it : Forest). value_of_tree (numbered_row_means text) is_kept_kind it tokens) same ∙ ap (option_and_then first_value) derived.3
 
 -- a sentence by the rows is a text of the definition, with the meaning that it has by the rows
 specification_meant : (text : List ℕ) (tokens : List Token) → IsSentence (grammar_from starts.SPEC) (map kind_of tokens) →
-    (found : WrittenSpecification) × IsSpecification text tokens found × Derived text starts.SPEC tokens (a_specification found)
+    (found : WrittenSpecification) × IsWrittenSpecification text tokens found × Derived text starts.SPEC tokens (a_specification found)
 specification_meant text tokens sentence =
     let it = (rows_have.specification text tokens).0 sentence in
     (it.0, it.1, all_sentences_derived.specification text tokens it.0 it.1)
@@ -88,9 +88,9 @@ given start one shape text tokens g built is meant means =
 pub specification_given : (text : List ℕ) (tokens : List Token) (rows : List ℕ) (g : ContextFree) (built : Option Value) →
     g ≡ grammar_from starts.SPEC → IsLeftmostDerivation (grammar_from starts.SPEC) rows (map kind_of tokens) →
     ((found : Meaning) → Derived text g.start tokens found → option_map meaning built ≡ Some found) →
-    Given (IsSpecification text tokens) a_specification built
+    Given (IsWrittenSpecification text tokens) a_specification built
 specification_given text tokens rows g built is derivation means =
-    given starts.SPEC (IsSpecification text tokens) a_specification text tokens g built is
+    given starts.SPEC (IsWrittenSpecification text tokens) a_specification text tokens g built is
     (specification_meant text tokens (derivation.0, derivation.1, derivation.2)) means
 
 pub items_given : (text : List ℕ) (tokens : List Token) (rows : List ℕ) (g : ContextFree) (built : Option Value) →

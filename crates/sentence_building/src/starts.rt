@@ -3,7 +3,7 @@
 ghost use Rattle.std.specs.Prelude.{◌≡◌, IfOk, None, Some, map, option_map, reverse};
 ghost use Rattle.lotos_base.specs.Name.{spelling};
 ghost use Rattle.lotos_base.specs.WrittenView.{written_profile_of};
-ghost use Rattle.lotos_sentences.specs.Starts.{profile_by_name};
+ghost use Rattle.lotos_rows.specs.Starts.{profile_by_name};
 ghost use Rattle.syntax_trees.specs.TreeViews.{behaviour_of, inner_of, item_of, specification_of};
 ghost use Rattle.syntax_trees.specs.WrittenDefinition.{WrittenSpecification};
 ghost use Rattle.ll_engine.specs.Run.{from_last};

@@ -5,7 +5,7 @@ ghost use Rattle.ll_engine.specs.Language.{IsLeftmostDerivation};
 ghost use Rattle.lotos_base.specs.WrittenView.{listed_operation_of, written_term_of};
 ghost use Rattle.lotos_rows.specs.Rows.{grammar_from};
 ghost use Rattle.lotos_rows.specs.declared.starts.TheConstants as starts;
-ghost use Rattle.lotos_sentences.specs.Starts.{AreItems, AreOptionalTerms, AreOrderItems, IsSpecification};
+ghost use Rattle.lotos_rows.specs.Starts.{AreItems, AreOptionalTerms, AreOrderItems, IsWrittenSpecification};
 ghost use Rattle.sentence_trees.specs.Sentences.{Derived, kind_of};
 ghost use Rattle.syntax_trees.specs.TreeViews.{item_of, specification_of};
 ghost use Rattle.tree_building.specs.Meaning.{Meaning};
@@ -46,7 +46,7 @@ pub fn specification_tree(
     rows: Vec<u32>,
 ) -> Result<SpecText, AllocError>
     requires { IsLeftmostDerivation (grammar_from starts.SPEC) rows.items (map kind_of tokens.now) }
-    ensures { IfOk result (λ spec. IsSpecification text.now tokens.now (specification_of spec)) }
+    ensures { IfOk result (λ spec. IsWrittenSpecification text.now tokens.now (specification_of spec)) }
 {
     let grammar = specification_grammar();
     let Some(value) = derived_value(alloc, text, &grammar, tokens, rows)? else {

@@ -4,9 +4,9 @@ use Rattle.std.proofs.Common.{◌≡◌, ◌∙◌, ℕ, Bool, true, List, [], �
 use Rattle.std.specs.Prelude.{Some, option_and_then, slice_get}
 use Rattle.std.specs.List.{list_all}
 use Rattle.ll_engine.specs.declared.symbol.Symbol.TheVariants.{Part}
-use Rattle.ll_engine.specs.Derivation.{Production, Forest, Derives, leaves}
+use Rattle.ll_engine.specs.Derivation.{Production, Forest, DerivesSymbols, leaves}
 use Rattle.ll_engine.specs.Fold.{front_token}
-use Rattle.ll_engine.specs.Values.{Stand}
+use Rattle.ll_engine.specs.Values.{StandForTokens}
 use Rattle.lotos_lexer.specs.declared.tokens.Token.{Token}
 use Rattle.lotos_rows.specs.Kept.{is_kept_kind}
 use Rattle.lotos_rows.specs.declared.row_names.RowName.{RowName}
@@ -70,13 +70,13 @@ module _ (text : List ℕ) where
 
   given_at : (number : ℕ) (row : Production) → slice_get rows number ≡ Some row → everything row.left ≡ true →
       (tokens : List Token) (values : List Meaning) →
-      Stand kind_of (PartMeans text) row.right tokens values →
+      StandForTokens kind_of (PartMeans text) row.right tokens values →
       (value : Meaning) × (numbered_row_means text number (front_token is_kept_kind row.right tokens) values ≡ Some value)
   given_at number row is said tokens values stands =
       let it = named_row number row is in
       let gives = each_at (GivesMeaning text) grammar_rows number it.row all_give it.is_row in
       let found = gives tokens values
-      (subst (λ (p : Production). Stand kind_of (PartMeans text) p.right tokens values) (sym it.production_is) stands) in (
+      (subst (λ (p : Production). StandForTokens kind_of (PartMeans text) p.right tokens values) (sym it.production_is) stands) in (
         found.0,
         ap (option_and_then (λ (name : RowName). row_means text name (front_token is_kept_kind row.right tokens) values)) it.name_is
             ∙ sym (ap (λ (p : Production). row_means text it.row.name (front_token is_kept_kind p.right tokens) values) it.production_is)
@@ -84,7 +84,7 @@ module _ (text : List ℕ) where
       )
 
   -- what a derivation of tokens means
-  pub derived_meaning : (p : ℕ) (tree : Forest) (tokens : List Token) → Derives rows tree (Part p ∷ []) →
+  pub derived_meaning : (p : ℕ) (tree : Forest) (tokens : List Token) → DerivesSymbols rows tree (Part p ∷ []) →
       leaves tree ≡ map kind_of tokens →
       (meaning : Meaning) × Derived text p tokens meaning
   derived_meaning p tree tokens d e =

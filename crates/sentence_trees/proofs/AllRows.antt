@@ -1,10 +1,10 @@
 -- All rows keep what their parts are, so what a derivation means is what its part is.
 use Rattle.std.proofs.Common.{◌≡◌, ◌∙◌, ℕ, List, ◌++◌, refl, ap, sym, subst}
 use Rattle.std.specs.Prelude.{Some, option_and_then, slice_get}
+use Rattle.list_laws.proofs.Members.{from_map, at_map}
 use Rattle.ll_engine.specs.Derivation.{Production}
-use Rattle.ll_engine.proofs.Lists.{slice_get-from_map, slice_get-to_map}
 use Rattle.ll_engine.specs.Fold.{front_token}
-use Rattle.ll_engine.specs.Values.{Stand, IsKept}
+use Rattle.ll_engine.specs.Values.{StandForTokens, IsKept}
 use Rattle.ll_engine.proofs.Values.{least}
 use Rattle.lotos_lexer.specs.declared.tokens.Token.{Token}
 use Rattle.lotos_rows.specs.Kept.{is_kept_kind}
@@ -24,7 +24,7 @@ use Rattle.lotos_base.specs.WrittenTerm.{WrittenTerm, ListedOperation}
 use Rattle.lotos_rows.specs.declared.starts.TheConstants as starts
 use Rattle.syntax_trees.specs.WrittenItem.{WrittenItem}
 use Rattle.syntax_trees.specs.WrittenDefinition.{WrittenSpecification}
-use Rattle.lotos_sentences.specs.Starts.{IsSpecification, AreItems, AreOrderItems, AreOptionalTerms}
+use Rattle.lotos_rows.specs.Starts.{IsWrittenSpecification, AreItems, AreOrderItems, AreOptionalTerms}
 use Rattle.tree_building.specs.Meaning.{Meaning, a_specification, some_items, some_order_items, some_terms}
 use Rattle.tree_building.specs.RowMeaning.{row_means, numbered_row_means}
 use Rattle.sentence_trees.specs.PartSentences.{As, as_one}
@@ -51,12 +51,12 @@ pub record Named (number : ℕ) (production : Production) : Type 0 where
 pub named_row : (number : ℕ) (production : Production) → slice_get rows number ≡ Some production → Named number production
 unfolding rows row_names
 named_row number production is =
-    let found = slice_get-from_map (λ (row : GrammarRow). row.production) grammar_rows number production is in
+    let found = from_map (λ (row : GrammarRow). row.production) grammar_rows number production is in
     record {
       row = found.0;
       is_row = found.1;
       production_is = found.2;
-      name_is = slice_get-to_map (λ (row : GrammarRow). row.name)
+      name_is = at_map (λ (row : GrammarRow). row.name)
           grammar_rows number found.0 found.1;
     }
 
@@ -84,7 +84,7 @@ module _ (text : List ℕ) where
   parts_kept number production tokens values value is stands given =
       let it = named_row number production is in
       let keeps = each_at (KeepsParts text) grammar_rows number it.row all_keep it.is_row in
-      let stands_row = subst (λ (p : Production). Stand kind_of (PartMeans text) p.right tokens values) (sym it.production_is) stands in
+      let stands_row = subst (λ (p : Production). StandForTokens kind_of (PartMeans text) p.right tokens values) (sym it.production_is) stands in
       let given_row : row_means text it.row.name (front_token is_kept_kind it.row.production.right tokens) values ≡ Some value =
       ap (λ (p : Production). row_means text it.row.name (front_token is_kept_kind p.right tokens) values) it.production_is
       ∙ sym (ap (option_and_then (λ (name : RowName). row_means text name (front_token is_kept_kind production.right tokens) values))
@@ -112,9 +112,9 @@ are_terms text tokens meaning terms (as_one {value = value} it) same = let e : v
     cc in subst (AreOptionalTerms text tokens) e it
 
 is_specification : (text : List ℕ) (tokens : List Token) (meaning : Meaning) (found : WrittenSpecification) →
-    As a_specification (IsSpecification text) tokens meaning → meaning ≡ a_specification found → IsSpecification text tokens found
+    As a_specification (IsWrittenSpecification text) tokens meaning → meaning ≡ a_specification found → IsWrittenSpecification text tokens found
 is_specification text tokens meaning found (as_one {value = value} it) same = let e : value ≡ found =
-    cc in subst (IsSpecification text tokens) e it
+    cc in subst (IsWrittenSpecification text tokens) e it
 
 pub derived_texts : DerivedTextsAreSentences
 derived_texts = record {

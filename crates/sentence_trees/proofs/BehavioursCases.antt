@@ -15,13 +15,13 @@ use Rattle.syntax_trees.specs.Strength.{PlacedSign, strength_of}
 use Rattle.syntax_trees.specs.Strength.{joined as joined_by}
 use Rattle.syntax_trees.specs.Grouping.{grouped}
 use Rattle.syntax_trees.proofs.Groupings.{is_grouped}
-use Rattle.lotos_sentences.specs.Words.{IsOf, Optional, left_out, there, Many, no_more, and_then, Separated, last, before_more, Between, between}
-use Rattle.lotos_sentences.specs.Names.{place_of, named, AreNames, AreGates, AreOptionalGates, AreVariables, variables_of_sort}
-use Rattle.lotos_sentences.specs.Names as names_family
-use Rattle.lotos_sentences.specs.Terms.{AreArguments}
-use Rattle.lotos_sentences.specs.Terms as terms_family
-use Rattle.lotos_sentences.specs.Behaviours.{gate_choices_among, IsLetDeclaration, AreGateChoices, AreGateChoicesAmong, IsOffer, IsSelection, IsExitValue, IsParallelSign, IsSign, AreOperands, IsAtom, IsBehaviour}
-use Rattle.lotos_sentences.specs.Behaviours as family
+use Rattle.lotos_rows.specs.Words.{IsOf, Optional, left_out, there, Many, no_more, and_then, Separated, last, before_more, Between, between}
+use Rattle.lotos_rows.specs.Names.{place_of, named, AreNames, AreWrittenGates, AreOptionalGates, AreVariables, variables_of_sort}
+use Rattle.lotos_rows.specs.Names as names_family
+use Rattle.lotos_rows.specs.Terms.{AreArguments}
+use Rattle.lotos_rows.specs.Terms as terms_family
+use Rattle.lotos_rows.specs.Behaviours.{gate_choices_among, IsLetDeclaration, AreGateChoices, AreGateChoicesAmong, IsWrittenOffer, IsSelection, IsWrittenExitValue, IsParallelSign, IsSign, AreOperands, IsAtom, IsBehaviour}
+use Rattle.lotos_rows.specs.Behaviours as family
 use Rattle.tree_building.specs.Meaning.{Meaning, PlainFlat, some_names, some_variables, some_terms, some_operands, an_action, some_offers, some_exit_values, some_lets, some_gate_choices, a_sign}
 use Rattle.tree_building.specs.BehavioursMeaning.{alone, before_tail}
 use Rattle.sentence_trees.specs.Sentences.{Derived}
@@ -36,7 +36,7 @@ module _ (text : List ℕ) where
   abbrev D : ℕ → List Token → Meaning → Type 0
   D = Derived text
 
-  gates_derived : {tokens : List Token} {xs : List PlacedName} → AreGates text tokens xs → D names.GATES tokens (some_names xs)
+  gates_derived : {tokens : List Token} {xs : List PlacedName} → AreWrittenGates text tokens xs → D names.GATES tokens (some_names xs)
   gates_derived (between left xs right) = by_gates text left (names_derived text xs) right refl
 
   pub optional_gates_derived : {tokens : List Token} {xs : List PlacedName} → AreOptionalGates text tokens xs →
@@ -66,13 +66,13 @@ module _ (text : List ℕ) where
   sign_derived (family.sign_disabling is) = by_disabling_sign text is refl
   sign_derived (family.sign_enabling is accepted) = by_enabling_sign text is (accept_derived accepted) refl
 
-  exit_value_before : {own tokens : List Token} {value : WrittenExitValue} {more : List WrittenExitValue} → IsExitValue text own value →
+  exit_value_before : {own tokens : List Token} {value : WrittenExitValue} {more : List WrittenExitValue} → IsWrittenExitValue text own value →
       D behaviours.MORE_EXIT_VALUES tokens (some_exit_values more) →
       D behaviours.EXIT_LIST (own ++ tokens) (some_exit_values (value ∷ more))
   exit_value_before (family.any_value word sort) more = by_any_exit_value text word (by_name text sort refl) more refl
   exit_value_before (family.value_given it) more = by_given_exit_value text (term_derived text it).derived more refl
 
-  exit_list_derived : {tokens : List Token} {values : List WrittenExitValue} → Separated kind.COMMA (IsExitValue text) tokens values →
+  exit_list_derived : {tokens : List Token} {values : List WrittenExitValue} → Separated kind.COMMA (IsWrittenExitValue text) tokens values →
       D behaviours.EXIT_LIST tokens (some_exit_values values)
   exit_list_derived (last {tokens = own} {value = value} it) =
       subst (λ (l : List Token). D behaviours.EXIT_LIST l (some_exit_values (value ∷ []))) (append-nil own)
@@ -80,7 +80,7 @@ module _ (text : List ℕ) where
   exit_list_derived (before_more it comma more) = exit_value_before it (by_more_exit_values text comma (exit_list_derived more) refl)
 
   exit_values_derived : {tokens : List Token} {values : List WrittenExitValue} →
-      Optional [] (Between kind.LEFT_PARENTHESIS kind.RIGHT_PARENTHESIS (Separated kind.COMMA (IsExitValue text))) tokens values →
+      Optional [] (Between kind.LEFT_PARENTHESIS kind.RIGHT_PARENTHESIS (Separated kind.COMMA (IsWrittenExitValue text))) tokens values →
       D behaviours.EXIT_VALUES tokens (some_exit_values values)
   exit_values_derived left_out = by_no_exit_values text refl
   exit_values_derived (there (between left values right)) = by_exit_values text left (exit_list_derived values) right refl
@@ -118,7 +118,7 @@ module _ (text : List ℕ) where
       D behaviours.GATE_CHOICES tokens (some_gate_choices gates)
   gate_choices_derived (family.gate_choices groups) = gate_groups_derived groups
 
-  offer_derived : {tokens : List Token} {offers : List WrittenOffer} → IsOffer text tokens offers →
+  offer_derived : {tokens : List Token} {offers : List WrittenOffer} → IsWrittenOffer text tokens offers →
       D behaviours.OFFER tokens (some_offers offers)
   offer_derived (family.giving mark it) = by_give text mark (term_derived text it).derived refl
   offer_derived (family.asking mark xs colon sort) = by_ask text mark (names_derived text xs) colon (by_name text sort refl) refl
@@ -126,7 +126,7 @@ module _ (text : List ℕ) where
   -- what is behind the first offer of an action
   after_offer_derived : {offer_tokens test_tokens tokens : List Token} {semicolon : Token} {offers : List (List WrittenOffer)}
       {test : Option WrittenPremiss} {flat : PlainFlat} →
-      Many (IsOffer text) offer_tokens offers → Optional None (IsSelection text) test_tokens test → IsOf kind.SEMICOLON semicolon →
+      Many (IsWrittenOffer text) offer_tokens offers → Optional None (IsSelection text) test_tokens test → IsOf kind.SEMICOLON semicolon →
       D behaviours.BEHAVIOUR tokens (some_operands flat) →
       D behaviours.AFTER_OFFER (offer_tokens ++ (test_tokens ++ semicolon ∷ tokens))
       (an_action (record { offers = flat_map (λ group. group) offers; test = test; behind = flat }))
@@ -207,7 +207,7 @@ module _ (text : List ℕ) where
     gates_are : gates ≡ gate_choices_among xs among ++ more
     first_names : AreNames text own xs
     is_word : IsOf kind.IN word
-    is_among : AreGates text gate_tokens among
+    is_among : AreWrittenGates text gate_tokens among
     more_derived : D behaviours.MORE_GATE_CHOICES others (some_gate_choices more)
 
   gate_parts : {tokens : List Token} {gates : List WrittenGateChoice} → AreGateChoices text tokens gates → GateParts tokens gates

@@ -12,7 +12,7 @@ use Rattle.lotos_rows.specs.declared.terms.TheConstants as terms
 use Rattle.lotos_rows.specs.declared.behaviours.BehavioursRow.TheVariants as row
 use Rattle.lotos_rows.specs.declared.row_names.RowName.TheVariants.{Behaviours}
 use Rattle.ll_engine.specs.declared.symbol.Symbol.TheVariants.{Token as Tok, Part}
-use Rattle.lotos_sentences.specs.Words.{behind}
+use Rattle.lotos_rows.specs.Words.{behind}
 use Rattle.sentence_trees.specs.BehavioursSentences.{acts_at_once, acts_with_offers, calls, of_values, of_gates}
 use Rattle.sentence_trees.specs.PartSentences.{as_one}
 use Rattle.sentence_trees.specs.Sentences.{GivesMeaning}

@@ -23,11 +23,11 @@ use Rattle.syntax_trees.specs.Strength.{strength_of}
 use Rattle.syntax_trees.specs.Strength.{joined as joined_by}
 use Rattle.syntax_trees.specs.Grouping.{grouped}
 use Rattle.syntax_trees.proofs.Groupings.{grouped_is}
-use Rattle.lotos_sentences.specs.Words.{IsOf, Optional, left_out, there, Many, no_more, and_then, Separated, last, before_more, Behind, behind, between}
-use Rattle.lotos_sentences.specs.Names.{place_of, spelled, AreNames, AreGates}
-use Rattle.lotos_sentences.specs.Names as names_family
-use Rattle.lotos_sentences.specs.Behaviours.{before_first, gate_choices_among, AreGateChoices, IsOffer, IsSelection, AreOperands, IsAtom, IsBehaviour}
-use Rattle.lotos_sentences.specs.Behaviours as family
+use Rattle.lotos_rows.specs.Words.{IsOf, Optional, left_out, there, Many, no_more, and_then, Separated, last, before_more, Behind, behind, between}
+use Rattle.lotos_rows.specs.Names.{place_of, spelled, AreNames, AreWrittenGates}
+use Rattle.lotos_rows.specs.Names as names_family
+use Rattle.lotos_rows.specs.Behaviours.{before_first, gate_choices_among, AreGateChoices, IsWrittenOffer, IsSelection, AreOperands, IsAtom, IsBehaviour}
+use Rattle.lotos_rows.specs.Behaviours as family
 use Rattle.lotos_rows.specs.BehavioursRows.{behaviours_rows}
 use Rattle.tree_building.specs.Meaning.{Meaning, PlainFlat, PlainActionEnd}
 use Rattle.tree_building.specs.BehavioursMeaning.{with_grouped}
@@ -62,7 +62,7 @@ module _ (text : List ℕ) where
 
   gate_choices_joined : {own gate_tokens tokens : List Token} {word : Token} {xs gates : List PlacedName}
       {more : List WrittenGateChoice} → AreNames text own xs → IsOf kind.IN word →
-      AreGates text gate_tokens gates → Optional [] (Behind kind.COMMA (AreGateChoices text)) tokens more →
+      AreWrittenGates text gate_tokens gates → Optional [] (Behind kind.COMMA (AreGateChoices text)) tokens more →
       AreGateChoices text (own ++ word ∷ (gate_tokens ++ tokens)) (gate_choices_among xs gates ++ more)
   gate_choices_joined {own = own} {gate_tokens = gate_tokens} {word = w} {xs = xs} {gates = gates} names_are word gates_are left_out =
       subst (λ (l : List Token). AreGateChoices text (own ++ w ∷ l) (gate_choices_among xs gates ++ [])) (sym (append-nil gate_tokens))
@@ -81,7 +81,7 @@ module _ (text : List ℕ) where
     semicolon : Token
     offers : List (List WrittenOffer)
     tokens_are : tokens ≡ offer_tokens ++ (test_tokens ++ semicolon ∷ rest)
-    are_offers : Many (IsOffer text) offer_tokens offers
+    are_offers : Many (IsWrittenOffer text) offer_tokens offers
     offers_are : end.offers ≡ flat_map (λ group. group) offers
     is_test : Optional None (IsSelection text) test_tokens end.test
     is_semicolon : IsOf kind.SEMICOLON semicolon
@@ -135,7 +135,7 @@ module _ (text : List ℕ) where
   }
 
   offering_from : {gate : Token} {own tokens : List Token} {first : List WrittenOffer} {end : PlainActionEnd} → IsOf kind.NAME gate →
-      IsOffer text own first → OfferParts tokens end →
+      IsWrittenOffer text own first → OfferParts tokens end →
       AreOperands text (gate ∷ (own ++ tokens))
       (before_first (action (place_of gate) (spelled text gate) (first ++ end.offers) end.test) end.behind.operands) end.behind.signs
   offering_from {gate = gate} {own = own} {tokens = tokens} {first = first} {end = end} is_gate it parts =

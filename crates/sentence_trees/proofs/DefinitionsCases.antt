@@ -9,12 +9,12 @@ use Rattle.lotos_rows.specs.declared.specification.TheConstants as specification
 use Rattle.lotos_rows.specs.declared.starts.TheConstants as starts
 use Rattle.syntax_trees.specs.WrittenVariable.{WrittenVariable}
 use Rattle.syntax_trees.specs.WrittenDefinition.{WrittenHeading, WrittenInner, WrittenSpecification}
-use Rattle.lotos_sentences.specs.Words.{Optional, left_out, there, Between, between}
-use Rattle.lotos_sentences.specs.Names.{AreNames, AreParameters}
-use Rattle.lotos_sentences.specs.Definitions.{IsFunctionality, IsHeading, IsProcess, IsWhere, AreInner}
-use Rattle.lotos_sentences.specs.Definitions as family
-use Rattle.lotos_sentences.specs.Starts.{IsBehaviourWord, IsSpecification}
-use Rattle.lotos_sentences.specs.Starts as starts_family
+use Rattle.lotos_rows.specs.Words.{Optional, left_out, there, Between, between}
+use Rattle.lotos_rows.specs.Names.{AreNames, AreParameters}
+use Rattle.lotos_rows.specs.Definitions.{IsWrittenFunctionality, IsHeading, IsProcess, IsWhere, AreInner}
+use Rattle.lotos_rows.specs.Definitions as family
+use Rattle.lotos_rows.specs.Starts.{IsBehaviourWord, IsWrittenSpecification}
+use Rattle.lotos_rows.specs.Starts as starts_family
 use Rattle.tree_building.specs.Meaning.{Meaning, some_names, some_variables, a_heading, a_functionality, some_inner, a_process, a_word, a_specification}
 use Rattle.sentence_trees.specs.Laws.{SentencesAreDerived}
 use Rattle.sentence_trees.specs.Sentences.{Derived}
@@ -42,7 +42,7 @@ module _ (text : List ℕ) where
   exit_sorts_derived left_out = by_no_exit_sorts text refl
   exit_sorts_derived (there (between left xs right)) = by_exit_sorts text left (names_derived text xs) right refl
 
-  functionality_derived : {tokens : List Token} {found : Option (List PlacedName)} → IsFunctionality text tokens found →
+  functionality_derived : {tokens : List Token} {found : Option (List PlacedName)} → IsWrittenFunctionality text tokens found →
       D definitions.FUNCTIONALITY tokens (a_functionality found)
   functionality_derived (family.no_exit word) = by_no_exit text word refl
   functionality_derived (family.exit_of word sorts) = by_exit_functionality text word (exit_sorts_derived sorts) refl
@@ -75,7 +75,7 @@ module _ (text : List ℕ) where
   word_derived (starts_family.british is) = by_behaviour_word text is refl
   word_derived (starts_family.american is) = by_behavior_word text is refl
 
-  pub specification_derived : {tokens : List Token} {found : WrittenSpecification} → IsSpecification text tokens found →
+  pub specification_derived : {tokens : List Token} {found : WrittenSpecification} → IsWrittenSpecification text tokens found →
       D starts.SPEC tokens (a_specification found)
   specification_derived (starts_family.a_specification start front items word body inner end) =
       by_spec text start (heading_derived front) (items_derived text items) (word_derived word) (behaviour_derived text body).derived

@@ -13,9 +13,9 @@ use Rattle.lotos_rows.specs.declared.row_names.RowName.TheVariants.{Definitions}
 use Rattle.ll_engine.specs.declared.symbol.Symbol.TheVariants.{Token as Tok, Part}
 use Rattle.sentence_trees.specs.PartSentences.{as_one}
 use Rattle.sentence_trees.specs.Sentences.{KeepsParts}
-use Rattle.lotos_sentences.specs.Words.{left_out, there, between}
-use Rattle.lotos_sentences.specs.Names as names_family
-use Rattle.lotos_sentences.specs.Definitions as family
+use Rattle.lotos_rows.specs.Words.{left_out, there, between}
+use Rattle.lotos_rows.specs.Names as names_family
+use Rattle.lotos_rows.specs.Definitions as family
 use Rattle.lotos_rows.specs.DefinitionsRows.{definitions_rows}
 use Rattle.sentence_trees.proofs.Each.{Each}
 use Rattle.sentence_trees.proofs.BehavioursRows.{with_inside}

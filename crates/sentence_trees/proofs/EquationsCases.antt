@@ -2,7 +2,7 @@
 use Rattle.std.proofs.Common.{◌≡◌, ◌∙◌, ℕ, List, [], ◌∷◌, ◌++◌, refl, ap, sym, subst, append_assoc}
 use Rattle.std.specs.Prelude.{Some, None}
 use Rattle.std.proofs.lemmas.List.{append-nil}
-use Rattle.term_algebra.specs.Equation.{Place}
+use Rattle.lotos_base.specs.Equation.{Place}
 use Rattle.lotos_base.specs.WrittenTerm.{WrittenTerm}
 use Rattle.lotos_lexer.specs.declared.tokens.Token.{Token}
 use Rattle.lotos_lexer.specs.declared.kinds.TheConstants as kind
@@ -10,11 +10,11 @@ use Rattle.lotos_rows.specs.declared.terms.TheConstants as terms
 use Rattle.lotos_rows.specs.declared.equations.TheConstants as equations
 use Rattle.syntax_trees.specs.WrittenVariable.{WrittenVariable}
 use Rattle.syntax_trees.specs.WrittenEquation.{WrittenPremiss, WrittenEquation, WrittenGroup}
-use Rattle.lotos_sentences.specs.Words.{IsOf, Optional, left_out, there, Many, no_more, and_then, Separated, last, before_more, behind}
-use Rattle.lotos_sentences.specs.Names.{place_of, spelled}
-use Rattle.lotos_sentences.specs.Terms.{IsTerm}
-use Rattle.lotos_sentences.specs.Equations.{IsPremiss, IsEquation, IsEquationList, AreForAll, IsEquationGroup}
-use Rattle.lotos_sentences.specs.Equations as family
+use Rattle.lotos_rows.specs.Words.{IsOf, Optional, left_out, there, Many, no_more, and_then, Separated, last, before_more, behind}
+use Rattle.lotos_rows.specs.Names.{place_of, spelled}
+use Rattle.lotos_rows.specs.Terms.{IsTerm}
+use Rattle.lotos_rows.specs.Equations.{IsPremiss, IsWrittenEquation, IsEquationList, AreForAll, IsEquationGroup}
+use Rattle.lotos_rows.specs.Equations as family
 use Rattle.tree_building.specs.Meaning.{Meaning, PlainConclusion, a_term, some_variables, some_groups, some_equations, an_equation, a_conclusion, a_premiss}
 use Rattle.sentence_trees.specs.Sentences.{Derived}
 use Rattle.sentence_trees.proofs.NamesDerived.{by_name}
@@ -165,7 +165,7 @@ module _ (text : List ℕ) where
           (by_first own premiss (comma ∷ (others ++ tail)) more it begin.0 begin.1 begin.2 head
           (conclusion_derived is_comma them_more is_arrow is_left is_equals is_right)))
 
-  equation_derived : {tokens : List Token} {equation : WrittenEquation} → IsEquation text tokens equation →
+  equation_derived : {tokens : List Token} {equation : WrittenEquation} → IsWrittenEquation text tokens equation →
       D equations.EQUATION tokens (an_equation equation)
   equation_derived
       (family.without_premisses {first = first} {equals = word} {rest = rest} {tokens = right_tokens} {left = left_term}

@@ -15,14 +15,14 @@ use Rattle.ll_engine.specs.declared.symbol.Symbol.TheVariants.{Token as Tok, Par
 use Rattle.sentence_trees.specs.PartSentences.{As, as_one}
 use Rattle.sentence_trees.specs.Sentences.{KeepsParts}
 use Rattle.lotos_base.specs.WrittenTerm.{WrittenTerm}
-use Rattle.term_algebra.specs.Equation.{Place}
+use Rattle.lotos_base.specs.Equation.{Place}
 use Rattle.syntax_trees.specs.WrittenEquation.{WrittenPremiss, WrittenEquation}
-use Rattle.lotos_sentences.specs.Words.{IsOf, left_out, there, no_more, and_then, Separated, last, before_more, Behind, behind}
-use Rattle.lotos_sentences.specs.Names.{place_of}
-use Rattle.lotos_sentences.specs.Names as names_family
-use Rattle.lotos_sentences.specs.Terms.{IsTerm}
-use Rattle.lotos_sentences.specs.Equations.{IsPremiss, IsEquation, IsEquationList}
-use Rattle.lotos_sentences.specs.Equations as family
+use Rattle.lotos_rows.specs.Words.{IsOf, left_out, there, no_more, and_then, Separated, last, before_more, Behind, behind}
+use Rattle.lotos_rows.specs.Names.{place_of}
+use Rattle.lotos_rows.specs.Names as names_family
+use Rattle.lotos_rows.specs.Terms.{IsTerm}
+use Rattle.lotos_rows.specs.Equations.{IsPremiss, IsWrittenEquation, IsEquationList}
+use Rattle.lotos_rows.specs.Equations as family
 use Rattle.lotos_rows.specs.EquationsRows.{equations_rows}
 use Rattle.tree_building.specs.Meaning.{PlainConclusion, PlainAfterTerm, an_equation, Meaning}
 use Rattle.tree_building.specs.EquationsMeaning.{first_premiss, equation_from}
@@ -32,7 +32,7 @@ use Rattle.sentence_trees.proofs.Each.{Each}
 use Rattle.sentence_trees.proofs.Lists.{is_of, shown}
 
 module _ (text : List ℕ) where
-  equations_joined : {own tokens : List Token} {equation : WrittenEquation} {more : List WrittenEquation} → IsEquation text own equation →
+  equations_joined : {own tokens : List Token} {equation : WrittenEquation} {more : List WrittenEquation} → IsWrittenEquation text own equation →
       IsEquationEnd text tokens more →
       IsEquationList text (own ++ tokens) (equation ∷ more)
   equations_joined {own = own} {equation = equation} it ends_without =
@@ -114,7 +114,7 @@ module _ (text : List ℕ) where
   -- an equation whose premisses begin with this token
   premissed_equation : {first : Token} {rest : List Token} {premiss : WrittenPremiss} {conclusion : PlainConclusion} →
       Premissed (first ∷ rest) premiss conclusion →
-      IsEquation text (first ∷ rest)
+      IsWrittenEquation text (first ∷ rest)
       (record {
         place = place_of first;
         premisses = premiss ∷ conclusion.premisses;
@@ -141,15 +141,15 @@ module _ (text : List ℕ) where
       family.with_premisses
       (subst (λ (l : List Token). Separated kind.COMMA (IsPremiss text) l (premiss ∷ conclusion.premisses)) begin.2 it.premisses)
       it.is_arrow it.left_is it.is_equals it.right_is in
-      subst (λ (place : Token). IsEquation text (first ∷ rest) (made place conclusion.arrow)) same
-      (subst (λ (arrow : Place). IsEquation text (first ∷ rest) (made begin.0 arrow)) (sym it.arrow_is)
-      (subst (λ (l : List Token). IsEquation text l (made begin.0 (place_of it.arrow))) (sym whole) equation))
+      subst (λ (place : Token). IsWrittenEquation text (first ∷ rest) (made place conclusion.arrow)) same
+      (subst (λ (arrow : Place). IsWrittenEquation text (first ∷ rest) (made begin.0 arrow)) (sym it.arrow_is)
+      (subst (λ (l : List Token). IsWrittenEquation text l (made begin.0 (place_of it.arrow))) (sym whole) equation))
 
   -- the meaning of a first term and what stands behind it
   equation_meant : {first : Token} {rest tokens : List Token} {term : WrittenTerm} {after : PlainAfterTerm} {value : Meaning} →
       IsTerm text (first ∷ rest) term → IsAfterTerm text tokens after →
       equation_from (record { start = place_of first; term = term }) after.right after.conclusion ≡ Some value →
-      As an_equation (IsEquation text) ((first ∷ rest) ++ (tokens ++ [])) value
+      As an_equation (IsWrittenEquation text) ((first ∷ rest) ++ (tokens ++ [])) value
   equation_meant {first = first} {rest = rest} it (right_side {equals = word} {tokens = right_tokens} equals right not_there) given =
       shown _ _ given (family.without_premisses it equals right)
       (ap (λ (l : List Token). first ∷ (rest ++ word ∷ l)) (sym (append-nil right_tokens) ∙ sym (append-nil (right_tokens ++ []))))

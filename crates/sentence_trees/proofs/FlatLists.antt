@@ -5,8 +5,8 @@ use Rattle.lotos_lexer.specs.declared.tokens.Token.{Token}
 use Rattle.syntax_trees.specs.WrittenBehaviour.{WrittenBehaviour}
 use Rattle.syntax_trees.specs.Strength.{PlacedSign, strength_of, joined}
 use Rattle.syntax_trees.specs.Grouping.{Leftmost, closed, in_front, leftmost, grouped}
-use Rattle.lotos_sentences.specs.Behaviours.{before_first, AreOperands}
-use Rattle.lotos_sentences.specs.Behaviours as family
+use Rattle.lotos_rows.specs.Behaviours.{before_first, AreOperands}
+use Rattle.lotos_rows.specs.Behaviours as family
 
 -- there is one operand more than signs
 is_single : {A : Type 0} → List A → Bool

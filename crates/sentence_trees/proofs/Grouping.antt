@@ -4,7 +4,7 @@ use Rattle.std.specs.Prelude.{fold}
 use Rattle.std.proofs.lemmas.List.{append-nil, map-append}
 use Rattle.lotos_base.specs.WrittenTerm.{PlacedName, WrittenTerm, written}
 use Rattle.syntax_trees.specs.LeftGrouping.{IsGroupedLeft, only, at_last, grouped_left}
-use Rattle.lotos_sentences.specs.Terms.{of_sort}
+use Rattle.lotos_rows.specs.Terms.{of_sort}
 use Rattle.tree_building.specs.TermsMeaning.{with_sorts}
 
 pub with_no_sorts : (term : WrittenTerm) → with_sorts [] term ≡ term

@@ -46,3 +46,4 @@ pub mod Viable
 pub mod Blamed
 pub mod Outcomes
 pub mod Underived
+pub mod Grammars

@@ -7,9 +7,9 @@ use Rattle.lotos_lexer.specs.declared.tokens.Token.{Token}
 use Rattle.lotos_lexer.specs.declared.kinds.TheConstants as kind
 use Rattle.lotos_rows.specs.declared.names.TheConstants as names
 use Rattle.syntax_trees.specs.WrittenVariable.{WrittenVariable}
-use Rattle.lotos_sentences.specs.Words.{left_out, there, Separated, last, before_more, last_loose, with_separator, without_separator}
-use Rattle.lotos_sentences.specs.Names.{IsName, AreNames, AreOptionalNames, AreGates, AreOptionalGates, AreLooseNames, AreVariables, AreVariablesOfSort, IsOperationName, IsOperation, NamedOperation, IsProfile, PlacedProfile}
-use Rattle.lotos_sentences.specs.Names as family
+use Rattle.lotos_rows.specs.Words.{left_out, there, Separated, last, before_more, last_loose, with_separator, without_separator}
+use Rattle.lotos_rows.specs.Names.{IsName, AreNames, AreOptionalNames, AreWrittenGates, AreOptionalGates, AreLooseNames, AreVariables, AreVariablesOfSort, IsOperationName, IsWrittenOperation, NamedOperation, IsProfile, PlacedProfile}
+use Rattle.lotos_rows.specs.Names as family
 use Rattle.tree_building.specs.Meaning.{Meaning, a_name, some_names, some_variables, an_operation, a_profile}
 use Rattle.sentence_trees.specs.Sentences.{Derived}
 use Rattle.sentence_trees.proofs.NamesDerived.{by_name, by_names, by_no_more_names, by_more_names, by_no_optional_names, by_optional_names, by_loose_names, by_no_more_loose_names, by_more_loose_names_after_comma, by_more_loose_names, by_variables, by_no_more_variables, by_more_variables, by_name_of_operation, by_digit_name, by_sign_name, by_prefix_operation, by_infix_operation, by_profile}
@@ -66,7 +66,7 @@ module _ (text : List ℕ) where
   operation_name_derived (family.digit_name is) = by_digit_name text is refl
   operation_name_derived (family.sign_name is) = by_sign_name text is refl
 
-  pub operation_derived : {tokens : List Token} {operation : NamedOperation} → IsOperation text tokens operation →
+  pub operation_derived : {tokens : List Token} {operation : NamedOperation} → IsWrittenOperation text tokens operation →
       D names.OPERATION tokens (an_operation operation)
   operation_derived (family.of_prefix_form it) = by_prefix_operation text (operation_name_derived it) refl
   operation_derived (family.of_infix_form left it right) = by_infix_operation text left (operation_name_derived it) right refl

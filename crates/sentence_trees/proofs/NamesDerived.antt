@@ -10,7 +10,7 @@ use Rattle.lotos_rows.specs.declared.names.TheConstants as names
 use Rattle.lotos_rows.specs.declared.names.NamesRow.TheVariants as row
 use Rattle.lotos_rows.specs.declared.row_names.RowName.TheVariants.{Names}
 use Rattle.ll_engine.specs.declared.symbol.Symbol.TheVariants.{Token as Tok, Part}
-use Rattle.lotos_sentences.specs.Words.{IsOf}
+use Rattle.lotos_rows.specs.Words.{IsOf}
 use Rattle.tree_building.specs.Meaning.{Meaning}
 use Rattle.tree_building.specs.RowMeaning.{names_row_means}
 use Rattle.sentence_trees.specs.Sentences.{Derived}

@@ -14,9 +14,9 @@ use Rattle.sentence_trees.specs.Sentences.{KeepsParts}
 use Rattle.std.specs.Prelude.{flat_map}
 use Rattle.lotos_base.specs.WrittenTerm.{PlacedName}
 use Rattle.syntax_trees.specs.WrittenVariable.{WrittenVariable}
-use Rattle.lotos_sentences.specs.Words.{IsOf, Optional, left_out, there, last, before_more, Behind, behind, between}
-use Rattle.lotos_sentences.specs.Names.{IsName, AreNames, AreVariables, variables_of_sort, named}
-use Rattle.lotos_sentences.specs.Names as family
+use Rattle.lotos_rows.specs.Words.{IsOf, Optional, left_out, there, last, before_more, Behind, behind, between}
+use Rattle.lotos_rows.specs.Names.{IsName, AreNames, AreVariables, variables_of_sort, named}
+use Rattle.lotos_rows.specs.Names as family
 use Rattle.lotos_rows.specs.NamesRows.{names_rows}
 use Rattle.sentence_trees.specs.NamesSentences.{none_further, further_behind, further_at_once}
 use Rattle.sentence_trees.proofs.Each.{Each}

@@ -8,7 +8,7 @@ use Rattle.lotos_lexer.specs.declared.tokens.Token.{Token}
 use Rattle.lotos_lexer.specs.Tokens as lexed
 use Rattle.lotos_lexer.specs.Tokens.{Lexed, tokens_of}
 use Rattle.sentence_trees.proofs.Unique.{unambiguous}
-use Rattle.lotos_sentences.specs.Starts.{IsSpecification, AreItems, AreOrderItems, AreOptionalTerms}
+use Rattle.lotos_rows.specs.Starts.{IsWrittenSpecification, AreItems, AreOrderItems, AreOptionalTerms}
 use Rattle.syntax_trees.specs.Depth.{TreeNode, first_deeper, nodes_of_specification, nodes_of_terms}
 use Rattle.sentence_trees.specs.declared.fault.ReadFault.{ReadFault}
 use Rattle.sentence_trees.specs.declared.fault.ReadFault.TheVariants.{TooLong, BadByte, OpenComment, Syntax, TooDeep, NoMemory}
@@ -195,7 +195,7 @@ one_outcome one nodes unique = record {
 
 pub all_have_one_outcome : TextsHaveOneOutcome
 all_have_one_outcome = record {
-  specification = one_outcome_within text_limit IsSpecification nodes_of_specification unambiguous.specification;
+  specification = one_outcome_within text_limit IsWrittenSpecification nodes_of_specification unambiguous.specification;
   items = one_outcome_within text_limit AreItems nodes_of_items unambiguous.items;
   order = one_outcome_within text_limit AreOrderItems nodes_of_order unambiguous.order;
   terms = one_outcome AreOptionalTerms nodes_of_terms unambiguous.terms;

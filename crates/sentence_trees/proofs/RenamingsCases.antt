@@ -5,9 +5,9 @@ use Rattle.lotos_lexer.specs.declared.tokens.Token.{Token}
 use Rattle.lotos_lexer.specs.declared.kinds.TheConstants as kind
 use Rattle.lotos_rows.specs.declared.renamings.TheConstants as renamings
 use Rattle.syntax_trees.specs.WrittenItem.{WrittenPair, WrittenPairs}
-use Rattle.lotos_sentences.specs.Words.{Optional, left_out, there, Loosely, last_loose, with_separator, without_separator, Behind, behind}
-use Rattle.lotos_sentences.specs.Renamings.{pair_for, IsSortPair, IsOperationPair, AreRenames}
-use Rattle.lotos_sentences.specs.Renamings as family
+use Rattle.lotos_rows.specs.Words.{Optional, left_out, there, Loosely, last_loose, with_separator, without_separator, Behind, behind}
+use Rattle.lotos_rows.specs.Renamings.{pair_for, IsSortPair, IsOperationPair, AreRenames}
+use Rattle.lotos_rows.specs.Renamings as family
 use Rattle.tree_building.specs.Meaning.{Meaning, some_pairs, both_pairs}
 use Rattle.sentence_trees.specs.Sentences.{Derived}
 use Rattle.sentence_trees.proofs.NamesDerived.{by_name}

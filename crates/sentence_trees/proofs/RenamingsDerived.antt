@@ -11,7 +11,7 @@ use Rattle.lotos_rows.specs.declared.renamings.TheConstants as renamings
 use Rattle.lotos_rows.specs.declared.renamings.RenamingsRow.TheVariants as row
 use Rattle.lotos_rows.specs.declared.row_names.RowName.TheVariants.{Renamings}
 use Rattle.ll_engine.specs.declared.symbol.Symbol.TheVariants.{Token as Tok, Part}
-use Rattle.lotos_sentences.specs.Words.{IsOf}
+use Rattle.lotos_rows.specs.Words.{IsOf}
 use Rattle.tree_building.specs.Meaning.{Meaning}
 use Rattle.tree_building.specs.RowMeaning.{renamings_row_means}
 use Rattle.sentence_trees.specs.Sentences.{Derived}

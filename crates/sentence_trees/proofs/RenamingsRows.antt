@@ -11,9 +11,9 @@ use Rattle.lotos_rows.specs.declared.row_names.RowName.TheVariants.{Renamings}
 use Rattle.ll_engine.specs.declared.symbol.Symbol.TheVariants.{Token as Tok, Part}
 use Rattle.sentence_trees.specs.PartSentences.{as_one}
 use Rattle.sentence_trees.specs.Sentences.{KeepsParts}
-use Rattle.lotos_sentences.specs.Words.{left_out, there, behind}
-use Rattle.lotos_sentences.specs.Names as names_family
-use Rattle.lotos_sentences.specs.Renamings as family
+use Rattle.lotos_rows.specs.Words.{left_out, there, behind}
+use Rattle.lotos_rows.specs.Names as names_family
+use Rattle.lotos_rows.specs.Renamings as family
 use Rattle.lotos_rows.specs.RenamingsRows.{renamings_rows}
 use Rattle.sentence_trees.specs.NamesSentences.{none_further, further_behind, further_at_once}
 use Rattle.sentence_trees.proofs.Each.{Each}

@@ -6,10 +6,10 @@ use Rattle.lotos_lexer.specs.declared.tokens.Token.{Token}
 use Rattle.lotos_rows.specs.declared.specification.TheConstants as specification
 use Rattle.lotos_rows.specs.declared.starts.TheConstants as starts
 use Rattle.syntax_trees.specs.WrittenItem.{WrittenItem}
-use Rattle.lotos_sentences.specs.Words.{left_out, there, no_more, and_then}
-use Rattle.lotos_sentences.specs.Names.{PlacedProfile}
-use Rattle.lotos_sentences.specs.Starts.{profile_by_name, AreItems, IsOptionalProfile, AreOrderItems, AreOptionalTerms}
-use Rattle.lotos_sentences.specs.Starts as family
+use Rattle.lotos_rows.specs.Words.{left_out, there, no_more, and_then}
+use Rattle.lotos_rows.specs.Names.{PlacedProfile}
+use Rattle.lotos_rows.specs.Starts.{profile_by_name, AreItems, IsOptionalProfile, AreOrderItems, AreOptionalTerms}
+use Rattle.lotos_rows.specs.Starts as family
 use Rattle.tree_building.specs.Meaning.{Meaning, some_items, maybe_profile, some_order_items, some_terms}
 use Rattle.sentence_trees.specs.Sentences.{Derived}
 use Rattle.sentence_trees.proofs.NamesCases.{operation_derived, profile_derived}

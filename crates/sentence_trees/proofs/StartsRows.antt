@@ -15,8 +15,8 @@ use Rattle.lotos_rows.specs.declared.row_names.RowName.TheVariants.{Starts}
 use Rattle.ll_engine.specs.declared.symbol.Symbol.TheVariants.{Token as Tok, Part}
 use Rattle.sentence_trees.specs.PartSentences.{as_one}
 use Rattle.sentence_trees.specs.Sentences.{KeepsParts}
-use Rattle.lotos_sentences.specs.Words.{left_out, there, no_more, and_then}
-use Rattle.lotos_sentences.specs.Starts as family
+use Rattle.lotos_rows.specs.Words.{left_out, there, no_more, and_then}
+use Rattle.lotos_rows.specs.Starts as family
 use Rattle.lotos_rows.specs.StartsRows.{starts_rows}
 use Rattle.sentence_trees.specs.StartsSentences.{a_behaviour_word}
 use Rattle.sentence_trees.proofs.Each.{Each}

@@ -6,11 +6,11 @@ use Rattle.lotos_lexer.specs.declared.tokens.Token.{Token}
 use Rattle.lotos_lexer.specs.declared.kinds.TheConstants as kind
 use Rattle.lotos_rows.specs.declared.terms.TheConstants as terms
 use Rattle.syntax_trees.specs.LeftGrouping.{IsGroupedLeft, grouped_left}
-use Rattle.lotos_sentences.specs.Words.{IsOf}
-use Rattle.lotos_sentences.specs.Names.{named, place_of, IsOperationName}
-use Rattle.lotos_sentences.specs.Names as names_family
-use Rattle.lotos_sentences.specs.Terms.{applied, infix_term, of_sort, IsTerm, AreFactors, IsFactor, IsBase, AreTerms, AreArguments}
-use Rattle.lotos_sentences.specs.Terms as family
+use Rattle.lotos_rows.specs.Words.{IsOf}
+use Rattle.lotos_rows.specs.Names.{named, place_of, IsOperationName}
+use Rattle.lotos_rows.specs.Names as names_family
+use Rattle.lotos_rows.specs.Terms.{applied, infix_term, of_sort, IsTerm, AreFactors, IsFactor, IsBase, AreTerms, AreArguments}
+use Rattle.lotos_rows.specs.Terms as family
 use Rattle.tree_building.specs.Meaning.{Meaning, a_term, some_names, some_factors, some_terms}
 use Rattle.tree_building.specs.TermsMeaning.{with_sorts}
 use Rattle.sentence_trees.specs.Sentences.{Derived}

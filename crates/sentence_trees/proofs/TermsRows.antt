@@ -15,11 +15,11 @@ use Rattle.sentence_trees.specs.PartSentences.{as_one}
 use Rattle.sentence_trees.specs.Sentences.{KeepsParts}
 use Rattle.lotos_base.specs.WrittenTerm.{PlacedName, WrittenTerm}
 use Rattle.syntax_trees.specs.LeftGrouping.{grouped_left}
-use Rattle.lotos_sentences.specs.Words.{Optional, left_out, there, Many, no_more, and_then, Behind, behind}
-use Rattle.lotos_sentences.specs.Names.{named, IsOperationName}
-use Rattle.lotos_sentences.specs.Names as names_family
-use Rattle.lotos_sentences.specs.Terms.{applied, infix_term, of_sort, IsTerm, AreFactors, IsFactor, IsBase, AreTerms, AreArguments}
-use Rattle.lotos_sentences.specs.Terms as family
+use Rattle.lotos_rows.specs.Words.{Optional, left_out, there, Many, no_more, and_then, Behind, behind}
+use Rattle.lotos_rows.specs.Names.{named, IsOperationName}
+use Rattle.lotos_rows.specs.Names as names_family
+use Rattle.lotos_rows.specs.Terms.{applied, infix_term, of_sort, IsTerm, AreFactors, IsFactor, IsBase, AreTerms, AreArguments}
+use Rattle.lotos_rows.specs.Terms as family
 use Rattle.tree_building.specs.TermsMeaning.{with_sorts}
 use Rattle.lotos_rows.specs.TermsRows.{terms_rows}
 use Rattle.sentence_trees.specs.TermsSentences.{Started, started, IsOperationAndFactor, operation_and_factor, IsSortMark, no_sort_mark, a_sort_mark}

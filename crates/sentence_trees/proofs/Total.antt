@@ -4,19 +4,19 @@ use Rattle.std.specs.Prelude.{◌&&◌, ◌||◌, Option, Some, option_and_then,
 use Rattle.std.specs.List.{list_all}
 use Rattle.std.proofs.lemmas.Bool.{and_parts}
 use Rattle.std.proofs.lemmas.List.{length-map}
+use Rattle.list_laws.proofs.Tests.{list_all-at}
 use Rattle.ll_engine.specs.declared.symbol.Symbol.{Symbol}
 use Rattle.ll_engine.specs.declared.symbol.Symbol.TheVariants.{Token as Tok, Part}
-use Rattle.ll_engine.specs.Derivation.{Production, Forest, empty, leaf, node, Derives, leaves}
-use Rattle.ll_engine.proofs.KeptSets.{list_all-at}
+use Rattle.ll_engine.specs.Derivation.{Production, Forest, empty, leaf, node, DerivesSymbols, leaves}
 use Rattle.ll_engine.specs.Fold.{begins_kept, first_if, front_token, tree_begins_kept, in_front, folded}
-use Rattle.ll_engine.specs.Values.{Stand, nothing, token, part, IsKept}
+use Rattle.ll_engine.specs.Values.{StandForTokens, nothing, token, part, IsKept}
 use Rattle.ll_engine.proofs.Folding.{append_parts, halves, no_tokens}
 
 abbrev pub is_said_symbol : (ℕ → Bool) → Symbol → Bool
 is_said_symbol said (Tok t) = true
 is_said_symbol said (Part p) = said p
 
-begin_alike : (keeps : ℕ → Bool) (rows : List Production) (trees : Forest) (symbols : List Symbol) → Derives rows trees symbols →
+begin_alike : (keeps : ℕ → Bool) (rows : List Production) (trees : Forest) (symbols : List Symbol) → DerivesSymbols rows trees symbols →
     tree_begins_kept keeps trees ≡ begins_kept keeps symbols
 begin_alike keeps rows empty [] d = refl
 begin_alike keeps rows empty (symbol ∷ symbols) d = absurd d
@@ -36,12 +36,12 @@ module _ {T A : Type 0} (value_of : ℕ → Option T → List A → Option A) (k
     (stay : list_all (stays_said said) rows ≡ true)
     (gives : (number : ℕ) (row : Production) → slice_get rows number ≡ Some row → said row.left ≡ true →
     (tokens : List T) (values : List A) →
-    Stand kind has row.right tokens values → (value : A) × (value_of number (front_token keeps row.right tokens) values ≡ Some value)) where
+    StandForTokens kind has row.right tokens values → (value : A) × (value_of number (front_token keeps row.right tokens) values ≡ Some value)) where
   -- the trees of symbols have values, and the symbols stand for their tokens
   record Valued (trees : Forest) (symbols : List Symbol) (own : List T) : Type 0 where
     values : List A
     folds : folded value_of keeps trees own ≡ Some values
-    stands : Stand kind has symbols own values
+    stands : StandForTokens kind has symbols own values
 
   valued_leaf : (t u : ℕ) (rest : Forest) (symbols : List Symbol) (own : List T) → t ≡ u → t ∷ leaves rest ≡ map kind own →
       ((mine : List T) → leaves rest ≡ map kind mine → Valued rest symbols mine) → Valued (leaf t rest) (Tok u ∷ symbols) own
@@ -58,11 +58,11 @@ module _ {T A : Type 0} (value_of : ℕ → Option T → List A → Option A) (k
       sym (ap (λ (b : Bool). not b || list_all (is_said_symbol said) row.right) here) ∙ list_all-at (stays_said said) rows number row stay
       is
 
-  valued : (trees : Forest) (symbols : List Symbol) (own : List T) → Derives rows trees symbols → leaves trees ≡ map kind own →
+  valued : (trees : Forest) (symbols : List Symbol) (own : List T) → DerivesSymbols rows trees symbols → leaves trees ≡ map kind own →
       list_all (is_said_symbol said) symbols ≡ true → Valued trees symbols own
   valued empty [] own d e all =
       let none : own ≡ [] = no_tokens kind own e in
-      record { values = []; folds = refl; stands = subst (λ (l : List T). Stand kind has [] l []) (sym none) nothing }
+      record { values = []; folds = refl; stands = subst (λ (l : List T). StandForTokens kind has [] l []) (sym none) nothing }
   valued empty (symbol ∷ symbols) own d e all = absurd d
   valued (leaf t rest) [] own d e all = absurd d
   valued (leaf t rest) (Tok u ∷ symbols) own d e all =
@@ -92,7 +92,7 @@ module _ {T A : Type 0} (value_of : ℕ → Option T → List A → Option A) (k
             ∙ ap (λ (l : List T). in_front (own_value h.front) (folded value_of keeps rest l)) parts.1
             ∙ ap (in_front (own_value h.front)) others.folds
             ∙ ap (λ (o : Option A). in_front o (Some others.values)) value_is;
-        stands = subst (λ (l : List T). Stand kind has (Part p ∷ symbols) l (given.0 ∷ others.values)) (sym h.both)
+        stands = subst (λ (l : List T). StandForTokens kind has (Part p ∷ symbols) l (given.0 ∷ others.values)) (sym h.both)
             (part here others.stands);
       }
 
@@ -101,12 +101,12 @@ module _ {T A : Type 0} (value_of : ℕ → Option T → List A → Option A) (k
     pub value : A
     pub folds : folded value_of keeps tree own ≡ Some (value ∷ [])
 
-  only_one : (p : ℕ) (tree : Forest) (own : List T) (values : List A) → Stand kind has (Part p ∷ []) own values →
+  only_one : (p : ℕ) (tree : Forest) (own : List T) (values : List A) → StandForTokens kind has (Part p ∷ []) own values →
       folded value_of keeps tree own ≡ Some values →
       HasMeaning p tree own
   only_one p tree own values (part {value = value} here nothing) folds = record { value = value; folds = folds }
 
-  pub has_meaning : (p : ℕ) (tree : Forest) (own : List T) → Derives rows tree (Part p ∷ []) → leaves tree ≡ map kind own →
+  pub has_meaning : (p : ℕ) (tree : Forest) (own : List T) → DerivesSymbols rows tree (Part p ∷ []) → leaves tree ≡ map kind own →
       said p ≡ true → HasMeaning p tree own
   has_meaning p tree own d e is =
       let it = valued tree (Part p ∷ []) own d e (ap (λ (b : Bool). b && true) is) in

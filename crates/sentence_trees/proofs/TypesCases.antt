@@ -8,12 +8,12 @@ use Rattle.lotos_lexer.specs.declared.kinds.TheConstants as kind
 use Rattle.lotos_rows.specs.declared.types.TheConstants as types
 use Rattle.syntax_trees.specs.WrittenEquation.{WrittenEquations}
 use Rattle.syntax_trees.specs.WrittenItem.{WrittenOperation, WrittenSections, WrittenTypeBody, extends, WrittenItem}
-use Rattle.lotos_sentences.specs.Words.{Optional, left_out, there, Many, no_more, and_then, Separated, last, before_more, Behind, behind}
-use Rattle.lotos_sentences.specs.Names.{AreNames, AreLooseNames, NamedOperation, IsOperation, PlacedProfile, IsProfile}
-use Rattle.lotos_sentences.specs.Equations.{AreEquations}
-use Rattle.lotos_sentences.specs.Equations as equations_family
-use Rattle.lotos_sentences.specs.Types.{operations_of_profile, IsOperationLine, AreOperations, no_equations, AreSections, IsTypeBody, IsItem}
-use Rattle.lotos_sentences.specs.Types as family
+use Rattle.lotos_rows.specs.Words.{Optional, left_out, there, Many, no_more, and_then, Separated, last, before_more, Behind, behind}
+use Rattle.lotos_rows.specs.Names.{AreNames, AreLooseNames, NamedOperation, IsWrittenOperation, PlacedProfile, IsProfile}
+use Rattle.lotos_rows.specs.Equations.{AreEquations}
+use Rattle.lotos_rows.specs.Equations as equations_family
+use Rattle.lotos_rows.specs.Types.{operations_of_profile, IsOperationLine, AreOperations, no_equations, AreSections, IsTypeBody, IsItem}
+use Rattle.lotos_rows.specs.Types as family
 use Rattle.tree_building.specs.Meaning.{Meaning, some_names, some_named_operations, declared_operations, an_equation_section, some_sections, a_body, an_item}
 use Rattle.sentence_trees.specs.Sentences.{Derived}
 use Rattle.sentence_trees.proofs.NamesDerived.{by_name, by_no_more_names, by_more_names}
@@ -34,10 +34,10 @@ module _ (text : List ℕ) where
     more : List NamedOperation
     tokens_are : tokens ≡ own ++ others
     operations_are : operations ≡ first ∷ more
-    first_derived : IsOperation text own first
+    first_derived : IsWrittenOperation text own first
     more_derived : D types.MORE_OPERATIONS others (some_named_operations more)
 
-  line_derived : {tokens : List Token} {operations : List NamedOperation} → Separated kind.COMMA (IsOperation text) tokens operations →
+  line_derived : {tokens : List Token} {operations : List NamedOperation} → Separated kind.COMMA (IsWrittenOperation text) tokens operations →
       LineDerived tokens operations
   line_derived (last {tokens = own} {value = operation} it) = record {
     own = own;

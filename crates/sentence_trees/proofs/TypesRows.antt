@@ -15,12 +15,12 @@ use Rattle.ll_engine.specs.declared.symbol.Symbol.TheVariants.{Token as Tok, Par
 use Rattle.sentence_trees.specs.PartSentences.{as_one}
 use Rattle.sentence_trees.specs.Sentences.{KeepsParts}
 use Rattle.syntax_trees.specs.WrittenItem.{WrittenOperation}
-use Rattle.lotos_sentences.specs.Words.{IsOf, left_out, there, no_more, and_then, behind}
-use Rattle.lotos_sentences.specs.Names.{named, NamedOperation, IsOperation, PlacedProfile, IsProfile}
-use Rattle.lotos_sentences.specs.Names as names_family
-use Rattle.lotos_sentences.specs.Equations as equations_family
-use Rattle.lotos_sentences.specs.Types.{operations_of_profile, AreOperations, IsTypeBody}
-use Rattle.lotos_sentences.specs.Types as family
+use Rattle.lotos_rows.specs.Words.{IsOf, left_out, there, no_more, and_then, behind}
+use Rattle.lotos_rows.specs.Names.{named, NamedOperation, IsWrittenOperation, PlacedProfile, IsProfile}
+use Rattle.lotos_rows.specs.Names as names_family
+use Rattle.lotos_rows.specs.Equations as equations_family
+use Rattle.lotos_rows.specs.Types.{operations_of_profile, AreOperations, IsTypeBody}
+use Rattle.lotos_rows.specs.Types as family
 use Rattle.lotos_rows.specs.TypesRows.{types_rows}
 use Rattle.tree_building.specs.Meaning.{PlainAfterBase}
 use Rattle.tree_building.specs.TypesMeaning.{body_from}
@@ -38,7 +38,7 @@ module _ (text : List ℕ) where
 
   lines_joined : {own more_tokens profile_tokens rest : List Token} (operation : NamedOperation) (more : List NamedOperation)
       {profile : PlacedProfile} {others : List WrittenOperation} →
-      IsOperation text own operation → Further kind.COMMA (IsOperation text) more_tokens more → IsProfile text profile_tokens profile →
+      IsWrittenOperation text own operation → Further kind.COMMA (IsWrittenOperation text) more_tokens more → IsProfile text profile_tokens profile →
       AreOperations text rest others →
       AreOperations text (((own ++ more_tokens) ++ profile_tokens) ++ rest) (operations_of_profile (operation ∷ more) profile ++ others)
   lines_joined operation more first others has_profile (family.operations lines) =

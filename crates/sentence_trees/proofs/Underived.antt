@@ -8,10 +8,10 @@ use Rattle.lotos_lexer.specs.declared.kinds.TheConstants.{COUNT}
 use Rattle.lotos_lexer.specs.declared.tokens.Token.{Token}
 use Rattle.lotos_lexer.specs.declared.tokens.LexFault.{LexFault}
 use Rattle.lotos_lexer.specs.declared.tokens.LexFault.TheVariants as lexical
-use Rattle.lotos_lexer.specs.Tokens.{IsFaultOf, tokens_of}
+use Rattle.lotos_lexer.specs.Tokens.{IsLexFaultOf, tokens_of}
 use Rattle.lotos_rows.specs.declared.starts.TheConstants as starts
 use Rattle.lotos_rows.specs.Rows.{grammar_from}
-use Rattle.lotos_sentences.specs.Starts.{IsSpecification, AreItems, AreOrderItems, AreOptionalTerms}
+use Rattle.lotos_rows.specs.Starts.{IsWrittenSpecification, AreItems, AreOrderItems, AreOptionalTerms}
 use Rattle.sentence_trees.specs.Sentences.{kind_of}
 use Rattle.sentence_trees.proofs.AllGiven.{rows_have}
 use Rattle.sentence_trees.proofs.Viable.{rows_begin}
@@ -20,13 +20,13 @@ use Rattle.sentence_trees.specs.declared.fault.ReadFault.{ReadFault}
 use Rattle.sentence_trees.specs.declared.fault.ReadFault.TheVariants.{TooLong, BadByte, OpenComment, Syntax, TooDeep, NoMemory}
 use Rattle.sentence_trees.specs.declared.kind.TextKind.{TextKind}
 use Rattle.sentence_trees.specs.declared.kind.TextKind.TheVariants.{Specification, Types, Order, Terms}
-use Rattle.sentence_trees.specs.Blame.{CanBegin, IsBlamed}
+use Rattle.sentence_trees.specs.Blame.{BeginsSomeText, IsBlamed}
 use Rattle.sentence_trees.specs.Derived.{IsUnderived, start_of}
 use Rattle.sentence_trees.specs.LexedFault.{fault_of}
 use Rattle.sentence_trees.specs.Reading.{IsFault, IsFaultAs, nodes_of_items, nodes_of_order}
 
 module _ {A : Type 0} (g : ContextFree) (one : List Token → A → Type 0)
-    (begins : (tokens : List Token) → IsViable g (map kind_of tokens) ↔ CanBegin one tokens)
+    (begins : (tokens : List Token) → IsViable g (map kind_of tokens) ↔ BeginsSomeText one tokens)
     (has : (tokens : List Token) → IsSentence g (map kind_of tokens) ↔ ((found : A) × one tokens found)) where
   blamed : (tokens : List Token) (at : ℕ) → IsUnexpectedAt g (map kind_of tokens) at → IsBlamed one tokens at
   blamed tokens at unexpected = record {
@@ -59,7 +59,7 @@ module _ {A : Type 0} (g : ContextFree) (one : List Token → A → Type 0)
 pub underived : (kind : TextKind) (number : ℕ) (text : List ℕ) (fault : ReadFault) → IsUnderived (start_of kind) number text fault →
     IsFaultAs kind number text fault
 underived Specification number text fault is =
-    faulty (grammar_from starts.SPEC) (IsSpecification text) (rows_begin.specification text) (rows_have.specification text)
+    faulty (grammar_from starts.SPEC) (IsWrittenSpecification text) (rows_begin.specification text) (rows_have.specification text)
     nodes_of_specification starts.SPEC number text fault refl is
 underived Types number text fault is =
     faulty (grammar_from starts.TYPETEXT) (AreItems text) (rows_begin.items text) (rows_have.items text) nodes_of_items starts.TYPETEXT
@@ -72,7 +72,7 @@ underived Terms number text fault is =
     number text fault refl is
 
 -- a lexical fault is one of the derivation
-pub lexical_underived : (start number : ℕ) (text : List ℕ) (fault : LexFault) → IsFaultOf (tokens_of number text) fault →
+pub lexical_underived : (start number : ℕ) (text : List ℕ) (fault : LexFault) → IsLexFaultOf (tokens_of number text) fault →
     IsUnderived start number text (fault_of fault)
 lexical_underived start number text (lexical.BadByte place) is = is
 lexical_underived start number text (lexical.OpenComment place) is = is

@@ -6,7 +6,7 @@ use Rattle.ll_engine.specs.Language.{ContextFree, IsSentence, IsViable}
 use Rattle.lotos_lexer.specs.declared.tokens.Token.{Token}
 use Rattle.lotos_rows.specs.declared.starts.TheConstants as starts
 use Rattle.lotos_rows.specs.Rows.{grammar_from}
-use Rattle.lotos_sentences.specs.Starts.{IsSpecification, AreItems, AreOrderItems, AreOptionalTerms}
+use Rattle.lotos_rows.specs.Starts.{IsWrittenSpecification, AreItems, AreOrderItems, AreOptionalTerms}
 use Rattle.sentence_trees.specs.Laws.{RowsBeginAsTheDefinition}
 use Rattle.sentence_trees.specs.Sentences.{kind_of}
 use Rattle.sentence_trees.proofs.AllGiven.{rows_have}
@@ -38,7 +38,7 @@ begins g tokens one has = (
 
 pub rows_begin : RowsBeginAsTheDefinition
 rows_begin = record {
-  specification = λ text tokens. begins (grammar_from starts.SPEC) tokens (IsSpecification text) (rows_have.specification text);
+  specification = λ text tokens. begins (grammar_from starts.SPEC) tokens (IsWrittenSpecification text) (rows_have.specification text);
   items = λ text tokens. begins (grammar_from starts.TYPETEXT) tokens (AreItems text) (rows_have.items text);
   order = λ text tokens. begins (grammar_from starts.ORDER) tokens (AreOrderItems text) (rows_have.order text);
   terms = λ text tokens. begins (grammar_from starts.TERMS) tokens (AreOptionalTerms text) (rows_have.terms text);

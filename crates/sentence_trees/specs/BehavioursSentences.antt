@@ -8,43 +8,43 @@ use Rattle.syntax_trees.specs.WrittenVariable.{WrittenVariable}
 use Rattle.syntax_trees.specs.WrittenEquation.{WrittenPremiss}
 use Rattle.syntax_trees.specs.WrittenBehaviour.{WrittenGateChoice, WrittenOffer, WrittenBehaviour}
 use Rattle.syntax_trees.specs.Strength.{PlacedSign}
-use Rattle.lotos_sentences.specs.Words.{IsOf, Optional, Separated, Behind, Between}
-use Rattle.lotos_sentences.specs.Names.{named, AreGates, AreOptionalGates, AreVariables}
-use Rattle.lotos_sentences.specs.Terms.{AreArguments}
-use Rattle.lotos_sentences.specs.Equations.{IsPremiss}
-use Rattle.lotos_sentences.specs.Behaviours.{IsLetDeclaration, AreGateChoices, IsOffer, IsExitValue, IsParallelSign, IsSign, AreOperands, IsBehaviour}
+use Rattle.lotos_rows.specs.Words.{IsOf, Optional, Separated, Behind, Between}
+use Rattle.lotos_rows.specs.Names.{named, AreWrittenGates, AreOptionalGates, AreVariables}
+use Rattle.lotos_rows.specs.Terms.{AreArguments}
+use Rattle.lotos_rows.specs.Equations.{IsPremiss}
+use Rattle.lotos_rows.specs.Behaviours.{IsLetDeclaration, AreGateChoices, IsWrittenOffer, IsWrittenExitValue, IsParallelSign, IsSign, AreOperands, IsBehaviour}
 use Rattle.tree_building.specs.Meaning.{Meaning, PlainFlat, PlainActionEnd, some_variables, some_operands, an_action, a_call, some_offers, some_exit_values, some_lets, some_gate_choices, a_value_choice, a_gate_choice, a_behaviour, a_sign}
 use Rattle.sentence_trees.specs.PartSentences.{As, choose}
 use Rattle.sentence_trees.specs.NamesSentences.{Further}
 
 -- a flat list of operands and signs
-abbrev pub IsFlat : List ℕ → List Token → PlainFlat → Type 0
-IsFlat text tokens flat = AreOperands text tokens flat.operands flat.signs
+abbrev pub IsFlatList : List ℕ → List Token → PlainFlat → Type 0
+IsFlatList text tokens flat = AreOperands text tokens flat.operands flat.signs
 
 -- what may stand behind an operand: a sign and a flat list
 pub data IsTail (text : List ℕ) : List Token → PlainFlat → Type 0 where
   nothing_behind : IsTail text [] (record { operands = []; signs = [] })
   sign_and_operands : {sign_tokens tokens : List Token} {sign : PlacedSign} {flat : PlainFlat} → IsSign text sign_tokens sign →
-      IsFlat text tokens flat →
+      IsFlatList text tokens flat →
       IsTail text (sign_tokens ++ tokens) (record { operands = flat.operands; signs = sign ∷ flat.signs })
 
 -- what stands behind an offer
 pub data IsAfterOffer (text : List ℕ) : List Token → PlainActionEnd → Type 0 where
-  one_more_offer : {tokens rest : List Token} {offers : List WrittenOffer} {end : PlainActionEnd} → IsOffer text tokens offers →
+  one_more_offer : {tokens rest : List Token} {offers : List WrittenOffer} {end : PlainActionEnd} → IsWrittenOffer text tokens offers →
       IsAfterOffer text rest end →
       IsAfterOffer text (tokens ++ rest) (record { offers = offers ++ end.offers; test = end.test; behind = end.behind })
   with_selection : {left right semicolon : Token} {test_tokens tokens : List Token} {test : WrittenPremiss} {flat : PlainFlat} →
       IsOf LEFT_BRACKET left →
-      IsPremiss text test_tokens test → IsOf RIGHT_BRACKET right → IsOf SEMICOLON semicolon → IsFlat text tokens flat →
+      IsPremiss text test_tokens test → IsOf RIGHT_BRACKET right → IsOf SEMICOLON semicolon → IsFlatList text tokens flat →
       IsAfterOffer text (left ∷ (test_tokens ++ right ∷ semicolon ∷ tokens)) (record { offers = []; test = Some test; behind = flat })
-  without_selection : {semicolon : Token} {tokens : List Token} {flat : PlainFlat} → IsOf SEMICOLON semicolon → IsFlat text tokens flat →
+  without_selection : {semicolon : Token} {tokens : List Token} {flat : PlainFlat} → IsOf SEMICOLON semicolon → IsFlatList text tokens flat →
       IsAfterOffer text (semicolon ∷ tokens) (record { offers = []; test = None; behind = flat })
 
 -- what stands behind a name at the start of a behaviour
 pub data IsAfterName (text : List ℕ) : List Token → Meaning → Type 0 where
-  acts_at_once : {semicolon : Token} {tokens : List Token} {flat : PlainFlat} → IsOf SEMICOLON semicolon → IsFlat text tokens flat →
+  acts_at_once : {semicolon : Token} {tokens : List Token} {flat : PlainFlat} → IsOf SEMICOLON semicolon → IsFlatList text tokens flat →
       IsAfterName text (semicolon ∷ tokens) (an_action (record { offers = []; test = None; behind = flat }))
-  acts_with_offers : {tokens rest : List Token} {offers : List WrittenOffer} {end : PlainActionEnd} → IsOffer text tokens offers →
+  acts_with_offers : {tokens rest : List Token} {offers : List WrittenOffer} {end : PlainActionEnd} → IsWrittenOffer text tokens offers →
       IsAfterOffer text rest end →
       IsAfterName text (tokens ++ rest) (an_action (record { offers = offers ++ end.offers; test = end.test; behind = end.behind }))
   calls : {gate_tokens value_tokens tokens : List Token} {gates : List PlacedName} {values : List WrittenTerm} {flat : PlainFlat} →
@@ -52,38 +52,38 @@ pub data IsAfterName (text : List ℕ) : List Token → Meaning → Type 0 where
       IsAfterName text (gate_tokens ++ (value_tokens ++ tokens)) (a_call (record { gates = gates; values = values; behind = flat }))
 
 -- a behaviour that is chosen
-abbrev pub IsChosen : List ℕ → List Token → WrittenBehaviour → Type 0
-IsChosen text = Behind CHOICE_SIGN (IsBehaviour text)
+abbrev pub IsChosenBehaviour : List ℕ → List Token → WrittenBehaviour → Type 0
+IsChosenBehaviour text = Behind CHOICE_SIGN (IsBehaviour text)
 
 -- what stands behind the first names of a `choice`
 pub data IsAfterChoice (text : List ℕ) : List Token → Meaning → Type 0 where
   of_values : {colon sort : Token} {more_tokens tokens : List Token} {more : List WrittenVariable} {inside : WrittenBehaviour} →
       IsOf COLON colon → IsOf NAME sort →
-      Optional [] (Behind COMMA (AreVariables text)) more_tokens more → IsChosen text tokens inside →
+      Optional [] (Behind COMMA (AreVariables text)) more_tokens more → IsChosenBehaviour text tokens inside →
       IsAfterChoice text (colon ∷ sort ∷ (more_tokens ++ tokens))
       (a_value_choice (record { sort = named text sort; more = more; inside = inside }))
   of_gates : {word : Token} {gate_tokens more_tokens tokens : List Token} {gates : List PlacedName} {more : List WrittenGateChoice}
       {inside : WrittenBehaviour} →
-      IsOf IN word → AreGates text gate_tokens gates → Optional [] (Behind COMMA (AreGateChoices text)) more_tokens more →
-      IsChosen text tokens inside →
+      IsOf IN word → AreWrittenGates text gate_tokens gates → Optional [] (Behind COMMA (AreGateChoices text)) more_tokens more →
+      IsChosenBehaviour text tokens inside →
       IsAfterChoice text (word ∷ (gate_tokens ++ (more_tokens ++ tokens)))
       (a_gate_choice (record { among = gates; more = more; inside = inside }))
 
 abbrev pub behaviours_part : List ℕ → ℕ → List Token → Meaning → Type 0
 behaviours_part text p tokens meaning =
-    choose (p == behaviours.BEHAVIOUR) (As some_operands (IsFlat text) tokens meaning)
+    choose (p == behaviours.BEHAVIOUR) (As some_operands (IsFlatList text) tokens meaning)
     (choose (p == behaviours.BEHAVIOUR_TAIL) (As some_operands (IsTail text) tokens meaning)
     (choose (p == behaviours.AFTER_NAME) (IsAfterName text tokens meaning)
-    (choose (p == behaviours.OFFER) (As some_offers (IsOffer text) tokens meaning)
+    (choose (p == behaviours.OFFER) (As some_offers (IsWrittenOffer text) tokens meaning)
     (choose (p == behaviours.AFTER_OFFER) (As an_action (IsAfterOffer text) tokens meaning)
     (choose (p == behaviours.EXIT_VALUES)
-    (As some_exit_values (Optional [] (Between LEFT_PARENTHESIS RIGHT_PARENTHESIS (Separated COMMA (IsExitValue text)))) tokens meaning)
-    (choose (p == behaviours.EXIT_LIST) (As some_exit_values (Separated COMMA (IsExitValue text)) tokens meaning)
-    (choose (p == behaviours.MORE_EXIT_VALUES) (As some_exit_values (Further COMMA (IsExitValue text)) tokens meaning)
+    (As some_exit_values (Optional [] (Between LEFT_PARENTHESIS RIGHT_PARENTHESIS (Separated COMMA (IsWrittenExitValue text)))) tokens meaning)
+    (choose (p == behaviours.EXIT_LIST) (As some_exit_values (Separated COMMA (IsWrittenExitValue text)) tokens meaning)
+    (choose (p == behaviours.MORE_EXIT_VALUES) (As some_exit_values (Further COMMA (IsWrittenExitValue text)) tokens meaning)
     (choose (p == behaviours.LET_LIST) (As some_lets (Separated COMMA (IsLetDeclaration text)) tokens meaning)
     (choose (p == behaviours.MORE_LETS) (As some_lets (Further COMMA (IsLetDeclaration text)) tokens meaning)
     (choose (p == behaviours.AFTER_CHOICE) (IsAfterChoice text tokens meaning)
-    (choose (p == behaviours.CHOSEN) (As a_behaviour (IsChosen text) tokens meaning)
+    (choose (p == behaviours.CHOSEN) (As a_behaviour (IsChosenBehaviour text) tokens meaning)
     (choose (p == behaviours.GATE_CHOICES) (As some_gate_choices (AreGateChoices text) tokens meaning)
     (choose (p == behaviours.MORE_GATE_CHOICES) (As some_gate_choices (Optional [] (Behind COMMA (AreGateChoices text))) tokens meaning)
     (choose (p == behaviours.SIGN) (As a_sign (IsSign text) tokens meaning)

@@ -5,14 +5,14 @@ use Rattle.lotos_lexer.specs.declared.tokens.Token.{Token}
 use Rattle.lotos_lexer.specs.Tokens.{behind_all, place_at, start}
 
 -- some text begins with the tokens: with further tokens they are one
-abbrev pub CanBegin : {A : Type 0} → (List Token → A → Type 0) → List Token → Type 0
-CanBegin {A} one tokens = (more : List Token) × (found : A) × one (tokens ++ more) found
+abbrev pub BeginsSomeText : {A : Type 0} → (List Token → A → Type 0) → List Token → Type 0
+BeginsSomeText {A} one tokens = (more : List Token) × (found : A) × one (tokens ++ more) found
 
 -- the first token with which the tokens stop being a beginning, or their number where they are a beginning and no text
 pub record IsBlamed {A : Type 0} (one : List Token → A → Type 0) (tokens : List Token) (at : ℕ) : Type 0 where
   pub in_range : at ≤ length tokens
-  pub begins_before : CanBegin one (take at tokens)
-  pub not_with : at < length tokens → ¬ CanBegin one (take (at + 1) tokens)
+  pub begins_before : BeginsSomeText one (take at tokens)
+  pub not_with : at < length tokens → ¬ BeginsSomeText one (take (at + 1) tokens)
   pub no_text : (found : A) → ¬ one tokens found
 
 -- the place just past the last byte of the text with this number

@@ -3,9 +3,9 @@ use Rattle.std.specs.Prelude.{ℕ, ◌==◌, List, []}
 use Rattle.lotos_lexer.specs.declared.kinds.TheConstants.{LEFT_PARENTHESIS, RIGHT_PARENTHESIS}
 use Rattle.lotos_lexer.specs.declared.tokens.Token.{Token}
 use Rattle.lotos_rows.specs.declared.definitions.TheConstants as definitions
-use Rattle.lotos_sentences.specs.Words.{Optional, Between}
-use Rattle.lotos_sentences.specs.Names.{AreNames, AreParameters}
-use Rattle.lotos_sentences.specs.Definitions.{IsFunctionality, IsHeading, IsProcess, IsWhere, AreInner}
+use Rattle.lotos_rows.specs.Words.{Optional, Between}
+use Rattle.lotos_rows.specs.Names.{AreNames, AreParameters}
+use Rattle.lotos_rows.specs.Definitions.{IsWrittenFunctionality, IsHeading, IsProcess, IsWhere, AreInner}
 use Rattle.tree_building.specs.Meaning.{Meaning, a_heading, some_variables, a_functionality, some_names, some_inner, a_process}
 use Rattle.sentence_trees.specs.PartSentences.{As, choose}
 
@@ -13,7 +13,7 @@ abbrev pub definitions_part : List ℕ → ℕ → List Token → Meaning → Ty
 definitions_part text p tokens meaning =
     choose (p == definitions.HEADING) (As a_heading (IsHeading text) tokens meaning)
     (choose (p == definitions.PARAMETERS) (As some_variables (Optional [] (AreParameters text)) tokens meaning)
-    (choose (p == definitions.FUNCTIONALITY) (As a_functionality (IsFunctionality text) tokens meaning)
+    (choose (p == definitions.FUNCTIONALITY) (As a_functionality (IsWrittenFunctionality text) tokens meaning)
     (choose (p == definitions.EXIT_SORTS)
     (As some_names (Optional [] (Between LEFT_PARENTHESIS RIGHT_PARENTHESIS (AreNames text))) tokens meaning)
     (choose (p == definitions.WHERE) (As some_inner (IsWhere text) tokens meaning)

@@ -5,10 +5,10 @@ use Rattle.lotos_lexer.specs.declared.kinds.TheConstants.{COMMA, SEMICOLON, EQUA
 use Rattle.lotos_lexer.specs.declared.tokens.Token.{Token}
 use Rattle.lotos_rows.specs.declared.equations.TheConstants as equations
 use Rattle.syntax_trees.specs.WrittenEquation.{WrittenPremiss, WrittenEquation}
-use Rattle.lotos_sentences.specs.Words.{IsOf, Optional, Many, Behind}
-use Rattle.lotos_sentences.specs.Names.{place_of}
-use Rattle.lotos_sentences.specs.Terms.{IsTerm}
-use Rattle.lotos_sentences.specs.Equations.{IsPremiss, IsEquation, IsEquationList, AreForAll, IsEquationGroup}
+use Rattle.lotos_rows.specs.Words.{IsOf, Optional, Many, Behind}
+use Rattle.lotos_rows.specs.Names.{place_of}
+use Rattle.lotos_rows.specs.Terms.{IsTerm}
+use Rattle.lotos_rows.specs.Equations.{IsPremiss, IsWrittenEquation, IsEquationList, AreForAll, IsEquationGroup}
 use Rattle.tree_building.specs.Meaning.{Meaning, PlainConclusion, PlainAfterTerm, some_variables, some_groups, some_equations, an_equation, a_conclusion, maybe_conclusion, after_term, a_premiss, maybe_term}
 use Rattle.sentence_trees.specs.PartSentences.{As, choose}
 
@@ -48,7 +48,7 @@ equations_part text p tokens meaning =
     (choose (p == equations.EQUATION_GROUPS) (As some_groups (Many (IsEquationGroup text)) tokens meaning)
     (choose (p == equations.EQUATION_LIST) (As some_equations (Optional [] (IsEquationList text)) tokens meaning)
     (choose (p == equations.AFTER_EQUATION) (As some_equations (IsEquationEnd text) tokens meaning)
-    (choose (p == equations.EQUATION) (As an_equation (IsEquation text) tokens meaning)
+    (choose (p == equations.EQUATION) (As an_equation (IsWrittenEquation text) tokens meaning)
     (choose (p == equations.AFTER_FIRST_TERM) (As after_term (IsAfterTerm text) tokens meaning)
     (choose (p == equations.AFTER_FIRST_PAIR) (As maybe_conclusion (Perhaps (IsConclusion text)) tokens meaning)
     (choose (p == equations.CONCLUSION) (As a_conclusion (IsConclusion text) tokens meaning)

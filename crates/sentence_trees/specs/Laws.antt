@@ -7,7 +7,7 @@ use Rattle.lotos_rows.specs.declared.starts.TheConstants as starts
 use Rattle.lotos_rows.specs.Rows.{grammar_from}
 use Rattle.syntax_trees.specs.WrittenItem.{WrittenItem}
 use Rattle.syntax_trees.specs.WrittenDefinition.{WrittenSpecification}
-use Rattle.lotos_sentences.specs.Starts.{IsSpecification, AreItems, AreOrderItems, AreOptionalTerms}
+use Rattle.lotos_rows.specs.Starts.{IsWrittenSpecification, AreItems, AreOrderItems, AreOptionalTerms}
 use Rattle.tree_building.specs.Meaning.{Meaning, a_specification, some_items, some_order_items, some_terms}
 use Rattle.sentence_trees.specs.Sentences.{kind_of, PartMeans, Derived}
 
@@ -20,7 +20,7 @@ DerivedPartsAreSentences =
 pub record DerivedTextsAreSentences : Type 0 where
   pub specification : (text : List ℕ) (tokens : List Token) (found : WrittenSpecification) →
       Derived text starts.SPEC tokens (a_specification found) →
-      IsSpecification text tokens found
+      IsWrittenSpecification text tokens found
   pub items : (text : List ℕ) (tokens : List Token) (items : List WrittenItem) → Derived text starts.TYPETEXT tokens (some_items items) →
       AreItems text tokens items
   pub order : (text : List ℕ) (tokens : List Token) (items : List ListedOperation) →
@@ -30,7 +30,7 @@ pub record DerivedTextsAreSentences : Type 0 where
 
 -- and what the definition says is derived
 pub record SentencesAreDerived : Type 0 where
-  pub specification : (text : List ℕ) (tokens : List Token) (found : WrittenSpecification) → IsSpecification text tokens found →
+  pub specification : (text : List ℕ) (tokens : List Token) (found : WrittenSpecification) → IsWrittenSpecification text tokens found →
       Derived text starts.SPEC tokens (a_specification found)
   pub items : (text : List ℕ) (tokens : List Token) (items : List WrittenItem) → AreItems text tokens items →
       Derived text starts.TYPETEXT tokens (some_items items)
@@ -42,7 +42,7 @@ pub record SentencesAreDerived : Type 0 where
 -- tokens are one tree at most
 pub record TextsAreUnambiguous : Type 0 where
   pub specification : (text : List ℕ) (tokens : List Token) (some other : WrittenSpecification) →
-      IsSpecification text tokens some → IsSpecification text tokens other → some ≡ other
+      IsWrittenSpecification text tokens some → IsWrittenSpecification text tokens other → some ≡ other
   pub items : (text : List ℕ) (tokens : List Token) (some other : List WrittenItem) → AreItems text tokens some →
       AreItems text tokens other → some ≡ other
   pub order : (text : List ℕ) (tokens : List Token) (some other : List ListedOperation) →
@@ -54,7 +54,7 @@ pub record TextsAreUnambiguous : Type 0 where
 -- tokens with these kinds
 pub record RowsHaveTheSentences : Type 0 where
   pub specification : (text : List ℕ) (tokens : List Token) →
-      IsSentence (grammar_from starts.SPEC) (map kind_of tokens) ↔ ((found : WrittenSpecification) × IsSpecification text tokens found)
+      IsSentence (grammar_from starts.SPEC) (map kind_of tokens) ↔ ((found : WrittenSpecification) × IsWrittenSpecification text tokens found)
   pub items : (text : List ℕ) (tokens : List Token) →
       IsSentence (grammar_from starts.TYPETEXT) (map kind_of tokens) ↔ ((items : List WrittenItem) × AreItems text tokens items)
   pub order : (text : List ℕ) (tokens : List Token) →
@@ -67,7 +67,7 @@ pub record RowsHaveTheSentences : Type 0 where
 pub record RowsBeginAsTheDefinition : Type 0 where
   pub specification : (text : List ℕ) (tokens : List Token) →
       IsViable (grammar_from starts.SPEC) (map kind_of tokens) ↔
-      ((more : List Token) × (found : WrittenSpecification) × IsSpecification text (tokens ++ more) found)
+      ((more : List Token) × (found : WrittenSpecification) × IsWrittenSpecification text (tokens ++ more) found)
   pub items : (text : List ℕ) (tokens : List Token) →
       IsViable (grammar_from starts.TYPETEXT) (map kind_of tokens) ↔ ((more : List Token) × (items : List WrittenItem)
       × AreItems text (tokens ++ more) items)

@@ -14,3 +14,4 @@ pub mod Blame
 pub mod Derived
 pub mod Reading
 pub mod ReadingLaws
+pub mod LotosGrammar

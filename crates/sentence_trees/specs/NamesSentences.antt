@@ -3,8 +3,8 @@ use Rattle.std.specs.Prelude.{ℕ, ◌==◌, List, [], ◌∷◌}
 use Rattle.lotos_lexer.specs.declared.kinds.TheConstants.{COMMA}
 use Rattle.lotos_lexer.specs.declared.tokens.Token.{Token}
 use Rattle.lotos_rows.specs.declared.names.TheConstants as names
-use Rattle.lotos_sentences.specs.Words.{IsOf, Optional, Separated, Loosely, Behind}
-use Rattle.lotos_sentences.specs.Names.{IsName, AreNames, AreOptionalNames, AreGates, AreOptionalGates, AreLooseNames, AreVariables, IsOperationName, IsOperation, IsProfile}
+use Rattle.lotos_rows.specs.Words.{IsOf, Optional, Separated, Loosely, Behind}
+use Rattle.lotos_rows.specs.Names.{IsName, AreNames, AreOptionalNames, AreWrittenGates, AreOptionalGates, AreLooseNames, AreVariables, IsOperationName, IsWrittenOperation, IsProfile}
 use Rattle.tree_building.specs.Meaning.{Meaning, a_name, some_names, some_variables, an_operation, a_profile}
 use Rattle.sentence_trees.specs.PartSentences.{As, choose}
 
@@ -26,12 +26,12 @@ names_part text p tokens meaning =
     (choose (p == names.NAMES) (As some_names (AreNames text) tokens meaning)
     (choose (p == names.MORE_NAMES) (As some_names (Further COMMA (IsName text)) tokens meaning)
     (choose (p == names.OPTIONAL_NAMES) (As some_names (AreOptionalNames text) tokens meaning)
-    (choose (p == names.GATES) (As some_names (AreGates text) tokens meaning)
+    (choose (p == names.GATES) (As some_names (AreWrittenGates text) tokens meaning)
     (choose (p == names.OPTIONAL_GATES) (As some_names (AreOptionalGates text) tokens meaning)
     (choose (p == names.LOOSE_NAMES) (As some_names (AreLooseNames text) tokens meaning)
     (choose (p == names.MORE_LOOSE_NAMES) (As some_names (FurtherLoosely COMMA (IsName text)) tokens meaning)
     (choose (p == names.VARIABLES) (As some_variables (AreVariables text) tokens meaning)
     (choose (p == names.MORE_VARIABLES) (As some_variables (Optional [] (Behind COMMA (AreVariables text))) tokens meaning)
     (choose (p == names.OPERATION_NAME) (As a_name (IsOperationName text) tokens meaning)
-    (choose (p == names.OPERATION) (As an_operation (IsOperation text) tokens meaning)
+    (choose (p == names.OPERATION) (As an_operation (IsWrittenOperation text) tokens meaning)
     (As a_profile (IsProfile text) tokens meaning))))))))))))

@@ -6,7 +6,7 @@ use Rattle.lotos_base.specs.WrittenView.{text_place_of}
 use Rattle.lotos_lexer.specs.declared.tokens.Token.{Token}
 use Rattle.lotos_lexer.specs.Tokens as lexed
 use Rattle.lotos_lexer.specs.Tokens.{tokens_of}
-use Rattle.lotos_sentences.specs.Starts.{IsSpecification, AreItems, AreOrderItems, AreOptionalTerms}
+use Rattle.lotos_rows.specs.Starts.{IsWrittenSpecification, AreItems, AreOrderItems, AreOptionalTerms}
 use Rattle.syntax_trees.specs.WrittenItem.{WrittenItem}
 use Rattle.syntax_trees.specs.WrittenDefinition.{WrittenSpecification}
 use Rattle.syntax_trees.specs.Depth.{TreeNode, first_deeper, nodes_of_item, nodes_of_specification, nodes_of_terms}
@@ -64,10 +64,10 @@ IsFaultWithin limit one nodes number text cause.NoMemory = Unit {0}
 
 -- specifications
 abbrev pub IsSpecificationReading : ℕ → List ℕ → WrittenSpecification → Type 0
-IsSpecificationReading number text tree = IsReadWithin text_limit (IsSpecification text) nodes_of_specification number text tree
+IsSpecificationReading number text tree = IsReadWithin text_limit (IsWrittenSpecification text) nodes_of_specification number text tree
 
 abbrev pub IsSpecificationFault : ℕ → List ℕ → ReadFault → Type 0
-IsSpecificationFault number text fault = IsFaultWithin text_limit (IsSpecification text) nodes_of_specification number text fault
+IsSpecificationFault number text fault = IsFaultWithin text_limit (IsWrittenSpecification text) nodes_of_specification number text fault
 
 -- the items of libraries
 abbrev pub nodes_of_items : List WrittenItem → List TreeNode
@@ -86,8 +86,8 @@ nodes_of_order items = []
 abbrev pub IsOrderReading : ℕ → List ℕ → List ListedOperation → Type 0
 IsOrderReading number text items = IsReadWithin text_limit (AreOrderItems text) nodes_of_order number text items
 
-abbrev pub IsOrderFault : ℕ → List ℕ → ReadFault → Type 0
-IsOrderFault number text fault = IsFaultWithin text_limit (AreOrderItems text) nodes_of_order number text fault
+abbrev pub IsOrderReadFault : ℕ → List ℕ → ReadFault → Type 0
+IsOrderReadFault number text fault = IsFaultWithin text_limit (AreOrderItems text) nodes_of_order number text fault
 
 -- lists of terms, which have no limit on bytes
 abbrev pub IsTermsReading : ℕ → List ℕ → List WrittenTerm → Type 0
@@ -98,7 +98,7 @@ IsTermsFault number text fault = IsFault (AreOptionalTerms text) nodes_of_terms 
 
 -- the fault of a text without a limit, by its kind
 abbrev pub IsFaultAs : TextKind → ℕ → List ℕ → ReadFault → Type 0
-IsFaultAs Specification number text fault = IsFault (IsSpecification text) nodes_of_specification number text fault
+IsFaultAs Specification number text fault = IsFault (IsWrittenSpecification text) nodes_of_specification number text fault
 IsFaultAs Types number text fault = IsFault (AreItems text) nodes_of_items number text fault
 IsFaultAs Order number text fault = IsFault (AreOrderItems text) nodes_of_order number text fault
 IsFaultAs Terms number text fault = IsFault (AreOptionalTerms text) nodes_of_terms number text fault

@@ -5,7 +5,7 @@ use Rattle.syntax_trees.specs.WrittenItem.{WrittenItem}
 use Rattle.syntax_trees.specs.WrittenDefinition.{WrittenSpecification}
 use Rattle.sentence_trees.specs.declared.fault.ReadFault.{ReadFault}
 use Rattle.sentence_trees.specs.declared.fault.ReadFault.TheVariants.{NoMemory}
-use Rattle.sentence_trees.specs.Reading.{IsSpecificationReading, IsSpecificationFault, IsTypesReading, IsTypesFault, IsOrderReading, IsOrderFault, IsTermsReading, IsTermsFault}
+use Rattle.sentence_trees.specs.Reading.{IsSpecificationReading, IsSpecificationFault, IsTypesReading, IsTypesFault, IsOrderReading, IsOrderReadFault, IsTermsReading, IsTermsFault}
 
 -- one text is one tree at most, has no fault where it is one, and else one fault at most; but want of memory may come always
 pub record HasOneOutcome {A : Type 0} (reading : ℕ → List ℕ → A → Type 0) (fault : ℕ → List ℕ → ReadFault → Type 0) : Type 0 where
@@ -18,5 +18,5 @@ pub record HasOneOutcome {A : Type 0} (reading : ℕ → List ℕ → A → Type
 pub record TextsHaveOneOutcome : Type 0 where
   pub specification : HasOneOutcome {A = WrittenSpecification} IsSpecificationReading IsSpecificationFault
   pub items : HasOneOutcome {A = List WrittenItem} IsTypesReading IsTypesFault
-  pub order : HasOneOutcome {A = List ListedOperation} IsOrderReading IsOrderFault
+  pub order : HasOneOutcome {A = List ListedOperation} IsOrderReading IsOrderReadFault
   pub terms : HasOneOutcome {A = List WrittenTerm} IsTermsReading IsTermsFault

@@ -3,8 +3,8 @@ use Rattle.std.specs.Prelude.{ℕ, ◌==◌, List, []}
 use Rattle.lotos_lexer.specs.declared.kinds.TheConstants.{COMMA, SORTNAMES, OPNNAMES}
 use Rattle.lotos_lexer.specs.declared.tokens.Token.{Token}
 use Rattle.lotos_rows.specs.declared.renamings.TheConstants as renamings
-use Rattle.lotos_sentences.specs.Words.{Optional, Loosely, Behind}
-use Rattle.lotos_sentences.specs.Renamings.{IsSortPair, IsOperationPair, AreRenames}
+use Rattle.lotos_rows.specs.Words.{Optional, Loosely, Behind}
+use Rattle.lotos_rows.specs.Renamings.{IsSortPair, IsOperationPair, AreRenames}
 use Rattle.tree_building.specs.Meaning.{Meaning, some_pairs, both_pairs}
 use Rattle.sentence_trees.specs.PartSentences.{As, choose}
 use Rattle.sentence_trees.specs.NamesSentences.{FurtherLoosely}

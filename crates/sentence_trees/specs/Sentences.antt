@@ -1,7 +1,7 @@
 -- What each part of the rows is, and what a row has to keep for the rows to have the sentences of the definition by subject.
 use Rattle.std.specs.Prelude.{◌≡◌, ℕ, nat_lt, List, Some}
 use Rattle.ll_engine.specs.Fold.{front_token}
-use Rattle.ll_engine.specs.Values.{Stand, HasValue}
+use Rattle.ll_engine.specs.Values.{StandForTokens, HasValue}
 use Rattle.lotos_lexer.specs.declared.tokens.Token.{Token}
 use Rattle.lotos_rows.specs.declared.terms.TheConstants as terms
 use Rattle.lotos_rows.specs.declared.types.TheConstants as types
@@ -45,7 +45,7 @@ PartMeans text p tokens meaning =
 -- a row keeps what its parts are
 abbrev pub KeepsParts : List ℕ → GrammarRow → Type 0
 KeepsParts text row =
-    (tokens : List Token) (values : List Meaning) (value : Meaning) → Stand kind_of (PartMeans text) row.production.right tokens values →
+    (tokens : List Token) (values : List Meaning) (value : Meaning) → StandForTokens kind_of (PartMeans text) row.production.right tokens values →
     row_means text row.name (front_token is_kept_kind row.production.right tokens) values ≡ Some value →
     PartMeans text row.production.left tokens value
 
@@ -57,5 +57,5 @@ Derived text = HasValue (numbered_row_means text) is_kept_kind kind_of rows
 abbrev pub GivesMeaning : List ℕ → GrammarRow → Type 0
 GivesMeaning text row =
     (tokens : List Token) (values : List Meaning) →
-    Stand kind_of (PartMeans text) row.production.right tokens values →
+    StandForTokens kind_of (PartMeans text) row.production.right tokens values →
     (value : Meaning) × (row_means text row.name (front_token is_kept_kind row.production.right tokens) values ≡ Some value)

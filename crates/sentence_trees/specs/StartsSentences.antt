@@ -3,7 +3,7 @@ use Rattle.std.specs.Prelude.{ℕ, ◌==◌, List, [], ◌∷◌}
 use Rattle.lotos_lexer.specs.declared.tokens.Token.{Token}
 use Rattle.lotos_rows.specs.declared.starts.TheConstants as starts
 use Rattle.lotos_rows.specs.declared.specification.TheConstants as specification
-use Rattle.lotos_sentences.specs.Starts.{IsBehaviourWord, IsSpecification, AreItems, IsOptionalProfile, AreOrderItems, AreOptionalTerms}
+use Rattle.lotos_rows.specs.Starts.{IsBehaviourWord, IsWrittenSpecification, AreItems, IsOptionalProfile, AreOrderItems, AreOptionalTerms}
 use Rattle.tree_building.specs.Meaning.{Meaning, a_specification, some_items, a_word, some_order_items, maybe_profile, some_terms}
 use Rattle.sentence_trees.specs.PartSentences.{As, choose}
 
@@ -16,7 +16,7 @@ specification_part text p tokens meaning =
 
 abbrev pub starts_part : List ℕ → ℕ → List Token → Meaning → Type 0
 starts_part text p tokens meaning =
-    choose (p == starts.SPEC) (As a_specification (IsSpecification text) tokens meaning)
+    choose (p == starts.SPEC) (As a_specification (IsWrittenSpecification text) tokens meaning)
     (choose (p == starts.TYPETEXT) (As some_items (AreItems text) tokens meaning)
     (choose (p == starts.ORDER) (As some_order_items (AreOrderItems text) tokens meaning)
     (choose (p == starts.OPTIONAL_PROFILE) (As maybe_profile (IsOptionalProfile text) tokens meaning)

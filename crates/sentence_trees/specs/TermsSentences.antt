@@ -4,9 +4,9 @@ use Rattle.lotos_base.specs.WrittenTerm.{PlacedName, WrittenTerm}
 use Rattle.lotos_lexer.specs.declared.kinds.TheConstants.{NAME, COMMA, OF}
 use Rattle.lotos_lexer.specs.declared.tokens.Token.{Token}
 use Rattle.lotos_rows.specs.declared.terms.TheConstants as terms
-use Rattle.lotos_sentences.specs.Words.{IsOf, Optional, Many, Behind}
-use Rattle.lotos_sentences.specs.Names.{named, place_of, IsOperationName}
-use Rattle.lotos_sentences.specs.Terms.{IsTerm, IsFactor, AreTerms, AreArguments}
+use Rattle.lotos_rows.specs.Words.{IsOf, Optional, Many, Behind}
+use Rattle.lotos_rows.specs.Names.{named, place_of, IsOperationName}
+use Rattle.lotos_rows.specs.Terms.{IsTerm, IsFactor, AreTerms, AreArguments}
 use Rattle.tree_building.specs.Meaning.{Meaning, PlainStartedTerm, a_term, some_factors, some_names, some_terms}
 use Rattle.sentence_trees.specs.PartSentences.{As, choose}
 

@@ -5,11 +5,11 @@ use Rattle.lotos_lexer.specs.declared.kinds.TheConstants.{COMMA, RENAMEDBY, ACTU
 use Rattle.lotos_lexer.specs.declared.tokens.Token.{Token}
 use Rattle.lotos_rows.specs.declared.types.TheConstants as types
 use Rattle.syntax_trees.specs.WrittenItem.{WrittenPairs, WrittenSections}
-use Rattle.lotos_sentences.specs.Words.{IsOf, Optional, Behind}
-use Rattle.lotos_sentences.specs.Names.{IsName, AreNames, AreLooseNames, IsOperation}
-use Rattle.lotos_sentences.specs.Equations.{AreEquations}
-use Rattle.lotos_sentences.specs.Renamings.{AreRenames}
-use Rattle.lotos_sentences.specs.Types.{AreOperations, no_equations, AreSections, IsTypeBody, IsItem}
+use Rattle.lotos_rows.specs.Words.{IsOf, Optional, Behind}
+use Rattle.lotos_rows.specs.Names.{IsName, AreNames, AreLooseNames, IsWrittenOperation}
+use Rattle.lotos_rows.specs.Equations.{AreEquations}
+use Rattle.lotos_rows.specs.Renamings.{AreRenames}
+use Rattle.lotos_rows.specs.Types.{AreOperations, no_equations, AreSections, IsTypeBody, IsItem}
 use Rattle.tree_building.specs.Meaning.{Meaning, PlainAfterBase, renamed, actualised, extended, an_item, a_body, after_base, some_sections, some_names, declared_operations, an_equation_section, some_named_operations}
 use Rattle.sentence_trees.specs.PartSentences.{As, choose}
 use Rattle.sentence_trees.specs.NamesSentences.{Further}
@@ -39,4 +39,4 @@ types_part text p tokens meaning =
     (choose (p == types.OPERATIONS) (As declared_operations (Optional [] (Behind OPNS (AreOperations text))) tokens meaning)
     (choose (p == types.EQUATIONS) (As an_equation_section (Optional no_equations (Behind EQNS (AreEquations text))) tokens meaning)
     (choose (p == types.OPERATION_LINES) (As declared_operations (AreOperations text) tokens meaning)
-    (As some_named_operations (Further COMMA (IsOperation text)) tokens meaning)))))))))))
+    (As some_named_operations (Further COMMA (IsWrittenOperation text)) tokens meaning)))))))))))

@@ -2,10 +2,11 @@
 use Rattle.std.proofs.Common.{◌≡◌, ◌≢◌, ◌+◌, ◌<◌, ◌%◌, ◌/◌, ℕ, suc, zero, List, [], ◌∷◌, ◌++◌, map, Bool, true, false, ◌||◌, nat_eq, nat_lt, ◌==◌, if◌then◌else◌, Option, Some, None, codes, decimal, slice_get, refl, ap, sym, ◌∙◌, subst, arith, eqb-true, ltb-true}
 use Rattle.std.specs.List.{list_any}
 use Rattle.std.specs.Fmt.{digits, digits_onto, digit_glyph}
+use Rattle.std.proofs.lemmas.Bool.{or_parts}
 use Rattle.lotos_lexer.specs.Bytes.{is_blank}
-use Rattle.term_algebra.specs.Signature.{Signature, Sort, Operation, Form, prefix_form, infix_form}
-use Rattle.term_algebra.specs.Twins.{has_twin}
-use Rattle.term_algebra.specs.Term.{Term, variable, node, Terms, no_terms, term_then}
+use Rattle.lotos_base.specs.Signature.{Signature, Sort, Operation, Form, prefix_form, infix_form}
+use Rattle.lotos_base.specs.Twins.{has_twin}
+use Rattle.lotos_base.specs.Term.{Term, variable, node, Terms, no_terms, term_then}
 use Rattle.behaviour_semantics.specs.Label.{Label, inner_event, gate_event, exit_event}
 use Rattle.behaviour_semantics.specs.WellFormed.{Every}
 use Rattle.printed_texts.specs.Brackets.{begins_with, spaced, round, bracketed, after_commas, commas}
@@ -231,10 +232,6 @@ greater_is byte e = by (32 == byte) ((10 == byte) || (13 == byte)) (61 == byte) 
     by false false false true q e = eqb-true 62 byte q
     by false false false false q e = absurd (cc e)
 
-either_false : (a b : Bool) → (a || b) ≡ false → (a ≡ false) × (b ≡ false)
-either_false true b e = absurd (cc e)
-either_false false b e = (refl, e)
-
 record IsInk (kind : Kind) : Type 0 where
   no_break : kind ≡ break → ⊥
   no_blank : kind ≡ blank → ⊥
@@ -260,7 +257,7 @@ ink_arrow other h = refl
 stay : (bytes : List ℕ) → list_any is_blank bytes ≡ false → run nothing bytes ≡ nothing
 stay [] h = refl
 stay (byte ∷ bytes) h =
-    let parts : (is_blank byte ≡ false) × (list_any is_blank bytes ≡ false) = either_false (is_blank byte) (list_any is_blank bytes) h in
+    let parts : (is_blank byte ≡ false) × (list_any is_blank bytes ≡ false) = or_parts (is_blank byte) (list_any is_blank bytes) h in
     ap (λ (it : Seen). run it bytes) (ink_nothing (kind_of byte) (ink byte parts.0)) ∙ stay bytes parts.1
 
 calm_stay : (bytes : List ℕ) → list_any is_blank bytes ≡ false → is_calm (run nothing bytes) ≡ true
@@ -269,7 +266,7 @@ calm_stay bytes h = ap is_calm (stay bytes h)
 -- behind ` =>`, where more follows
 behind_arrow : (byte : ℕ) (bytes : List ℕ) → list_any is_blank (byte ∷ bytes) ≡ false → is_calm (run after_arrow (byte ∷ bytes)) ≡ true
 behind_arrow byte bytes h =
-    let parts : (is_blank byte ≡ false) × (list_any is_blank bytes ≡ false) = either_false (is_blank byte) (list_any is_blank bytes) h in
+    let parts : (is_blank byte ≡ false) × (list_any is_blank bytes ≡ false) = or_parts (is_blank byte) (list_any is_blank bytes) h in
     ap (λ (it : Seen). is_calm (run it bytes)) (ink_arrow (kind_of byte) (ink byte parts.0)) ∙ calm_stay bytes parts.1
 
 -- behind ` =`
@@ -280,7 +277,7 @@ behind_equals first (byte ∷ bytes) e h n =
     by (kind_of byte) refl
   where
     parts : (is_blank byte ≡ false) × (list_any is_blank bytes ≡ false)
-    parts = either_false (is_blank byte) (list_any is_blank bytes) h
+    parts = or_parts (is_blank byte) (list_any is_blank bytes) h
 
     more : (rest : List ℕ) → list_any is_blank rest ≡ false → first ∷ byte ∷ rest ≢ codes "=>" → 62 ≡ byte
         → is_calm (run after_arrow rest) ≡ true
@@ -300,7 +297,7 @@ behind_blank [] h n = refl
 behind_blank (byte ∷ bytes) h n = by (kind_of byte) refl
   where
     parts : (is_blank byte ≡ false) × (list_any is_blank bytes ≡ false)
-    parts = either_false (is_blank byte) (list_any is_blank bytes) h
+    parts = or_parts (is_blank byte) (list_any is_blank bytes) h
 
     by : (kind : Kind) → kind_of byte ≡ kind → is_calm (run (see after_blank kind) bytes) ≡ true
     by break q = absurd ((ink byte parts.0).no_break q)

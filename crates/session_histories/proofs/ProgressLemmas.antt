@@ -1,7 +1,8 @@
 -- Sessions that are stepped and undone.
 use Rattle.std.proofs.Common.{◌≡◌, ℕ, ◌+◌, List, [], ◌∷◌, ◌++◌, reverse, length, refl, ap, sym, ◌∙◌, subst, length-append}
 use Rattle.std.proofs.lemmas.List.{reverse-append, reverse-reverse}
-use Rattle.term_algebra.specs.Term.{Term}
+use Rattle.list_laws.proofs.Pieces.{same_heads, same_tails}
+use Rattle.lotos_base.specs.Term.{Term}
 use Rattle.behaviour_semantics.specs.Label.{Label}
 use Rattle.behaviour_semantics.specs.Run.{at_start, one_move}
 use Rattle.session_histories.specs.Session.{SessionBasis, Item, Situation, PastStep, Progress, first_of, first_situation, stepped, HasUndone}
@@ -10,21 +11,15 @@ use Rattle.session_histories.specs.SessionLaws.{LeadsBy, HaveOneStart}
 
 -- ---- One more at the end of a list
 
-heads : {X : Type 0} (x y : X) (xs ys : List X) → x ∷ xs ≡ y ∷ ys → x ≡ y
-heads x y xs ys e = cc e
-
-tails : {X : Type 0} (x y : X) (xs ys : List X) → x ∷ xs ≡ y ∷ ys → xs ≡ ys
-tails x y xs ys e = cc e
-
 last_first : {X : Type 0} (xs ys : List X) (x y : X) → xs ++ (x ∷ []) ≡ ys ++ (y ∷ []) → x ∷ reverse xs ≡ y ∷ reverse ys
 last_first xs ys x y e = sym (reverse-append xs (x ∷ [])) ∙ (ap reverse e ∙ reverse-append ys (y ∷ []))
 
 pub same_last : {X : Type 0} (xs ys : List X) (x y : X) → xs ++ (x ∷ []) ≡ ys ++ (y ∷ []) → x ≡ y
-same_last xs ys x y e = heads x y (reverse xs) (reverse ys) (last_first xs ys x y e)
+same_last xs ys x y e = same_heads x y (reverse xs) (reverse ys) (last_first xs ys x y e)
 
 pub same_before : {X : Type 0} (xs ys : List X) (x y : X) → xs ++ (x ∷ []) ≡ ys ++ (y ∷ []) → xs ≡ ys
 same_before xs ys x y e =
-    sym (reverse-reverse xs) ∙ (ap reverse (tails x y (reverse xs) (reverse ys) (last_first xs ys x y e)) ∙ reverse-reverse ys)
+    sym (reverse-reverse xs) ∙ (ap reverse (same_tails x y (reverse xs) (reverse ys) (last_first xs ys x y e)) ∙ reverse-reverse ys)
 
 -- ---- Steps that lead on
 

@@ -2,17 +2,19 @@
 use Rattle.std.proofs.Common.{◌≡◌, ℕ, zero, suc, List, [], ◌∷◌, map, length, Bool, true, false, nat_eq, if◌then◌else◌, slice_get, Option, None, Some, refl, ap, sym, ◌∙◌, subst, arith, eqb-true, eq-eqb}
 use Rattle.std.specs.Prelude.{◌↔◌}
 use Rattle.std.specs.Option.{option_map}
-use Rattle.term_algebra.specs.Signature.{Signature}
-use Rattle.term_algebra.specs.Term.{Term}
-use Rattle.term_algebra.specs.Tests.{term_eq}
-use Rattle.term_algebra.specs.Sorting.{HasSort, IsGroundOf, sort_of}
-use Rattle.term_algebra.specs.Equation.{Data}
-use Rattle.term_algebra.specs.Substitution.{substituted}
-use Rattle.term_algebra.specs.Canon.{IsCanon}
-use Rattle.term_algebra.proofs.CanonLemmas.{canon_tells}
-use Rattle.term_algebra.proofs.SortLemmas.{sort_of_sorted}
-use Rattle.term_algebra.proofs.SubstitutionLemmas.{ground_instance}
-use Rattle.term_algebra.proofs.TestLemmas.{Decides-term_eq}
+use Rattle.behaviour_semantics.proofs.FaultParts.{first_none, none_first}
+pub use Rattle.behaviour_semantics.proofs.SupplyLemmas.{length-values as as_many}
+use Rattle.lotos_base.specs.Signature.{Signature}
+use Rattle.lotos_base.specs.Term.{Term}
+use Rattle.lotos_base.specs.Tests.{term_eq}
+use Rattle.lotos_base.specs.Sorting.{HasSort, IsGroundOf, sort_of}
+use Rattle.lotos_base.specs.Equation.{Data}
+use Rattle.lotos_base.specs.Substitution.{substituted}
+use Rattle.lotos_base.specs.Canon.{IsCanon}
+use Rattle.lotos_base.proofs.CanonLemmas.{canon_tells}
+use Rattle.lotos_base.proofs.SortLemmas.{sort_of_sorted}
+use Rattle.lotos_base.proofs.SubstitutionLemmas.{ground_instance}
+use Rattle.lotos_base.proofs.TestLemmas.{Decides-term_eq}
 use Rattle.behaviour_semantics.specs.Behaviour.{Test}
 use Rattle.behaviour_semantics.specs.Derives.{leaves_in}
 use Rattle.behaviour_semantics.specs.DraftOrder.{IsDraftTest}
@@ -23,19 +25,11 @@ use Rattle.behaviour_semantics.specs.Solving.{Entry, test_in}
 use Rattle.behaviour_semantics.specs.SolvingLaws.{IsTermOver}
 use Rattle.behaviour_semantics.specs.WellFormed.{Every}
 use Rattle.behaviour_semantics.proofs.OptionLemmas.{some_value}
-use Rattle.event_offers.specs.Instances.{unmet_among}
+use Rattle.printed_texts.specs.HandedOn.{unmet_among}
 use Rattle.session_histories.specs.Session.{SessionBasis}
 use Rattle.session_histories.specs.Refusal.{value_count, value_sort, unmet, count_refusal, sort_refusal, condition_refusal, value_refusal}
 
 -- ---- Of two refusals none is there
-
-pub neither : {X : Type 0} (one other : Option X) → first_of_two one other ≡ None → (one ≡ None) × (other ≡ None)
-neither (Some x) other e = absurd (cc e)
-neither None other e = (refl, e)
-
-pub none_of_two : {X : Type 0} (one other : Option X) → one ≡ None → other ≡ None → first_of_two one other ≡ None
-none_of_two (Some x) other e k = absurd (cc e)
-none_of_two None other e k = k
 
 unmapped : {X Y : Type 0} (f : X → Y) (o : Option X) → option_map f o ≡ None → o ≡ None
 unmapped f (Some x) e = absurd (cc e)
@@ -79,9 +73,9 @@ pub free : (basis : SessionBasis) (number count : ℕ) (found : Option Entry) (v
     → IsFree basis found values
 free basis number count None values e = absurd (cc e)
 free basis number count (Some entry) values e =
-    let parts : _ = neither (count_refusal number count (Some entry) (length values))
+    let parts : _ = first_none (count_refusal number count (Some entry) (length values))
     (value_refusal basis.data_.signature basis.canon (Some entry) values) e in
-    let inner : _ = neither (sort_refusal basis.data_.signature 0 entry.variables values)
+    let inner : _ = first_none (sort_refusal basis.data_.signature 0 entry.variables values)
     (condition_refusal basis.canon entry values) parts.1 in
     record {
       entry = entry;
@@ -98,10 +92,10 @@ freed basis number count found values f =
     subst (λ (it : Option Entry). first_of_two (count_refusal number count it (length values))
     (value_refusal basis.data_.signature basis.canon it values) ≡ None)
     (sym f.is)
-    (none_of_two (count_refusal number count (Some f.entry) (length values))
+    (none_first (count_refusal number count (Some f.entry) (length values))
     (value_refusal basis.data_.signature basis.canon (Some f.entry) values)
     (free_of_count number count f.entry (length values) f.counted)
-    (none_of_two (sort_refusal basis.data_.signature 0 f.entry.variables values) (condition_refusal basis.canon f.entry values)
+    (none_first (sort_refusal basis.data_.signature 0 f.entry.variables values) (condition_refusal basis.canon f.entry values)
     f.sorted f.met))
 
 -- ---- Sorts of values
@@ -141,13 +135,6 @@ fit_sorts signature variable (sort ∷ sorts) (value ∷ values) h =
     subst (λ (b : Bool). (if b then sort_refusal signature (suc variable) sorts values else Some (value_sort variable)) ≡ None)
     (sym (same_sorts signature value sort sort h.0 ∙ eq-eqb sort sort refl))
     (fit_sorts signature (suc variable) sorts values h.1)
-
-pub as_many : (signature : Signature) (sorts : List ℕ) (values : List Term) → AreValues signature sorts values
-    → length values ≡ length sorts
-as_many signature [] [] h = refl
-as_many signature [] (value ∷ values) h = absurd h
-as_many signature (sort ∷ sorts) [] h = absurd h
-as_many signature (sort ∷ sorts) (value ∷ values) h = ap suc (as_many signature sorts values h.1)
 
 -- ---- Conditions
 

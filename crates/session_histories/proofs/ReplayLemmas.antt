@@ -1,7 +1,8 @@
 -- What lines of traces come to: one thing at most, and lawful sessions.
 use Rattle.std.proofs.Common.{◌≡◌, ◌≢◌, ◌⊎◌, inl, inr, ◌+◌, ℕ, suc, List, [], ◌∷◌, length, Bool, true, false, Option, None, Some, bytes_eq, refl, ap, sym, ◌∙◌, subst}
-use Rattle.term_algebra.specs.Signature.{Signature}
-use Rattle.term_algebra.specs.Term.{Term}
+use Rattle.list_laws.proofs.Options.{none_and_some}
+use Rattle.lotos_base.specs.Signature.{Signature}
+use Rattle.lotos_base.specs.Term.{Term}
 use Rattle.lotos_base.specs.WrittenTerm.{WrittenTerm}
 use Rattle.sentence_trees.specs.Reading.{IsTermsReading, IsTermsFault}
 use Rattle.sentence_trees.specs.ReadingLaws.{TextsHaveOneOutcome}
@@ -17,7 +18,7 @@ use Rattle.behaviour_semantics.proofs.OptionLemmas.{some_value}
 use Rattle.session_histories.specs.Session.{SessionBasis, Situation, Progress, opened, first_situation}
 use Rattle.session_histories.specs.Refusal.{StepRefusal, entry_numbered, number_refusal, count_refusal, condition_refusal}
 use Rattle.session_histories.specs.Lawful.{IsSituation, IsLawful, HasStepped}
-use Rattle.session_histories.specs.Replay.{LineRefusal, bad_line, step_refused, label_differs, ReplayRefusal, Outcome, goes_on, stops, AreRead, IsOneMisread, shown_label, LineComesTo, has_no_form, is_not_read, is_miscounted, is_misread, is_unmet, is_mislabelled, is_replayed, LinesComeTo, all_done, one_stops, one_goes_on, ComeBehind, TraceComesTo, ReplayIs}
+use Rattle.session_histories.specs.Replay.{LineRefusal, bad_line, step_refused, label_differs, ReplayRefusal, LinesOutcome, goes_on, stops, AreRead, IsOneMisread, shown_label, LineComesTo, has_no_form, is_not_read, is_miscounted, is_misread, is_unmet, is_mislabelled, is_replayed, LinesComeTo, all_done, one_stops, one_goes_on, ComeBehind, TraceComesTo, ReplayIs}
 use Rattle.session_histories.specs.SessionLaws.{IsStateOver, HaveOneStart}
 use Rattle.session_histories.specs.StepLaws.{StepsAreExact}
 use Rattle.session_histories.specs.TraceLine.{StepLine, step_line, lines_of}
@@ -28,15 +29,15 @@ use Rattle.session_histories.proofs.StepLemmas.{met_free}
 
 -- ---- Questions in turn: each stops the line, or gives one thing to go on with
 
-abbrev Turn : {A : Type 0} → (LineRefusal → Type 0) → (A → Type 0) → (A → Outcome LineRefusal → Type 0) → Outcome LineRefusal → Type 0
+abbrev Turn : {A : Type 0} → (LineRefusal → Type 0) → (A → Type 0) → (A → LinesOutcome LineRefusal → Type 0) → LinesOutcome LineRefusal → Type 0
 Turn {A} Stops Goes Next outcome =
     ((why : LineRefusal) × Stops why × (outcome ≡ stops why)) ⊎ ((a : A) × Goes a × Next a outcome)
 
-turn_once : {A : Type 0} (Stops : LineRefusal → Type 0) (Goes : A → Type 0) (Next : A → Outcome LineRefusal → Type 0)
+turn_once : {A : Type 0} (Stops : LineRefusal → Type 0) (Goes : A → Type 0) (Next : A → LinesOutcome LineRefusal → Type 0)
     → ((why other : LineRefusal) → Stops why → Stops other → why ≡ other) → ((why : LineRefusal) (a : A) → Stops why → Goes a → ⊥)
     → ((a b : A) → Goes a → Goes b → a ≡ b)
-    → ((a : A) (one other : Outcome LineRefusal) → Goes a → Next a one → Next a other → one ≡ other)
-    → (one other : Outcome LineRefusal) → Turn Stops Goes Next one → Turn Stops Goes Next other → one ≡ other
+    → ((a : A) (one other : LinesOutcome LineRefusal) → Goes a → Next a one → Next a other → one ≡ other)
+    → (one other : LinesOutcome LineRefusal) → Turn Stops Goes Next one → Turn Stops Goes Next other → one ≡ other
 turn_once Stops Goes Next one_why apart one_way next one other (inl h) (inl k) =
     h.2 ∙ (ap (λ (why : LineRefusal). stops why) (one_why h.0 k.0 h.1 k.1) ∙ sym k.2)
 turn_once Stops Goes Next one_why apart one_way next one other (inl h) (inr k) = absurd (apart h.0 k.0 h.1 k.1)
@@ -59,7 +60,7 @@ read_count signature (sort ∷ sorts) (term ∷ terms) (value ∷ values) h =
 same_answer : (one other : SortedTerm) → answered one ≡ answered other → one ≡ other
 same_answer one other e = cc e
 
-not_refused_too : (one : SortedTerm) (refusal : reading.Refusal) → answered one ≡ reading.refused refusal → ⊥
+not_refused_too : (one : SortedTerm) (refusal : reading.ReadingRefusal) → answered one ≡ reading.refused refusal → ⊥
 not_refused_too one refusal e = cc e
 
 module _ (readings : ReadingComesToOneThing) (signature : Signature) where
@@ -99,7 +100,7 @@ record Taken : Type 0 where
   new : Progress
 
 module _ (basis : SessionBasis) (progress : Progress) (line : List ℕ) where
-  abbrev Labelled : StepLine → Taken → Outcome LineRefusal → Type 0
+  abbrev Labelled : StepLine → Taken → LinesOutcome LineRefusal → Type 0
   Labelled said taken outcome =
       ((said.label ≢ shown_label basis taken.label) × (outcome ≡ stops (label_differs said.label (shown_label basis taken.label))))
       ⊎ ((said.label ≡ shown_label basis taken.label) × (outcome ≡ goes_on taken.new))
@@ -111,13 +112,13 @@ module _ (basis : SessionBasis) (progress : Progress) (line : List ℕ) where
   abbrev IsTaken : StepLine → List Term → Taken → Type 0
   IsTaken said values taken = HasStepped basis progress said.number values taken.label taken.new
 
-  abbrev Stepping : StepLine → Entry → List Term → Outcome LineRefusal → Type 0
+  abbrev Stepping : StepLine → Entry → List Term → LinesOutcome LineRefusal → Type 0
   Stepping said entry values = Turn (IsUnmet entry values) (IsTaken said values) (Labelled said)
 
   abbrev IsMisread : List WrittenTerm → Entry → LineRefusal → Type 0
   IsMisread terms entry why = IsOneMisread basis.data_.signature entry.variables terms × (why ≡ bad_line)
 
-  abbrev Reading : StepLine → List WrittenTerm → Entry → Outcome LineRefusal → Type 0
+  abbrev Reading : StepLine → List WrittenTerm → Entry → LinesOutcome LineRefusal → Type 0
   Reading said terms entry =
       Turn (IsMisread terms entry) (AreRead basis.data_.signature entry.variables terms) (Stepping said entry)
 
@@ -130,22 +131,22 @@ module _ (basis : SessionBasis) (progress : Progress) (line : List ℕ) where
   IsFound said terms entry =
       (entry_numbered progress.situation.menu said.number ≡ Some entry) × (length terms ≡ length entry.variables)
 
-  abbrev Counting : StepLine → List WrittenTerm → Outcome LineRefusal → Type 0
+  abbrev Counting : StepLine → List WrittenTerm → LinesOutcome LineRefusal → Type 0
   Counting said terms = Turn (IsMiscounted said terms) (IsFound said terms) (Reading said terms)
 
   abbrev IsUnread : StepLine → LineRefusal → Type 0
   IsUnread said why = (fault : ReadFault) × IsTermsFault 0 said.terms fault × (fault ≢ NoMemory) × (why ≡ bad_line)
 
-  abbrev Parsing : StepLine → Outcome LineRefusal → Type 0
+  abbrev Parsing : StepLine → LinesOutcome LineRefusal → Type 0
   Parsing said = Turn (IsUnread said) (IsTermsReading 0 said.terms) (Counting said)
 
   abbrev IsFormless : LineRefusal → Type 0
   IsFormless why = (step_line line ≡ None) × (why ≡ bad_line)
 
-  abbrev Forming : Outcome LineRefusal → Type 0
+  abbrev Forming : LinesOutcome LineRefusal → Type 0
   Forming = Turn IsFormless (λ (said : StepLine). step_line line ≡ Some said) Parsing
 
-  in_turn : (outcome : Outcome LineRefusal) → LineComesTo basis progress line outcome → Forming outcome
+  in_turn : (outcome : LinesOutcome LineRefusal) → LineComesTo basis progress line outcome → Forming outcome
   in_turn _ (has_no_form e) = inl (bad_line, (e, refl), refl)
   in_turn _ (is_not_read said fault e f n) = inr (said, e, inl (bad_line, (fault, f, n, refl), refl))
   in_turn _ (is_miscounted said terms refusal is e) =
@@ -195,7 +196,7 @@ module _ (basis : SessionBasis) (progress : Progress) (line : List ℕ) where
         ),
       )
 
-  labelled_once : (said : StepLine) (taken : Taken) (one other : Outcome LineRefusal) → Labelled said taken one
+  labelled_once : (said : StepLine) (taken : Taken) (one other : LinesOutcome LineRefusal) → Labelled said taken one
       → Labelled said taken other → one ≡ other
   labelled_once said taken one other (inl h) (inl k) = h.1 ∙ sym k.1
   labelled_once said taken one other (inl h) (inr k) = absurd (h.0 k.0)
@@ -222,25 +223,22 @@ module _ (basis : SessionBasis) (progress : Progress) (line : List ℕ) where
       subst (λ (it : Entry). condition_refusal basis.canon it values ≡ None) same
       (subst (λ (it : List Term). condition_refusal basis.canon free.entry it ≡ None) h.valued free.met)
 
-no_some : {X : Type 0} (o : Option X) (x : X) → o ≡ None → o ≡ Some x → ⊥
-no_some o x none some = cc (none, some)
-
 module _ (texts : TextsHaveOneOutcome) (readings : ReadingComesToOneThing) (steps : StepsAreExact) (basis : SessionBasis) where
   module _ (progress : Progress) (line : List ℕ) (ready : IsReady basis progress) where
     stepping_once : (said : StepLine) (entry : Entry) (values : List Term)
-        → entry_numbered progress.situation.menu said.number ≡ Some entry → (one other : Outcome LineRefusal)
+        → entry_numbered progress.situation.menu said.number ≡ Some entry → (one other : LinesOutcome LineRefusal)
         → Stepping basis progress line said entry values one → Stepping basis progress line said entry values other → one ≡ other
     stepping_once said entry values listed one other h k =
         turn_once (IsUnmet basis progress line entry values) (IsTaken basis progress line said values)
         (Labelled basis progress line said)
         (λ why other h k. h.2 ∙ (ap (λ (it : StepRefusal). step_refused it) (some_value (sym h.1 ∙ k.1)) ∙ sym k.2))
-        (λ why taken h k. no_some _ h.0 (taken_met basis progress line ready said entry values taken listed k) h.1)
+        (λ why taken h k. none_and_some _ h.0 (taken_met basis progress line ready said entry values taken listed k) h.1)
         (λ a b h k. let same : _ = steps.once basis progress a.new b.new said.number values a.label b.label h k in
         λ i. record { label = same.1 i; new = same.0 i })
         (λ a one other h. labelled_once basis progress line said a one other) one other h k
 
     reading_once : (said : StepLine) (terms : List WrittenTerm) (entry : Entry)
-        → entry_numbered progress.situation.menu said.number ≡ Some entry → (one other : Outcome LineRefusal)
+        → entry_numbered progress.situation.menu said.number ≡ Some entry → (one other : LinesOutcome LineRefusal)
         → Reading basis progress line said terms entry one → Reading basis progress line said terms entry other → one ≡ other
     reading_once said terms entry listed one other h k =
         turn_once (IsMisread basis progress line terms entry) (AreRead basis.data_.signature entry.variables terms)
@@ -250,17 +248,17 @@ module _ (texts : TextsHaveOneOutcome) (readings : ReadingComesToOneThing) (step
         (λ a b h k. read_once readings basis.data_.signature entry.variables terms a b h k)
         (λ values one other h. stepping_once said entry values listed one other) one other h k
 
-    counting_once : (said : StepLine) (terms : List WrittenTerm) (one other : Outcome LineRefusal)
+    counting_once : (said : StepLine) (terms : List WrittenTerm) (one other : LinesOutcome LineRefusal)
         → Counting basis progress line said terms one → Counting basis progress line said terms other → one ≡ other
     counting_once said terms one other h k =
         turn_once (IsMiscounted basis progress line said terms) (IsFound basis progress line said terms)
         (Reading basis progress line said terms)
         (λ why other h k. h.2 ∙ (ap (λ (it : StepRefusal). step_refused it) (some_value (sym h.1 ∙ k.1)) ∙ sym k.2))
-        (λ why entry h k. no_some _ h.0 (found_free basis progress line said terms entry k) h.1)
+        (λ why entry h k. none_and_some _ h.0 (found_free basis progress line said terms entry k) h.1)
         (λ a b h k. some_value (sym h.0 ∙ k.0))
         (λ entry one other h. reading_once said terms entry h.0 one other) one other h k
 
-    parsing_once : (said : StepLine) (one other : Outcome LineRefusal) → Parsing basis progress line said one
+    parsing_once : (said : StepLine) (one other : LinesOutcome LineRefusal) → Parsing basis progress line said one
         → Parsing basis progress line said other → one ≡ other
     parsing_once said one other h k =
         turn_once (IsUnread basis progress line said) (IsTermsReading 0 said.terms) (Counting basis progress line said)
@@ -269,12 +267,12 @@ module _ (texts : TextsHaveOneOutcome) (readings : ReadingComesToOneThing) (step
         (λ a b h k. texts.terms.one_tree 0 said.terms a b h k)
         (λ terms one other h. counting_once said terms one other) one other h k
 
-    pub line_once : (one other : Outcome LineRefusal) → LineComesTo basis progress line one → LineComesTo basis progress line other
+    pub line_once : (one other : LinesOutcome LineRefusal) → LineComesTo basis progress line one → LineComesTo basis progress line other
         → one ≡ other
     line_once one other h k =
         turn_once (IsFormless basis progress line) (λ (said : StepLine). step_line line ≡ Some said) (Parsing basis progress line)
         (λ why other h k. h.1 ∙ sym k.1)
-        (λ why said h k. no_some _ said h.0 k)
+        (λ why said h k. none_and_some _ said h.0 k)
         (λ a b h k. some_value (sym h ∙ k))
         (λ said one other h. parsing_once said one other) one other (in_turn basis progress line one h)
         (in_turn basis progress line other k)
@@ -310,7 +308,7 @@ ready_again targets basis old new ready step =
 same_stop : (why other : LineRefusal) → stops why ≡ stops other → why ≡ other
 same_stop why other e = cc e
 
-abbrev on : Progress → Outcome LineRefusal
+abbrev on : Progress → LinesOutcome LineRefusal
 on progress = goes_on progress
 
 same_way : (one other : Progress) → on one ≡ on other → one ≡ other
@@ -321,7 +319,7 @@ no_way one why e = cc e
 
 module _ (texts : TextsHaveOneOutcome) (readings : ReadingComesToOneThing) (steps : StepsAreExact) (targets : TargetsAreWellFormed)
     (basis : SessionBasis) where
-  lines_once : (number : ℕ) (progress : Progress) (lines : List (List ℕ)) (one other : Outcome ReplayRefusal) → IsReady basis progress
+  lines_once : (number : ℕ) (progress : Progress) (lines : List (List ℕ)) (one other : LinesOutcome ReplayRefusal) → IsReady basis progress
       → LinesComeTo basis number progress lines one → LinesComeTo basis number progress lines other → one ≡ other
   lines_once number progress [] _ _ ready all_done all_done = refl
   lines_once number progress (line ∷ lines) _ _ ready (one_stops {why = why} h) (one_stops {why = other} k) =
@@ -338,19 +336,19 @@ module _ (texts : TextsHaveOneOutcome) (readings : ReadingComesToOneThing) (step
       (ready_again targets basis progress next ready (went_on basis progress next line h)) rest
       (subst (λ (it : Progress). LinesComeTo basis (number + 1) it lines other) (sym same) more)
 
-  behind_once : (first : Situation) (heading : Bool) (lines : List (List ℕ)) (one other : Outcome ReplayRefusal)
+  behind_once : (first : Situation) (heading : Bool) (lines : List (List ℕ)) (one other : LinesOutcome ReplayRefusal)
       → IsReady basis (opened first) → ComeBehind basis first heading lines one → ComeBehind basis first heading lines other
       → one ≡ other
   behind_once first true lines one other ready h k = lines_once 2 (opened first) lines one other ready h k
   behind_once first false lines one other ready h k = h ∙ sym k
 
-  trace_once : (first : Situation) (lines : List (List ℕ)) (one other : Outcome ReplayRefusal) → IsReady basis (opened first)
+  trace_once : (first : Situation) (lines : List (List ℕ)) (one other : LinesOutcome ReplayRefusal) → IsReady basis (opened first)
       → TraceComesTo basis first lines one → TraceComesTo basis first lines other → one ≡ other
   trace_once first [] one other ready h k = h ∙ sym k
   trace_once first (line ∷ lines) one other ready h k =
       behind_once first (bytes_eq line trace_heading) lines one other ready h k
 
-  pub replay_once : (first : Situation) (text : List ℕ) (one other : Outcome ReplayRefusal) → IsStateOver basis first.state
+  pub replay_once : (first : Situation) (text : List ℕ) (one other : LinesOutcome ReplayRefusal) → IsStateOver basis first.state
       → IsSituation basis first → ReplayIs basis first text one → ReplayIs basis first text other → one ≡ other
   replay_once first text one other over menu h k =
       trace_once first (lines_of text) one other (record { over = over; menu = menu }) h k

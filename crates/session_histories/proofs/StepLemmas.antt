@@ -1,13 +1,14 @@
 -- Which steps a session can take.
 use Rattle.std.proofs.Common.{◌≡◌, ℕ, zero, suc, List, [], ◌∷◌, map, None, Some, refl, ap, ap₂, sym, ◌∙◌, subst}
-use Rattle.term_algebra.specs.Term.{Term}
-use Rattle.term_algebra.specs.Equation.{Data}
-use Rattle.term_algebra.specs.Substitution.{substituted}
-use Rattle.term_algebra.specs.Canon.{IsCanon}
-use Rattle.term_algebra.proofs.CanonLemmas.{canon_ground, canon_equal}
-use Rattle.term_algebra.proofs.EqualityLemmas.{equal_back}
+use Rattle.behaviour_semantics.proofs.SupplyLemmas.{length-values}
+use Rattle.lotos_base.specs.Term.{Term}
+use Rattle.lotos_base.specs.Equation.{Data}
+use Rattle.lotos_base.specs.Substitution.{substituted}
+use Rattle.lotos_base.specs.Canon.{IsCanon}
+use Rattle.lotos_base.proofs.CanonLemmas.{canon_ground, canon_equal}
+use Rattle.lotos_base.proofs.EqualityLemmas.{equal_back}
 use Rattle.behaviour_semantics.specs.Behaviour.{Behaviour, Process}
-use Rattle.behaviour_semantics.specs.Derives.{Derives, Keeps, leaves_in}
+use Rattle.behaviour_semantics.specs.Derives.{Derives, DerivesCanonically, leaves_in}
 use Rattle.behaviour_semantics.specs.Draft.{Draft, draft_of}
 use Rattle.behaviour_semantics.specs.DraftOrderLaws.{IsSolvedFrom}
 use Rattle.behaviour_semantics.specs.EqualLeavesLaws.{EqualLeavesGiveLikeMoves, LikeMove}
@@ -24,13 +25,13 @@ use Rattle.behaviour_semantics.proofs.DraftFineness.{FineDraft, fine_draft}
 use Rattle.behaviour_semantics.proofs.MenuLemmas.{same_members}
 use Rattle.behaviour_semantics.proofs.OptionLemmas.{some_value}
 use Rattle.behaviour_semantics.proofs.SolvingAnyDraft.{solving_any}
-use Rattle.event_offers.specs.Instances.{canonical_derivation}
+use Rattle.printed_texts.specs.HandedOn.{canonical_derivation}
 use Rattle.session_histories.specs.Session.{SessionBasis, Item, Situation, Progress, stepped}
 use Rattle.session_histories.specs.Refusal.{entry_numbered, step_refusal}
 use Rattle.session_histories.specs.Lawful.{IsSituation, IsLawfulItem, HasStepped}
 use Rattle.session_histories.specs.SessionLaws.{IsStateOver}
 use Rattle.session_histories.specs.StepLaws.{AreGroundTerms, HasItem}
-use Rattle.session_histories.proofs.RefusalLemmas.{IsFree, free, freed, sorts_fit, fit_sorts, as_many, none_unmet, condition_free, free_of_conditions}
+use Rattle.session_histories.proofs.RefusalLemmas.{IsFree, free, freed, sorts_fit, fit_sorts, none_unmet, condition_free, free_of_conditions}
 
 -- ---- Entries of a menu
 
@@ -74,7 +75,7 @@ met_free basis before over menu number values entry listed h =
     record {
       entry = entry;
       is = listed;
-      counted = as_many basis.data_.signature entry.variables values h.sorted;
+      counted = length-values basis.data_.signature entry.variables values h.sorted;
       sorted = fit_sorts basis.data_.signature 0 entry.variables values h.sorted;
       met = free_of_conditions basis.canon entry values ((none_unmet basis.data_ basis.canon over.is_canon entry.variables values h.sorted
           entry.leaves entry.conditions solved.1.as_draft.conditions solved.1.over_left solved.1.over_right).1 h.met);
@@ -148,9 +149,9 @@ stepped_once determined menu_once basis old new other number values label anothe
     some_value (sym h.lawful.listed ∙ (ap (entry_numbered old.situation.menu) numbers ∙ k.lawful.listed)) in
     let derivations : h.item.derivation ≡ k.item.derivation =
     h.lawful.derivation ∙ (ap₂ (canonical_derivation basis.canon) entries given ∙ sym k.lawful.derivation) in
-    let keeps : Keeps basis.data_ basis.canon basis.specification.processes old.situation.state h.item.derivation k.item.label
+    let keeps : DerivesCanonically basis.data_ basis.canon basis.specification.processes old.situation.state h.item.derivation k.item.label
     k.next.state = subst
-    (λ (it : Derivation). Keeps basis.data_ basis.canon basis.specification.processes old.situation.state it k.item.label k.next.state)
+    (λ (it : Derivation). DerivesCanonically basis.data_ basis.canon basis.specification.processes old.situation.state it k.item.label k.next.state)
     (sym derivations) k.lawful.keeps in
     let move : SameMove basis.data_ basis.canon basis.specification.processes old.situation.state h.item.derivation h.item.label
     k.item.label h.next.state k.next.state h.lawful.keeps keeps =

@@ -5,8 +5,9 @@ use Rattle.std.specs.Char.{is_ascii_digit}
 use Rattle.std.specs.Str.Parse.{digits_value}
 use Rattle.std.proofs.lemmas.Fmt.{decimal_by_steps, decimal_is_IsNumeral, decimal_digit, decimal_nonempty, first_decimal, length-decimal-le}
 use Rattle.std.proofs.lemmas.List.Folds.{list_any-append, list_all-append}
-use Rattle.term_algebra.specs.Signature.{Signature}
-use Rattle.term_algebra.specs.Term.{Term}
+use Rattle.std.proofs.lemmas.Bool.{and_from, or_right, and_parts}
+use Rattle.lotos_base.specs.Signature.{Signature}
+use Rattle.lotos_base.specs.Term.{Term}
 use Rattle.behaviour_semantics.specs.Label.{Label}
 use Rattle.behaviour_semantics.specs.WellFormed.{Every}
 use Rattle.printed_texts.specs.Brackets.{commas}
@@ -82,36 +83,25 @@ arrow_at seen (byte ∷ text) label h =
 
 -- ---- Numbers
 
-both : (a b : Bool) → a ≡ true → b ≡ true → (a && b) ≡ true
-both true b e k = k
-both false b e k = absurd (cc e)
-
-either : (a b : Bool) → b ≡ true → (a || b) ≡ true
-either true b e = refl
-either false b e = e
-
 digit_glyph : (d : ℕ) → d < 10 → is_ascii_digit (48 + d) ≡ true
-digit_glyph d h = both (nat_le 48 (48 + d)) (nat_le (48 + d) 57) (le-leb 48 (48 + d) (omega arith)) (le-leb (48 + d) 57 (omega (arith, h)))
+digit_glyph d h = and_from (nat_le 48 (48 + d)) (nat_le (48 + d) 57) (le-leb 48 (48 + d) (omega arith))
+    (le-leb (48 + d) 57 (omega (arith, h)))
 
 all_digits : (n : ℕ) → n < 2 ^ 64 → list_all is_ascii_digit (decimal n) ≡ true
 all_digits n small =
     decimal_by_steps (λ n ds. list_all is_ascii_digit ds ≡ true)
-    (λ n h. both (is_ascii_digit (48 + n)) true (digit_glyph n h) refl)
+    (λ n h. and_from (is_ascii_digit (48 + n)) true (digit_glyph n h) refl)
     (λ n ds le h. list_all-append is_ascii_digit ds ((48 + n % 10) ∷ [])
-    ∙ both (list_all is_ascii_digit ds) (is_ascii_digit (48 + n % 10) && true) h
-    (both (is_ascii_digit (48 + n % 10)) true (digit_glyph (n % 10) (mod-lt n (omega arith))) refl)) n small
+    ∙ and_from (list_all is_ascii_digit ds) (is_ascii_digit (48 + n % 10) && true) h
+    (and_from (is_ascii_digit (48 + n % 10)) true (digit_glyph (n % 10) (mod-lt n (omega arith))) refl)) n small
 
 -- bytes that are all digits, before others
-parts : (a b : Bool) → (a && b) ≡ true → (a ≡ true) × (b ≡ true)
-parts true b e = (refl, e)
-parts false b e = absurd (cc e)
-
 digits_first : (digits more : List ℕ) → list_all is_ascii_digit digits ≡ true → first_digits more ≡ []
     → first_digits (digits ++ more) ≡ digits
 digits_first [] more h none = none
 digits_first (digit ∷ digits) more h none =
     let all : (is_ascii_digit digit ≡ true) × (list_all is_ascii_digit digits ≡ true) =
-    parts (is_ascii_digit digit) (list_all is_ascii_digit digits) h in
+    and_parts (is_ascii_digit digit) (list_all is_ascii_digit digits) h in
     ap (λ (b : Bool). if b then digit ∷ first_digits (digits ++ more) else []) all.0
     ∙ ap (λ (it : List ℕ). digit ∷ it) (digits_first digits more all.1 none)
 
@@ -120,7 +110,7 @@ digits_behind : (digits more : List ℕ) → list_all is_ascii_digit digits ≡ 
 digits_behind [] more h none = none
 digits_behind (digit ∷ digits) more h none =
     let all : (is_ascii_digit digit ≡ true) × (list_all is_ascii_digit digits ≡ true) =
-    parts (is_ascii_digit digit) (list_all is_ascii_digit digits) h in
+    and_parts (is_ascii_digit digit) (list_all is_ascii_digit digits) h in
     ap (λ (b : Bool). if b then behind_digits (digits ++ more) else digit ∷ (digits ++ more)) all.0
     ∙ digits_behind digits more all.1 none
 
@@ -130,9 +120,9 @@ no_zero (digit ∷ digits) h = ne_eqb digit 48 (λ e. omega (arith, e, h))
 
 number_form : (n : ℕ) → n < 10000000000 → n < 2 ^ 64 → is_number (decimal n) ≡ true
 number_form n small wide =
-    both (nat_lt 0 (length (decimal n)) && nat_lt (length (decimal n)) 11)
+    and_from (nat_lt 0 (length (decimal n)) && nat_lt (length (decimal n)) 11)
     (nat_eq (length (decimal n)) 1 || not (leads_with_zero (decimal n)))
-    (both (nat_lt 0 (length (decimal n))) (nat_lt (length (decimal n)) 11) (lt-ltb 0 (length (decimal n)) (decimal_nonempty n wide))
+    (and_from (nat_lt 0 (length (decimal n))) (nat_lt (length (decimal n)) 11) (lt-ltb 0 (length (decimal n)) (decimal_nonempty n wide))
     (lt-ltb (length (decimal n)) 11 (suc-le-suc (length-decimal-le 10 n (omega arith) small wide))))
     (by n (eq-zero-or-pos n) wide)
   where
@@ -141,7 +131,7 @@ number_form n small wide =
     by n (inl nought) wide =
         ap (λ (it : List ℕ). nat_eq (length it) 1 || not (leads_with_zero it)) (ap decimal nought ∙ decimal_digit 0 (omega arith))
     by n (inr some) wide =
-        either (nat_eq (length (decimal n)) 1) (not (leads_with_zero (decimal n)))
+        or_right (nat_eq (length (decimal n)) 1) (not (leads_with_zero (decimal n)))
         (ap not (no_zero (decimal n) (first_decimal n some wide)))
 
 -- ---- The line of a step

@@ -1,12 +1,12 @@
 -- Lawful sessions: each step was taken by an entry of the menu of its state, and leads where its derivation leads.
 use Rattle.std.specs.Prelude.{◌≡◌, ℕ, List, [], ◌∷◌, Some}
-use Rattle.term_algebra.specs.Term.{Term}
+use Rattle.lotos_base.specs.Term.{Term}
 use Rattle.behaviour_semantics.specs.Behaviour.{Behaviour}
-use Rattle.behaviour_semantics.specs.Derives.{Keeps}
+use Rattle.behaviour_semantics.specs.Derives.{DerivesCanonically}
 use Rattle.behaviour_semantics.specs.Label.{Label}
 use Rattle.behaviour_semantics.specs.Menu.{Exact, Meets}
 use Rattle.behaviour_semantics.specs.Solving.{Entry}
-use Rattle.event_offers.specs.Instances.{canonical_derivation}
+use Rattle.printed_texts.specs.HandedOn.{canonical_derivation}
 use Rattle.session_histories.specs.Session.{SessionBasis, Item, Situation, PastStep, Progress, first_situation, stepped}
 use Rattle.session_histories.specs.Refusal.{entry_numbered}
 
@@ -23,7 +23,7 @@ pub record IsLawfulItem (basis : SessionBasis) (before : Situation) (item : Item
   pub listed : entry_numbered before.menu item.number ≡ Some entry
   pub meets : Meets basis.data_ entry item.values
   pub derivation : item.derivation ≡ canonical_derivation basis.canon entry item.values
-  pub keeps : Keeps basis.data_ basis.canon basis.specification.processes before.state item.derivation item.label next
+  pub keeps : DerivesCanonically basis.data_ basis.canon basis.specification.processes before.state item.derivation item.label next
 
 -- The steps lead from the first situation to the last one: each was taken, by a lawful item, where the one before it leads.
 abbrev pub LeadTo : SessionBasis → Situation → List PastStep → Situation → Type 0

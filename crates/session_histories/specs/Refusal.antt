@@ -1,14 +1,14 @@
 -- Why a step is refused. The causes are looked for in the order in which they stand here.
 use Rattle.std.specs.Prelude.{ℕ, zero, suc, List, ◌∷◌, length, nat_eq, if◌then◌else◌, slice_get, Option, None, Some, option_map}
-use Rattle.term_algebra.specs.Signature.{Signature}
-use Rattle.term_algebra.specs.Term.{Term}
-use Rattle.term_algebra.specs.Sorting.{sort_of}
+use Rattle.lotos_base.specs.Signature.{Signature}
+use Rattle.lotos_base.specs.Term.{Term}
+use Rattle.lotos_base.specs.Sorting.{sort_of}
 use Rattle.behaviour_semantics.specs.Behaviour.{Test}
 use Rattle.behaviour_semantics.specs.Derives.{leaves_in}
 use Rattle.behaviour_semantics.specs.Fault.{first_of_two}
 use Rattle.behaviour_semantics.specs.Rule.{is_same_sort}
 use Rattle.behaviour_semantics.specs.Solving.{Entry}
-use Rattle.event_offers.specs.Instances.{unmet_among}
+use Rattle.printed_texts.specs.HandedOn.{unmet_among}
 use Rattle.session_histories.specs.Session.{SessionBasis}
 
 -- The menu, which has so many entries, has none with this number; more or fewer values are given than the entry has

@@ -1,9 +1,9 @@
 -- Worked cases: why steps are refused, and the text of a trace. The numbers have `0`, `Succ` and `lt`, whose
 -- equations are those of the usual order.
 use Rattle.std.specs.Prelude.{◌≡◌, ℕ, zero, suc, List, [], ◌∷◌, nat_lt, Bool, true, false, codes, Option, None, Some}
-use Rattle.term_algebra.specs.Signature.{Signature, Operation, Form, prefix_form, infix_form}
-use Rattle.term_algebra.specs.Term.{Term, variable, node, Terms, no_terms, term_then}
-use Rattle.term_algebra.specs.Equation.{Data}
+use Rattle.lotos_base.specs.Signature.{Signature, Operation, Form, prefix_form, infix_form}
+use Rattle.lotos_base.specs.Term.{Term, variable, node, Terms, no_terms, term_then}
+use Rattle.lotos_base.specs.Equation.{Data}
 use Rattle.behaviour_semantics.specs.Behaviour.{Specification, stop}
 use Rattle.behaviour_semantics.specs.Label.{Label, inner_event, gate_event, exit_event}
 use Rattle.behaviour_semantics.specs.Shape.{act, inner_step, left_side, right_side, with_value}
@@ -102,19 +102,19 @@ choice_entry = record {
 abbrev pub small_menu : List Entry
 small_menu = number_entry ∷ choice_entry ∷ []
 
-abbrev pub Refuses : ℕ → List Term → Option StepRefusal → Type 0
-Refuses number values refusal = step_refusal small_basis small_menu number values ≡ refusal
+abbrev pub RefusesStep : ℕ → List Term → Option StepRefusal → Type 0
+RefusesStep number values refusal = step_refusal small_basis small_menu number values ≡ refusal
 
 -- The causes of a refusal, in their order.
 pub record StepsAreRefused : Type 0 where
-  pub entry_zero : Refuses 0 [] (Some (no_entry 0 2))
-  pub past_the_end : Refuses 3 (truth ∷ []) (Some (no_entry 3 2))
-  pub too_few : Refuses 1 [] (Some (value_count 1 0))
-  pub too_many : Refuses 1 (truth ∷ truth ∷ []) (Some (value_count 1 2))
-  pub other_sort : Refuses 1 (truth ∷ []) (Some (value_sort 0))
-  pub unmet : Refuses 1 (succ (succ nought) ∷ []) (Some (unmet falsehood truth))
-  pub met : Refuses 1 (succ nought ∷ []) None
-  pub no_condition : Refuses 2 (falsehood ∷ []) None
+  pub entry_zero : RefusesStep 0 [] (Some (no_entry 0 2))
+  pub past_the_end : RefusesStep 3 (truth ∷ []) (Some (no_entry 3 2))
+  pub too_few : RefusesStep 1 [] (Some (value_count 1 0))
+  pub too_many : RefusesStep 1 (truth ∷ truth ∷ []) (Some (value_count 1 2))
+  pub other_sort : RefusesStep 1 (truth ∷ []) (Some (value_sort 0))
+  pub unmet : RefusesStep 1 (succ (succ nought) ∷ []) (Some (unmet falsehood truth))
+  pub met : RefusesStep 1 (succ nought ∷ []) None
+  pub no_condition : RefusesStep 2 (falsehood ∷ []) None
 
 abbrev pub item : ℕ → List Term → Label → Item
 item number values label = record {

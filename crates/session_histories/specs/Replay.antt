@@ -1,8 +1,8 @@
 -- Replay: what each line of a trace comes to in a session, and what a whole trace comes to.
 use Rattle.std.specs.Prelude.{◌≡◌, ◌≢◌, ◌⊎◌, ℕ, ◌+◌, List, [], ◌∷◌, length, Bool, true, false, None, Some}
 use Rattle.std.specs.Str.{bytes_eq}
-use Rattle.term_algebra.specs.Signature.{Signature}
-use Rattle.term_algebra.specs.Term.{Term}
+use Rattle.lotos_base.specs.Signature.{Signature}
+use Rattle.lotos_base.specs.Term.{Term}
 use Rattle.lotos_base.specs.WrittenTerm.{WrittenTerm}
 use Rattle.sentence_trees.specs.Reading.{IsTermsReading, IsTermsFault}
 use Rattle.sentence_trees.specs.declared.fault.ReadFault.{ReadFault}
@@ -31,9 +31,9 @@ pub record ReplayRefusal : Type 0 where
   pub why : LineRefusal
 
 -- What lines come to: the session goes on, or they stop it for this reason.
-pub data Outcome (Why : Type 0) : Type 0 where
-  goes_on : Progress → Outcome Why
-  stops : Why → Outcome Why
+pub data LinesOutcome (Why : Type 0) : Type 0 where
+  goes_on : Progress → LinesOutcome Why
+  stops : Why → LinesOutcome Why
 
 -- The written terms have one reading each at the sorts, without variables: these values, one by one.
 abbrev pub AreRead : Signature → List ℕ → List WrittenTerm → List Term → Type 0
@@ -45,7 +45,7 @@ AreRead signature _ _ _ = ⊥
 -- One of the written terms has not one reading at its sort.
 abbrev pub IsOneMisread : Signature → List ℕ → List WrittenTerm → Type 0
 IsOneMisread signature (sort ∷ sorts) (term ∷ terms) =
-    ((refusal : reading.Refusal) × ReadingIs signature [] term (Some sort) (reading.refused refusal)) ⊎ IsOneMisread signature sorts terms
+    ((refusal : reading.ReadingRefusal) × ReadingIs signature [] term (Some sort) (reading.refused refusal)) ⊎ IsOneMisread signature sorts terms
 IsOneMisread signature _ _ = ⊥
 
 -- The line has the form of a step, and its terms are read. Places in them are never told, and the number of their text is 0.
@@ -68,7 +68,7 @@ shown_label basis label = label_text basis.data_.signature basis.specification.g
 module _ (basis : SessionBasis) where
   -- What a line comes to in a session. First its form and the grammar of its terms are looked at, then the number of the entry
   -- and that of the terms, then their readings, then the conditions of the entry, and last the label.
-  pub data LineComesTo (progress : Progress) (line : List ℕ) : Outcome LineRefusal → Type 0 where
+  pub data LineComesTo (progress : Progress) (line : List ℕ) : LinesOutcome LineRefusal → Type 0 where
     has_no_form : step_line line ≡ None → LineComesTo progress line (stops bad_line)
     is_not_read :
         (said : StepLine) (fault : ReadFault) →
@@ -107,31 +107,31 @@ module _ (basis : SessionBasis) where
         LineComesTo progress line (goes_on new)
 
   -- What lines come to one after another, the first of which has this number: the first refused one stops them.
-  pub data LinesComeTo : ℕ → Progress → List (List ℕ) → Outcome ReplayRefusal → Type 0 where
+  pub data LinesComeTo : ℕ → Progress → List (List ℕ) → LinesOutcome ReplayRefusal → Type 0 where
     all_done : {number : ℕ} {progress : Progress} → LinesComeTo number progress [] (goes_on progress)
     one_stops :
         {number : ℕ} {progress : Progress} {line : List ℕ} {lines : List (List ℕ)} {why : LineRefusal} →
         LineComesTo progress line (stops why) →
         LinesComeTo number progress (line ∷ lines) (stops (record { line = number; why = why }))
     one_goes_on :
-        {number : ℕ} {progress next : Progress} {line : List ℕ} {lines : List (List ℕ)} {outcome : Outcome ReplayRefusal} →
+        {number : ℕ} {progress next : Progress} {line : List ℕ} {lines : List (List ℕ)} {outcome : LinesOutcome ReplayRefusal} →
         LineComesTo progress line (goes_on next) →
         LinesComeTo (number + 1) next lines outcome →
         LinesComeTo number progress (line ∷ lines) outcome
 
 -- The first line is no heading.
-abbrev pub no_heading : Outcome ReplayRefusal
+abbrev pub no_heading : LinesOutcome ReplayRefusal
 no_heading = stops (record { line = 1; why = bad_line })
 
 -- The lines behind the first one, which is the heading or not.
-abbrev pub ComeBehind : SessionBasis → Situation → Bool → List (List ℕ) → Outcome ReplayRefusal → Type 0
+abbrev pub ComeBehind : SessionBasis → Situation → Bool → List (List ℕ) → LinesOutcome ReplayRefusal → Type 0
 ComeBehind basis first true lines outcome = LinesComeTo basis 2 (opened first) lines outcome
 ComeBehind basis first false lines outcome = outcome ≡ no_heading
 
-abbrev pub TraceComesTo : SessionBasis → Situation → List (List ℕ) → Outcome ReplayRefusal → Type 0
+abbrev pub TraceComesTo : SessionBasis → Situation → List (List ℕ) → LinesOutcome ReplayRefusal → Type 0
 TraceComesTo basis first [] outcome = outcome ≡ no_heading
 TraceComesTo basis first (line ∷ lines) outcome = ComeBehind basis first (bytes_eq line trace_heading) lines outcome
 
 -- What the text of a trace comes to in a session that begins in this situation.
-abbrev pub ReplayIs : SessionBasis → Situation → List ℕ → Outcome ReplayRefusal → Type 0
+abbrev pub ReplayIs : SessionBasis → Situation → List ℕ → LinesOutcome ReplayRefusal → Type 0
 ReplayIs basis first text outcome = TraceComesTo basis first (lines_of text) outcome

@@ -1,6 +1,6 @@
 -- What lawful sessions obey.
 use Rattle.std.specs.Prelude.{◌≡◌, ℕ, List, length, ◌+◌}
-use Rattle.term_algebra.specs.Term.{Term}
+use Rattle.lotos_base.specs.Term.{Term}
 use Rattle.behaviour_semantics.specs.Alike.{Alike}
 use Rattle.behaviour_semantics.specs.Behaviour.{Behaviour}
 use Rattle.behaviour_semantics.specs.Label.{Label}

@@ -1,7 +1,7 @@
 -- Which steps a session can take: a step is refused exactly where there is no lawful item for it, and leads to one place.
 use Rattle.std.specs.Prelude.{◌≡◌, ℕ, List, None}
-use Rattle.term_algebra.specs.Term.{Term}
-use Rattle.term_algebra.specs.Sorting.{IsGroundOf}
+use Rattle.lotos_base.specs.Term.{Term}
+use Rattle.lotos_base.specs.Sorting.{IsGroundOf}
 use Rattle.behaviour_semantics.specs.Behaviour.{Behaviour}
 use Rattle.behaviour_semantics.specs.Label.{Label}
 use Rattle.behaviour_semantics.specs.WellFormed.{Every}

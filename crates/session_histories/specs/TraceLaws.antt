@@ -4,15 +4,15 @@ use Rattle.std.specs.List.{list_any}
 use Rattle.lotos_base.specs.WrittenTerm.{WrittenTerm}
 use Rattle.lotos_lexer.specs.Bytes.{is_blank}
 use Rattle.sentence_trees.specs.Reading.{IsTermsReading}
-use Rattle.term_algebra.specs.Signature.{Signature, Sort, Operation}
-use Rattle.term_algebra.specs.Term.{Term}
+use Rattle.lotos_base.specs.Signature.{Signature, Sort, Operation}
+use Rattle.lotos_base.specs.Term.{Term}
 use Rattle.behaviour_semantics.specs.Rule.{AreValues}
 use Rattle.behaviour_semantics.specs.WellFormed.{Every}
 use Rattle.printed_texts.specs.Brackets.{commas}
 use Rattle.printed_texts.specs.MenuText.{term_texts}
 use Rattle.session_histories.specs.Session.{SessionBasis, Item, Situation, PastStep, items_of}
 use Rattle.session_histories.specs.Lawful.{IsSituation, LeadTo}
-use Rattle.session_histories.specs.Replay.{AreRead, Outcome, ReplayRefusal, ReplayIs, goes_on}
+use Rattle.session_histories.specs.Replay.{AreRead, LinesOutcome, ReplayRefusal, ReplayIs, goes_on}
 use Rattle.session_histories.specs.SessionLaws.{IsStateOver}
 use Rattle.session_histories.specs.TraceText.{trace_text}
 
@@ -55,7 +55,7 @@ pub record TracesLeadBack : Type 0 where
       IsTraceable basis first last steps →
       ReplayIs basis first (trace_of basis steps) (goes_on (record { situation = last; steps = steps }))
   pub alone :
-      (basis : SessionBasis) (first last : Situation) (steps : List PastStep) (outcome : Outcome ReplayRefusal) →
+      (basis : SessionBasis) (first last : Situation) (steps : List PastStep) (outcome : LinesOutcome ReplayRefusal) →
       IsStateOver basis first.state →
       IsTraceable basis first last steps →
       ReplayIs basis first (trace_of basis steps) outcome →

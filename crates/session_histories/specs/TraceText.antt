@@ -1,7 +1,7 @@
 -- The text of a trace, format 1: the line `lotos-trace 1`, and a line for each step.
 use Rattle.std.specs.Prelude.{ℕ, List, [], ◌∷◌, ◌++◌, codes, decimal}
-use Rattle.term_algebra.specs.Signature.{Signature}
-use Rattle.term_algebra.specs.Term.{Term}
+use Rattle.lotos_base.specs.Signature.{Signature}
+use Rattle.lotos_base.specs.Term.{Term}
 use Rattle.printed_texts.specs.Brackets.{commas}
 use Rattle.printed_texts.specs.MenuText.{label_text, term_texts}
 use Rattle.session_histories.specs.Session.{Item}

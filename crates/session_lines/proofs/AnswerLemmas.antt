@@ -6,12 +6,12 @@ use Rattle.sentence_trees.proofs.Outcomes.{all_have_one_outcome}
 use Rattle.sort_terms.specs.ReadingOutcome as reading
 use Rattle.sort_terms.specs.ReadingOutcome.{SortedTerm, SortedPair, ReadingIs, PairReadingIs, answered}
 use Rattle.sort_terms.proofs.ReadsLemmas.{comes_once}
-use Rattle.term_algebra.specs.Equality.{Equal}
-use Rattle.term_algebra.specs.Equation.{Data}
-use Rattle.term_algebra.specs.Signature.{Signature}
-use Rattle.term_algebra.specs.Term.{Term}
+use Rattle.lotos_base.specs.Equality.{Equal}
+use Rattle.lotos_base.specs.Equation.{Data}
+use Rattle.lotos_base.specs.Signature.{Signature}
+use Rattle.lotos_base.specs.Term.{Term}
 use Rattle.session_lines.specs.Refusal.{bad_command, bad_term, fault_number, term_number, AreTerms, AreUnread}
-use Rattle.session_lines.specs.Answer.{Outcome, refuses, gives, IsNormal, IsComparison}
+use Rattle.session_lines.specs.Answer.{QuestionOutcome, refuses, gives, IsNormalAnswer, IsComparison}
 
 -- ---- Texts
 
@@ -36,16 +36,16 @@ counted text terms others wanted are are_other is other = other (ap length (same
 
 -- ---- Readings
 
-reads_once : (signature : Signature) (term : WrittenTerm) (one other : reading.Outcome SortedTerm) → ReadingIs signature [] term None one
+reads_once : (signature : Signature) (term : WrittenTerm) (one other : reading.ReadingOutcome SortedTerm) → ReadingIs signature [] term None one
     → ReadingIs signature [] term None other → one ≡ other
 reads_once signature term one other = comes_once _ _ _ one other
 
-pair_reads_once : (signature : Signature) (left right : WrittenTerm) (one other : reading.Outcome SortedPair)
+pair_reads_once : (signature : Signature) (left right : WrittenTerm) (one other : reading.ReadingOutcome SortedPair)
     → PairReadingIs signature [] left right one → PairReadingIs signature [] left right other → one ≡ other
 pair_reads_once signature left right one other = comes_once _ _ _ one other
 
 -- what one term in a text is read as, and what two are
-term_reads_once : (signature : Signature) (text : List ℕ) (term other : WrittenTerm) (one two : reading.Outcome SortedTerm)
+term_reads_once : (signature : Signature) (text : List ℕ) (term other : WrittenTerm) (one two : reading.ReadingOutcome SortedTerm)
     → AreTerms text (term ∷ []) → AreTerms text (other ∷ []) → ReadingIs signature [] term None one → ReadingIs signature [] other None two
     → one ≡ two
 term_reads_once signature text term other one two are are_other reads reads_other =
@@ -53,7 +53,7 @@ term_reads_once signature text term other one two are are_other reads reads_othe
     let same : other ≡ term = cc lists in
     reads_once signature term one two reads (subst (λ (it : WrittenTerm). ReadingIs signature [] it None two) same reads_other)
 
-pair_reads_one : (signature : Signature) (text : List ℕ) (left right left' right' : WrittenTerm) (one two : reading.Outcome SortedPair)
+pair_reads_one : (signature : Signature) (text : List ℕ) (left right left' right' : WrittenTerm) (one two : reading.ReadingOutcome SortedPair)
     → AreTerms text (left ∷ right ∷ []) → AreTerms text (left' ∷ right' ∷ []) → PairReadingIs signature [] left right one
     → PairReadingIs signature [] left' right' two → one ≡ two
 pair_reads_one signature text left right left' right' one two are are_other reads reads_other =
@@ -67,19 +67,19 @@ pair_reads_one signature text left right left' right' one two are are_other read
 answer_is : {A : Type 0} (one other : A) → answered one ≡ answered other → one ≡ other
 answer_is one other same = cc same
 
-abbrev refused_in : (A : Type 0) → reading.Refusal → reading.Outcome A
+abbrev refused_in : (A : Type 0) → reading.ReadingRefusal → reading.ReadingOutcome A
 refused_in A refusal = reading.refused refusal
 
-refusal_is : (A : Type 0) (one other : reading.Refusal) → refused_in A one ≡ refused_in A other → one ≡ other
+refusal_is : (A : Type 0) (one other : reading.ReadingRefusal) → refused_in A one ≡ refused_in A other → one ≡ other
 refusal_is A one other same = cc same
 
-not_both : {A : Type 0} (one : A) (other : reading.Refusal) → answered one ≡ reading.refused other → ⊥
+not_both : {A : Type 0} (one : A) (other : reading.ReadingRefusal) → answered one ≡ reading.refused other → ⊥
 not_both one other same = absurd (cc same)
 
 -- ---- Answers
 
-pub normal_once : (signature : Signature) (canon : Term → Term) (text : List ℕ) (one other : Outcome Term)
-    → IsNormal signature canon text one → IsNormal signature canon text other → one ≡ other
+pub normal_once : (signature : Signature) (canon : Term → Term) (text : List ℕ) (one other : QuestionOutcome Term)
+    → IsNormalAnswer signature canon text one → IsNormalAnswer signature canon text other → one ≡ other
 normal_once signature canon text (gives form) (gives form') is is' =
     let same : is.1 ≡ is'.1 = answer_is is.1 is'.1 (term_reads_once signature text is.0 is'.0 _ _ is.2 is'.2 is.3 is'.3) in
     ap (λ (it : Term). gives it) (is.4 ∙ (ap (λ (it : SortedTerm). canon it.term) same ∙ sym is'.4))
@@ -120,7 +120,7 @@ one_truth true false first second there back = absurd (let no : false ≡ true =
 one_truth false true first second there back = absurd (let no : false ≡ true = first.1 (back (second.0 refl)) in cc)
 one_truth false false first second there back = refl
 
-pub comparison_once : (data_ : Data) (text : List ℕ) (one other : Outcome Bool) → IsComparison data_ text one
+pub comparison_once : (data_ : Data) (text : List ℕ) (one other : QuestionOutcome Bool) → IsComparison data_ text one
     → IsComparison data_ text other → one ≡ other
 comparison_once data_ text (gives equal) (gives equal') is is' =
     let same : is.2 ≡ is'.2 =

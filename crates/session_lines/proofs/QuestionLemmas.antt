@@ -2,11 +2,11 @@
 use Rattle.std.proofs.Common.{◌≡◌, ◌↔◌, inl, inr, ℕ, Bool, IsTrue, List, [], ◌∷◌, ◌++◌, None, refl, ap, subst, ◌∙◌, append_assoc}
 use Rattle.std.proofs.lemmas.Option.{none-some}
 use Rattle.lotos_base.specs.WrittenTerm.{WrittenTerm, WrittenTerms, written, no_written, written_then}
-use Rattle.term_algebra.specs.Equality.{Equal}
-use Rattle.term_algebra.specs.Equation.{Data, Variable}
-use Rattle.term_algebra.specs.Signature.{Signature}
-use Rattle.term_algebra.specs.Sorting.{IsGround, AreGround}
-use Rattle.term_algebra.specs.Term.{Term, Terms, variable, node, no_terms, term_then}
+use Rattle.lotos_base.specs.Equality.{Equal}
+use Rattle.lotos_base.specs.Equation.{Data, Variable}
+use Rattle.lotos_base.specs.Signature.{Signature}
+use Rattle.lotos_base.specs.Sorting.{IsGround, AreGround}
+use Rattle.lotos_base.specs.Term.{Term, Terms, variable, node, no_terms, term_then}
 use Rattle.sentence_trees.specs.Reading.{IsTermsFault}
 use Rattle.sentence_trees.specs.declared.fault.ReadFault.{ReadFault}
 use Rattle.sentence_trees.specs.declared.fault.ReadFault.TheVariants as fault
@@ -17,7 +17,7 @@ use Rattle.sort_terms.specs.RefusalView.{UnlessNoMemory}
 use Rattle.sort_terms.specs.declared.sort_faults.SortFault.{SortFault}
 use Rattle.sort_terms.specs.declared.sort_faults.SortFault.TheVariants as sort_fault
 use Rattle.session_lines.specs.Refusal.{bad_command, bad_term, term_number, AreTerms, AreUnread}
-use Rattle.session_lines.specs.Answer.{Outcome, refuses, gives, IsNormal, IsComparison, normal_text, comparison_text}
+use Rattle.session_lines.specs.Answer.{QuestionOutcome, refuses, gives, IsNormalAnswer, IsComparison, normal_text, comparison_text}
 use Rattle.session_lines.specs.View.{refused_for_text, refused_for_term, RefusesWith, AddsRefusal, AddsOutcome}
 use Rattle.session_lines.specs.declared.refusals.Refusal.{Refusal as CodeRefusal}
 use Rattle.session_lines.specs.declared.refusals.Refusal.TheVariants.{BadCommand, BadTerm, NoMemory}
@@ -26,7 +26,7 @@ unit : Unit {0}
 unit = tt
 
 -- a text that is not read is refused
-pub unread : {A : Type 0} (Is : Outcome A → Type 0) (text : List ℕ)
+pub unread : {A : Type 0} (Is : QuestionOutcome A → Type 0) (text : List ℕ)
     → ((number : ℕ) → AreUnread text number → Is (refuses (bad_term number)))
     → (found : ReadFault) → IsTermsFault 0 text found → RefusesWith Is (refused_for_text found)
 unread Is text so (fault.BadByte place) is = so 101 (fault.BadByte place, is, (λ none. absurd (cc none)), refl)
@@ -37,8 +37,8 @@ unread Is text so (fault.TooDeep place) is = so 105 (fault.TooDeep place, is, (�
 unread Is text so fault.NoMemory is = unit
 
 -- terms that have not one reading are refused
-pub misread : {A : Type 0} (Is : Outcome A → Type 0) (IsRefused : reading.Refusal → Type 0)
-    → ((refusal : reading.Refusal) → IsRefused refusal → Is (refuses (bad_term (term_number refusal))))
+pub misread : {A : Type 0} (Is : QuestionOutcome A → Type 0) (IsRefused : reading.ReadingRefusal → Type 0)
+    → ((refusal : reading.ReadingRefusal) → IsRefused refusal → Is (refuses (bad_term (term_number refusal))))
     → (found : SortFault) → UnlessNoMemory found IsRefused → RefusesWith Is (refused_for_term found)
 misread Is IsRefused so (sort_fault.UnknownSort place) is = so (reading.unknown_sort _) is
 misread Is IsRefused so (sort_fault.UnknownName place) is = so (reading.unknown_name _) is
@@ -51,9 +51,9 @@ pub in_no_scope : (scope : List Variable) (P : List Variable → Type 0) → sco
 in_no_scope scope P none holds = subst P none holds
 
 pub normal_unread : (signature : Signature) (canon : Term → Term) (text : List ℕ) (found : ReadFault) → IsTermsFault 0 text found
-    → RefusesWith (IsNormal signature canon text) (refused_for_text found)
+    → RefusesWith (IsNormalAnswer signature canon text) (refused_for_text found)
 normal_unread signature canon text found is =
-    unread (IsNormal signature canon text) text (λ number unread_. inl unread_) found is
+    unread (IsNormalAnswer signature canon text) text (λ number unread_. inl unread_) found is
 
 pub comparison_unread : (data_ : Data) (text : List ℕ) (found : ReadFault) → IsTermsFault 0 text found
     → RefusesWith (IsComparison data_ text) (refused_for_text found)
@@ -62,9 +62,9 @@ comparison_unread data_ text found is = unread (IsComparison data_ text) text (�
 pub normal_misread : (signature read : Signature) (canon : Term → Term) (scope : List Variable) (text : List ℕ) (term : WrittenTerm)
     (found : SortFault) → read ≡ signature → scope ≡ [] → AreTerms text (term ∷ [])
     → UnlessNoMemory found (λ refusal. ReadingIs read scope term None (reading.refused refusal))
-    → RefusesWith (IsNormal signature canon text) (refused_for_term found)
+    → RefusesWith (IsNormalAnswer signature canon text) (refused_for_term found)
 normal_misread signature read canon scope text term found over none there is =
-    misread (IsNormal signature canon text) (λ refusal. ReadingIs signature [] term None (reading.refused refusal))
+    misread (IsNormalAnswer signature canon text) (λ refusal. ReadingIs signature [] term None (reading.refused refusal))
     (λ refusal refused_. inr (term, refusal, there, refused_, refl)) found
     (subst (λ (it : List Variable). UnlessNoMemory found (λ refusal. ReadingIs signature it term None (reading.refused refusal))) none
     (subst (λ (it : Signature). UnlessNoMemory found (λ refusal. ReadingIs it scope term None (reading.refused refusal))) over is))
@@ -82,7 +82,7 @@ comparison_misread data_ read scope text left right found over none there is =
 
 pub normal_read : (signature read : Signature) (canon : Term → Term) (scope : List Variable) (text : List ℕ) (term : WrittenTerm)
     (sorted : SortedTerm) (form : Term) → read ≡ signature → scope ≡ [] → AreTerms text (term ∷ [])
-    → ReadingIs read scope term None (answered sorted) → form ≡ canon sorted.term → IsNormal signature canon text (gives form)
+    → ReadingIs read scope term None (answered sorted) → form ≡ canon sorted.term → IsNormalAnswer signature canon text (gives form)
 normal_read signature read canon scope text term sorted form over none there is canonical =
     (term, sorted, there, rw (none, over) at is, canonical)
 
@@ -110,7 +110,7 @@ mutual
       (read_ground signature w t s reads.0, all_ground signature ws ts ss reads.1)
 
 -- the reading that a question comes to is a reading
-pub is_reading : {A : Type 0} (unknown : List reading.Refusal) (place : _) (Is : A → Type 0) (one : A)
+pub is_reading : {A : Type 0} (unknown : List reading.ReadingRefusal) (place : _) (Is : A → Type 0) (one : A)
     → ComesTo unknown place Is (answered one) → Is one
 is_reading (first ∷ rest) place Is one comes = absurd comes
 is_reading [] place Is one comes = comes.is_answer
@@ -136,8 +136,8 @@ in_three before first second third one two after is_one is_two is_after =
     ∙ ap (λ (it : List ℕ). before ++ it) (append_assoc first second third)))))
 
 pub normal_refused : (signature : Signature) (canon : Term → Term) (text before after : List ℕ) (refusal : CodeRefusal)
-    → RefusesWith (IsNormal signature canon text) refusal → AddsRefusal refusal before after
-    → AddsOutcome (IsNormal signature canon text) (normal_text signature) before after
+    → RefusesWith (IsNormalAnswer signature canon text) refusal → AddsRefusal refusal before after
+    → AddsOutcome (IsNormalAnswer signature canon text) (normal_text signature) before after
 normal_refused signature canon text before after BadCommand is added = (refuses bad_command, is, added)
 normal_refused signature canon text before after (BadTerm number) is added = (refuses (bad_term number), is, added)
 normal_refused signature canon text before after NoMemory is added = absurd added
@@ -150,7 +150,7 @@ comparison_refused data_ text before after (BadTerm number) is added = (refuses 
 comparison_refused data_ text before after NoMemory is added = absurd added
 
 pub normal_given : (signature shown : Signature) (canon : Term → Term) (text before after : List ℕ) (form : Term) → shown ≡ signature
-    → IsNormal signature canon text (gives form) → after ≡ before ++ normal_text shown (gives form)
-    → AddsOutcome (IsNormal signature canon text) (normal_text signature) before after
+    → IsNormalAnswer signature canon text (gives form) → after ≡ before ++ normal_text shown (gives form)
+    → AddsOutcome (IsNormalAnswer signature canon text) (normal_text signature) before after
 normal_given signature shown canon text before after form same is added =
     (gives form, is, added ∙ ap (λ (it : Signature). before ++ normal_text it (gives form)) same)

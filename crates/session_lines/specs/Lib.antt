@@ -2,3 +2,4 @@ pub mod Refusal
 pub mod Answer
 pub mod AnswerLaws
 pub mod View
+pub mod HandedOn

@@ -7,11 +7,11 @@ use Rattle.sentence_trees.specs.declared.fault.ReadFault.TheVariants.{TooLong, B
 use Rattle.sort_terms.specs.ReadingOutcome as reading
 
 -- it has no form, or not the number of terms that its word wants; or its terms are refused, with the number of their fault
-pub data Refusal : Type 0 where
-  bad_command : Refusal
-  bad_term : (number : ℕ) → Refusal
+pub data QuestionRefusal : Type 0 where
+  bad_command : QuestionRefusal
+  bad_term : (number : ℕ) → QuestionRefusal
 
-abbrev pub refusal_text : Refusal → List ℕ
+abbrev pub refusal_text : QuestionRefusal → List ℕ
 refusal_text bad_command = codes "refused 801 BadCommand\n"
 refusal_text (bad_term number) = codes "refused 804 BadTerm " ++ decimal number ++ codes "\n"
 
@@ -25,7 +25,7 @@ fault_number (TooDeep place) = 105
 fault_number NoMemory = 0
 
 -- the number of the refusal of a term
-abbrev pub term_number : reading.Refusal → ℕ
+abbrev pub term_number : reading.ReadingRefusal → ℕ
 term_number (reading.unknown_sort place) = 205
 term_number (reading.unknown_name place) = 211
 term_number (reading.no_reading place) = 212

@@ -5,12 +5,12 @@ use Rattle.sentence_trees.specs.declared.fault.ReadFault.TheVariants as fault
 use Rattle.sort_terms.specs.declared.sort_faults.SortFault.{SortFault}
 use Rattle.sort_terms.specs.declared.sort_faults.SortFault.TheVariants as sort_fault
 use Rattle.session_lines.specs.Refusal as plain_refusal
-use Rattle.session_lines.specs.Answer.{Outcome, refuses}
+use Rattle.session_lines.specs.Answer.{QuestionOutcome, refuses}
 use Rattle.session_lines.specs.declared.refusals.Refusal.{Refusal}
 use Rattle.session_lines.specs.declared.refusals.Refusal.TheVariants.{BadCommand, BadTerm, NoMemory}
 
 -- a refusal; want of memory is none
-abbrev pub refusal_of : Refusal → Option plain_refusal.Refusal
+abbrev pub refusal_of : Refusal → Option plain_refusal.QuestionRefusal
 refusal_of BadCommand = Some plain_refusal.bad_command
 refusal_of (BadTerm number) = Some (plain_refusal.bad_term number)
 refusal_of NoMemory = None
@@ -32,7 +32,7 @@ refused_for_term (sort_fault.TwoReadings place) = BadTerm 213
 refused_for_term sort_fault.NoMemory = NoMemory
 
 -- a question comes to the refusal; or memory was wanted
-abbrev pub RefusesWith : {A : Type 0} → (Outcome A → Type 0) → Refusal → Type 0
+abbrev pub RefusesWith : {A : Type 0} → (QuestionOutcome A → Type 0) → Refusal → Type 0
 RefusesWith Is BadCommand = Is (refuses plain_refusal.bad_command)
 RefusesWith Is (BadTerm number) = Is (refuses (plain_refusal.bad_term number))
 RefusesWith Is NoMemory = Unit {0}
@@ -44,5 +44,5 @@ AddsRefusal (BadTerm number) before after = after ≡ before ++ plain_refusal.re
 AddsRefusal NoMemory before after = ⊥
 
 -- what a question comes to, and that its text was added
-abbrev pub AddsOutcome : {A : Type 0} → (Outcome A → Type 0) → (Outcome A → List ℕ) → List ℕ → List ℕ → Type 0
-AddsOutcome {A} Is text before after = (outcome : Outcome A) × Is outcome × (after ≡ before ++ text outcome)
+abbrev pub AddsOutcome : {A : Type 0} → (QuestionOutcome A → Type 0) → (QuestionOutcome A → List ℕ) → List ℕ → List ℕ → Type 0
+AddsOutcome {A} Is text before after = (outcome : QuestionOutcome A) × Is outcome × (after ≡ before ++ text outcome)

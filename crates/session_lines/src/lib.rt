@@ -5,4 +5,6 @@ pub mod laws;
 pub mod questions;
 pub mod refusals;
 
+pub use equation_book::Book;
+pub use lotos_grammar::{ReadFault, read_terms};
 pub use refusals::Refusal;

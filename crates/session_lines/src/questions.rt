@@ -4,7 +4,7 @@ ghost use Rattle.equation_book.specs.BookCanon.{book_canon};
 ghost use Rattle.lotos_base.specs.WrittenView.{written_term_of};
 ghost use Rattle.session_lines.specs.Answer.{
   IsComparison,
-  IsNormal,
+  IsNormalAnswer,
   comparison_text,
   gives,
   normal_text,
@@ -40,7 +40,7 @@ pub fn push_normal(
     requires read { signature_read reader.now ≡ (data_of book.old.flat).signature }
     requires short { length text.now + 1 < 2 ^ 32 }
     ensures added { OnOk result (AddsOutcome
-        (IsNormal (data_of book.old.flat).signature (book_canon book.old) text.now)
+        (IsNormalAnswer (data_of book.old.flat).signature (book_canon book.old) text.now)
         (normal_text (data_of book.old.flat).signature) into.old.items into.new.items) }
     ensures same_data { data_of book.new.flat ≡ data_of book.old.flat }
     ensures same_canon { book_canon book.new ≡ book_canon book.old }
@@ -72,9 +72,9 @@ pub fn normal_form(
     requires read { signature_read reader.now ≡ (data_of book.old.flat).signature }
     requires short { length text.now + 1 < 2 ^ 32 }
     ensures answered { MatchResult result
-        (λ form. IsNormal (data_of book.old.flat).signature (book_canon book.old) text.now
+        (λ form. IsNormalAnswer (data_of book.old.flat).signature (book_canon book.old) text.now
         (gives (term_in form)))
-        (RefusesWith (IsNormal (data_of book.old.flat).signature (book_canon book.old) text.now)) }
+        (RefusesWith (IsNormalAnswer (data_of book.old.flat).signature (book_canon book.old) text.now)) }
     ensures same_data { data_of book.new.flat ≡ data_of book.old.flat }
     ensures same_canon { book_canon book.new ≡ book_canon book.old }
 {
@@ -96,9 +96,9 @@ fn normal_of(
     requires read { signature_read reader.now ≡ (data_of book.old.flat).signature }
     requires there { AreTerms text.now (written_term_of term.now ∷ []) }
     ensures answered { MatchResult result
-        (λ form. IsNormal (data_of book.old.flat).signature (book_canon book.old) text.now
+        (λ form. IsNormalAnswer (data_of book.old.flat).signature (book_canon book.old) text.now
         (gives (term_in form)))
-        (RefusesWith (IsNormal (data_of book.old.flat).signature (book_canon book.old) text.now)) }
+        (RefusesWith (IsNormalAnswer (data_of book.old.flat).signature (book_canon book.old) text.now)) }
     ensures same_data { data_of book.new.flat ≡ data_of book.old.flat }
     ensures same_canon { book_canon book.new ≡ book_canon book.old }
 {

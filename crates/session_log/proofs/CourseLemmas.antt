@@ -2,11 +2,11 @@
 use Rattle.std.proofs.Common.{◌≡◌, ℕ, List, [], ◌∷◌, ◌++◌, Some, None, length, append-nil, false, refl, ap, ap₂, sym, ◌∙◌, subst}
 use Rattle.std.proofs.lemmas.List.{map-append}
 use Rattle.std.proofs.lemmas.Option.{none-some}
-use Rattle.term_algebra.specs.Signature.{Signature}
-use Rattle.term_algebra.specs.Term.{Term}
-use Rattle.term_algebra.specs.Equation.{Data}
-use Rattle.term_algebra.specs.Canon.{IsCanon}
-use Rattle.behaviour_semantics.specs.Derives.{Keeps}
+use Rattle.lotos_base.specs.Signature.{Signature}
+use Rattle.lotos_base.specs.Term.{Term}
+use Rattle.lotos_base.specs.Equation.{Data}
+use Rattle.lotos_base.specs.Canon.{IsCanon}
+use Rattle.behaviour_semantics.specs.Derives.{DerivesCanonically}
 use Rattle.behaviour_semantics.specs.Fault.{fault_of}
 use Rattle.behaviour_semantics.specs.Label as plain
 use Rattle.behaviour_semantics.specs.Menu.{Exact, Meets}
@@ -41,7 +41,7 @@ use Rattle.session_histories.proofs.ProgressLemmas.{stepped_lawful, undone_lawfu
 use Rattle.session_histories.proofs.StepLemmas.{equal_leaves, lawful_item, one_situation}
 use Rattle.session_log.specs.CourseView.{basis_over, item_of, situation_of, past_of, pasts_of, progress_of}
 use Rattle.session_log.specs.Courses.{IsGoneOn, IsUndone, oldest_state, first_state_of}
-use Rattle.session_log.specs.Entries.{AreGiven, IsChosen, IsEntryAt}
+use Rattle.session_log.specs.Entries.{AreGiven, IsChosenEntry, IsEntryAt}
 use Rattle.session_log.specs.Kept.{AreSuited, IsKeptCourse, IsKeptMenu, IsKeptPast, IsKeptState}
 use Rattle.session_log.specs.declared.courses.Course.{Course}
 use Rattle.session_log.specs.declared.courses.Past.{Past}
@@ -50,7 +50,7 @@ use Rattle.session_log.specs.RefusalView.{TellsStep}
 use Rattle.session_log.specs.declared.refusals.StepRefusal.{StepRefusal}
 use Rattle.event_offers.specs.declared.drafts.Entry.{Entry}
 use Rattle.sort_terms.specs.SortedView.{term_in}
-use Rattle.step_parts.specs.declared.faults.StepFault.{StepFault}
+use Rattle.step_taker.specs.HandedOn.{StepFault}
 use Rattle.step_taker.specs.Taken.{IsTaken, IsStepFault, ground_of}
 
 -- ---- Courses as sessions
@@ -115,7 +115,7 @@ kept_situation data_ canon spec course kept =
 
 pub chosen_free : (data_ : Data) (canon : Term → Term) (spec : Spec) (course : Course) (number : ℕ) (values : List Sorted)
     (derivation : Derivation) → IsStateOver (basis_over data_ canon spec) (state_of course.state)
-    → IsKeptCourse data_ canon spec course → IsChosen data_ canon course.menu number values derivation
+    → IsKeptCourse data_ canon spec course → IsChosenEntry data_ canon course.menu number values derivation
     → fault_of data_ canon (specification_of spec).processes (state_of course.state) (derivation_of derivation) ≡ None
 chosen_free data_ canon spec course number values derivation over kept chosen =
     let made : HasItem (basis_over data_ canon spec) (situation_of course.state course.menu) number (terms_of values) =
@@ -138,7 +138,7 @@ chosen_free data_ canon spec course number values derivation over kept chosen =
 -- `next` has the item of the step, and the state and the menu that it leads to.
 pub record IsStep (data_ : Data) (canon : Term → Term) (spec : Spec) (old : Course) (number : ℕ) (values : List Sorted) (label : Label)
     (next : Past) (new : Course) : Type 0 where
-  pub chosen : IsChosen data_ canon old.menu number values next.derivation
+  pub chosen : IsChosenEntry data_ canon old.menu number values next.derivation
   pub taken : IsTaken (ground_of data_ canon spec) old.state next.derivation label next.state
   pub exact : Exact data_ canon (specification_of spec).processes (state_of next.state) (entries_in next.menu)
   pub entries : IsKeptMenu data_.signature next.menu
@@ -167,9 +167,9 @@ has_stepped data_ canon spec old number values label next new h = record {
     meets = subst (λ (it : List Sorted). Meets data_ (plain_entry h.chosen.entry) (terms_of it)) (sym h.valued) h.chosen.meets;
     derivation = h.chosen.same
         ∙ ap (λ (it : List Sorted). canonical_derivation canon (plain_entry h.chosen.entry) (terms_of it)) (sym h.valued);
-    keeps = subst (λ (it : State). Keeps data_ canon (specification_of spec).processes (state_of old.state)
+    keeps = subst (λ (it : State). DerivesCanonically data_ canon (specification_of spec).processes (state_of old.state)
         (derivation_of next.derivation) (label_of next.label) (state_of it)) (sym h.gone.state)
-        (subst (λ (it : plain.Label). Keeps data_ canon (specification_of spec).processes (state_of old.state)
+        (subst (λ (it : plain.Label). DerivesCanonically data_ canon (specification_of spec).processes (state_of old.state)
         (derivation_of next.derivation) it (state_of next.state)) (sym h.labelled) h.taken.keeps);
   };
   menu = subst (λ (it : State). Exact data_ canon (specification_of spec).processes (state_of it) (entries_in new.menu))

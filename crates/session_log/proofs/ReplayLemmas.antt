@@ -2,10 +2,10 @@
 use Rattle.std.proofs.Common.{◌≡◌, ◌≢◌, inl, inr, ◌<◌, ◌≤◌, ◌+◌, ℕ, zero, suc, List, [], ◌∷◌, ◌++◌, map, drop, length, get_or, Bool, true, false, bytes_eq, Option, Some, None, refl, ap, sym, ◌∙◌, subst, arith, append-nil, append_assoc}
 use Rattle.std.proofs.lemmas.List.{map-append}
 use Rattle.std.proofs.lemmas.Option.{none-some}
-use Rattle.term_algebra.specs.Signature.{Signature}
-use Rattle.term_algebra.specs.Term.{Term, Terms, variable, node, no_terms, term_then}
-use Rattle.term_algebra.specs.Sorting.{IsGround, AreGround}
-use Rattle.term_algebra.specs.Equation.{Data, Place, Variable}
+use Rattle.lotos_base.specs.Signature.{Signature}
+use Rattle.lotos_base.specs.Term.{Term, Terms, variable, node, no_terms, term_then}
+use Rattle.lotos_base.specs.Sorting.{IsGround, AreGround}
+use Rattle.lotos_base.specs.Equation.{Data, Place, Variable}
 use Rattle.lotos_base.specs.WrittenTerm.{WrittenTerm, WrittenTerms, written, no_written, written_then}
 use Rattle.lotos_base.specs.WrittenView.{text_place_of, written_term_of}
 use Rattle.lotos_base.specs.Name.{spelling}
@@ -49,7 +49,7 @@ use Rattle.std.proofs.lemmas.Result.{MatchResult-weaker}
 use Rattle.menu_builder.specs.Menus.{entries_in}
 use Rattle.session_histories.specs.Refusal as plain
 use Rattle.session_histories.specs.Refusal.{StepRefusal, entry_numbered, count_refusal, number_refusal, condition_refusal, value_refusal, step_refusal}
-use Rattle.session_histories.specs.Replay.{has_no_form, LineRefusal, bad_line, step_refused, label_differs, Outcome, goes_on, stops, ReplayRefusal, AreRead, IsOneMisread, IsReadStep, shown_label, LineComesTo, is_not_read, is_miscounted, is_misread, is_unmet, is_mislabelled, is_replayed, LinesComeTo, all_done, one_stops, one_goes_on, no_heading, ComeBehind, TraceComesTo, ReplayIs}
+use Rattle.session_histories.specs.Replay.{has_no_form, LineRefusal, bad_line, step_refused, label_differs, LinesOutcome, goes_on, stops, ReplayRefusal, AreRead, IsOneMisread, IsReadStep, shown_label, LineComesTo, is_not_read, is_miscounted, is_misread, is_unmet, is_mislabelled, is_replayed, LinesComeTo, all_done, one_stops, one_goes_on, no_heading, ComeBehind, TraceComesTo, ReplayIs}
 use Rattle.session_histories.specs.TraceLine.{StepLine, step_line, lines_of}
 use Rattle.session_histories.specs.TraceText.{trace_heading}
 use Rattle.session_histories.proofs.RefusalLemmas.{free_of_count, as_many, fit_sorts}
@@ -106,7 +106,7 @@ mutual
   all_ground signature (written_then w ws) (term_then t ts) (s ∷ ss) reads =
       (read_ground signature w t s reads.0, all_ground signature ws ts ss reads.1)
 
-is_reading : {A : Type 0} (unknown : List reading.Refusal) (place : Place) (Is : A → Type 0) (one : A)
+is_reading : {A : Type 0} (unknown : List reading.ReadingRefusal) (place : Place) (Is : A → Type 0) (one : A)
     → ComesTo unknown place Is (answered one) → Is one
 is_reading (first ∷ rest) place Is one comes = absurd comes
 is_reading [] place Is one comes = comes.is_answer
@@ -157,7 +157,7 @@ term_read signature other scope term sort value none same is_of read =
       read = subst (λ (it : ℕ). ReadingIs signature [] term (Some sort) (answered (record { term = term_in value; sort = it }))) is.1 here;
     }
 
-misread : (signature other : Signature) (scope : List Variable) (term : WrittenTerm) (sort : ℕ) (refusal : reading.Refusal) → scope ≡ []
+misread : (signature other : Signature) (scope : List Variable) (term : WrittenTerm) (sort : ℕ) (refusal : reading.ReadingRefusal) → scope ≡ []
     → other ≡ signature → ReadingIs other scope term (Some sort) (reading.refused refusal) → IsMisreadAt signature term sort
 misread signature other scope term sort refusal none same h = (
   refusal,
@@ -167,7 +167,7 @@ misread signature other scope term sort refusal none same h = (
 
 pub term_told : (signature other : Signature) (scope : List Variable) (term : WrittenTerm) (sort : ℕ) (fault : SortFault) → scope ≡ []
     → other ≡ signature
-    → UnlessNoMemory fault (λ (refusal : reading.Refusal). ReadingIs other scope term (Some sort) (reading.refused refusal))
+    → UnlessNoMemory fault (λ (refusal : reading.ReadingRefusal). ReadingIs other scope term (Some sort) (reading.refused refusal))
     → TellsLine (λ (why : LineRefusal). (why ≡ bad_line) × IsMisreadAt signature term sort) (line_fault_of_term fault)
 term_told signature other scope term sort (term_fault.UnknownName place) none same h =
     (refl, misread signature other scope term sort (reading.unknown_name (text_place_of place)) none same h)
@@ -453,7 +453,7 @@ module _ (data_ : Data) (canon : Term → Term) (spec : Spec) (progress : Progre
 -- ---- What a trace comes to
 
 -- a heading, and lines behind it
-pub behind_heading : (basis : SessionBasis) (first : Situation) (text line rest : List ℕ) (outcome : Outcome ReplayRefusal)
+pub behind_heading : (basis : SessionBasis) (first : Situation) (text line rest : List ℕ) (outcome : LinesOutcome ReplayRefusal)
     → lines_of text ≡ line ∷ lines_of rest → bytes_eq line trace_heading ≡ true
     → LinesComeTo basis 2 (opened first) (lines_of rest) outcome → ReplayIs basis first text outcome
 behind_heading basis first text line rest outcome cut heading h =
@@ -471,31 +471,31 @@ nothing_to_replay basis first text none =
     subst (λ (it : List ℕ). ReplayIs basis first it no_heading) (sym none) refl
 
 -- What is left of the lines decides what the whole trace comes to.
-abbrev pub Decides : SessionBasis → ℕ → Progress → List ℕ → (Outcome ReplayRefusal → Type 0) → Type 0
+abbrev pub Decides : SessionBasis → ℕ → Progress → List ℕ → (LinesOutcome ReplayRefusal → Type 0) → Type 0
 Decides basis number progress rest Whole =
-    (outcome : Outcome ReplayRefusal) → LinesComeTo basis number progress (lines_of rest) outcome → Whole outcome
+    (outcome : LinesOutcome ReplayRefusal) → LinesComeTo basis number progress (lines_of rest) outcome → Whole outcome
 
 pub line_done : (basis : SessionBasis) (number : ℕ) (progress new : Progress) (line rest more : List ℕ)
-    (Whole : Outcome ReplayRefusal → Type 0) → Decides basis number progress rest Whole → lines_of rest ≡ line ∷ lines_of more
+    (Whole : LinesOutcome ReplayRefusal → Type 0) → Decides basis number progress rest Whole → lines_of rest ≡ line ∷ lines_of more
     → LineComesTo basis progress line (goes_on new) → Decides basis (number + 1) new more Whole
 line_done basis number progress new line rest more Whole decides cut is = λ outcome h.
     decides outcome (subst (λ (it : List (List ℕ)). LinesComeTo basis number progress it outcome) (sym cut) (one_goes_on is h))
 
 pub line_refused : (basis : SessionBasis) (number : ℕ) (progress : Progress) (line rest more : List ℕ) (why : LineRefusal)
-    (Whole : Outcome ReplayRefusal → Type 0) → Decides basis number progress rest Whole → lines_of rest ≡ line ∷ lines_of more
+    (Whole : LinesOutcome ReplayRefusal → Type 0) → Decides basis number progress rest Whole → lines_of rest ≡ line ∷ lines_of more
     → LineComesTo basis progress line (stops why) → Whole (stops (record { line = number; why = why }))
 line_refused basis number progress line rest more why Whole decides cut is =
     decides (stops (record { line = number; why = why }))
     (subst (λ (it : List (List ℕ)). LinesComeTo basis number progress it (stops (record { line = number; why = why }))) (sym cut)
     (one_stops is))
 
-pub all_replayed : (basis : SessionBasis) (number : ℕ) (progress : Progress) (rest : List ℕ) (Whole : Outcome ReplayRefusal → Type 0)
+pub all_replayed : (basis : SessionBasis) (number : ℕ) (progress : Progress) (rest : List ℕ) (Whole : LinesOutcome ReplayRefusal → Type 0)
     → Decides basis number progress rest Whole → rest ≡ [] → Whole (goes_on progress)
 all_replayed basis number progress rest Whole decides none =
     decides (goes_on progress)
     (subst (λ (it : List ℕ). LinesComeTo basis number progress (lines_of it) (goes_on progress)) (sym none) all_done)
 
-pub lines_ended : (basis : SessionBasis) (number : ℕ) (progress : Progress) (rest : List ℕ) (Whole : Outcome ReplayRefusal → Type 0)
+pub lines_ended : (basis : SessionBasis) (number : ℕ) (progress : Progress) (rest : List ℕ) (Whole : LinesOutcome ReplayRefusal → Type 0)
     → Decides basis number progress rest Whole → length rest < 1 → Whole (goes_on progress)
 lines_ended basis number progress [] Whole decides short = all_replayed basis number progress [] Whole decides refl
 lines_ended basis number progress (byte ∷ rest) Whole decides short = absurd (omega (arith, short))
@@ -525,7 +525,7 @@ good_heading basis first text line rest cut some heading = λ outcome h.
 
 -- a line that is refused stops the trace
 pub refused_at : (basis : SessionBasis) (number : ℕ) (progress : Progress) (line rest more : List ℕ)
-    (Whole : Outcome ReplayRefusal → Type 0) → Decides basis number progress rest Whole → lines_of rest ≡ line ∷ lines_of more
+    (Whole : LinesOutcome ReplayRefusal → Type 0) → Decides basis number progress rest Whole → lines_of rest ≡ line ∷ lines_of more
     → (fault : ReplayFault)
     → TellsReplay (λ (refusal : ReplayRefusal). (refusal.line ≡ number) × LineComesTo basis progress line (stops refusal.why)) fault
     → TellsReplay (λ (refusal : ReplayRefusal). Whole (stops refusal)) fault
@@ -536,7 +536,7 @@ refused_at basis number progress line rest more Whole decides cut fault h =
     (line_refused basis number progress line rest more refusal.why Whole decides cut k.1)) fault h
 
 -- what holds over data that have not changed
-pub over_same : (data_ other : Data) (canon also : Term → Term) (P : Data → (Term → Term) → Type 0) → other ≡ data_ → also ≡ canon
+over_same : (data_ other : Data) (canon also : Term → Term) (P : Data → (Term → Term) → Type 0) → other ≡ data_ → also ≡ canon
     → P other also → P data_ canon
 over_same data_ other canon also P same same_canon h = subst (λ (d : Data). P d canon) same (subst (P other) same_canon h)
 
@@ -548,7 +548,7 @@ heading_some (byte ∷ line) text heading within = omega (arith, within)
 
 pub replayed_behind : (basis : SessionBasis) (course : Course) (text line rest : List ℕ)
     → (0 < length text → lines_of text ≡ line ∷ lines_of rest) → length line ≤ length text → bytes_eq line trace_heading ≡ true
-    → course.history.items ≡ [] → (outcome : Outcome ReplayRefusal)
+    → course.history.items ≡ [] → (outcome : LinesOutcome ReplayRefusal)
     → LinesComeTo basis 2 (progress_of course) (lines_of rest) outcome
     → ReplayIs basis (situation_of course.state course.menu) text outcome
 replayed_behind basis course text line rest cut within heading none outcome h =
@@ -559,7 +559,7 @@ replayed_behind basis course text line rest cut within heading none outcome h =
 -- ---- A replay from the beginning of a session
 
 pub replayed_here : (data_ other : Data) (canon also : Term → Term) (spec : Spec) (old begun : Course) (text : List ℕ) → other ≡ data_
-    → also ≡ canon → situation_of begun.state begun.menu ≡ first_situation (progress_of old) → (outcome : Outcome ReplayRefusal)
+    → also ≡ canon → situation_of begun.state begun.menu ≡ first_situation (progress_of old) → (outcome : LinesOutcome ReplayRefusal)
     → ReplayIs (basis_over other also spec) (situation_of begun.state begun.menu) text outcome
     → ReplayIs (basis_over data_ canon spec) (first_situation (progress_of old)) text outcome
 replayed_here data_ other canon also spec old begun text same same_canon start outcome h =

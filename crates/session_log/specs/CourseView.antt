@@ -1,7 +1,7 @@
 -- The sessions of `session_histories` that those of the code stand for.
 use Rattle.std.specs.Prelude.{List, map}
-use Rattle.term_algebra.specs.Term.{Term}
-use Rattle.term_algebra.specs.Equation.{Data}
+use Rattle.lotos_base.specs.Term.{Term}
+use Rattle.lotos_base.specs.Equation.{Data}
 use Rattle.behaviour_tree.specs.BehaviourView.{terms_of}
 use Rattle.behaviour_tree.specs.DefinitionView.{specification_of}
 use Rattle.behaviour_tree.specs.MoveView.{derivation_of, label_of}

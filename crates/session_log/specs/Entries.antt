@@ -1,9 +1,9 @@
 -- Entries of menus of the code, and values for them.
 use Rattle.std.specs.Prelude.{◌≡◌, ℕ, suc, List, Option, None, Some, slice_get}
-use Rattle.term_algebra.specs.Signature.{Signature}
-use Rattle.term_algebra.specs.Sorting.{IsGround}
-use Rattle.term_algebra.specs.Term.{Term}
-use Rattle.term_algebra.specs.Equation.{Data}
+use Rattle.lotos_base.specs.Signature.{Signature}
+use Rattle.lotos_base.specs.Sorting.{IsGround}
+use Rattle.lotos_base.specs.Term.{Term}
+use Rattle.lotos_base.specs.Equation.{Data}
 use Rattle.behaviour_semantics.specs.Menu.{Meets}
 use Rattle.behaviour_semantics.specs.WellFormed.{Every}
 use Rattle.behaviour_tree.specs.BehaviourTerms.{profiles_of}
@@ -31,7 +31,7 @@ pub record AreGiven (signature : Signature) (values : List Sorted) : Type 0 wher
   pub ground : Every (λ (value : Sorted). IsGround (term_in value)) values
 
 -- The derivation is that of the entry with this number and these values, in canonical form.
-pub record IsChosen (data_ : Data) (canon : Term → Term) (menu : Menu) (number : ℕ) (values : List Sorted) (derivation : Derivation)
+pub record IsChosenEntry (data_ : Data) (canon : Term → Term) (menu : Menu) (number : ℕ) (values : List Sorted) (derivation : Derivation)
     : Type 0 where
   pub entry : Entry
   pub listed : IsEntryAt menu number entry

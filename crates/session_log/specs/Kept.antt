@@ -1,7 +1,7 @@
 -- What sessions of the code keep: their states are of the specification, their terms are of the signature, and they are lawful.
-use Rattle.term_algebra.specs.Signature.{Signature, IsWellFormedSignature}
-use Rattle.term_algebra.specs.Term.{Term}
-use Rattle.term_algebra.specs.Equation.{Data}
+use Rattle.lotos_base.specs.Signature.{Signature, IsWellFormedSignature}
+use Rattle.lotos_base.specs.Term.{Term}
+use Rattle.lotos_base.specs.Equation.{Data}
 use Rattle.behaviour_semantics.specs.WellFormed.{Every}
 use Rattle.behaviour_tree.specs.BehaviourTerms.{profiles_of}
 use Rattle.behaviour_tree.specs.Closed.{IsClosedNode}

@@ -1,7 +1,7 @@
 -- What the code replays lines of traces over, and what comes of them.
 use Rattle.std.specs.Prelude.{◌≡◌, ℕ, List, [], length, Some}
 use Rattle.lotos_base.specs.WrittenTerm.{WrittenTerm}
-use Rattle.term_algebra.specs.Signature.{Signature}
+use Rattle.lotos_base.specs.Signature.{Signature}
 use Rattle.sort_terms.specs.ReaderView.{signature_read}
 use Rattle.sort_terms.specs.ReadingOutcome as reading
 use Rattle.sort_terms.specs.ReadingOutcome.{ReadingIs, answered}
@@ -31,7 +31,7 @@ pub record IsReadAt (signature : Signature) (term : WrittenTerm) (sort : ℕ) (v
 
 -- The term has not one reading at the sort.
 abbrev pub IsMisreadAt : Signature → WrittenTerm → ℕ → Type 0
-IsMisreadAt signature term sort = (refusal : reading.Refusal) × ReadingIs signature [] term (Some sort) (reading.refused refusal)
+IsMisreadAt signature term sort = (refusal : reading.ReadingRefusal) × ReadingIs signature [] term (Some sort) (reading.refused refusal)
 
 -- The values are the readings of the terms at the sorts of the variables of the entry with this number.
 pub record AreReadAt (signature : Signature) (menu : Menu) (number : ℕ) (terms : List WrittenTerm) (values : List Sorted) : Type 0 where

@@ -8,18 +8,19 @@ ghost use Rattle.behaviour_tree.specs.DefinitionView.{specification_of};
 ghost use Rattle.behaviour_tree.specs.MoveView.{derivation_of, label_of};
 ghost use Rattle.behaviour_tree.specs.Over.{AreTermsOf, IsSpecOver, IsStateOf};
 ghost use Rattle.behaviour_tree.specs.StateView.{state_of};
+ghost use Rattle.event_offers.specs.Keeping.{KeepsData};
 ghost use Rattle.menu_builder.specs.Menus.{entries_in};
 ghost use Rattle.session_histories.specs.Lawful.{HasStepped};
 ghost use Rattle.session_histories.specs.Refusal.{step_refusal};
 ghost use Rattle.session_log.specs.CourseView.{basis_over, progress_of};
-ghost use Rattle.session_log.specs.Entries.{AreGiven, IsChosen};
+ghost use Rattle.session_log.specs.Entries.{AreGiven, IsChosenEntry};
 ghost use Rattle.session_log.specs.Kept.{AreSuited, IsKeptCourse, IsKeptMenu, IsKeptState};
 ghost use Rattle.session_log.specs.RefusalView.{TellsStep};
 ghost use Rattle.session_log.specs.Courses.{IsGoneOn, IsSameCourse, IsUndone, first_state_of};
 ghost use Rattle.std.specs.Prelude.{◌≡◌, IfOk, MatchResult, None, OnErr, OnOk, []};
 ghost use Rattle.step_taker.specs.Taken.{IsTaken, ground_of};
-ghost use Rattle.term_algebra.specs.Equation.{Data};
-ghost use Rattle.term_algebra.specs.Term.{Term};
+ghost use Rattle.lotos_base.specs.Equation.{Data};
+ghost use Rattle.lotos_base.specs.Term.{Term};
 ghost use Rattle.behaviour_tree.specs.declared.definitions.Spec.{Spec};
 
 use crate::entries::{check_values, counted_entry};
@@ -33,8 +34,7 @@ use process_checks::Ranks;
 use sort_terms::{Deciding, Sorted};
 use std::alloc::Global;
 use std::mem;
-use step_parts::StepFault;
-use step_taker::take;
+use step_taker::{StepFault, take};
 
 /// A step that was taken, with the state and the menu before it.
 #[derive(Debug, Drop)]
@@ -74,8 +74,7 @@ impl Course {
             (λ course. (course.state ≡ start) × (course.history.items ≡ [])) }
         ensures suited_after { AreSuited M.suits (D.known_data data.old) (D.canon data.old) spec.now
             ranks.now maker.new }
-        ensures same_data { D.known_data data.new ≡ D.known_data data.old }
-        ensures same_canon { D.canon data.new ≡ D.canon data.old }
+        ensures same_known { KeepsData D.known_data D.canon data.old data.new }
     {
         let menu = maker.make(alloc, spec, ranks, &start, data)?;
         Ok(Course {
@@ -148,8 +147,7 @@ impl Course {
             self.new }
         ensures suited_after { AreSuited M.suits (D.known_data data.old) (D.canon data.old) spec.now
             ranks.now maker.new }
-        ensures same_data { D.known_data data.new ≡ D.known_data data.old }
-        ensures same_canon { D.canon data.new ≡ D.canon data.old }
+        ensures same_known { KeepsData D.known_data D.canon data.old data.new }
     {
         let derivation = self.chosen(number, values.as_slice(), data)?;
         let taken = moved(spec, &self.state, &derivation, data)?;
@@ -192,12 +190,11 @@ impl Course {
         requires menu { IsKeptMenu (D.known_data data.old).signature self.now.menu }
         requires given { AreGiven (D.known_data data.old).signature values.now }
         ensures chosen { MatchResult result
-            (IsChosen (D.known_data data.old) (D.canon data.old) self.now.menu number values.now)
+            (IsChosenEntry (D.known_data data.old) (D.canon data.old) self.now.menu number values.now)
             (λ refusal. (spec : Spec) → TellsStep (step_refusal
             (basis_over (D.known_data data.old) (D.canon data.old) spec)
             (entries_in self.now.menu) number (terms_of values.now)) refusal) }
-        ensures same_data { D.known_data data.new ≡ D.known_data data.old }
-        ensures same_canon { D.canon data.new ≡ D.canon data.old }
+        ensures same_known { KeepsData D.known_data D.canon data.old data.new }
     {
         let entry = counted_entry(&self.menu, number, values.len())?;
         check_values(entry, values, data)?;
@@ -240,8 +237,7 @@ fn moved<D: Deciding>(
     ensures answer { IfOk result (λ made.
         IsTaken (ground_of (D.known_data data.old) (D.canon data.old) spec.now)
         state.now derivation.now made.0 made.1) }
-    ensures same_data { D.known_data data.new ≡ D.known_data data.old }
-    ensures same_canon { D.canon data.new ≡ D.canon data.old }
+    ensures same_known { KeepsData D.known_data D.canon data.old data.new }
 {
     match take(spec, state, derivation, data) {
         Ok(moved) => Ok(moved),

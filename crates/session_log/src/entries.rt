@@ -4,6 +4,7 @@ ghost use Rattle.behaviour_semantics.specs.Menu.{Meets};
 ghost use Rattle.behaviour_tree.specs.BehaviourTerms.{profiles_of};
 ghost use Rattle.behaviour_tree.specs.BehaviourView.{terms_of};
 ghost use Rattle.behaviour_tree.specs.Over.{AreTermsOf};
+ghost use Rattle.event_offers.specs.Keeping.{KeepsData};
 ghost use Rattle.event_offers.specs.OfferView.{plain_entry};
 ghost use Rattle.event_offers.specs.Offers.{IsEntryOver};
 ghost use Rattle.menu_builder.specs.Menus.{entries_in};
@@ -15,7 +16,7 @@ ghost use Rattle.session_histories.specs.Refusal.{
 ghost use Rattle.session_log.specs.Entries.{AreGiven, IsEntryAt, sort_told};
 ghost use Rattle.session_log.specs.RefusalView.{TellsStep};
 ghost use Rattle.std.specs.Prelude.{◌≡◌, MatchResult, Some, length};
-ghost use Rattle.term_algebra.specs.Signature.{Signature};
+ghost use Rattle.lotos_base.specs.Signature.{Signature};
 
 use crate::refusals::StepRefusal;
 use event_offers::{Entry, Menu};
@@ -72,8 +73,7 @@ pub fn check_values<D: Deciding>(
         (λ _. Meets (D.known_data data.old) (plain_entry entry.now) (terms_of values.now))
         (TellsStep (value_refusal (D.known_data data.old).signature (D.canon data.old)
         (Some (plain_entry entry.now)) (terms_of values.now))) }
-    ensures same_data { D.known_data data.new ≡ D.known_data data.old }
-    ensures same_canon { D.canon data.new ≡ D.canon data.old }
+    ensures same_known { KeepsData D.known_data D.canon data.old data.new }
 {
     if let Some(variable) = other_sort(&entry.vars, values) {
         return Err(StepRefusal::ValueSort { variable });

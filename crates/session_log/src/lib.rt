@@ -10,5 +10,6 @@ pub mod replaying;
 pub mod sessions;
 pub mod traces;
 
+pub use menu_builder::MenuMaker;
 pub use refusals::{ReplayFault, StepRefusal};
 pub use sessions::Session;

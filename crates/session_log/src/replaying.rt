@@ -1,6 +1,7 @@
 //! The replay of a trace.
 
 ghost use Rattle.behaviour_tree.specs.BehaviourView.{terms_of};
+ghost use Rattle.event_offers.specs.Keeping.{KeepsData};
 ghost use Rattle.lotos_base.specs.WrittenView.{written_term_of};
 ghost use Rattle.sentence_trees.specs.Reading.{IsTermsFault, IsTermsReading};
 ghost use Rattle.sentence_trees.specs.declared.fault.ReadFault as read_fault;
@@ -52,7 +53,7 @@ ghost use Rattle.std.specs.Prelude.{
   map,
 };
 ghost use Rattle.std.specs.Str.{bytes_eq};
-ghost use Rattle.term_algebra.specs.Signature.{Signature as PlainSignature};
+ghost use Rattle.lotos_base.specs.Signature.{Signature as PlainSignature};
 
 use crate::courses::Course;
 use crate::entries::counted_entry;
@@ -108,8 +109,7 @@ pub fn replay_text<M: MenuMaker, D: Deciding>(
         base.now.spec.now course.new) }
     ensures suited_after { AreSuited M.suits (D.known_data data.old) (D.canon data.old)
         base.now.spec.now base.now.ranks.now maker.new }
-    ensures same_data { D.known_data data.new ≡ D.known_data data.old }
-    ensures same_canon { D.canon data.new ≡ D.canon data.old }
+    ensures same_known { KeepsData D.known_data D.canon data.old data.new }
 {
     let head = first_line(text);
     if !is_heading(head.0) {
@@ -151,8 +151,7 @@ fn replay_steps<M: MenuMaker, D: Deciding>(
         base.now.spec.now course.new) }
     ensures suited_after { AreSuited M.suits (D.known_data data.old) (D.canon data.old)
         base.now.spec.now base.now.ranks.now maker.new }
-    ensures same_data { D.known_data data.new ≡ D.known_data data.old }
-    ensures same_canon { D.canon data.new ≡ D.canon data.old }
+    ensures same_known { KeepsData D.known_data D.canon data.old data.new }
 {
     let mut number = 1u32;
     let mut rest = steps;
@@ -191,8 +190,7 @@ fn replay_at<M: MenuMaker, D: Deciding>(
         base.now.spec.now course.new) }
     ensures suited_after { AreSuited M.suits (D.known_data data.old) (D.canon data.old)
         base.now.spec.now base.now.ranks.now maker.new }
-    ensures same_data { D.known_data data.new ≡ D.known_data data.old }
-    ensures same_canon { D.canon data.new ≡ D.canon data.old }
+    ensures same_known { KeepsData D.known_data D.canon data.old data.new }
 {
     match replay_line(alloc, base, maker, course, line, data) {
         Ok(()) => Ok(()),
@@ -225,8 +223,7 @@ fn replay_line<M: MenuMaker, D: Deciding>(
         base.now.spec.now course.new) }
     ensures suited_after { AreSuited M.suits (D.known_data data.old) (D.canon data.old)
         base.now.spec.now base.now.ranks.now maker.new }
-    ensures same_data { D.known_data data.new ≡ D.known_data data.old }
-    ensures same_canon { D.canon data.new ≡ D.canon data.old }
+    ensures same_known { KeepsData D.known_data D.canon data.old data.new }
 {
     let said = said_on(line)?;
     let terms = terms_of_line(alloc, said.terms)?;

@@ -2,6 +2,7 @@
 
 ghost use Rattle.behaviour_tree.specs.BehaviourView.{terms_of};
 ghost use Rattle.behaviour_tree.specs.MoveView.{label_of};
+ghost use Rattle.event_offers.specs.Keeping.{KeepsData};
 ghost use Rattle.lotos_base.specs.Name.{spelling};
 ghost use Rattle.menu_builder.specs.Menus.{entries_in};
 ghost use Rattle.session_histories.specs.Lawful.{HasStepped};
@@ -26,8 +27,8 @@ ghost use Rattle.std.specs.Prelude.{
   length,
   map,
 };
-ghost use Rattle.term_algebra.specs.Equation.{Data};
-ghost use Rattle.term_algebra.specs.Term.{Term};
+ghost use Rattle.lotos_base.specs.Equation.{Data};
+ghost use Rattle.lotos_base.specs.Term.{Term};
 
 use crate::courses::Course;
 use crate::refusals::{ReplayFault, StepRefusal};
@@ -67,8 +68,7 @@ impl<M: MenuMaker> Session<M> {
             (IsLawfulSession M.suits (D.known_data data.old) (D.canon data.old)) }
         ensures begins { IfOk result (λ session. (session.spec ≡ spec) × (session.ranks ≡ ranks)
             × (session.course.state ≡ start) × (session.course.history.items ≡ [])) }
-        ensures same_data { D.known_data data.new ≡ D.known_data data.old }
-        ensures same_canon { D.canon data.new ≡ D.canon data.old }
+        ensures same_known { KeepsData D.known_data D.canon data.old data.new }
     {
         let mut maker = maker;
         let course = Course::open(alloc, &spec, &ranks, &mut maker, start, data)?;
@@ -136,8 +136,7 @@ impl<M: MenuMaker> Session<M> {
             (D.canon data.old) self.new }
         ensures same_spec { self.new.spec ≡ self.old.spec }
         ensures same_ranks { self.new.ranks ≡ self.old.ranks }
-        ensures same_data { D.known_data data.new ≡ D.known_data data.old }
-        ensures same_canon { D.canon data.new ≡ D.canon data.old }
+        ensures same_known { KeepsData D.known_data D.canon data.old data.new }
     {
         self.course.step(
             &self.spec,
@@ -209,8 +208,7 @@ impl<M: MenuMaker> Session<M> {
             (D.canon data.old) self.new }
         ensures same_spec { self.new.spec ≡ self.old.spec }
         ensures same_ranks { self.new.ranks ≡ self.old.ranks }
-        ensures same_data { D.known_data data.new ≡ D.known_data data.old }
-        ensures same_canon { D.canon data.new ≡ D.canon data.old }
+        ensures same_known { KeepsData D.known_data D.canon data.old data.new }
     {
         let alloc = self.course.allocator();
         let first = self.course.first_state().copy(alloc)?;

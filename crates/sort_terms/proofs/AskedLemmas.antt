@@ -3,7 +3,7 @@ use Rattle.std.proofs.Common.{◌≡◌, ◌↔◌, ℕ, Bool, true, ◌&&◌, L
 use Rattle.std.specs.Prelude.{Option, Some, None, IsTrue, MatchOption}
 use Rattle.std.proofs.lemmas.Bool.{eqb-true, eq-eqb, and_parts}
 use Rattle.lotos_base.specs.WrittenTerm.{PlacedName}
-use Rattle.term_algebra.specs.Signature.{Signature}
+use Rattle.lotos_base.specs.Signature.{Signature}
 use Rattle.sort_terms.specs.Asked.{allows, is_sort}
 use Rattle.sort_terms.specs.Reading.{IsAsked, IsSortNamed}
 use Rattle.sort_terms.specs.declared.asked.Asked.{Asked}

@@ -5,7 +5,7 @@ use Rattle.std.specs.declared.rc.Rc.{Rc}
 use Rattle.std.proofs.lemmas.Option.{slice_get-get_or}
 use Rattle.std.specs.Option.{option_map}
 use Rattle.std.proofs.Math.Seq.{drop-cons}
-use Rattle.term_algebra.specs.Signature.{Signature}
+use Rattle.lotos_base.specs.Signature.{Signature}
 use Rattle.sort_terms.specs.ProfiledTerm.{ProfiledTerm, ProfiledTerms, profiled_node, no_profiled_terms, profiled_term_then}
 use Rattle.sort_terms.specs.Tables.{built_from, all_built_from, node_with, profiled_cons, term_if}
 use Rattle.sort_terms.specs.TableView.{table_of, tables_of}

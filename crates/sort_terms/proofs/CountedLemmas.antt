@@ -11,10 +11,10 @@ use Rattle.lotos_base.specs.declared.written_terms.Written.{Written, out-Written
 use Rattle.lotos_base.specs.declared.written_terms.Written.TheFolds.{fold_out-Written}
 use Rattle.lotos_base.specs.declared.written_terms.Form.{Form}
 use Rattle.lotos_base.specs.declared.written_terms.Form.TheVariants.{Prefix, Infix}
-use Rattle.term_algebra.specs.Names.{folded, AreOneName}
-use Rattle.term_algebra.specs.Signature.{Signature, Operation as PlainOperation, IsOperation, prefix_form}
-use Rattle.term_algebra.specs.Equation.{Variable as DeclaredVariable}
-use Rattle.term_algebra.specs.Term.{Term}
+use Rattle.lotos_base.specs.Names.{folded, AreOneName}
+use Rattle.lotos_base.specs.Signature.{Signature, Operation as PlainOperation, IsOperation, prefix_form}
+use Rattle.lotos_base.specs.Equation.{Variable as DeclaredVariable}
+use Rattle.lotos_base.specs.Term.{Term}
 use Rattle.sort_terms.specs.Positions.{positions_of}
 use Rattle.sort_terms.specs.Reading.{Reads, IsBare, IsVisible, IsLastNamed, NoneNamed}
 use Rattle.sort_terms.specs.Tables.{Table, Tables, table, gathered, offered, only_variable}

@@ -5,11 +5,11 @@ use Rattle.std.specs.Option.{option_map}
 use Rattle.std.proofs.lemmas.Bool.{eqb-true, eq-eqb, and_parts, cases_lt}
 use Rattle.std.proofs.lemmas.Option.{same_Some}
 use Rattle.lotos_base.specs.WrittenTerm.{WrittenHead, WrittenTerms, written}
-use Rattle.term_algebra.specs.Names.{AreOneName}
-use Rattle.term_algebra.specs.Signature.{Signature, Operation, IsOperation, Form, prefix_form, infix_form}
-use Rattle.term_algebra.specs.Equation.{Variable as DeclaredVariable}
-use Rattle.term_algebra.specs.Term.{Term, Terms, variable, node}
-use Rattle.term_algebra.specs.Twins.{form_eq}
+use Rattle.lotos_base.specs.Names.{AreOneName}
+use Rattle.lotos_base.specs.Signature.{Signature, Operation, IsOperation, Form, prefix_form, infix_form}
+use Rattle.lotos_base.specs.Equation.{Variable as DeclaredVariable}
+use Rattle.lotos_base.specs.Term.{Term, Terms, variable, node}
+use Rattle.lotos_base.specs.Twins.{form_eq}
 use Rattle.sort_terms.specs.Asked.{allows}
 use Rattle.sort_terms.specs.Reading.{Reads, AllRead, IsOperationAt, IsVariableAt, IsBare, IsLastNamed, IsVisible, IsAsked}
 use Rattle.sort_terms.specs.Tables.{Tables, combined, with_offer, gathered, offered, offered_by, offered_if, only_variable}

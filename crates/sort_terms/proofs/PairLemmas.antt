@@ -7,9 +7,9 @@ use Rattle.lotos_base.specs.WrittenLaws.{head_of}
 use Rattle.lotos_base.specs.WrittenTerm.{WrittenTerm}
 use Rattle.lotos_base.specs.WrittenView.{written_term_of}
 use Rattle.lotos_base.specs.declared.written_terms.Written.{Written}
-use Rattle.term_algebra.specs.Signature.{Signature}
-use Rattle.term_algebra.specs.Equation.{Variable, Place}
-use Rattle.term_algebra.specs.Term.{Term}
+use Rattle.lotos_base.specs.Signature.{Signature}
+use Rattle.lotos_base.specs.Equation.{Variable, Place}
+use Rattle.lotos_base.specs.Term.{Term}
 use Rattle.sort_terms.specs.Choices.{both}
 use Rattle.sort_terms.specs.ChoicesView.{IsFound, choice_at}
 use Rattle.sort_terms.specs.TableView.{table_of}
@@ -18,8 +18,8 @@ use Rattle.sort_terms.proofs.CombinedLemmas.{table_choices}
 use Rattle.sort_terms.specs.Counting.{HasNone, IsOnly, HasTwo}
 use Rattle.sort_terms.specs.ProfiledTerm.{ProfiledTerm, bare, head_sort, FitsProfiles, IsOf}
 use Rattle.sort_terms.specs.Reading.{Reads, IsScopeOver}
-use Rattle.sort_terms.specs.ReadingOutcome.{Refusal, no_reading, two_readings, unknown_in, PairReadingIs, answered, refused, SortedPair, IsPairReading}
-use Rattle.sort_terms.specs.RefusalView.{IsFirst, UnlessNoMemory}
+use Rattle.sort_terms.specs.ReadingOutcome.{ReadingRefusal, no_reading, two_readings, unknown_in, PairReadingIs, answered, refused, SortedPair, IsPairReading}
+use Rattle.sort_terms.specs.RefusalView.{IsFirstRefusal, UnlessNoMemory}
 use Rattle.sort_terms.specs.SortedView.{profiled_in, term_in}
 use Rattle.sort_terms.specs.Suiting.{Suits}
 use Rattle.sort_terms.specs.Tables.{Table, choice_in, built_from}
@@ -192,7 +192,7 @@ none_unknown : (signature : Signature) (scope : List Variable) (l r : Written) �
     → unknown_in signature scope (written_term_of r) ≡ []
     → unknown_in signature scope (written_term_of l) ++ unknown_in signature scope (written_term_of r) ≡ []
 none_unknown signature scope l r left right =
-    ap (λ (rs : List Refusal). rs ++ unknown_in signature scope (written_term_of r)) left ∙ right
+    ap (λ (rs : List ReadingRefusal). rs ++ unknown_in signature scope (written_term_of r)) left ∙ right
 
 pub no_pair : (signature : Signature) (scope : List Variable) (l r : Written) (t u : Table) (common : ℕ → Option Choice)
     → unknown_in signature scope (written_term_of l) ≡ [] → unknown_in signature scope (written_term_of r) ≡ []
@@ -267,7 +267,7 @@ one_pair signature scope over l r t u common s left_known right_known pairs foun
     )
 
 pub left_refused : (signature : Signature) (scope : List Variable) (l r : Written) (fault : SortFault)
-    → IsFirst (unknown_in signature scope (written_term_of l)) (Some fault)
+    → IsFirstRefusal (unknown_in signature scope (written_term_of l)) (Some fault)
     → UnlessNoMemory fault (λ x. PairReadingIs signature scope (written_term_of l) (written_term_of r) (refused x))
 left_refused signature scope l r fault first =
     let whole = first_here (unknown_in signature scope (written_term_of l)) (unknown_in signature scope (written_term_of r)) fault first in
@@ -275,7 +275,7 @@ left_refused signature scope l r fault first =
     (outcome_unknown _ _ _ whole.0 whole.1 whole.3)
 
 pub right_refused : (signature : Signature) (scope : List Variable) (l r : Written) (fault : SortFault)
-    → unknown_in signature scope (written_term_of l) ≡ [] → IsFirst (unknown_in signature scope (written_term_of r)) (Some fault)
+    → unknown_in signature scope (written_term_of l) ≡ [] → IsFirstRefusal (unknown_in signature scope (written_term_of r)) (Some fault)
     → UnlessNoMemory fault (λ x. PairReadingIs signature scope (written_term_of l) (written_term_of r) (refused x))
 right_refused signature scope l r fault none first =
     let whole = first_later (unknown_in signature scope (written_term_of l)) (unknown_in signature scope (written_term_of r))

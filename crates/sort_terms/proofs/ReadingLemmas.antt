@@ -7,21 +7,21 @@ use Rattle.lotos_base.specs.WrittenLaws.{head_of}
 use Rattle.lotos_base.specs.WrittenTerm.{WrittenTerm, written_head}
 use Rattle.lotos_base.specs.WrittenView.{written_term_of}
 use Rattle.lotos_base.specs.declared.written_terms.Written.{Written}
-use Rattle.term_algebra.specs.Signature.{Signature}
-use Rattle.term_algebra.specs.Equation.{Variable, Place}
-use Rattle.term_algebra.specs.Term.{Term}
+use Rattle.lotos_base.specs.Signature.{Signature}
+use Rattle.lotos_base.specs.Equation.{Variable, Place}
+use Rattle.lotos_base.specs.Term.{Term}
 use Rattle.sort_terms.specs.Counting.{HasNone, IsOnly, HasTwo}
 use Rattle.sort_terms.specs.FoundAt.{IsFoundAt}
 use Rattle.sort_terms.specs.ProfiledTerm.{ProfiledTerm, bare, head_sort, FitsProfiles, IsOf}
 use Rattle.sort_terms.specs.Reading.{Reads, IsScopeOver}
-use Rattle.sort_terms.specs.RefusalView.{IsFirst, UnlessNoMemory, refusal_of}
+use Rattle.sort_terms.specs.RefusalView.{IsFirstRefusal, UnlessNoMemory, refusal_of}
 use Rattle.sort_terms.specs.SortedView.{profiled_in, term_in}
 use Rattle.sort_terms.specs.declared.sorted.Sorted.{Sorted}
 use Rattle.sort_terms.specs.declared.sort_faults.SortFault.{SortFault}
 use Rattle.sort_terms.specs.declared.sort_faults.SortFault.TheVariants.{UnknownName, UnknownSort, NoReading, TwoReadings, NoMemory}
 use Rattle.sort_terms.proofs.BuildingLemmas.{built_one}
 use Rattle.sort_terms.proofs.CountedLemmas.{written_opened}
-use Rattle.sort_terms.specs.ReadingOutcome.{Refusal, no_reading, two_readings, unknown_in, ReadingIs, Outcome, answered, refused, ComesTo, SortedTerm, IsReading, IsExpected}
+use Rattle.sort_terms.specs.ReadingOutcome.{ReadingRefusal, no_reading, two_readings, unknown_in, ReadingIs, ReadingOutcome, answered, refused, ComesTo, SortedTerm, IsReading, IsExpected}
 use Rattle.sort_terms.specs.Suiting.{Means, MeansSome, Suits}
 use Rattle.sort_terms.specs.Tables.{Table, choice_in, built_from}
 use Rattle.sort_terms.specs.declared.choices.Choice.{Choice}
@@ -135,24 +135,24 @@ one_found signature scope w t suits (Some e) s at =
     of_one_sort signature scope w (Some e) s one.0 one.1 at.0 (λ r h. h.1 ∙ sym at.0)
 
 -- the outcome where no name is unknown
-pub outcome_known : {A : Type 0} (unknown : List Refusal) (place : Place) (P : A → Type 0) (outcome : Outcome A) → unknown ≡ []
+pub outcome_known : {A : Type 0} (unknown : List ReadingRefusal) (place : Place) (P : A → Type 0) (outcome : ReadingOutcome A) → unknown ≡ []
     → ComesTo [] place P outcome → ComesTo unknown place P outcome
 outcome_known unknown place P outcome none comes =
-    subst (λ (rs : List Refusal). ComesTo rs place P outcome) (sym none) comes
+    subst (λ (rs : List ReadingRefusal). ComesTo rs place P outcome) (sym none) comes
 
 -- the outcome where a name is unknown
-pub outcome_unknown : {A : Type 0} (unknown : List Refusal) (place : Place) (P : A → Type 0) (first : Refusal) (rest : List Refusal)
+pub outcome_unknown : {A : Type 0} (unknown : List ReadingRefusal) (place : Place) (P : A → Type 0) (first : ReadingRefusal) (rest : List ReadingRefusal)
     → unknown ≡ first ∷ rest → ComesTo unknown place P (refused first)
 outcome_unknown unknown place P first rest is =
-    subst (λ (rs : List Refusal). ComesTo rs place P (refused first)) (sym is) refl
+    subst (λ (rs : List ReadingRefusal). ComesTo rs place P (refused first)) (sym is) refl
 
 -- ---- Over the code's terms
 
-pub first_is : (fault : SortFault) (P : Refusal → Type 0) (r : Refusal) → refusal_of fault ≡ Some r → P r → UnlessNoMemory fault P
-first_is (UnknownName place) P r is h = subst (λ (x : Refusal). P x) (sym (same_Some _ _ is)) h
-first_is (UnknownSort place) P r is h = subst (λ (x : Refusal). P x) (sym (same_Some _ _ is)) h
-first_is (NoReading place) P r is h = subst (λ (x : Refusal). P x) (sym (same_Some _ _ is)) h
-first_is (TwoReadings place) P r is h = subst (λ (x : Refusal). P x) (sym (same_Some _ _ is)) h
+pub first_is : (fault : SortFault) (P : ReadingRefusal → Type 0) (r : ReadingRefusal) → refusal_of fault ≡ Some r → P r → UnlessNoMemory fault P
+first_is (UnknownName place) P r is h = subst (λ (x : ReadingRefusal). P x) (sym (same_Some _ _ is)) h
+first_is (UnknownSort place) P r is h = subst (λ (x : ReadingRefusal). P x) (sym (same_Some _ _ is)) h
+first_is (NoReading place) P r is h = subst (λ (x : ReadingRefusal). P x) (sym (same_Some _ _ is)) h
+first_is (TwoReadings place) P r is h = subst (λ (x : ReadingRefusal). P x) (sym (same_Some _ _ is)) h
 first_is NoMemory P r is h = tt
 
 pub place_seen : (w : Written) → (written_head (written_term_of w)).place ≡ (head_of w).place
@@ -208,7 +208,7 @@ one_read signature scope over w t expected s known suits found term is =
 
 -- a fault that is the first unknown name
 pub first_refused : (signature : Signature) (scope : List Variable) (w : Written) (expected : Option ℕ) (fault : SortFault)
-    → IsFirst (unknown_in signature scope (written_term_of w)) (Some fault)
+    → IsFirstRefusal (unknown_in signature scope (written_term_of w)) (Some fault)
     → UnlessNoMemory fault (λ r. ReadingIs signature scope (written_term_of w) expected (refused r))
 first_refused signature scope w expected fault first =
     first_is fault (λ r. ReadingIs signature scope (written_term_of w) expected (refused r)) first.0 first.2

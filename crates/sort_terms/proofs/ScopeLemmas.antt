@@ -6,8 +6,8 @@ use Rattle.std.proofs.lemmas.List.{length-map, map-append}
 use Rattle.sort_terms.specs.Positions.{positions_of}
 use Rattle.std.proofs.lemmas.Option.{none-some, same_Some, slice_get_within, get_or_from_slice_get}
 use Rattle.lotos_base.specs.Name.{spelling}
-use Rattle.term_algebra.specs.Names.{folded}
-use Rattle.term_algebra.specs.Equation.{Variable as PlainVariable}
+use Rattle.lotos_base.specs.Names.{folded}
+use Rattle.lotos_base.specs.Equation.{Variable as PlainVariable}
 use Rattle.sort_terms.specs.EquationView.{variable_of}
 use Rattle.sort_terms.specs.Reading.{IsLastNamed, NoneNamed}
 use Rattle.sort_terms.specs.declared.equations.Variable.{Variable}

@@ -1,8 +1,8 @@
 -- Lists of terms and what they stand for, member by member.
 use Rattle.std.proofs.Common.{◌≡◌, ℕ, zero, suc, ◌+◌, ◌<◌, List, [], ◌∷◌, ◌++◌, length, get_or, take, refl, ap, sym, ◌∙◌, subst, arith}
 use Rattle.std.proofs.lemmas.List.{take_more}
-use Rattle.term_algebra.specs.Term.{Term as PlainTerm, Terms, no_terms, term_then}
-use Rattle.term_algebra.specs.Sorting.{IsGround, AreGround}
+use Rattle.lotos_base.specs.Term.{Term as PlainTerm, Terms, no_terms, term_then}
+use Rattle.lotos_base.specs.Sorting.{IsGround, AreGround}
 use Rattle.sort_terms.specs.ProfiledTerm.{ProfiledTerm, ProfiledTerms, no_profiled_terms, profiled_term_then}
 use Rattle.sort_terms.specs.TermView.{profiled_of, all_profiled, term_of, terms_of}
 use Rattle.sort_terms.specs.declared.terms.Term.{Term}

@@ -13,16 +13,16 @@ use Rattle.lotos_base.specs.declared.places.Place.{Place}
 use Rattle.lotos_base.specs.declared.names.Name.{Name}
 use Rattle.lotos_base.specs.declared.written_terms.Form.TheVariants.{Prefix}
 use Rattle.lotos_base.specs.declared.written_terms.Written.{Written, out-Written}
-use Rattle.term_algebra.specs.Names.{folded}
-use Rattle.term_algebra.specs.Signature.{Signature, Sort, Operation, Form, prefix_form, infix_form}
-use Rattle.term_algebra.specs.Equation.{Variable}
-use Rattle.term_algebra.specs.Term.{node, no_terms}
-use Rattle.term_algebra.specs.Twins.{form_eq}
+use Rattle.lotos_base.specs.Names.{folded}
+use Rattle.lotos_base.specs.Signature.{Signature, Sort, Operation, Form, prefix_form, infix_form}
+use Rattle.lotos_base.specs.Equation.{Variable}
+use Rattle.lotos_base.specs.Term.{node, no_terms}
+use Rattle.lotos_base.specs.Twins.{form_eq}
 use Rattle.sort_terms.specs.Positions.{positions_of}
 use Rattle.sort_terms.specs.Reading.{IsLastNamed, NoneNamed, IsSortNamed}
 use Rattle.sort_terms.proofs.AskedLemmas.{IsSortFound}
-use Rattle.sort_terms.specs.ReadingOutcome.{Refusal, unknown_name, unknown_sort, is_known, is_sort_name, together, in_text_order, unknown_in, unknown_in_each, unknown_at, unknown_sorts, one_name, is_operation_name, is_variable_name}
-use Rattle.sort_terms.specs.RefusalView.{IsFirst}
+use Rattle.sort_terms.specs.ReadingOutcome.{ReadingRefusal, unknown_name, unknown_sort, is_known, is_sort_name, together, in_text_order, unknown_in, unknown_in_each, unknown_at, unknown_sorts, one_name, is_operation_name, is_variable_name}
+use Rattle.sort_terms.specs.RefusalView.{IsFirstRefusal}
 use Rattle.sort_terms.specs.Searching.{between, early_count, form_is, any_of_form}
 use Rattle.sort_terms.specs.declared.sort_faults.SortFault.{SortFault}
 use Rattle.sort_terms.specs.declared.sort_faults.SortFault.TheVariants.{UnknownName, UnknownSort}
@@ -32,15 +32,15 @@ use Rattle.sort_terms.proofs.NameIndexLemmas.{same_key, key_eq}
 use Rattle.sort_terms.proofs.PositionMembers.{position_is, position_there}
 use Rattle.sort_terms.proofs.ScopeLemmas.{mapped_member, member_mapped}
 
-pub first_here : (xs ys : List Refusal) (fault : SortFault) → IsFirst xs (Some fault) → IsFirst (xs ++ ys) (Some fault)
-first_here xs ys fault first = (first.0, first.1 ++ ys, first.2, ap (λ (zs : List Refusal). zs ++ ys) first.3)
+pub first_here : (xs ys : List ReadingRefusal) (fault : SortFault) → IsFirstRefusal xs (Some fault) → IsFirstRefusal (xs ++ ys) (Some fault)
+first_here xs ys fault first = (first.0, first.1 ++ ys, first.2, ap (λ (zs : List ReadingRefusal). zs ++ ys) first.3)
 
-pub first_later : (xs ys : List Refusal) (o : Option SortFault) → xs ≡ [] → IsFirst ys o → IsFirst (xs ++ ys) o
-first_later xs ys o none first = subst (λ (zs : List Refusal). IsFirst (zs ++ ys) o) (sym none) first
+pub first_later : (xs ys : List ReadingRefusal) (o : Option SortFault) → xs ≡ [] → IsFirstRefusal ys o → IsFirstRefusal (xs ++ ys) o
+first_later xs ys o none first = subst (λ (zs : List ReadingRefusal). IsFirstRefusal (zs ++ ys) o) (sym none) first
 
-append_none : (xs : List Refusal) → xs ++ [] ≡ xs
+append_none : (xs : List ReadingRefusal) → xs ++ [] ≡ xs
 append_none [] = refl
-append_none (x ∷ xs) = ap (λ (ys : List Refusal). x ∷ ys) (append_none xs)
+append_none (x ∷ xs) = ap (λ (ys : List ReadingRefusal). x ∷ ys) (append_none xs)
 
 -- ---- Stretches
 
@@ -59,23 +59,23 @@ between_none from to xs past =
     ap (λ (n : ℕ). take n (drop from xs)) nothing
 
 -- the member at the place has the first unknown name
-pub found_among : {A : Type 0} (f : A → List Refusal) (from i to : ℕ) (xs : List A) (x : A) (fault : SortFault) → i < to → to ≤ length xs
-    → x ≡ get_or xs i x → together (map f (between from to xs)) ≡ together (map f (between i to xs)) → IsFirst (f x) (Some fault)
-    → IsFirst (together (map f (between from to xs))) (Some fault)
+pub found_among : {A : Type 0} (f : A → List ReadingRefusal) (from i to : ℕ) (xs : List A) (x : A) (fault : SortFault) → i < to → to ≤ length xs
+    → x ≡ get_or xs i x → together (map f (between from to xs)) ≡ together (map f (between i to xs)) → IsFirstRefusal (f x) (Some fault)
+    → IsFirstRefusal (together (map f (between from to xs))) (Some fault)
 found_among f from i to xs x fault before within is so_far first =
     let here : between i to xs ≡ x ∷ between (i + 1) to xs =
     between_cons i to xs x before within ∙ ap (λ y. y ∷ between (i + 1) to xs) (sym is) in
-    subst (λ (rs : List Refusal). IsFirst rs (Some fault)) (sym (so_far ∙ ap (λ ys. together (map f ys)) here))
+    subst (λ (rs : List ReadingRefusal). IsFirstRefusal rs (Some fault)) (sym (so_far ∙ ap (λ ys. together (map f ys)) here))
     (first_here (f x) (together (map f (between (i + 1) to xs))) fault first)
 
 -- the member at the place has no unknown name
-pub none_among : {A : Type 0} (f : A → List Refusal) (from i to : ℕ) (xs : List A) (x : A) → i < to → to ≤ length xs
+pub none_among : {A : Type 0} (f : A → List ReadingRefusal) (from i to : ℕ) (xs : List A) (x : A) → i < to → to ≤ length xs
     → x ≡ get_or xs i x → together (map f (between from to xs)) ≡ together (map f (between i to xs)) → f x ≡ []
     → together (map f (between from to xs)) ≡ together (map f (between (i + 1) to xs))
 none_among f from i to xs x before within is so_far none =
     let here : between i to xs ≡ x ∷ between (i + 1) to xs =
     between_cons i to xs x before within ∙ ap (λ y. y ∷ between (i + 1) to xs) (sym is) in
-    so_far ∙ ap (λ ys. together (map f ys)) here ∙ ap (λ (rs : List Refusal). rs ++ together (map f (between (i + 1) to xs))) none
+    so_far ∙ ap (λ ys. together (map f ys)) here ∙ ap (λ (rs : List ReadingRefusal). rs ++ together (map f (between (i + 1) to xs))) none
 
 -- ---- A node
 
@@ -89,7 +89,7 @@ whole xs =
     let all : length xs - 0 ≡ length xs = omega arith in
     ap (λ (n : ℕ). take n xs) all ∙ take-length xs
 
-pub ordered : {A : Type 0} (f : A → List Refusal) (form : Form) (here : List Refusal) (xs : List A)
+pub ordered : {A : Type 0} (f : A → List ReadingRefusal) (form : Form) (here : List ReadingRefusal) (xs : List A)
     → in_text_order form here (map f xs)
     ≡ together (map f (between 0 (early_count form (length xs)) xs)) ++ here ++ together
     (map f (between (early_count form (length xs)) (length xs) xs))
@@ -103,7 +103,7 @@ each_unknown : (signature : Signature) (scope : List Variable) (ws : List Writte
     → unknown_in_each signature scope (written_terms (written_terms_of ws)) ≡ map (λ w. unknown_in signature scope (written_term_of w)) ws
 each_unknown signature scope [] = refl
 each_unknown signature scope (w ∷ ws) =
-    ap (λ (rest : List (List Refusal)). unknown_in signature scope (written_term_of w) ∷ rest) (each_unknown signature scope ws)
+    ap (λ (rest : List (List ReadingRefusal)). unknown_in signature scope (written_term_of w) ∷ rest) (each_unknown signature scope ws)
 
 -- the names of the code's term, in text order
 pub unknown_parts : (signature : Signature) (scope : List Variable) (w : Written)
@@ -117,10 +117,10 @@ pub unknown_parts : (signature : Signature) (scope : List Variable) (w : Written
     ++ unknown_sorts signature (head_of w).sorts
 unknown_parts signature scope w =
     ap (unknown_in signature scope) (written_opened w)
-    ∙ ap (λ (lists : List (List Refusal)). in_text_order (head_of w).form
+    ∙ ap (λ (lists : List (List ReadingRefusal)). in_text_order (head_of w).form
     (unknown_at signature scope (head_of w)) lists ++ unknown_sorts signature (head_of w).sorts)
     (each_unknown signature scope (out-Written w).args.items)
-    ∙ ap (λ (rs : List Refusal). rs ++ unknown_sorts signature (head_of w).sorts)
+    ∙ ap (λ (rs : List ReadingRefusal). rs ++ unknown_sorts signature (head_of w).sorts)
     (ordered (λ v. unknown_in signature scope (written_term_of v)) (head_of w).form (unknown_at signature scope (head_of w))
     (out-Written w).args.items)
 
@@ -265,7 +265,7 @@ dropped_sorts signature items i x within is =
     (drop-cons items i x within ∙ ap (λ (y : Place × Name). y ∷ drop (suc i) items) (sym is))
 
 -- an `of` that names a sort
-pub sort_passed : (signature : Signature) (items : Asks) (i : ℕ) (x : Place × Name) (found : Option ℕ) (n : ℕ) (whole : List Refusal)
+pub sort_passed : (signature : Signature) (items : Asks) (i : ℕ) (x : Place × Name) (found : Option ℕ) (n : ℕ) (whole : List ReadingRefusal)
     → i < length items → x ≡ get_or items i x → found ≡ Some n → IsSortFound signature (spelling x.1) found
     → whole ≡ unknown_sorts signature (map placed_name_of (drop i items))
     → whole ≡ unknown_sorts signature (map placed_name_of (drop (i + 1) items))
@@ -277,9 +277,9 @@ sort_passed signature items i x found n whole within is there named so_far =
     ∙ ap (λ (j : ℕ). unknown_sorts signature (map placed_name_of (drop j items))) next
 
 -- an `of` that names none
-pub sort_missed : (signature : Signature) (items : Asks) (i : ℕ) (x : Place × Name) (found : Option ℕ) (whole : List Refusal)
+pub sort_missed : (signature : Signature) (items : Asks) (i : ℕ) (x : Place × Name) (found : Option ℕ) (whole : List ReadingRefusal)
     → i < length items → x ≡ get_or items i x → found ≡ None → IsSortFound signature (spelling x.1) found
-    → whole ≡ unknown_sorts signature (map placed_name_of (drop i items)) → IsFirst whole (Some (UnknownSort x.0))
+    → whole ≡ unknown_sorts signature (map placed_name_of (drop i items)) → IsFirstRefusal whole (Some (UnknownSort x.0))
 sort_missed signature items i x found whole within is none named so_far =
     let unknown : is_sort_name signature (spelling x.1) ≡ false =
     sort_name_unknown signature (spelling x.1) (subst (λ (o : Option ℕ). IsSortFound signature (spelling x.1) o) none named) in (
@@ -292,7 +292,7 @@ sort_missed signature items i x found whole within is none named so_far =
 -- ---- The whole term
 
 -- the unknown names of a stretch of arguments
-abbrev pub UnknownBetween : Signature → List Variable → Written → ℕ → ℕ → List Refusal
+abbrev pub UnknownBetween : Signature → List Variable → Written → ℕ → ℕ → List ReadingRefusal
 UnknownBetween signature scope w from to =
     together (map (λ v. unknown_in signature scope (written_term_of v)) (between from to (out-Written w).args.items))
 
@@ -312,10 +312,10 @@ parts signature scope w early many counted is =
 
 pub before_first : (signature : Signature) (scope : List Variable) (w : Written) (early many : ℕ) (fault : SortFault)
     → many ≡ length (out-Written w).args.items → early ≡ early_count (head_of w).form many
-    → IsFirst (UnknownBetween signature scope w 0 early) (Some fault)
-    → IsFirst (unknown_in signature scope (written_term_of w)) (Some fault)
+    → IsFirstRefusal (UnknownBetween signature scope w 0 early) (Some fault)
+    → IsFirstRefusal (unknown_in signature scope (written_term_of w)) (Some fault)
 before_first signature scope w early many fault counted is first =
-    subst (λ (rs : List Refusal). IsFirst rs (Some fault)) (sym (parts signature scope w early many counted is))
+    subst (λ (rs : List ReadingRefusal). IsFirstRefusal rs (Some fault)) (sym (parts signature scope w early many counted is))
     (first_here _ (unknown_sorts signature (head_of w).sorts) fault
     (first_here _ (UnknownBetween signature scope w early many) fault
     (first_here (UnknownBetween signature scope w 0 early) (unknown_at signature scope (head_of w)) fault first)))
@@ -323,9 +323,9 @@ before_first signature scope w early many fault counted is first =
 pub name_first : (signature : Signature) (scope : List Variable) (w : Written) (early many : ℕ)
     → many ≡ length (out-Written w).args.items → early ≡ early_count (head_of w).form many
     → UnknownBetween signature scope w 0 early ≡ [] → is_known signature scope (head_of w) ≡ false
-    → IsFirst (unknown_in signature scope (written_term_of w)) (Some (UnknownName (out-Written w).place))
+    → IsFirstRefusal (unknown_in signature scope (written_term_of w)) (Some (UnknownName (out-Written w).place))
 name_first signature scope w early many counted is none unknown =
-    subst (λ (rs : List Refusal). IsFirst rs (Some (UnknownName (out-Written w).place)))
+    subst (λ (rs : List ReadingRefusal). IsFirstRefusal rs (Some (UnknownName (out-Written w).place)))
     (sym (parts signature scope w early many counted is))
     (first_here _ (unknown_sorts signature (head_of w).sorts) (UnknownName (out-Written w).place)
     (first_here _ (UnknownBetween signature scope w early many) (UnknownName (out-Written w).place)
@@ -337,33 +337,33 @@ known_here : (signature : Signature) (scope : List Variable) (w : Written) (earl
     → is_known signature scope (head_of w) ≡ true
     → UnknownBetween signature scope w 0 early ++ unknown_at signature scope (head_of w) ≡ []
 known_here signature scope w early none known =
-    ap (λ (rs : List Refusal). rs ++ unknown_at signature scope (head_of w)) none ∙ rw known refl
+    ap (λ (rs : List ReadingRefusal). rs ++ unknown_at signature scope (head_of w)) none ∙ rw known refl
 
 pub behind_first : (signature : Signature) (scope : List Variable) (w : Written) (early many : ℕ) (fault : SortFault)
     → many ≡ length (out-Written w).args.items → early ≡ early_count (head_of w).form many
     → UnknownBetween signature scope w 0 early ≡ [] → is_known signature scope (head_of w) ≡ true
-    → IsFirst (UnknownBetween signature scope w early many) (Some fault)
-    → IsFirst (unknown_in signature scope (written_term_of w)) (Some fault)
+    → IsFirstRefusal (UnknownBetween signature scope w early many) (Some fault)
+    → IsFirstRefusal (unknown_in signature scope (written_term_of w)) (Some fault)
 behind_first signature scope w early many fault counted is none known first =
-    subst (λ (rs : List Refusal). IsFirst rs (Some fault)) (sym (parts signature scope w early many counted is))
+    subst (λ (rs : List ReadingRefusal). IsFirstRefusal rs (Some fault)) (sym (parts signature scope w early many counted is))
     (first_here _ (unknown_sorts signature (head_of w).sorts) fault
     (first_later _ (UnknownBetween signature scope w early many) (Some fault) (known_here signature scope w early none known) first))
 
 pub sorts_first : (signature : Signature) (scope : List Variable) (w : Written) (early many : ℕ) (found : Option SortFault)
     → many ≡ length (out-Written w).args.items → early ≡ early_count (head_of w).form many
     → UnknownBetween signature scope w 0 early ≡ [] → is_known signature scope (head_of w) ≡ true
-    → UnknownBetween signature scope w early many ≡ [] → IsFirst (unknown_sorts signature (head_of w).sorts) found
-    → IsFirst (unknown_in signature scope (written_term_of w)) found
+    → UnknownBetween signature scope w early many ≡ [] → IsFirstRefusal (unknown_sorts signature (head_of w).sorts) found
+    → IsFirstRefusal (unknown_in signature scope (written_term_of w)) found
 sorts_first signature scope w early many found counted is none known nothing first =
-    subst (λ (rs : List Refusal). IsFirst rs found) (sym (parts signature scope w early many counted is))
+    subst (λ (rs : List ReadingRefusal). IsFirstRefusal rs found) (sym (parts signature scope w early many counted is))
     (first_later _ (unknown_sorts signature (head_of w).sorts) found
-    (ap (λ (rs : List Refusal). rs ++ UnknownBetween signature scope w early many) (known_here signature scope w early none known)
+    (ap (λ (rs : List ReadingRefusal). rs ++ UnknownBetween signature scope w early many) (known_here signature scope w early none known)
     ∙ nothing) first)
 
 -- a stretch that was found to have none, or some
-pub found_some : (refusals : List Refusal) (o : Option SortFault) (fault : SortFault) → o ≡ Some fault → IsFirst refusals o
-    → IsFirst refusals (Some fault)
-found_some refusals o fault is first = subst (λ (x : Option SortFault). IsFirst refusals x) is first
+pub found_some : (refusals : List ReadingRefusal) (o : Option SortFault) (fault : SortFault) → o ≡ Some fault → IsFirstRefusal refusals o
+    → IsFirstRefusal refusals (Some fault)
+found_some refusals o fault is first = subst (λ (x : Option SortFault). IsFirstRefusal refusals x) is first
 
-pub found_none : (refusals : List Refusal) (o : Option SortFault) → o ≡ None → IsFirst refusals o → refusals ≡ []
-found_none refusals o is first = subst (λ (x : Option SortFault). IsFirst refusals x) is first
+pub found_none : (refusals : List ReadingRefusal) (o : Option SortFault) → o ≡ None → IsFirstRefusal refusals o → refusals ≡ []
+found_none refusals o is first = subst (λ (x : Option SortFault). IsFirstRefusal refusals x) is first

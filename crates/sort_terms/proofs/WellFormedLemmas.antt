@@ -5,9 +5,9 @@ use Rattle.std.specs.List.{list_all, list_any}
 use Rattle.std.specs.Str.{bytes_eq}
 use Rattle.std.proofs.lemmas.Bool.{eqb-true, eq-eqb, ltb-true, lt-ltb, and_parts}
 use Rattle.std.proofs.lemmas.Option.{none-some, same_Some}
-use Rattle.term_algebra.specs.Names.{folded}
-use Rattle.term_algebra.specs.Signature.{Signature, Sort, Operation, IsWellFormedSignature}
-use Rattle.term_algebra.specs.Twins.{form_eq}
+use Rattle.lotos_base.specs.Names.{folded}
+use Rattle.lotos_base.specs.Signature.{Signature, Sort, Operation, IsWellFormedSignature}
+use Rattle.lotos_base.specs.Twins.{form_eq}
 use Rattle.sort_terms.specs.Operations.{signature_listing}
 use Rattle.sort_terms.specs.declared.operations.Sort.{Sort as CodeSort}
 use Rattle.sort_terms.specs.declared.operations.Op.{Op}

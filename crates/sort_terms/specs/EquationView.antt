@@ -2,7 +2,7 @@
 use Rattle.std.specs.Prelude.{◌≡◌, ℕ, Some, slice_get, map}
 use Rattle.lotos_base.specs.Name.{spelling}
 use Rattle.lotos_base.specs.WrittenView.{text_place_of}
-use Rattle.term_algebra.specs.Equation.{Data, AreSortedData, Variable as PlainVariable, Equation as PlainEquation}
+use Rattle.lotos_base.specs.Equation.{Data, AreSortedData, Variable as PlainVariable, Equation as PlainEquation}
 use Rattle.sort_terms.specs.ProfiledTerm.{IsOf}
 use Rattle.sort_terms.specs.SignatureView.{signature_of}
 use Rattle.sort_terms.specs.SortedView.{profiled_in, term_in}

@@ -1,11 +1,11 @@
 -- Data without equations: terms are equal exactly where they are identical, so identity is a canon.
 use Rattle.std.specs.Prelude.{◌≡◌, [], refl}
 use Rattle.std.proofs.lemmas.Option.{none-some}
-use Rattle.term_algebra.specs.Signature.{Signature}
-use Rattle.term_algebra.specs.Term.{Term}
-use Rattle.term_algebra.specs.Equation.{Data}
-use Rattle.term_algebra.specs.Equality.{Equal, same_term, link_then}
-use Rattle.term_algebra.specs.Canon.{IsCanon}
+use Rattle.lotos_base.specs.Signature.{Signature}
+use Rattle.lotos_base.specs.Term.{Term}
+use Rattle.lotos_base.specs.Equation.{Data}
+use Rattle.lotos_base.specs.Equality.{Equal, same_term, link_then}
+use Rattle.lotos_base.specs.Canon.{IsCanon}
 
 -- the data with this signature and no equation
 abbrev pub data_without_equations : Signature → Data

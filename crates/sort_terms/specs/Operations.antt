@@ -2,7 +2,7 @@
 use Rattle.std.specs.Prelude.{List, map}
 use Rattle.lotos_base.specs.Name.{spelling}
 use Rattle.lotos_base.specs.WrittenView.{form_of}
-use Rattle.term_algebra.specs.Signature.{Operation, Signature, Sort as PlainSort}
+use Rattle.lotos_base.specs.Signature.{Operation, Signature, Sort as PlainSort}
 use Rattle.sort_terms.specs.declared.operations.Sort.{Sort}
 use Rattle.sort_terms.specs.declared.operations.Op.{Op}
 

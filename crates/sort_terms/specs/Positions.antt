@@ -1,7 +1,7 @@
 -- The positions in a list of names at which a name stands.
 use Rattle.std.specs.Prelude.{ℕ, suc, List, [], ◌∷◌, ◌++◌, if◌then◌else◌}
 use Rattle.std.specs.Str.{bytes_eq}
-use Rattle.term_algebra.specs.Names.{folded}
+use Rattle.lotos_base.specs.Names.{folded}
 
 -- the positions, counted from a number on, of the spellings that have these small letters
 abbrev pub positions_from : ℕ → List ℕ → List (List ℕ) → List ℕ

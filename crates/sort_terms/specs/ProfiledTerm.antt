@@ -1,7 +1,7 @@
 -- Terms whose operations carry their profiles, as the code keeps them: their sorts are known without a signature.
 use Rattle.std.specs.Prelude.{◌≡◌, ℕ, List, [], ◌∷◌}
-use Rattle.term_algebra.specs.Signature.{Signature, Operation, IsSort, IsOperation}
-use Rattle.term_algebra.specs.Term.{Term, variable, node, Terms, no_terms, term_then}
+use Rattle.lotos_base.specs.Signature.{Signature, Operation, IsSort, IsOperation}
+use Rattle.lotos_base.specs.Term.{Term, variable, node, Terms, no_terms, term_then}
 
 mutual
   -- A variable with its number and sort, or an operation with its number, its profile and its arguments.

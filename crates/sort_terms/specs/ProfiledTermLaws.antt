@@ -1,7 +1,7 @@
 -- Laws of terms with profiles: over a signature that they are of, they are the well-sorted terms.
 use Rattle.std.specs.Prelude.{◌≡◌, ◌↔◌, ℕ}
-use Rattle.term_algebra.specs.Signature.{Signature}
-use Rattle.term_algebra.specs.Sorting.{HasSort}
+use Rattle.lotos_base.specs.Signature.{Signature}
+use Rattle.lotos_base.specs.Sorting.{HasSort}
 use Rattle.sort_terms.specs.ProfiledTerm.{ProfiledTerm, bare, head_sort, FitsProfiles, IsOf}
 
 -- a term that is of a signature has a sort there exactly where each operation has the arguments of its profile, and it is

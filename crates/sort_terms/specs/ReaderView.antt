@@ -1,5 +1,5 @@
 -- The signature that a reader reads over.
-use Rattle.term_algebra.specs.Signature.{Signature}
+use Rattle.lotos_base.specs.Signature.{Signature}
 use Rattle.sort_terms.specs.SignatureView.{signature_of}
 use Rattle.sort_terms.specs.declared.reader.Reader.{Reader}
 

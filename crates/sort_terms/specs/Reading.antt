@@ -1,10 +1,10 @@
 -- Readings of a written term: the well-sorted terms that follow it node by node (ISO 8807, overloading of operations).
 use Rattle.std.specs.Prelude.{◌≡◌, ◌<◌, ℕ, List, [], ◌∷◌, Some, slice_get}
 use Rattle.lotos_base.specs.WrittenTerm.{PlacedName, WrittenHead, WrittenTerm, WrittenTerms, written, no_written, written_then}
-use Rattle.term_algebra.specs.Names.{AreOneName}
-use Rattle.term_algebra.specs.Signature.{Signature, Sort, Operation, IsSort, IsOperation, prefix_form}
-use Rattle.term_algebra.specs.Equation.{Variable}
-use Rattle.term_algebra.specs.Term.{Term, Terms, variable, node, no_terms, term_then}
+use Rattle.lotos_base.specs.Names.{AreOneName}
+use Rattle.lotos_base.specs.Signature.{Signature, Sort, Operation, IsSort, IsOperation, prefix_form}
+use Rattle.lotos_base.specs.Equation.{Variable}
+use Rattle.lotos_base.specs.Term.{Term, Terms, variable, node, no_terms, term_then}
 
 -- Each variable in scope has a sort of the signature.
 abbrev pub IsScopeOver : Signature → List Variable → Type 0

@@ -1,12 +1,12 @@
 -- Laws of readings: they are well-sorted terms, and reading comes to one thing.
 use Rattle.std.specs.Prelude.{◌≡◌, ℕ, List, Option}
 use Rattle.lotos_base.specs.WrittenTerm.{WrittenTerm}
-use Rattle.term_algebra.specs.Signature.{Signature}
-use Rattle.term_algebra.specs.Equation.{Variable}
-use Rattle.term_algebra.specs.Sorting.{HasSort}
-use Rattle.term_algebra.specs.Term.{Term}
+use Rattle.lotos_base.specs.Signature.{Signature}
+use Rattle.lotos_base.specs.Equation.{Variable}
+use Rattle.lotos_base.specs.Sorting.{HasSort}
+use Rattle.lotos_base.specs.Term.{Term}
 use Rattle.sort_terms.specs.Reading.{Reads, IsScopeOver}
-use Rattle.sort_terms.specs.ReadingOutcome.{Outcome, SortedTerm, SortedPair, ReadingIs, PairReadingIs}
+use Rattle.sort_terms.specs.ReadingOutcome.{ReadingOutcome, SortedTerm, SortedPair, ReadingIs, PairReadingIs}
 
 -- a reading is a well-sorted term of its sort
 abbrev pub ReadingsAreWellSorted : Type 0
@@ -17,10 +17,10 @@ ReadingsAreWellSorted = (signature : Signature) (scope : List Variable) (w : Wri
 -- reading a term comes to one outcome at most: so what a call answers, it answers exactly where that is the outcome
 abbrev pub ReadingComesToOneThing : Type 0
 ReadingComesToOneThing = (signature : Signature) (scope : List Variable) (w : WrittenTerm) (expected : Option ℕ)
-    (one other : Outcome SortedTerm)
+    (one other : ReadingOutcome SortedTerm)
     → ReadingIs signature scope w expected one → ReadingIs signature scope w expected other → one ≡ other
 
 -- and so does reading a pair
 abbrev pub PairReadingComesToOneThing : Type 0
-PairReadingComesToOneThing = (signature : Signature) (scope : List Variable) (left right : WrittenTerm) (one other : Outcome SortedPair)
+PairReadingComesToOneThing = (signature : Signature) (scope : List Variable) (left right : WrittenTerm) (one other : ReadingOutcome SortedPair)
     → PairReadingIs signature scope left right one → PairReadingIs signature scope left right other → one ≡ other

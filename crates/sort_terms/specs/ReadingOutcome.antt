@@ -3,18 +3,18 @@ use Rattle.std.specs.Prelude.{◌≡◌, ◌⊎◌, ℕ, Bool, ◌&&◌, ◌||�
 use Rattle.std.specs.List.{list_any}
 use Rattle.std.specs.Str.{bytes_eq}
 use Rattle.lotos_base.specs.WrittenTerm.{PlacedName, WrittenHead, WrittenTerm, WrittenTerms, written, no_written, written_then, written_head}
-use Rattle.term_algebra.specs.Names.{folded}
-use Rattle.term_algebra.specs.Twins.{form_eq}
-use Rattle.term_algebra.specs.Signature.{Signature, Sort, Operation, Form, prefix_form, infix_form}
-use Rattle.term_algebra.specs.Equation.{Place, Variable}
-use Rattle.term_algebra.specs.Term.{Term}
+use Rattle.lotos_base.specs.Names.{folded}
+use Rattle.lotos_base.specs.Twins.{form_eq}
+use Rattle.lotos_base.specs.Signature.{Signature, Sort, Operation, Form, prefix_form, infix_form}
+use Rattle.lotos_base.specs.Equation.{Place, Variable}
+use Rattle.lotos_base.specs.Term.{Term}
 use Rattle.sort_terms.specs.Counting.{HasNone, IsOnly, HasTwo}
 use Rattle.sort_terms.specs.Reading.{Reads}
 
 -- Why a written term is refused, with the place: a name that stands for nothing, an `of` with the name of no sort, no
 -- reading, or two or more.
-pub data Refusal : Type 0 where
-  unknown_name unknown_sort no_reading two_readings : Place → Refusal
+pub data ReadingRefusal : Type 0 where
+  unknown_name unknown_sort no_reading two_readings : Place → ReadingRefusal
 
 -- whether two spellings are one name
 abbrev pub one_name : List ℕ → List ℕ → Bool
@@ -38,17 +38,17 @@ abbrev pub is_sort_name : Signature → List ℕ → Bool
 is_sort_name signature name = list_any (λ (s : Sort). one_name s.name name) signature.sorts
 
 -- the node's name, if it stands for nothing
-abbrev pub unknown_at : Signature → List Variable → WrittenHead → List Refusal
+abbrev pub unknown_at : Signature → List Variable → WrittenHead → List ReadingRefusal
 unknown_at signature scope head = if is_known signature scope head then [] else unknown_name head.place ∷ []
 
 -- the names behind `of` that are those of no sort, in text order
-abbrev pub unknown_sorts : Signature → List PlacedName → List Refusal
+abbrev pub unknown_sorts : Signature → List PlacedName → List ReadingRefusal
 unknown_sorts signature [] = []
 unknown_sorts signature (asked ∷ rest) =
     (if is_sort_name signature asked.name then [] else unknown_sort asked.place ∷ []) ++ unknown_sorts signature rest
 
 -- the lists one after the other
-abbrev pub together : List (List Refusal) → List Refusal
+abbrev pub together : List (List ReadingRefusal) → List ReadingRefusal
 together [] = []
 together (list ∷ lists) = list ++ together lists
 
@@ -58,30 +58,30 @@ arguments_before prefix_form = 0
 arguments_before infix_form = 1
 
 -- what is found at a name and in each argument, in text order: an infix operation stands behind its first argument
-abbrev pub in_text_order : Form → List Refusal → List (List Refusal) → List Refusal
+abbrev pub in_text_order : Form → List ReadingRefusal → List (List ReadingRefusal) → List ReadingRefusal
 in_text_order form here arguments =
     together (take (arguments_before form) arguments) ++ here ++ together (drop (arguments_before form) arguments)
 
 abbrev mutual
   -- All names in the term that stand for nothing, in text order: each `of` stands behind what it is put on.
-  pub unknown_in : Signature → List Variable → WrittenTerm → List Refusal
+  pub unknown_in : Signature → List Variable → WrittenTerm → List ReadingRefusal
   unknown_in signature scope (written head arguments) =
       in_text_order head.form (unknown_at signature scope head) (unknown_in_each signature scope arguments)
       ++ unknown_sorts signature head.sorts
 
   -- The same of each argument.
-  pub unknown_in_each : Signature → List Variable → WrittenTerms → List (List Refusal)
+  pub unknown_in_each : Signature → List Variable → WrittenTerms → List (List ReadingRefusal)
   unknown_in_each signature scope no_written = []
   unknown_in_each signature scope (written_then w ws) = unknown_in signature scope w ∷ unknown_in_each signature scope ws
 
 -- What a question about a text comes to: an answer, or a refusal.
-pub data Outcome (A : Type 0) : Type 0 where
-  answered : A → Outcome A
-  refused : Refusal → Outcome A
+pub data ReadingOutcome (A : Type 0) : Type 0 where
+  answered : A → ReadingOutcome A
+  refused : ReadingRefusal → ReadingOutcome A
 
 -- The outcome of a question on texts with these unknown names, which stands at a place: the first unknown name is the
 -- refusal; without one, the one answer, or the refusal that there is none or that there are more.
-abbrev pub ComesTo : {A : Type 0} → List Refusal → Place → (A → Type 0) → Outcome A → Type 0
+abbrev pub ComesTo : {A : Type 0} → List ReadingRefusal → Place → (A → Type 0) → ReadingOutcome A → Type 0
 ComesTo (first ∷ rest) place IsAnswer (answered x) = ⊥
 ComesTo (first ∷ rest) place IsAnswer (refused r) = r ≡ first
 ComesTo [] place IsAnswer (answered x) = IsOnly IsAnswer x
@@ -115,12 +115,12 @@ IsPairReading signature scope left right reading =
     Reads signature scope left reading.left reading.sort × Reads signature scope right reading.right reading.sort
 
 -- What reading a written term comes to; refusals of the whole stand at the term's place.
-abbrev pub ReadingIs : Signature → List Variable → WrittenTerm → Option ℕ → Outcome SortedTerm → Type 0
+abbrev pub ReadingIs : Signature → List Variable → WrittenTerm → Option ℕ → ReadingOutcome SortedTerm → Type 0
 ReadingIs signature scope w expected outcome =
     ComesTo (unknown_in signature scope w) (written_head w).place (IsReading signature scope w expected) outcome
 
 -- What reading two written terms at one sort comes to; refusals of the whole stand at the left term's place.
-abbrev pub PairReadingIs : Signature → List Variable → WrittenTerm → WrittenTerm → Outcome SortedPair → Type 0
+abbrev pub PairReadingIs : Signature → List Variable → WrittenTerm → WrittenTerm → ReadingOutcome SortedPair → Type 0
 PairReadingIs signature scope left right outcome =
     ComesTo (unknown_in signature scope left ++ unknown_in signature scope right) (written_head left).place
     (IsPairReading signature scope left right) outcome

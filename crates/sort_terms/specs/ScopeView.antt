@@ -1,6 +1,6 @@
 -- The variables in a scope.
 use Rattle.std.specs.Prelude.{List, map}
-use Rattle.term_algebra.specs.Equation.{Variable}
+use Rattle.lotos_base.specs.Equation.{Variable}
 use Rattle.sort_terms.specs.EquationView.{variable_of}
 use Rattle.sort_terms.specs.declared.scope.Scope.{Scope}
 

@@ -1,8 +1,8 @@
 -- Parts of a search for the first unknown name: a stretch of a list, and whether an operation with a number has a form.
 use Rattle.std.specs.Prelude.{ℕ, zero, suc, ◌-◌, Bool, false, List, take, drop, Option, None, Some, slice_get}
 use Rattle.std.specs.List.{list_any}
-use Rattle.term_algebra.specs.Signature.{Signature, Operation, Form, prefix_form, infix_form}
-use Rattle.term_algebra.specs.Twins.{form_eq}
+use Rattle.lotos_base.specs.Signature.{Signature, Operation, Form, prefix_form, infix_form}
+use Rattle.lotos_base.specs.Twins.{form_eq}
 
 -- the members from a position on and before another one
 abbrev pub between : {A : Type 0} → ℕ → ℕ → List A → List A

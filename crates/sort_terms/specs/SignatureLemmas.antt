@@ -2,7 +2,7 @@
 use Rattle.std.specs.Prelude.{ℕ, List, [], ◌∷◌}
 use Rattle.std.proofs.Props.{props}
 use Rattle.std.specs.Coded.{Unit-prop}
-use Rattle.term_algebra.specs.Signature.{Signature, IsWellFormedSignature}
+use Rattle.lotos_base.specs.Signature.{Signature, IsWellFormedSignature}
 use Rattle.sort_terms.specs.ProfiledTerm.{ProfiledTerm, ProfiledTerms, profiled_variable, profiled_node, no_profiled_terms, profiled_term_then, FitsProfiles, FitArguments}
 
 pub IsWellFormedSignature-prop : (signature : Signature) → IsProp (IsWellFormedSignature signature)

@@ -1,5 +1,5 @@
 -- The signature that a signature of the code stands for.
-use Rattle.term_algebra.specs.Signature.{Signature as PlainSignature}
+use Rattle.lotos_base.specs.Signature.{Signature as PlainSignature}
 use Rattle.sort_terms.specs.Operations.{signature_listing}
 use Rattle.sort_terms.specs.declared.signatures.Signature.{Signature}
 

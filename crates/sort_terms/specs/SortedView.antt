@@ -1,5 +1,5 @@
 -- The term that a term with its sort stands for.
-use Rattle.term_algebra.specs.Term.{Term as PlainTerm}
+use Rattle.lotos_base.specs.Term.{Term as PlainTerm}
 use Rattle.sort_terms.specs.ProfiledTerm.{ProfiledTerm}
 use Rattle.sort_terms.specs.TermView.{profiled_of, term_of}
 use Rattle.sort_terms.specs.declared.sorted.Sorted.{Sorted}

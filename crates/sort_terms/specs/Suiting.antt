@@ -1,9 +1,9 @@
 -- What a table says of a written term: at each sort, how many readings it has and, where it has one, the head of that.
 use Rattle.std.specs.Prelude.{◌≡◌, ℕ, Bool, true, false, List, Option, None, Some}
 use Rattle.lotos_base.specs.WrittenTerm.{WrittenTerm, WrittenTerms, written, no_written, written_then}
-use Rattle.term_algebra.specs.Signature.{Signature}
-use Rattle.term_algebra.specs.Equation.{Variable as DeclaredVariable}
-use Rattle.term_algebra.specs.Term.{Term, variable, node}
+use Rattle.lotos_base.specs.Signature.{Signature}
+use Rattle.lotos_base.specs.Equation.{Variable as DeclaredVariable}
+use Rattle.lotos_base.specs.Term.{Term, variable, node}
 use Rattle.sort_terms.specs.Counting.{HasNone, IsOnly, HasTwo}
 use Rattle.sort_terms.specs.Reading.{Reads}
 use Rattle.sort_terms.specs.Tables.{Table, Tables, table, no_tables, table_then}

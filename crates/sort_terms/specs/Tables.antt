@@ -2,9 +2,9 @@
 -- that it tells where there is one reading.
 use Rattle.std.specs.Prelude.{ℕ, Bool, false, ◌||◌, ◌&&◌, nat_eq, List, [], ◌∷◌, Option, None, Some, slice_get, if◌then◌else◌}
 use Rattle.std.specs.Option.{option_map}
-use Rattle.term_algebra.specs.Signature.{Signature, Operation, Form}
-use Rattle.term_algebra.specs.Equation.{Variable as DeclaredVariable}
-use Rattle.term_algebra.specs.Twins.{form_eq}
+use Rattle.lotos_base.specs.Signature.{Signature, Operation, Form}
+use Rattle.lotos_base.specs.Equation.{Variable as DeclaredVariable}
+use Rattle.lotos_base.specs.Twins.{form_eq}
 use Rattle.sort_terms.specs.Asked.{allows}
 use Rattle.sort_terms.specs.Choices.{joined}
 use Rattle.sort_terms.specs.ProfiledTerm.{ProfiledTerm, ProfiledTerms, profiled_variable, profiled_node, no_profiled_terms, profiled_term_then}

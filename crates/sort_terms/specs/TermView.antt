@@ -1,6 +1,6 @@
 -- The term that a term of the code stands for.
 use Rattle.std.specs.Prelude.{List, [], ◌∷◌, map}
-use Rattle.term_algebra.specs.Term.{Term as PlainTerm, Terms}
+use Rattle.lotos_base.specs.Term.{Term as PlainTerm, Terms}
 use Rattle.sort_terms.specs.Operations.{operation_of}
 use Rattle.sort_terms.specs.ProfiledTerm.{ProfiledTerm, ProfiledTerms, profiled_variable, profiled_node, no_profiled_terms, profiled_term_then, bare, all_bare}
 use Rattle.sort_terms.specs.declared.terms.Term.{Term, fold-Term}

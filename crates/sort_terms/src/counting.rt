@@ -41,7 +41,7 @@ ghost use Rattle.std.specs.Prelude.{
   length,
   map,
 };
-ghost use Rattle.term_algebra.specs.Names.{folded};
+ghost use Rattle.lotos_base.specs.Names.{folded};
 
 use crate::asked::Asked;
 use crate::choices::{Choices, Source};

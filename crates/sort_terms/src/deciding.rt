@@ -3,9 +3,9 @@
 ghost use Rattle.sort_terms.specs.ProfiledTerm.{IsOf};
 ghost use Rattle.sort_terms.specs.SortedView.{profiled_in, term_in};
 ghost use Rattle.std.specs.Prelude.{◌≡◌, IfOk};
-ghost use Rattle.term_algebra.specs.Canon.{IsCanon};
-ghost use Rattle.term_algebra.specs.Equation.{Data};
-ghost use Rattle.term_algebra.specs.Term.{Term};
+ghost use Rattle.lotos_base.specs.Canon.{IsCanon};
+ghost use Rattle.lotos_base.specs.Equation.{Data};
+ghost use Rattle.lotos_base.specs.Term.{Term};
 
 use crate::sorted::Sorted;
 use lotos_base::NoMemory;

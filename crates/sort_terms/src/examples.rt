@@ -11,7 +11,7 @@ ghost use Rattle.sort_terms.specs.ProfiledTerm.{
 ghost use Rattle.sort_terms.specs.SignatureView.{signature_of};
 ghost use Rattle.sort_terms.specs.SortedView.{profiled_in, term_in};
 ghost use Rattle.std.specs.Prelude.{◌≡◌, ◌∷◌, [], IfOk};
-ghost use Rattle.term_algebra.specs.Signature.{IsOperation};
+ghost use Rattle.lotos_base.specs.Signature.{IsOperation};
 
 use crate::deciding::Deciding;
 use crate::no_equations::NoEquations;

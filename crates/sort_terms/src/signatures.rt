@@ -3,7 +3,7 @@
 ghost use Rattle.std.specs.Prelude.{◌≡◌, ◌<◌, ◌^◌, IfOk, MatchOption, length, map};
 ghost use Rattle.sort_terms.specs.Operations.{operation_of, signature_listing, sort_of};
 ghost use Rattle.sort_terms.specs.SignatureLemmas.{IsWellFormedSignature-prop};
-ghost use Rattle.term_algebra.specs.Signature.{IsWellFormedSignature};
+ghost use Rattle.lotos_base.specs.Signature.{IsWellFormedSignature};
 
 use crate::checking::make_a_signature;
 use crate::operations::{Op, Sort};

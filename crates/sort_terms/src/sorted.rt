@@ -19,7 +19,7 @@ pub struct Sorted {
 
 impl Sorted {
     ghost use Rattle.sort_terms.specs.SortedView.{profiled_in, term_in};
-    ghost use Rattle.term_algebra.specs.Sorting.{IsGround};
+    ghost use Rattle.lotos_base.specs.Sorting.{IsGround};
 
     /// The term with its sort.
     pub fn of(term: Term) -> Sorted

@@ -3,7 +3,7 @@
 ghost use Rattle.sort_terms.specs.ProfiledTerm.{head_sort};
 ghost use Rattle.sort_terms.specs.TermView.{all_profiled, profiled_of, term_of, terms_of};
 ghost use Rattle.std.specs.Prelude.{◌≡◌, ◌↔◌, IfOk, IsTrue};
-ghost use Rattle.term_algebra.specs.Sorting.{AreGround, IsGround};
+ghost use Rattle.lotos_base.specs.Sorting.{AreGround, IsGround};
 
 use crate::operations::Op;
 use lotos_base::NoMemory;

@@ -12,7 +12,7 @@ ghost use Rattle.sort_terms.specs.ReadingOutcome.{
   unknown_in,
   unknown_sorts,
 };
-ghost use Rattle.sort_terms.specs.RefusalView.{IsFirst};
+ghost use Rattle.sort_terms.specs.RefusalView.{IsFirstRefusal};
 ghost use Rattle.sort_terms.specs.ScopeView.{variables_in};
 ghost use Rattle.sort_terms.specs.Searching.{between, early_count, form_is};
 ghost use Rattle.std.specs.Prelude.{◌≡◌, ◌≤◌, ◌<◌, IfOk, length, map, slice_get};
@@ -31,7 +31,7 @@ impl Reader<'_> {
         scope: &Scope,
         written: &Written,
     ) -> Result<Option<SortFault>, NoMemory>
-        ensures { IfOk result (IsFirst (unknown_in (signature_read self.now)
+        ensures { IfOk result (IsFirstRefusal (unknown_in (signature_read self.now)
             (variables_in scope.now) (written_term_of written.now))) }
     {
         let early = early_arguments(written.form, written.args.len());
@@ -60,7 +60,7 @@ impl Reader<'_> {
     ) -> Result<Option<SortFault>, NoMemory>
         requires order { from ≤ to }
         requires end { to ≤ length written.now.items }
-        ensures { IfOk result (IsFirst (together (map
+        ensures { IfOk result (IsFirstRefusal (together (map
             (λ w. unknown_in (signature_read self.now) (variables_in scope.now) (written_term_of w))
             (between from to written.now.items)))) }
     {
@@ -74,7 +74,7 @@ impl Reader<'_> {
 
     // The first `of` that names no sort.
     fn first_unknown_sort(&self, sorts: &Vec<(Place, Name)>) -> Result<Option<SortFault>, NoMemory>
-        ensures { IfOk result (IsFirst (unknown_sorts (signature_read self.now)
+        ensures { IfOk result (IsFirstRefusal (unknown_sorts (signature_read self.now)
             (map placed_name_of sorts.now.items))) }
     {
         for (place, name) in sorts {

@@ -2,8 +2,8 @@
 use Rattle.std.proofs.Common.{refl, ap, sym, ◌∙◌, ◌≡◌, subst, ℕ, List, map, Option}
 use Rattle.std.specs.Prelude.{Result, Ok, Err, MatchResult}
 use Rattle.lotos_base.specs.WrittenTerm.{ListedOperation}
-use Rattle.term_algebra.specs.Equation.{Data, IsWellFormedData}
-use Rattle.term_algebra.specs.Term.{Term}
+use Rattle.lotos_base.specs.Equation.{Data, IsWellFormedData}
+use Rattle.lotos_base.specs.Term.{Term}
 use Rattle.sort_terms.specs.EquationView.{data_of}
 use Rattle.syntax_trees.specs.WrittenDefinition.{WrittenSpecification}
 use Rattle.behaviour_semantics.specs.Behaviour.{Specification}
@@ -21,17 +21,17 @@ use Rattle.equation_book.specs.declared.book.Book.{Book}
 use Rattle.path_order.specs.RulesView.{precedence_in, rules_in}
 use Rattle.lotos_grammar.specs.Gathering.{Gathered}
 use Rattle.lotos_grammar.specs.ShelfUse.{ShelfState}
-use Rattle.type_mentions.specs.DeclaredTypes.{types_of}
+use Rattle.type_definitions.specs.DeclaredTypes.{types_of}
 use Rattle.spec_acceptance.specs.Ending.{with_libraries, with_data, with_spec}
 use Rattle.spec_acceptance.specs.Part.{Comes, goes_on, Part, Then, Has}
 use Rattle.spec_acceptance.specs.Texts.{Gathers, Orders}
 use Rattle.spec_acceptance.specs.Types.{HaveData, HaveFault, Flattens}
 use Rattle.spec_acceptance.specs.Scopes.{StandsFor, Breaks, Resolves}
-use Rattle.spec_acceptance.specs.Checks.{Agree, Disagree, Agrees, Guarded, Cyclic, IsGuardedIn}
+use Rattle.spec_acceptance.specs.Checks.{FunctionalitiesAgree, Disagree, ComesToAgreement, Guarded, Cyclic, IsGuardedIn}
 use Rattle.spec_acceptance.specs.Book.{Opens, DoesNotOpen, OpensBook}
 use Rattle.start_values.specs.StartValues.{AreStartValues, IsStartFault}
-use Rattle.spec_acceptance.specs.Acceptance.{Acceptance, AfterText, start_of, Starts as StartsPart, accepted_with}
-use Rattle.spec_acceptance.specs.AcceptedView.{AcceptsWith, Holds}
+use Rattle.spec_acceptance.specs.Acceptance.{Acceptance, AfterText, start_of, StartsWithValues as StartsPart, accepted_with}
+use Rattle.spec_acceptance.specs.AcceptedView.{AcceptsWith, HoldsAccepted}
 use Rattle.spec_acceptance.specs.Doing.{Did, Failed, Faulty}
 use Rattle.spec_acceptance.specs.Known.{Resolved, KnowsValues, Starts, StartsWith}
 use Rattle.spec_acceptance.specs.declared.accepted.Accepted.{Accepted}
@@ -77,7 +77,7 @@ abbrev pub AfterExits : Option (List ℕ) → List (List ℕ) → WrittenSpecifi
 AfterExits order words tree g d s = Then (IsGuardedIn g d tree s) (λ _. AfterRanks order words g d s)
 
 abbrev pub AfterScopes : Option (List ℕ) → List (List ℕ) → WrittenSpecification → Gathered → Data → Specification → Part Acceptance
-AfterScopes order words tree g d s = Then (Agrees g d tree s) (λ _. AfterExits order words tree g d s)
+AfterScopes order words tree g d s = Then (ComesToAgreement g d tree s) (λ _. AfterExits order words tree g d s)
 
 abbrev pub AfterData : Option (List ℕ) → List (List ℕ) → WrittenSpecification → Gathered → Data → Part Acceptance
 AfterData order words tree g d = Then (Resolves g d tree) (λ s. AfterScopes order words tree g d s)
@@ -108,11 +108,11 @@ module _ (a : ShelfState) (order : Option (List ℕ)) (words : List (List ℕ)) 
         leads_on a b b (AfterText order words tree) (Resolves g d tree) (AfterScopes order words tree g d) s to
         (looked b (StandsFor d tree) (Breaks d tree) (with_data g.read d) s is)
 
-    to_exits : (d : Data) (s : Specification) → To b (AfterScopes order words tree g d s) → Agree d tree s s
+    to_exits : (d : Data) (s : Specification) → To b (AfterScopes order words tree g d s) → FunctionalitiesAgree d tree s s
         → To b (AfterExits order words tree g d s)
     to_exits d s to is =
-        leads_on a b b (AfterText order words tree) (Agrees g d tree s) (λ _. AfterExits order words tree g d s) s to
-        (looked b (Agree d tree s) (Disagree d tree s) (with_spec g.read d s) s is)
+        leads_on a b b (AfterText order words tree) (ComesToAgreement g d tree s) (λ _. AfterExits order words tree g d s) s to
+        (looked b (FunctionalitiesAgree d tree s) (Disagree d tree s) (with_spec g.read d s) s is)
 
     to_ranks : (d : Data) (s : Specification) → To b (AfterExits order words tree g d s) → Guarded s s
         → To b (AfterRanks order words g d s)
@@ -141,7 +141,7 @@ module _ (a : ShelfState) (order : Option (List ℕ)) (words : List (List ℕ)) 
     pub record Stands (d : Data) (s : Specification) : Type 0 where
       pub data_had : HaveData (types_of g.types) d
       pub stands : StandsFor d tree s
-      pub agree : Agree d tree s s
+      pub agree : FunctionalitiesAgree d tree s s
       pub guarded : Guarded s s
 
     pub reached_ranks : (d : Data) (s : Specification) → Did a b (Gathers tree) (goes_on g) → Stands d s → To b (AfterRanks order words
@@ -167,12 +167,12 @@ module _ (a : ShelfState) (order : Option (List ℕ)) (words : List (List ℕ)) 
         → HaveData (types_of g.types) d → StandsFor d tree s
         → Faulty (Disagree d tree s) (with_spec g.read d s) fault → Failed a b (AfterText order words tree) fault
     exits_failed d s fault did had stands is =
-        leads_out a b b (AfterText order words tree) (Agrees g d tree s) (λ _. AfterExits order words tree g d s) fault
+        leads_out a b b (AfterText order words tree) (ComesToAgreement g d tree s) (λ _. AfterExits order words tree g d s) fault
         (to_scopes d s (to_data d (to_types b g did) had) stands)
-        (faulted b (Agree d tree s) (Disagree d tree s) (with_spec g.read d s) fault is)
+        (faulted b (FunctionalitiesAgree d tree s) (Disagree d tree s) (with_spec g.read d s) fault is)
 
     pub ranks_failed : (d : Data) (s : Specification) (fault : NotAccepted) → Did a b (Gathers tree) (goes_on g)
-        → HaveData (types_of g.types) d → StandsFor d tree s → Agree d tree s s
+        → HaveData (types_of g.types) d → StandsFor d tree s → FunctionalitiesAgree d tree s s
         → Faulty (Cyclic d tree s) (with_spec g.read d s) fault → Failed a b (AfterText order words tree) fault
     ranks_failed d s fault did had stands agree is =
         leads_out a b b (AfterText order words tree) (IsGuardedIn g d tree s) (λ _. AfterRanks order words g d s) fault
@@ -211,7 +211,7 @@ module _ (a : ShelfState) (order : Option (List ℕ)) (words : List (List ℕ)) 
 
 pub holds : (whole : Resolved) (items : List ListedOperation) (words : List (List ℕ)) (known : WithValues) (accepted : Accepted)
     → KnowsValues whole items words known → Starts known accepted
-    → Holds (record { libraries = whole.read; data_ = whole.data_; spec = whole.spec; items = items; values = terms_of known.values.items })
+    → HoldsAccepted (record { libraries = whole.read; data_ = whole.data_; spec = whole.spec; items = items; values = terms_of known.values.items })
     accepted
 holds whole items words known accepted knows starts = record {
   spec_is = ap specification_of starts.same_spec ∙ knows.book_known.keeps.same;
@@ -253,7 +253,7 @@ ended a c order words types whole items known (Ok accepted) same knows leads sta
   leads.did c (goes_on (accepted_with types whole.data_ whole.spec items (terms_of known.values.items)))
       (has_done c (accepted_with types whole.data_ whole.spec items (terms_of known.values.items))),
   subst (λ (libraries : List (List ℕ)).
-      Holds (record { libraries = libraries; data_ = whole.data_; spec = whole.spec; items = items; values = terms_of known.values.items })
+      HoldsAccepted (record { libraries = libraries; data_ = whole.data_; spec = whole.spec; items = items; values = terms_of known.values.items })
       accepted) same (holds whole items words known accepted knows starts),
 )
 ended a c order words types whole items known (Err fault) same knows leads starts =

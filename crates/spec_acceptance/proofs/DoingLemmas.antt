@@ -6,9 +6,9 @@ use Rattle.lotos_grammar.proofs.ShelfLemmas.{gives_nothing, gives_then, gives_th
 use Rattle.start_values.specs.Refusal as plain
 use Rattle.start_values.specs.Refusal.{Refusal}
 use Rattle.spec_acceptance.specs.Ending.{unread, refused}
-use Rattle.spec_acceptance.specs.Texts.{Gets, is_got, is_lacking}
+use Rattle.spec_acceptance.specs.Texts.{GetsFile, is_got, is_lacking}
 use Rattle.spec_acceptance.specs.Part.{Comes, goes_on, stops, Part, Then, Has, Looks}
-use Rattle.spec_acceptance.specs.Doing.{Did, Failed, FileFails, Faulty}
+use Rattle.spec_acceptance.specs.Doing.{Did, Failed, FileIsNotGot, Faulty}
 use Rattle.spec_acceptance.specs.declared.not_accepted.NotAccepted.{NotAccepted}
 use Rattle.spec_acceptance.specs.declared.not_accepted.NotAccepted.TheVariants.{File, Spec, NoMemory}
 
@@ -53,12 +53,12 @@ pub has_done : {B : Type 0} (a : ShelfState) (b : B) → Did a a (Has b) (goes_o
 has_done a b = ([], gives_nothing a, (refl, refl))
 
 -- a file
-pub file_did : (a b : ShelfState) (name bytes : List ℕ) → GivesFile a b name bytes → Did a b (Gets name) (goes_on bytes)
+pub file_did : (a b : ShelfState) (name bytes : List ℕ) → GivesFile a b name bytes → Did a b (GetsFile name) (goes_on bytes)
 file_did a b name bytes is = (record { name = name; bytes = bytes } ∷ [], is.gives, is_got bytes)
 
-pub file_failed : (a b : ShelfState) (name : List ℕ) (fault : NotAccepted) → FileFails a b name fault → Failed a b (Gets name) fault
+pub file_failed : (a b : ShelfState) (name : List ℕ) (fault : NotAccepted) → FileIsNotGot a b name fault → Failed a b (GetsFile name) fault
 file_failed a b name (File kept) is =
-    subst (λ (n : List ℕ). Did a b (Gets name) (stops (unread n))) (sym is.0) ([], is.1, is_lacking)
+    subst (λ (n : List ℕ). Did a b (GetsFile name) (stops (unread n))) (sym is.0) ([], is.1, is_lacking)
 file_failed a b name (Spec r) is = absurd is
 file_failed a b name NoMemory is = is
 

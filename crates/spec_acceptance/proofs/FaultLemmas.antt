@@ -7,7 +7,7 @@ use Rattle.lotos_base.specs.WrittenTerm.{ListedOperation}
 use Rattle.lotos_base.specs.WrittenView.{text_place_of}
 use Rattle.lotos_base.specs.declared.names.Name.{Name}
 use Rattle.lotos_base.specs.declared.places.Place.{Place}
-use Rattle.term_algebra.specs.Equation.{Data}
+use Rattle.lotos_base.specs.Equation.{Data}
 use Rattle.sort_terms.specs.EquationView.{data_of}
 use Rattle.sort_terms.specs.SortedView.{term_in}
 use Rattle.sort_terms.specs.declared.sort_faults.SortFault.TheVariants as sort
@@ -15,8 +15,8 @@ use Rattle.syntax_trees.specs.WrittenDefinition.{WrittenSpecification}
 use Rattle.syntax_trees.specs.TakenItems.{without_items}
 use Rattle.sentence_trees.specs.declared.fault.ReadFault.{ReadFault}
 use Rattle.sentence_trees.specs.declared.fault.ReadFault.TheVariants as read
-use Rattle.type_mentions.specs.DeclaredTypes.{DeclaredType}
-use Rattle.type_mentions.specs.MentionFaults.{double_type, unknown_type, type_cycle}
+use Rattle.type_definitions.specs.DeclaredTypes.{DeclaredType}
+use Rattle.type_definitions.specs.MentionFaults.{double_type, unknown_type, type_cycle}
 use Rattle.type_definitions.specs.TypeFault as plain_type
 use Rattle.type_definitions.specs.declared.type_faults.TypeFault.{TypeFault}
 use Rattle.type_definitions.specs.declared.type_faults.TypeFault.TheVariants as type
@@ -31,7 +31,7 @@ use Rattle.behaviour_semantics.specs.Behaviour.{Specification}
 use Rattle.behaviour_tree.specs.DefinitionView.{functionality_of}
 use Rattle.process_checks.specs.Exits.{Blames}
 use Rattle.process_checks.specs.Functionality.{Disagreement, all_disagreements}
-use Rattle.process_checks.specs.Ranks.{Refuses}
+use Rattle.process_checks.specs.Ranks.{RefusesRanks}
 use Rattle.process_checks.specs.declared.mismatches.ExitFault.{ExitFault}
 use Rattle.process_checks.specs.declared.mismatches.ExitFault.TheVariants as exit
 use Rattle.process_checks.specs.declared.rank_table.RankFault.{RankFault}
@@ -44,10 +44,10 @@ use Rattle.start_values.specs.Refusal.{Refusal, too_long, bad_byte, open_comment
 use Rattle.start_values.specs.RefusalView.{told_of_scopes}
 use Rattle.start_values.specs.declared.spec_fault.SpecFault.TheVariants as fault
 use Rattle.spec_acceptance.specs.Ending.{with_libraries}
-use Rattle.spec_acceptance.specs.Texts.{IsMisread}
+use Rattle.spec_acceptance.specs.Texts.{TextIsMisread}
 use Rattle.spec_acceptance.specs.Types.{HaveFault}
 use Rattle.spec_acceptance.specs.Scopes.{Breaks}
-use Rattle.spec_acceptance.specs.Checks.{Keeps, IsFirst, Disagree, Cyclic}
+use Rattle.spec_acceptance.specs.Checks.{KeepsSpecification, IsFirstDisagreement, Disagree, Cyclic}
 use Rattle.spec_acceptance.specs.Book.{DoesNotOpen}
 use Rattle.spec_acceptance.specs.Doing.{Faulty, with_libraries_refused, with_data_refused, with_spec_refused, known_with_data, known_with_spec}
 use Rattle.spec_acceptance.specs.declared.not_accepted.NotAccepted.TheVariants.{Spec}
@@ -58,7 +58,7 @@ use Rattle.spec_acceptance.specs.declared.stages.WithSpec.{WithSpec}
 pub read_faulty : (IsFault : ℕ → List ℕ → ReadFault → Type 0) (number : ℕ) (text : List ℕ) (libraries : Vec Name Global) (found :
     ReadFault)
     → IsFault number text found → (found ≡ read.NoMemory → ⊥)
-    → Faulty (IsMisread IsFault number text) (with_libraries (map spelling libraries.items))
+    → Faulty (TextIsMisread IsFault number text) (with_libraries (map spelling libraries.items))
     (Spec (with_libraries_refused libraries (fault.Read number found)))
 read_faulty IsFault number text libraries (read.BadByte place) is not =
     (bad_byte (text_place_of place), (read.BadByte place, is, refl), refl)
@@ -73,7 +73,7 @@ read_faulty IsFault number text libraries read.NoMemory is not = absurd (not ref
 
 pub order_faulty : (IsFault : ℕ → List ℕ → ReadFault → Type 0) (number : ℕ) (text : List ℕ) (known : WithSpec) (found : ReadFault)
     → IsFault number text found → (found ≡ read.NoMemory → ⊥)
-    → Faulty (IsMisread IsFault number text) (known_with_spec known) (Spec (with_spec_refused known (fault.Read number found)))
+    → Faulty (TextIsMisread IsFault number text) (known_with_spec known) (Spec (with_spec_refused known (fault.Read number found)))
 order_faulty IsFault number text known (read.BadByte place) is not =
     (bad_byte (text_place_of place), (read.BadByte place, is, refl), refl)
 order_faulty IsFault number text known (read.OpenComment place) is not =
@@ -157,12 +157,12 @@ scopes_faulty text known found not is =
 
 -- functionalities
 first_blamed : (ds : List Disagreement) (place : Place) (left right : Option (Vec ℕ Global)) → Blames ds (exit.Mismatch place left right)
-    → IsFirst ds (text_place_of place) (functionality_of left) (functionality_of right)
+    → IsFirstDisagreement ds (text_place_of place) (functionality_of left) (functionality_of right)
 first_blamed [] place left right is = absurd is
 first_blamed (d ∷ ds) place left right is = (ap text_place_of (sym is.0), sym is.1, sym is.2)
 
 pub exits_faulty : (data_ : Data) (text : WrittenSpecification) (spec : Specification) (known : WithSpec) (found : ExitFault)
-    → Keeps data_ text spec known.spec → (found ≡ exit.NoMemory → ⊥) → Blames (all_disagreements known.spec) found
+    → KeepsSpecification data_ text spec known.spec → (found ≡ exit.NoMemory → ⊥) → Blames (all_disagreements known.spec) found
     → Faulty (Disagree data_ text spec) (known_with_spec known) (Spec (with_spec_refused known (fault.Exit found)))
 exits_faulty data_ text spec known (exit.Mismatch place left right) keeps not is = (
   mismatch (text_place_of place) (functionality_of left) (functionality_of right),
@@ -173,7 +173,7 @@ exits_faulty data_ text spec known exit.NoMemory keeps not is = absurd (not refl
 
 -- recursion
 pub ranks_faulty : (data_ : Data) (text : WrittenSpecification) (spec : Specification) (known : WithSpec) (found : RankFault)
-    → Keeps data_ text spec known.spec → (found ≡ rank.NoMemory → ⊥) → Refuses known.spec found
+    → KeepsSpecification data_ text spec known.spec → (found ≡ rank.NoMemory → ⊥) → RefusesRanks known.spec found
     → Faulty (Cyclic data_ text spec) (known_with_spec known) (Spec (with_spec_refused known (fault.Rank found)))
 ranks_faulty data_ text spec known (rank.Unguarded place process cycle) keeps not is =
     (unguarded (text_place_of place) process cycle.items, (known.spec, place, keeps, refl, is), refl)

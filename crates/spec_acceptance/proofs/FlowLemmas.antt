@@ -4,7 +4,7 @@ use Rattle.std.specs.Prelude.{Result, MatchResult}
 use Rattle.lotos_base.specs.WrittenTerm.{ListedOperation}
 use Rattle.lotos_base.specs.WrittenView.{listed_operation_of}
 use Rattle.sentence_trees.specs.Reading.{IsSpecificationReading}
-use Rattle.term_algebra.specs.Equation.{Data}
+use Rattle.lotos_base.specs.Equation.{Data}
 use Rattle.sort_terms.specs.EquationView.{IsSortedFlat, data_of}
 use Rattle.syntax_trees.specs.WrittenDefinition.{WrittenSpecification}
 use Rattle.syntax_trees.specs.WrittenItem.{WrittenItem}
@@ -16,13 +16,13 @@ use Rattle.behaviour_tree.specs.BehaviourView.{terms_of}
 use Rattle.behaviour_tree.specs.DefinitionView.{specification_of}
 use Rattle.lotos_grammar.specs.Gathering.{Gathered}
 use Rattle.lotos_grammar.specs.ShelfUse.{ShelfState}
-use Rattle.type_mentions.specs.DeclaredTypes.{types_of}
+use Rattle.type_definitions.specs.DeclaredTypes.{types_of}
 use Rattle.spec_acceptance.specs.Ending.{with_libraries, with_data, with_spec}
 use Rattle.spec_acceptance.specs.Part.{goes_on}
 use Rattle.spec_acceptance.specs.Texts.{GathersTypes, Gathers, Orders}
 use Rattle.spec_acceptance.specs.Types.{HaveData, HaveFault}
 use Rattle.spec_acceptance.specs.Scopes.{StandsFor, Breaks}
-use Rattle.spec_acceptance.specs.Checks.{Agree, Disagree, Guarded, Cyclic}
+use Rattle.spec_acceptance.specs.Checks.{FunctionalitiesAgree, Disagree, Guarded, Cyclic}
 use Rattle.spec_acceptance.specs.Book.{Opens, DoesNotOpen}
 use Rattle.start_values.specs.StartValues.{IsStartFault}
 use Rattle.spec_acceptance.specs.Acceptance.{Acceptance, AfterText, start_of}
@@ -107,8 +107,8 @@ module _ (a b : ShelfState) (order : Option (List ℕ)) (words : List (List ℕ)
       exits_out fault is = exits_failed a order words tree b g d s fault gathers flattened.1 stands_there.1 (is whole stands_there.0)
 
       module _ (checked : WithSpec)
-          (agrees : (w : Resolved) → KnowsSpec w stood → KnowsSpec w checked × Agree w.data_ w.tree w.spec w.spec) where
-        agrees_there : KnowsSpec whole checked × Agree d tree s s
+          (agrees : (w : Resolved) → KnowsSpec w stood → KnowsSpec w checked × FunctionalitiesAgree w.data_ w.tree w.spec w.spec) where
+        agrees_there : KnowsSpec whole checked × FunctionalitiesAgree d tree s s
         agrees_there = agrees whole stands_there.0
 
         pub ranks_out : (fault : NotAccepted)

@@ -5,15 +5,15 @@ use Rattle.std.specs.declared.alloc.Global.{Global}
 use Rattle.lotos_base.specs.Name.{spelling}
 use Rattle.lotos_base.specs.WrittenTerm.{ListedOperation}
 use Rattle.lotos_base.specs.WrittenView.{listed_operation_of}
-use Rattle.term_algebra.specs.Equation.{Data}
-use Rattle.term_algebra.proofs.SortLemmas.{well_formed_sorted}
+use Rattle.lotos_base.specs.Equation.{Data}
+use Rattle.lotos_base.proofs.SortLemmas.{well_formed_sorted}
 use Rattle.sort_terms.specs.EquationView.{data_of}
 use Rattle.sort_terms.specs.declared.equations.Flat.{Flat}
 use Rattle.syntax_trees.specs.WrittenDefinition.{WrittenSpecification}
 use Rattle.syntax_trees.specs.TakenItems.{without_items}
 use Rattle.syntax_trees.specs.TreeViews.{item_of}
 use Rattle.syntax_trees.specs.declared.items.ItemText.{ItemText}
-use Rattle.type_mentions.specs.DeclaredTypes.{types_of}
+use Rattle.type_definitions.specs.DeclaredTypes.{types_of}
 use Rattle.type_definitions.specs.declared.type_faults.TypeFault.{TypeFault}
 use Rattle.type_definitions.specs.declared.type_faults.TypeFault.TheVariants as type
 use Rattle.type_flatten.specs.FlatView.{IsFlat, IsRefused}
@@ -26,12 +26,12 @@ use Rattle.behaviour_tree.specs.Over.{IsSpecOver}
 use Rattle.behaviour_tree.specs.declared.definitions.Spec.{Spec as CodeSpec}
 use Rattle.lotos_base.specs.declared.names.Name.{Name}
 use Rattle.lotos_base.specs.declared.written_terms.OrderItem.{OrderItem}
-use Rattle.sentence_trees.specs.Reading.{IsOrderFault, IsOrderReading, IsSpecificationFault}
+use Rattle.sentence_trees.specs.Reading.{IsOrderReadFault, IsOrderReading, IsSpecificationFault}
 use Rattle.sentence_trees.specs.declared.fault.ReadFault.{ReadFault}
 use Rattle.sentence_trees.specs.declared.fault.ReadFault.TheVariants as read
 use Rattle.process_checks.specs.Exits.{Blames}
 use Rattle.process_checks.specs.Functionality.{all_disagreements}
-use Rattle.process_checks.specs.Ranks.{AreRanksOf, Refuses}
+use Rattle.process_checks.specs.Ranks.{AreRanksOf, RefusesRanks}
 use Rattle.process_checks.specs.declared.mismatches.ExitFault.{ExitFault}
 use Rattle.process_checks.specs.declared.mismatches.ExitFault.TheVariants as exit
 use Rattle.process_checks.specs.declared.rank_table.RankFault.{RankFault}
@@ -55,10 +55,10 @@ use Rattle.start_values.specs.Refusal.{Refusal}
 use Rattle.start_values.specs.declared.refused.Refused.{Refused}
 use Rattle.start_values.specs.declared.spec_fault.SpecFault.TheVariants as fault
 use Rattle.spec_acceptance.specs.Ending.{at_first, with_libraries, with_data, with_spec}
-use Rattle.spec_acceptance.specs.Texts.{IsMisread}
+use Rattle.spec_acceptance.specs.Texts.{TextIsMisread}
 use Rattle.spec_acceptance.specs.Types.{HaveData, HaveFault}
 use Rattle.spec_acceptance.specs.Scopes.{Breaks, StandsFor}
-use Rattle.spec_acceptance.specs.Checks.{Agree, Disagree, Guarded, Cyclic}
+use Rattle.spec_acceptance.specs.Checks.{FunctionalitiesAgree, Disagree, Guarded, Cyclic}
 use Rattle.spec_acceptance.specs.Book.{DoesNotOpen, Opens}
 use Rattle.spec_acceptance.specs.Doing.{Faulty, IsLibraryRefusal, RefusesAs, with_libraries_refused, with_data_refused, with_spec_refused, known_with_data, known_with_spec}
 use Rattle.spec_acceptance.specs.Known.{KnowsData, Resolved, KnowsSpec, KnowsRanks, KnowsOrder, ReadsItems, KnowsBook}
@@ -99,12 +99,12 @@ tells_spec whole known IsFault answer knows is =
 pub spec_misread : (text : List ℕ) (libraries : Vec Name Global) (found : ReadFault) (answer : NotAccepted) → libraries.items ≡ []
     → IsSpecificationFault 0 text found
     → RefusesAs (found ≡ read.NoMemory) (with_libraries_refused libraries (fault.Read 0 found)) answer
-    → Faulty (IsMisread IsSpecificationFault 0 text) at_first answer
+    → Faulty (TextIsMisread IsSpecificationFault 0 text) at_first answer
 spec_misread text libraries found answer none is refused =
-    refused_as (IsMisread IsSpecificationFault 0 text) at_first (found ≡ read.NoMemory)
+    refused_as (TextIsMisread IsSpecificationFault 0 text) at_first (found ≡ read.NoMemory)
     (with_libraries_refused libraries (fault.Read 0 found)) answer refused (λ not.
     subst (λ (names : List Name).
-    Faulty (IsMisread IsSpecificationFault 0 text) (with_libraries (map spelling names)) (Spec (with_libraries_refused libraries
+    Faulty (TextIsMisread IsSpecificationFault 0 text) (with_libraries (map spelling names)) (Spec (with_libraries_refused libraries
     (fault.Read 0 found))))
     none (read_faulty IsSpecificationFault 0 text libraries found is not))
 
@@ -179,7 +179,7 @@ resolved_faulty tree known found answer is refused text read data_ same knows =
 -- ---- Functionalities and recursion
 
 pub agreed_fine : (known : WithSpec) → all_disagreements known.spec ≡ [] → (whole : Resolved) → KnowsSpec whole known
-    → KnowsSpec whole known × Agree whole.data_ whole.tree whole.spec whole.spec
+    → KnowsSpec whole known × FunctionalitiesAgree whole.data_ whole.tree whole.spec whole.spec
 agreed_fine known nothing whole knows = (knows, (refl, (known.spec, knows.keeps, nothing)))
 
 pub agreed_faulty : (known : WithSpec) (found : ExitFault) (answer : NotAccepted) → Blames (all_disagreements known.spec) found
@@ -200,7 +200,7 @@ ranked_fine known ranks are guarded whole knows = (
   (refl, subst (λ (s : Specification). IsGuarded s.processes) knows.keeps.same guarded),
 )
 
-pub ranked_faulty : (known : WithSpec) (found : RankFault) (answer : NotAccepted) → Refuses known.spec found
+pub ranked_faulty : (known : WithSpec) (found : RankFault) (answer : NotAccepted) → RefusesRanks known.spec found
     → RefusesAs (found ≡ rank.NoMemory) (with_spec_refused known (fault.Rank found)) answer
     → (whole : Resolved) → KnowsSpec whole known
     → Faulty (Cyclic whole.data_ whole.tree whole.spec) (with_spec whole.read whole.data_ whole.spec) answer
@@ -212,15 +212,15 @@ ranked_faulty known found answer is refused whole knows =
 
 -- ---- The order
 
-pub order_misread : (text : List ℕ) (known : WithRanks) (found : ReadFault) (answer : NotAccepted) → IsOrderFault 1 text found
+pub order_misread : (text : List ℕ) (known : WithRanks) (found : ReadFault) (answer : NotAccepted) → IsOrderReadFault 1 text found
     → RefusesAs (found ≡ read.NoMemory) (with_spec_refused known.known (fault.Read 1 found)) answer
     → (whole : Resolved) → KnowsRanks whole known
-    → Faulty (IsMisread IsOrderFault 1 text) (with_spec whole.read whole.data_ whole.spec) answer
+    → Faulty (TextIsMisread IsOrderReadFault 1 text) (with_spec whole.read whole.data_ whole.spec) answer
 order_misread text known found answer is refused whole knows =
-    tells_spec whole known.known (IsMisread IsOrderFault 1 text) answer knows.spec_known
-    (refused_as (IsMisread IsOrderFault 1 text) (known_with_spec known.known) (found ≡ read.NoMemory)
+    tells_spec whole known.known (TextIsMisread IsOrderReadFault 1 text) answer knows.spec_known
+    (refused_as (TextIsMisread IsOrderReadFault 1 text) (known_with_spec known.known) (found ≡ read.NoMemory)
     (with_spec_refused known.known (fault.Read 1 found)) answer refused (λ not.
-    order_faulty IsOrderFault 1 text known.known found is not))
+    order_faulty IsOrderReadFault 1 text known.known found is not))
 
 pub order_read : (text : List ℕ) (known : WithRanks) (items : Vec OrderItem Global)
     → IsOrderReading 1 text (map listed_operation_of items.items) → (whole : Resolved) → KnowsRanks whole known

@@ -10,3 +10,13 @@ pub mod ReadLemmas
 pub mod PartLemmas
 pub mod TextLemmas
 pub mod WholeLemmas
+pub mod OneFault
+pub mod OneAnswer
+pub mod PlacedCalls
+pub mod PlacedDisagreements
+pub mod OneCycle
+pub mod DecidedLemmas
+pub mod DecidedOrders
+pub mod DecidedRules
+pub mod DecidedPairs
+pub mod DecidedBooks

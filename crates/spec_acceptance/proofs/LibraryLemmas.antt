@@ -7,7 +7,7 @@ use Rattle.lotos_base.specs.WrittenView.{text_place_of}
 use Rattle.syntax_trees.specs.WrittenItem.{WrittenItem}
 use Rattle.sentence_trees.specs.declared.fault.ReadFault.{ReadFault}
 use Rattle.sentence_trees.specs.declared.fault.ReadFault.TheVariants as read
-use Rattle.lotos_grammar.specs.Gathering.{GotFile, Gathered, nothing_yet, Waiting, item, too_many, misread, Outcome, all_gathered, faulty, without_file, one_too_many, not_read, no_file, Mentioned, Becomes, nothing_waits, a_type, mentions, then, ends}
+use Rattle.lotos_grammar.specs.Gathering.{GotFile, Gathered, nothing_yet, Waiting, item, too_many, misread, GatheringOutcome, all_gathered, faulty, without_file, one_too_many, not_read, no_file, MentionComesTo, Becomes, nothing_waits, a_type, mentions, then, ends}
 use Rattle.lotos_grammar.specs.Gathering as step
 use Rattle.lotos_grammar.specs.GatheredView.{gathered_of}
 use Rattle.lotos_grammar.specs.Progress.{IsGathered, FailsBy}
@@ -29,19 +29,19 @@ pub gathered_did : (a b : ShelfState) (items : List WrittenItem) (now : Gathered
 gathered_did a b items now is = (is.files, is.given, is.becomes)
 
 -- want of memory is no problem of a library
-abbrev IsTold : Outcome → Type 0
+abbrev IsTold : GatheringOutcome → Type 0
 IsTold (all_gathered so_far) = Unit {0}
 IsTold (faulty names (too_many place name)) = Unit {0}
 IsTold (faulty names (misread text found)) = found ≢ read.NoMemory
 IsTold (without_file names file) = Unit {0}
 
-told_at : {so_far : Gathered} {at : PlacedName} {files : List GotFile} {outcome : Outcome} →
-    Mentioned so_far at files (step.stops outcome) → IsTold outcome
+told_at : {so_far : Gathered} {at : PlacedName} {files : List GotFile} {outcome : GatheringOutcome} →
+    MentionComesTo so_far at files (step.stops outcome) → IsTold outcome
 told_at (one_too_many new past) = tt
 told_at (not_read next text is) = is.0
 told_at (no_file next none) = tt
 
-always_told : {so_far : Gathered} {waiting : List Waiting} {files : List GotFile} {outcome : Outcome} →
+always_told : {so_far : Gathered} {waiting : List Waiting} {files : List GotFile} {outcome : GatheringOutcome} →
     Becomes so_far waiting files outcome → IsTold outcome
 always_told (nothing_waits so_far) = tt
 always_told (a_type is) = always_told is
@@ -52,7 +52,7 @@ always_told (ends m) = told_at m
 abbrev misread_answer : code.Gathered → ℕ → ReadFault → NotAccepted
 misread_answer so_far text found = Spec (with_libraries_refused so_far.libraries (fault.Read text found))
 
-abbrev outcome_of : code.Gathered → ℕ → ReadFault → Outcome
+abbrev outcome_of : code.Gathered → ℕ → ReadFault → GatheringOutcome
 outcome_of so_far text found = faulty (gathered_of so_far).read (misread text found)
 
 misread_failed : (a b : ShelfState) (items : List WrittenItem) (so_far : code.Gathered) (text : ℕ) (found : ReadFault) (files : List

@@ -4,7 +4,7 @@ use Rattle.lotos_grammar.specs.Gathering.{GotFile}
 use Rattle.lotos_grammar.specs.GatheringLaws.{Files, AreGotFrom}
 use Rattle.lotos_grammar.proofs.OneOutcome.{front, back, joined}
 use Rattle.start_values.specs.Refusal.{Refusal, Refused}
-use Rattle.spec_acceptance.specs.Ending.{Ending, unread, refused}
+use Rattle.spec_acceptance.specs.Ending.{AcceptanceEnding, unread, refused}
 use Rattle.spec_acceptance.specs.Part.{Comes, goes_on, stops, Part, Then, Has, Looks}
 use Rattle.spec_acceptance.specs.PartLaws.{EndLacks, Lacks, IsDetermined, IsDecided}
 
@@ -17,11 +17,11 @@ abbrev IsGoing : {A : Type 0} → Comes A → Type 0
 IsGoing (goes_on a) = Unit {0}
 IsGoing (stops ending) = ⊥
 
-pub never_stops : {A : Type 0} (a : A) (ending : Ending) → goes_on a ≡ stops ending → ⊥
+pub never_stops : {A : Type 0} (a : A) (ending : AcceptanceEnding) → goes_on a ≡ stops ending → ⊥
 never_stops {A} a ending e = subst (λ (c : Comes A). IsGoing c) e tt
 
 -- the end, as one of something else
-abbrev moved : {A B : Type 0} → Ending → Comes A → Comes B
+abbrev moved : {A B : Type 0} → AcceptanceEnding → Comes A → Comes B
 moved other (goes_on a) = stops other
 moved other (stops last) = stops last
 
@@ -68,7 +68,7 @@ went_on {A} {B} First next got firsts nexts a b f l g m files others one other i
 
 -- one went on, and the other did not
 apart : {A : Type 0} (First : Part A) (got : Files) → IsDetermined got First
-    → (a : A) (f l files others : List GotFile) (ending : Ending) → First f (goes_on a) → files ≡ f ++ l → First others (stops ending)
+    → (a : A) (f l files others : List GotFile) (ending : AcceptanceEnding) → First f (goes_on a) → files ≡ f ++ l → First others (stops ending)
     → AreGotFrom got files → AreGotFrom got others → EndLacks got ending → ⊥
 apart First got firsts a f l files others ending is cut also all both lacks =
     let parts : AreGotFrom got (f ++ l) = subst (λ (xs : List GotFile). AreGotFrom got xs) cut all in

@@ -1,10 +1,10 @@
 -- The whole of the acceptance is determined.
 use Rattle.std.proofs.Common.{refl, ap, sym, ◌∙◌, ◌≡◌, subst}
-use Rattle.term_algebra.specs.Equation.{Data}
+use Rattle.lotos_base.specs.Equation.{Data}
 use Rattle.syntax_trees.specs.WrittenDefinition.{WrittenSpecification}
 use Rattle.syntax_trees.specs.TakenItems.{without_items}
 use Rattle.behaviour_semantics.specs.Behaviour.{Specification}
-use Rattle.type_mentions.specs.DeclaredTypes.{types_of}
+use Rattle.type_definitions.specs.DeclaredTypes.{types_of}
 use Rattle.scope_parts.specs.ScopeFault.{ScopeFault}
 use Rattle.scope_parts.specs.Resolution.{Resolution, resolved, faulty}
 use Rattle.scope_parts.specs.Definitions.{SpecificationIs}
@@ -12,14 +12,14 @@ use Rattle.scope_parts.proofs.BehavioursOnce.{specification_once}
 use Rattle.start_values.specs.Refusal.{Refusal, too_long, bad_byte, open_comment, wrong_syntax, too_deep, too_many_libraries, wrong_names, wrong_types, wrong_scopes, mismatch, unguarded, unknown_operation, twice_listed, unorientable, unjoined, start_values, start_term}
 use Rattle.spec_acceptance.specs.Ending.{with_libraries, with_data, with_spec}
 use Rattle.spec_acceptance.specs.PartLaws.{IsDecided}
-use Rattle.spec_acceptance.specs.Texts.{Gets, ReadsSpecification, Gathers, Orders}
+use Rattle.spec_acceptance.specs.Texts.{GetsFile, ReadsSpecification, Gathers, Orders}
 use Rattle.spec_acceptance.specs.Types.{HaveData, HaveFault, Flattens}
 use Rattle.spec_acceptance.specs.Scopes.{StandsFor, Breaks, Resolves}
-use Rattle.spec_acceptance.specs.Checks.{Agree, Disagree, Agrees, Guarded, Cyclic, IsGuardedIn}
+use Rattle.spec_acceptance.specs.Checks.{FunctionalitiesAgree, Disagree, ComesToAgreement, Guarded, Cyclic, IsGuardedIn}
 use Rattle.spec_acceptance.specs.Book.{Opens, DoesNotOpen, OpensBook}
 use Rattle.start_values.specs.StartValues.{Start, AreStartValues, IsStartFault}
 use Rattle.start_values.proofs.OutcomeLemmas.{starts_have_one_outcome}
-use Rattle.spec_acceptance.specs.Acceptance.{start_of, Starts, accepted_with}
+use Rattle.spec_acceptance.specs.Acceptance.{start_of, StartsWithValues, accepted_with}
 use Rattle.spec_acceptance.specs.AcceptanceLaws.{ScopesAreDecided, AcceptanceIsDetermined}
 use Rattle.spec_acceptance.proofs.PartLemmas.{has_determined, looks_determined, then_determined}
 use Rattle.spec_acceptance.proofs.TextLemmas.{gets_determined, reads_determined, gathers_determined, orders_determined}
@@ -87,7 +87,7 @@ starts_decided start = record {
 
 pub acceptance_is_determined : AcceptanceIsDetermined
 acceptance_is_determined types fine exits ranks books asked got =
-    then_determined (Gets asked.spec) _ got (gets_determined asked.spec got) (λ text f0 i0.
+    then_determined (GetsFile asked.spec) _ got (gets_determined asked.spec got) (λ text f0 i0.
     then_determined (ReadsSpecification text) _ got (reads_determined text got) (λ tree f1 i1.
     then_determined (Gathers tree) _ got (gathers_determined tree got) (λ gathered f2 i2.
     then_determined (Flattens gathered) _ got
@@ -96,8 +96,8 @@ acceptance_is_determined types fine exits ranks books asked got =
     then_determined (Resolves gathered data_ tree) _ got
     (looks_determined (StandsFor data_ tree) (Breaks data_ tree) (with_data gathered.read data_) got
     (scopes_are_decided data_ tree)) (λ spec f4 i4.
-    then_determined (Agrees gathered data_ tree spec) _ got
-    (looks_determined (Agree data_ tree spec) (Disagree data_ tree spec) (with_spec gathered.read data_ spec) got
+    then_determined (ComesToAgreement gathered data_ tree spec) _ got
+    (looks_determined (FunctionalitiesAgree data_ tree spec) (Disagree data_ tree spec) (with_spec gathered.read data_ spec) got
     (exits data_ tree spec)) (λ same f5 i5.
     then_determined (IsGuardedIn gathered data_ tree spec) _ got
     (looks_determined (Guarded spec) (Cyclic data_ tree spec) (with_spec gathered.read data_ spec) got
@@ -107,7 +107,7 @@ acceptance_is_determined types fine exits ranks books asked got =
     then_determined (OpensBook gathered data_ spec items) _ got
     (looks_determined (Opens items data_) (DoesNotOpen items data_) (with_spec gathered.read data_ spec) got
     (books items data_ (fine (types_of gathered.types) data_ have.1))) (λ opened f8 i8.
-    then_determined (Starts gathered data_ spec asked.values) _ got
+    then_determined (StartsWithValues gathered data_ spec asked.values) _ got
     (looks_determined (AreStartValues (start_of data_ spec asked.values)) (IsStartFault (start_of data_ spec asked.values))
     (with_spec gathered.read data_ spec) got (starts_decided (start_of data_ spec asked.values))) (λ values f9 i9.
     has_determined (accepted_with gathered data_ spec items values) got))))))))))

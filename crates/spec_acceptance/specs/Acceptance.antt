@@ -4,18 +4,18 @@
 -- oriented and the critical pairs join; and the start values are read.
 use Rattle.std.specs.Prelude.{ℕ, List, Option}
 use Rattle.lotos_base.specs.WrittenTerm.{ListedOperation}
-use Rattle.term_algebra.specs.Equation.{Data}
-use Rattle.term_algebra.specs.Term.{Term}
+use Rattle.lotos_base.specs.Equation.{Data}
+use Rattle.lotos_base.specs.Term.{Term}
 use Rattle.syntax_trees.specs.WrittenDefinition.{WrittenSpecification}
 use Rattle.behaviour_semantics.specs.Behaviour.{Specification, sorts_of}
 use Rattle.lotos_grammar.specs.Gathering.{Gathered}
 use Rattle.start_values.specs.StartValues.{Start, AreStartValues, IsStartFault}
 use Rattle.spec_acceptance.specs.Ending.{with_spec}
 use Rattle.spec_acceptance.specs.Part.{Part, Then, Has, Looks}
-use Rattle.spec_acceptance.specs.Texts.{Gets, ReadsSpecification, Gathers, Orders}
+use Rattle.spec_acceptance.specs.Texts.{GetsFile, ReadsSpecification, Gathers, Orders}
 use Rattle.spec_acceptance.specs.Types.{Flattens}
 use Rattle.spec_acceptance.specs.Scopes.{Resolves}
-use Rattle.spec_acceptance.specs.Checks.{Agrees, IsGuardedIn}
+use Rattle.spec_acceptance.specs.Checks.{ComesToAgreement, IsGuardedIn}
 use Rattle.spec_acceptance.specs.Book.{OpensBook}
 
 -- the words for the files, and those behind `with`
@@ -36,8 +36,8 @@ pub record Acceptance : Type 0 where
 abbrev pub start_of : Data → Specification → List (List ℕ) → Start
 start_of data_ spec words = record { signature = data_.signature; sorts = sorts_of spec.parameters; words = words }
 
-abbrev pub Starts : Gathered → Data → Specification → List (List ℕ) → Part (List Term)
-Starts gathered data_ spec words =
+abbrev pub StartsWithValues : Gathered → Data → Specification → List (List ℕ) → Part (List Term)
+StartsWithValues gathered data_ spec words =
     Looks (AreStartValues (start_of data_ spec words)) (IsStartFault (start_of data_ spec words)) (with_spec gathered.read data_ spec)
 
 -- what is accepted in the end
@@ -51,16 +51,16 @@ AfterText order words tree =
     Then (Gathers tree) (λ gathered.
     Then (Flattens gathered) (λ data_.
     Then (Resolves gathered data_ tree) (λ spec.
-    Then (Agrees gathered data_ tree spec) (λ _.
+    Then (ComesToAgreement gathered data_ tree spec) (λ _.
     Then (IsGuardedIn gathered data_ tree spec) (λ _.
     Then (Orders (with_spec gathered.read data_ spec) order) (λ items.
     Then (OpensBook gathered data_ spec items) (λ _.
-    Then (Starts gathered data_ spec words) (λ values.
+    Then (StartsWithValues gathered data_ spec words) (λ values.
     Has (accepted_with gathered data_ spec items values)))))))))
 
 -- all of it
 abbrev pub IsAccepted : Asked → Part Acceptance
 IsAccepted asked =
-    Then (Gets asked.spec) (λ text.
+    Then (GetsFile asked.spec) (λ text.
     Then (ReadsSpecification text) (λ tree.
     AfterText asked.order asked.values tree))

@@ -1,15 +1,15 @@
 -- A specification is accepted in one way at most, or refused for one fault, where each of its parts is decided.
 use Rattle.std.specs.Prelude.{List}
 use Rattle.lotos_base.specs.WrittenTerm.{ListedOperation}
-use Rattle.term_algebra.specs.Equation.{Data, IsWellFormedData}
+use Rattle.lotos_base.specs.Equation.{Data, IsWellFormedData}
 use Rattle.syntax_trees.specs.WrittenDefinition.{WrittenSpecification}
 use Rattle.behaviour_semantics.specs.Behaviour.{Specification}
-use Rattle.type_mentions.specs.DeclaredTypes.{DeclaredType}
+use Rattle.type_definitions.specs.DeclaredTypes.{DeclaredType}
 use Rattle.lotos_grammar.specs.GatheringLaws.{Files}
 use Rattle.spec_acceptance.specs.PartLaws.{IsDecided, IsDetermined}
 use Rattle.spec_acceptance.specs.Types.{HaveData, HaveFault}
 use Rattle.spec_acceptance.specs.Scopes.{StandsFor, Breaks}
-use Rattle.spec_acceptance.specs.Checks.{Agree, Disagree, Guarded, Cyclic}
+use Rattle.spec_acceptance.specs.Checks.{FunctionalitiesAgree, Disagree, Guarded, Cyclic}
 use Rattle.spec_acceptance.specs.Book.{Opens, DoesNotOpen}
 use Rattle.spec_acceptance.specs.Acceptance.{Asked, IsAccepted}
 
@@ -24,7 +24,7 @@ TypesAreDecided = (types : List DeclaredType) → IsDecided (HaveData types) (Ha
 -- whether functionalities agree and recursion is guarded, or the first thing that is wrong
 abbrev pub ExitsAreDecided : Type 0
 ExitsAreDecided = (data_ : Data) (tree : WrittenSpecification) (spec : Specification)
-    → IsDecided (Agree data_ tree spec) (Disagree data_ tree spec)
+    → IsDecided (FunctionalitiesAgree data_ tree spec) (Disagree data_ tree spec)
 
 abbrev pub RanksAreDecided : Type 0
 RanksAreDecided = (data_ : Data) (tree : WrittenSpecification) (spec : Specification)

@@ -1,6 +1,6 @@
 -- What an accepted specification of the code is.
 use Rattle.std.specs.Prelude.{◌≡◌, ℕ, List, map, Option}
-use Rattle.term_algebra.specs.Equation.{IsWellFormedData}
+use Rattle.lotos_base.specs.Equation.{IsWellFormedData}
 use Rattle.behaviour_semantics.specs.Replacement.{with_values, binding_of}
 use Rattle.behaviour_tree.specs.BehaviourView.{behaviour_of, variables_of}
 use Rattle.behaviour_tree.specs.DefinitionView.{specification_of}
@@ -25,7 +25,7 @@ asked_for spec order values = record { spec = spec; order = order; values = valu
 -- It is what was accepted: the specification, which is over the data's signature, with its ranks; the data, which are well
 -- formed, with the precedence of the order's items and the confluent rules of the equations; and the closed state in which
 -- it begins, its body with the normal forms of the start values.
-pub record Holds (acceptance : Acceptance) (accepted : Accepted) : Type 0 where
+pub record HoldsAccepted (acceptance : Acceptance) (accepted : Accepted) : Type 0 where
   pub spec_is : specification_of accepted.spec ≡ acceptance.spec
   pub data_is : data_of accepted.book.flat ≡ acceptance.data_
   pub well_formed : IsWellFormedData (data_of accepted.book.flat)
@@ -43,4 +43,4 @@ pub record Holds (acceptance : Acceptance) (accepted : Accepted) : Type 0 where
 -- the shelf gave what was asked of it, and the answer is what came of it
 abbrev pub AcceptsWith : ShelfState → ShelfState → Part Acceptance → Accepted → Type 0
 AcceptsWith before after part accepted =
-    (acceptance : Acceptance) × Did before after part (goes_on acceptance) × Holds acceptance accepted
+    (acceptance : Acceptance) × Did before after part (goes_on acceptance) × HoldsAccepted acceptance accepted

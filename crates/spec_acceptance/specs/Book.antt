@@ -2,12 +2,12 @@
 -- rules are confluent.
 use Rattle.std.specs.Prelude.{◌≡◌, List}
 use Rattle.lotos_base.specs.WrittenTerm.{ListedOperation}
-use Rattle.term_algebra.specs.Equation.{Data}
+use Rattle.lotos_base.specs.Equation.{Data}
 use Rattle.behaviour_semantics.specs.Behaviour.{Specification}
 use Rattle.termination_theory.specs.Precedence.{Precedence}
 use Rattle.termination_theory.specs.Orientation.{NumberedRule, IsOrientation, IsFirstUnorientable}
 use Rattle.path_order.specs.Listing.{IsUnknown, IsTwice, IsFirstWrong}
-use Rattle.critical_pairs.specs.Joining.{AreUnjoinedBy}
+use Rattle.equation_book.specs.HandedOn.{AreUnjoinedBy}
 use Rattle.equation_book.specs.Refusal.{IsBookPrecedence, IsOpenedBy}
 use Rattle.lotos_grammar.specs.Gathering.{Gathered}
 use Rattle.start_values.specs.Refusal.{Refusal, too_long, bad_byte, open_comment, wrong_syntax, too_deep, too_many_libraries, wrong_names, wrong_types, wrong_scopes, mismatch, unguarded, unknown_operation, twice_listed, unorientable, unjoined, start_values, start_term}

@@ -1,7 +1,7 @@
 -- The functionalities of the definitions agree, and recursion is guarded. Both are said of what the code keeps of a
 -- specification with the places of the text.
 use Rattle.std.specs.Prelude.{◌≡◌, List, [], ◌∷◌}
-use Rattle.term_algebra.specs.Equation.{Place as TextPlace, Data}
+use Rattle.lotos_base.specs.Equation.{Place as TextPlace, Data}
 use Rattle.lotos_base.specs.WrittenView.{text_place_of}
 use Rattle.lotos_base.specs.declared.places.Place.{Place}
 use Rattle.syntax_trees.specs.WrittenDefinition.{WrittenSpecification}
@@ -21,23 +21,23 @@ use Rattle.spec_acceptance.specs.Ending.{with_spec}
 use Rattle.spec_acceptance.specs.Part.{Part, Looks}
 
 -- what the code keeps of the specification, over the signature of the data and with the places of the text
-pub record Keeps (data_ : Data) (tree : WrittenSpecification) (spec : Specification) (kept : Spec) : Type 0 where
+pub record KeepsSpecification (data_ : Data) (tree : WrittenSpecification) (spec : Specification) (kept : Spec) : Type 0 where
   pub same : specification_of kept ≡ spec
   pub over : IsSpecOver data_.signature kept
   pub places : places_of kept ≡ text_places (without_items tree)
 
 -- all functionalities agree
-abbrev pub Agree : Data → WrittenSpecification → Specification → Specification → Type 0
-Agree data_ tree spec same = (same ≡ spec) × ((kept : Spec) × Keeps data_ tree spec kept × (all_disagreements kept ≡ []))
+abbrev pub FunctionalitiesAgree : Data → WrittenSpecification → Specification → Specification → Type 0
+FunctionalitiesAgree data_ tree spec same = (same ≡ spec) × ((kept : Spec) × KeepsSpecification data_ tree spec kept × (all_disagreements kept ≡ []))
 
 -- the disagreement is the first one
-abbrev pub IsFirst : List Disagreement → TextPlace → Functionality → Functionality → Type 0
-IsFirst [] place left right = ⊥
-IsFirst (first ∷ others) place left right = (text_place_of first.place ≡ place) × (first.left ≡ left) × (first.right ≡ right)
+abbrev pub IsFirstDisagreement : List Disagreement → TextPlace → Functionality → Functionality → Type 0
+IsFirstDisagreement [] place left right = ⊥
+IsFirstDisagreement (first ∷ others) place left right = (text_place_of first.place ≡ place) × (first.left ≡ left) × (first.right ≡ right)
 
 abbrev pub Disagree : Data → WrittenSpecification → Specification → Refusal → Type 0
 Disagree data_ tree spec (mismatch place left right) =
-    (kept : Spec) × Keeps data_ tree spec kept × IsFirst (all_disagreements kept) place left right
+    (kept : Spec) × KeepsSpecification data_ tree spec kept × IsFirstDisagreement (all_disagreements kept) place left right
 Disagree data_ tree spec (too_long number) = ⊥
 Disagree data_ tree spec (bad_byte place) = ⊥
 Disagree data_ tree spec (open_comment place) = ⊥
@@ -55,8 +55,8 @@ Disagree data_ tree spec (unjoined first second peak left right) = ⊥
 Disagree data_ tree spec (start_values wanted given) = ⊥
 Disagree data_ tree spec (start_term refusal) = ⊥
 
-abbrev pub Agrees : Gathered → Data → WrittenSpecification → Specification → Part Specification
-Agrees gathered data_ tree spec = Looks (Agree data_ tree spec) (Disagree data_ tree spec) (with_spec gathered.read data_ spec)
+abbrev pub ComesToAgreement : Gathered → Data → WrittenSpecification → Specification → Part Specification
+ComesToAgreement gathered data_ tree spec = Looks (FunctionalitiesAgree data_ tree spec) (Disagree data_ tree spec) (with_spec gathered.read data_ spec)
 
 -- recursion is guarded
 abbrev pub Guarded : Specification → Specification → Type 0
@@ -65,7 +65,7 @@ Guarded spec same = (same ≡ spec) × IsGuarded spec.processes
 -- an unguarded call lies on a cycle, and this is the first one
 abbrev pub Cyclic : Data → WrittenSpecification → Specification → Refusal → Type 0
 Cyclic data_ tree spec (unguarded place process cycle) =
-    (kept : Spec) × (at : Place) × Keeps data_ tree spec kept × (text_place_of at ≡ place) × IsUnguarded kept at process cycle
+    (kept : Spec) × (at : Place) × KeepsSpecification data_ tree spec kept × (text_place_of at ≡ place) × IsUnguarded kept at process cycle
 Cyclic data_ tree spec (too_long number) = ⊥
 Cyclic data_ tree spec (bad_byte place) = ⊥
 Cyclic data_ tree spec (open_comment place) = ⊥

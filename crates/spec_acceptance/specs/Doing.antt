@@ -7,7 +7,7 @@ use Rattle.lotos_base.specs.declared.names.Name.{Name}
 use Rattle.sort_terms.specs.EquationView.{data_of}
 use Rattle.behaviour_tree.specs.DefinitionView.{specification_of}
 use Rattle.lotos_grammar.specs.Gathering.{GotFile}
-use Rattle.lotos_grammar.specs.ShelfUse.{ShelfState, Gives, GivesAndLacks, Keeps}
+use Rattle.lotos_grammar.specs.ShelfUse.{ShelfState, Gives, GivesAndLacks, KeepsCount}
 use Rattle.lotos_grammar.specs.declared.faults.LibraryFault.{LibraryFault}
 use Rattle.lotos_grammar.specs.declared.faults.LibraryFault.TheVariants as library
 use Rattle.lotos_grammar.specs.declared.gathered.Gathered.{Gathered}
@@ -38,13 +38,13 @@ Did before after part (stops (refused r)) = (files : List GotFile) × Gives befo
 abbrev pub Failed : {B : Type 0} → ShelfState → ShelfState → Part B → NotAccepted → Type 0
 Failed before after part (File name) = Did before after part (stops (unread name.items))
 Failed before after part (Spec r) = (told : plain.Refused) × (refused_of r ≡ Some told) × Did before after part (stops (refused told))
-Failed before after part NoMemory = Keeps before after
+Failed before after part NoMemory = KeepsCount before after
 
 -- the file of the name is not got; or memory was wanted
-abbrev pub FileFails : ShelfState → ShelfState → List ℕ → NotAccepted → Type 0
-FileFails before after name (File kept) = (kept.items ≡ name) × GivesAndLacks before after [] name
-FileFails before after name (Spec r) = ⊥
-FileFails before after name NoMemory = Keeps before after
+abbrev pub FileIsNotGot : ShelfState → ShelfState → List ℕ → NotAccepted → Type 0
+FileIsNotGot before after name (File kept) = (kept.items ≡ name) × GivesAndLacks before after [] name
+FileIsNotGot before after name (Spec r) = ⊥
+FileIsNotGot before after name NoMemory = KeepsCount before after
 
 -- a look that gets nothing has this fault, and so much is known; or memory was wanted
 abbrev pub Faulty : (Refusal → Type 0) → (Refusal → plain.Refused) → NotAccepted → Type 0

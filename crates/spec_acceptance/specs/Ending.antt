@@ -1,12 +1,12 @@
 -- How the acceptance of a specification ends before its end: a file could not be got, or a fault was found.
 use Rattle.std.specs.Prelude.{ℕ, List, [], None, Some}
-use Rattle.term_algebra.specs.Equation.{Data}
+use Rattle.lotos_base.specs.Equation.{Data}
 use Rattle.behaviour_semantics.specs.Behaviour.{Specification}
 use Rattle.start_values.specs.Refusal.{Refusal, Refused}
 
-pub data Ending : Type 0 where
-  unread : (name : List ℕ) → Ending
-  refused : Refused → Ending
+pub data AcceptanceEnding : Type 0 where
+  unread : (name : List ℕ) → AcceptanceEnding
+  refused : Refused → AcceptanceEnding
 
 -- a refusal with what is known when the text is read, when the libraries are, when the types are flattened, and when the
 -- scopes are resolved

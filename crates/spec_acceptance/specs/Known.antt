@@ -4,7 +4,7 @@ use Rattle.std.specs.Prelude.{◌≡◌, ℕ, List, map, Option, Result, Ok, Err
 use Rattle.lotos_base.specs.Name.{spelling}
 use Rattle.lotos_base.specs.WrittenTerm.{ListedOperation}
 use Rattle.lotos_base.specs.WrittenView.{listed_operation_of}
-use Rattle.term_algebra.specs.Equation.{Data, IsWellFormedData}
+use Rattle.lotos_base.specs.Equation.{Data, IsWellFormedData}
 use Rattle.sort_terms.specs.EquationView.{IsSortedFlat, data_of}
 use Rattle.sort_terms.specs.declared.equations.Flat.{Flat}
 use Rattle.syntax_trees.specs.WrittenDefinition.{WrittenSpecification}
@@ -26,7 +26,7 @@ use Rattle.start_values.specs.declared.spec_fault.SpecFault.{SpecFault}
 use Rattle.start_values.specs.StartValues.{AreStartValues}
 use Rattle.start_values.specs.StartView.{parameter_sorts}
 use Rattle.spec_acceptance.specs.Acceptance.{start_of}
-use Rattle.spec_acceptance.specs.Checks.{Keeps}
+use Rattle.spec_acceptance.specs.Checks.{KeepsSpecification}
 use Rattle.spec_acceptance.specs.Ending.{with_spec}
 use Rattle.spec_acceptance.specs.Part.{goes_on}
 use Rattle.spec_acceptance.specs.Texts.{Orders}
@@ -61,7 +61,7 @@ pub record KnowsSpec (whole : Resolved) (known : WithSpec) : Type 0 where
   pub data_is : data_of known.flat ≡ whole.data_
   pub well_formed : IsWellFormedData whole.data_
   pub sorted : IsSortedFlat known.flat
-  pub keeps : Keeps whole.data_ whole.tree whole.spec known.spec
+  pub keeps : KeepsSpecification whole.data_ whole.tree whole.spec known.spec
 
 -- with its ranks
 pub record KnowsRanks (whole : Resolved) (known : WithRanks) : Type 0 where
@@ -91,7 +91,7 @@ pub record KnowsBook (whole : Resolved) (items : List ListedOperation) (known : 
   pub libraries : map spelling known.libraries.items ≡ whole.read
   pub data_is : data_of known.book.flat ≡ whole.data_
   pub well_formed : IsWellFormedData whole.data_
-  pub keeps : Keeps whole.data_ whole.tree whole.spec known.spec
+  pub keeps : KeepsSpecification whole.data_ whole.tree whole.spec known.spec
   pub ranks_known : AreRanksOf known.spec known.ranks
   pub opened : IsOpenedBy items whole.data_ (precedence_in known.book.joined.rules) (rules_in known.book.joined.rules)
 

@@ -11,3 +11,5 @@ pub mod Checks
 pub mod Book
 pub mod Acceptance
 pub mod AcceptanceLaws
+pub mod AcceptanceOutcomes
+pub mod HandedOn

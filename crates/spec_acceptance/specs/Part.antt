@@ -2,12 +2,12 @@
 use Rattle.std.specs.Prelude.{◌≡◌, ◌⊎◌, List, [], ◌++◌}
 use Rattle.lotos_grammar.specs.Gathering.{GotFile}
 use Rattle.start_values.specs.Refusal.{Refusal, Refused}
-use Rattle.spec_acceptance.specs.Ending.{Ending, unread, refused}
+use Rattle.spec_acceptance.specs.Ending.{AcceptanceEnding, unread, refused}
 
 -- what comes of it: something to go on with, or the end of all
 pub data Comes (B : Type 0) : Type 0 where
   goes_on : B → Comes B
-  stops : Ending → Comes B
+  stops : AcceptanceEnding → Comes B
 
 -- the files that it gets, in their order, and what comes of it
 abbrev pub Part : Type 0 → Type 1
@@ -29,7 +29,7 @@ Has b files (goes_on c) = (files ≡ []) × (c ≡ b)
 Has b files (stops ending) = ⊥
 
 -- It is refused for this, where so much is known.
-abbrev pub RefusedFor : (Refusal → Type 0) → (Refusal → Refused) → Ending → Type 0
+abbrev pub RefusedFor : (Refusal → Type 0) → (Refusal → Refused) → AcceptanceEnding → Type 0
 RefusedFor IsFault known (unread name) = ⊥
 RefusedFor IsFault known (refused r) = (refusal : Refusal) × IsFault refusal × (r ≡ known refusal)
 

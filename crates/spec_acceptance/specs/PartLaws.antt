@@ -3,12 +3,12 @@ use Rattle.std.specs.Prelude.{◌≡◌, List}
 use Rattle.lotos_grammar.specs.Gathering.{GotFile}
 use Rattle.lotos_grammar.specs.GatheringLaws.{Files, AreGotFrom}
 use Rattle.start_values.specs.Refusal.{Refusal}
-use Rattle.spec_acceptance.specs.Ending.{Ending, unread, refused}
+use Rattle.spec_acceptance.specs.Ending.{AcceptanceEnding, unread, refused}
 use Rattle.spec_acceptance.specs.Part.{Comes, goes_on, stops, Part}
 use Rattle.std.specs.Prelude.{None}
 
 -- a file that could not be got is one that nothing is got for
-abbrev pub EndLacks : Files → Ending → Type 0
+abbrev pub EndLacks : Files → AcceptanceEnding → Type 0
 EndLacks got (unread name) = got name ≡ None
 EndLacks got (refused r) = Unit {0}
 

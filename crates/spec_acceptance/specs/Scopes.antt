@@ -1,5 +1,5 @@
 -- The names, counts and sorts of the definitions of the text are resolved over the data. Its types are taken out before.
-use Rattle.term_algebra.specs.Equation.{Data}
+use Rattle.lotos_base.specs.Equation.{Data}
 use Rattle.syntax_trees.specs.WrittenDefinition.{WrittenSpecification}
 use Rattle.syntax_trees.specs.TakenItems.{without_items}
 use Rattle.behaviour_semantics.specs.Behaviour.{Specification}

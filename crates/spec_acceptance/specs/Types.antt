@@ -1,9 +1,9 @@
 -- The types are flattened to data.
 use Rattle.std.specs.Prelude.{List}
-use Rattle.term_algebra.specs.Equation.{Data}
-use Rattle.type_mentions.specs.DeclaredTypes.{DeclaredType, types_of, mention_graph}
-use Rattle.type_mentions.specs.MentionFaults.{IsMentionFault, AreDeclaredOnce, AreAllKnown}
-use Rattle.type_mentions.specs.TypeGraph.{IsAcyclic}
+use Rattle.lotos_base.specs.Equation.{Data}
+use Rattle.type_definitions.specs.DeclaredTypes.{DeclaredType, types_of, mention_graph}
+use Rattle.type_definitions.specs.MentionFaults.{IsMentionFault, AreDeclaredOnce, AreAllKnown}
+use Rattle.type_definitions.specs.TypeGraph.{IsAcyclic}
 use Rattle.type_definitions.specs.Flattened.{IsFlattening, IsFlatteningFault}
 use Rattle.lotos_grammar.specs.Gathering.{Gathered}
 use Rattle.start_values.specs.Refusal.{Refusal, too_long, bad_byte, open_comment, wrong_syntax, too_deep, too_many_libraries, wrong_names, wrong_types, wrong_scopes, mismatch, unguarded, unknown_operation, twice_listed, unorientable, unjoined, start_values, start_term}

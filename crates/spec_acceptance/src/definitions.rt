@@ -1,6 +1,6 @@
 //! Resolving the scopes of the text, and checking its definitions.
 
-ghost use Rattle.spec_acceptance.specs.Checks.{Agree, Cyclic, Disagree, Guarded};
+ghost use Rattle.spec_acceptance.specs.Checks.{FunctionalitiesAgree, Cyclic, Disagree, Guarded};
 ghost use Rattle.spec_acceptance.specs.Ending.{with_data, with_spec};
 ghost use Rattle.spec_acceptance.specs.Scopes.{Breaks, StandsFor};
 ghost use Rattle.behaviour_tree.specs.DefinitionView.{specification_of};
@@ -11,7 +11,7 @@ ghost use Rattle.std.specs.Prelude.{◌≡◌, ℕ, List, MatchResult};
 ghost use Rattle.syntax_trees.specs.TakenItems.{without_items};
 ghost use Rattle.syntax_trees.specs.TreeViews.{specification_of as written_specification};
 ghost use Rattle.syntax_trees.specs.WrittenDefinition.{WrittenSpecification};
-ghost use Rattle.term_algebra.specs.Equation.{Data};
+ghost use Rattle.lotos_base.specs.Equation.{Data};
 
 use crate::not_accepted::NotAccepted;
 use crate::refusals::{exit_refusal, rank_refusal, scope_refusal};
@@ -53,7 +53,7 @@ pub fn resolved(alloc: Global, tree: &SpecText, known: WithData) -> Result<WithS
 /// The same, whose functionalities agree.
 pub fn agreed(alloc: Global, known: WithSpec) -> Result<WithSpec, NotAccepted>
     ensures { (whole : Resolved) → KnowsSpec whole known → MatchResult result
-        (λ made. KnowsSpec whole made × Agree whole.data_ whole.tree whole.spec whole.spec)
+        (λ made. KnowsSpec whole made × FunctionalitiesAgree whole.data_ whole.tree whole.spec whole.spec)
         (Faulty (Disagree whole.data_ whole.tree whole.spec)
         (with_spec whole.read whole.data_ whole.spec)) }
 {

@@ -1,7 +1,7 @@
 //! Getting a file from the shelf.
 
 ghost use Rattle.lotos_grammar.specs.ShelfUse.{GivesFile, shelf_state};
-ghost use Rattle.spec_acceptance.specs.Doing.{FileFails};
+ghost use Rattle.spec_acceptance.specs.Doing.{FileIsNotGot};
 ghost use Rattle.std.specs.Prelude.{MatchResult};
 
 use crate::not_accepted::NotAccepted;
@@ -16,7 +16,7 @@ pub fn file<F: Shelf>(alloc: Global, name: &str, shelf: &mut F) -> Result<Vec<u8
         shelf.old))
         (shelf_state (F.texts shelf.new) (F.faults shelf.new) (F.calls shelf.new))
         name.now text.items)
-        (FileFails (shelf_state (F.texts shelf.old) (F.faults shelf.old) (F.calls shelf.old))
+        (FileIsNotGot (shelf_state (F.texts shelf.old) (F.faults shelf.old) (F.calls shelf.old))
         (shelf_state (F.texts shelf.new) (F.faults shelf.new) (F.calls shelf.new))
         name.now) }
 {

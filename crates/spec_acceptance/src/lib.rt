@@ -1,14 +1,16 @@
-//! The acceptance of a specification: the order of faults as one definition, which files are got for it,
-//! and what is found in them.
+//! The acceptance of a specification: the order of faults as one definition, which files are got for
+//! it, and what is found in them; and the law that by the texts that a shelf tells there is one answer.
 #![tactic(auto)]
 
 pub mod accepted;
 pub mod books;
 pub mod copies;
+pub mod decided_laws;
 pub mod definitions;
 pub mod files;
 pub mod laws;
 pub mod not_accepted;
+pub mod outcome_laws;
 pub mod refusals;
 pub mod stages;
 pub mod starts;

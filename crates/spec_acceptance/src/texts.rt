@@ -2,11 +2,11 @@
 
 ghost use Rattle.spec_acceptance.specs.Ending.{at_first, with_spec};
 ghost use Rattle.spec_acceptance.specs.Part.{goes_on};
-ghost use Rattle.spec_acceptance.specs.Texts.{GathersTypes, IsMisread, Orders};
+ghost use Rattle.spec_acceptance.specs.Texts.{GathersTypes, TextIsMisread, Orders};
 ghost use Rattle.lotos_grammar.specs.GatheredView.{gathered_of};
 ghost use Rattle.lotos_grammar.specs.ShelfUse.{shelf_state};
 ghost use Rattle.sentence_trees.specs.Reading.{
-  IsOrderFault,
+  IsOrderReadFault,
   IsSpecificationFault,
   IsSpecificationReading,
 };
@@ -28,7 +28,7 @@ use syntax_trees::{ItemText, SpecText};
 /// Reads the specification.
 pub fn specification(alloc: Global, text: &[u8]) -> Result<SpecText, NotAccepted>
     ensures { MatchResult result (λ tree. IsSpecificationReading 0 text.now (specification_of tree))
-        (Faulty (IsMisread IsSpecificationFault 0 text.now) at_first) }
+        (Faulty (TextIsMisread IsSpecificationFault 0 text.now) at_first) }
 {
     match read_spec(alloc, text, 0) {
         Ok(tree) => Ok(tree),
@@ -109,7 +109,7 @@ pub fn order_items<F: Shelf>(
 fn read_items(alloc: Global, text: &[u8], known: WithRanks) -> Result<WithOrder, NotAccepted>
     ensures { (whole : Resolved) → KnowsRanks whole known → MatchResult result
         (λ made. ReadsItems whole text.now made)
-        (Faulty (IsMisread IsOrderFault 1 text.now)
+        (Faulty (TextIsMisread IsOrderReadFault 1 text.now)
         (with_spec whole.read whole.data_ whole.spec)) }
 {
     match read_order(alloc, text, 1) {

@@ -7,7 +7,7 @@ ghost use Rattle.sort_terms.specs.EquationView.{data_of};
 ghost use Rattle.spec_acceptance.specs.Doing.{Faulty};
 ghost use Rattle.spec_acceptance.specs.Known.{KnowsData};
 ghost use Rattle.std.specs.Prelude.{MatchResult};
-ghost use Rattle.type_mentions.specs.DeclaredTypes.{types_of};
+ghost use Rattle.type_definitions.specs.DeclaredTypes.{types_of};
 
 use crate::not_accepted::NotAccepted;
 use crate::refusals::types_refusal;

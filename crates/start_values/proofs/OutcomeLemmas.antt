@@ -2,10 +2,10 @@
 use Rattle.std.proofs.Common.{refl, ap, sym, ◌∙◌, ◌≡◌, ◌≢◌, ◌⊎◌, inl, inr, subst, ℕ, suc, ◌+◌, List, [], ◌∷◌, ◌++◌, map, length, Option, None, Some}
 use Rattle.std.proofs.lemmas.Option.{none-some, same_Some}
 use Rattle.lotos_base.specs.WrittenTerm.{WrittenTerm, WrittenTerms, written, no_written, written_then}
-use Rattle.term_algebra.specs.Equation.{Variable}
-use Rattle.term_algebra.specs.Signature.{Signature}
-use Rattle.term_algebra.specs.Sorting.{IsGround, AreGround, IsGroundOf}
-use Rattle.term_algebra.specs.Term.{Term, Terms, variable, node, no_terms, term_then}
+use Rattle.lotos_base.specs.Equation.{Variable}
+use Rattle.lotos_base.specs.Signature.{Signature}
+use Rattle.lotos_base.specs.Sorting.{IsGround, AreGround, IsGroundOf}
+use Rattle.lotos_base.specs.Term.{Term, Terms, variable, node, no_terms, term_then}
 use Rattle.behaviour_semantics.specs.Rule.{AreValues}
 use Rattle.sentence_trees.specs.Reading.{IsTermsReading, IsTermsFault}
 use Rattle.sentence_trees.proofs.Outcomes.{all_have_one_outcome}
@@ -19,7 +19,7 @@ use Rattle.sort_terms.specs.ReadingOutcome as reading
 use Rattle.sort_terms.specs.ReadingOutcome.{SortedTerm, ReadingIs, answered, ComesTo, IsReading}
 use Rattle.start_values.specs.Refusal.{Refusal, start_values}
 use Rattle.start_values.specs.declared.words.TheConstants.{WORDS_TEXT}
-use Rattle.start_values.specs.StartValues.{WordTerm, of_word, HaveTerms, told_of_word, IsWordFault, HaveWordFault, HasValue, HaveValues, told_of_term, IsTermFault, HaveTermFault, Start, AreStartValues, IsStartFault, misread, miscounted, misfitting}
+use Rattle.start_values.specs.StartValues.{WordTerm, of_word, HaveTerms, told_of_word, IsWordFault, HaveWordFault, HasStartValue, HaveValues, told_of_term, IsTermFault, HaveTermFault, Start, AreStartValues, IsStartFault, misread, miscounted, misfitting}
 use Rattle.start_values.specs.StartLaws.{StartsHaveOneOutcome, StartValuesAreGround}
 
 -- ---- Words
@@ -83,20 +83,20 @@ value_count signature (sort ∷ sorts) (given ∷ others) (value ∷ values) h =
 same_answer : (one other : SortedTerm) → answered one ≡ answered other → one ≡ other
 same_answer one other e = cc e
 
-not_refused_too : (one : SortedTerm) (refusal : reading.Refusal) → answered one ≡ reading.refused refusal → ⊥
+not_refused_too : (one : SortedTerm) (refusal : reading.ReadingRefusal) → answered one ≡ reading.refused refusal → ⊥
 not_refused_too one refusal e = cc e
 
-same_refusal : (one other : reading.Refusal) → ◌≡◌ {A = reading.Outcome SortedTerm} (reading.refused one) (reading.refused other)
+same_refusal : (one other : reading.ReadingRefusal) → ◌≡◌ {A = reading.ReadingOutcome SortedTerm} (reading.refused one) (reading.refused other)
     → one ≡ other
 same_refusal one other e = cc e
 
 module _ (readings : ReadingComesToOneThing) (signature : Signature) where
-  value_once : (sort : ℕ) (given : WordTerm) (some other : Term) → HasValue signature sort given some
-      → HasValue signature sort given other → some ≡ other
+  value_once : (sort : ℕ) (given : WordTerm) (some other : Term) → HasStartValue signature sort given some
+      → HasStartValue signature sort given other → some ≡ other
   value_once sort given some other is also =
       ap (λ (it : SortedTerm). it.term) (same_answer _ _ (readings signature [] given.term (Some sort) _ _ is also))
 
-  value_fine : (sort : ℕ) (given : WordTerm) (value : Term) (refusal : Refusal) → HasValue signature sort given value
+  value_fine : (sort : ℕ) (given : WordTerm) (value : Term) (refusal : Refusal) → HasStartValue signature sort given value
       → IsTermFault signature sort given refusal → ⊥
   value_fine sort given value refusal is not =
       not_refused_too _ not.0 (readings signature [] given.term (Some sort) _ _ is not.1)
@@ -204,13 +204,13 @@ mutual
       (read_ground signature w t s reads.0, all_ground signature ws ts ss reads.1)
 
 -- the reading that a question comes to is a reading
-is_reading : {A : Type 0} (unknown : List reading.Refusal) (place : _) (Is : A → Type 0) (one : A)
+is_reading : {A : Type 0} (unknown : List reading.ReadingRefusal) (place : _) (Is : A → Type 0) (one : A)
     → ComesTo unknown place Is (answered one) → Is one
 is_reading (first ∷ rest) place Is one comes = absurd comes
 is_reading [] place Is one comes = comes.is_answer
 
 module _ (sorted : ReadingsAreWellSorted) (signature : Signature) where
-  value_ground : (sort : ℕ) (given : WordTerm) (value : Term) → HasValue signature sort given value
+  value_ground : (sort : ℕ) (given : WordTerm) (value : Term) → HasStartValue signature sort given value
       → IsGroundOf signature sort value
   value_ground sort given value is =
       let reads = is_reading _ _ (IsReading signature [] given.term (Some sort)) (record { term = value; sort = sort }) is in

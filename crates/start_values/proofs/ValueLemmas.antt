@@ -4,8 +4,8 @@ use Rattle.std.specs.Prelude.{Vec, Result, Ok, Err, MatchResult}
 use Rattle.std.specs.declared.alloc.Global.{Global}
 use Rattle.std.proofs.Math.ListN.{drop_of_length-le}
 use Rattle.std.proofs.lemmas.List.{length-map}
-use Rattle.term_algebra.specs.Signature.{Signature}
-use Rattle.term_algebra.specs.Term.{Term}
+use Rattle.lotos_base.specs.Signature.{Signature}
+use Rattle.lotos_base.specs.Term.{Term}
 use Rattle.sort_terms.specs.ReadingOutcome as reading
 use Rattle.sort_terms.specs.ReadingOutcome.{ReadingIs}
 use Rattle.sort_terms.specs.RefusalView.{UnlessNoMemory}
@@ -21,7 +21,7 @@ use Rattle.start_values.specs.Refusal.{Refusal, start_values}
 use Rattle.start_values.specs.declared.faults.StartFault.{StartFault}
 use Rattle.start_values.specs.declared.faults.StartFault.TheVariants.{Refused, NoMemory}
 use Rattle.start_values.specs.declared.words.WordTerm as code
-use Rattle.start_values.specs.StartValues.{WordTerm, HaveTerms, HaveWordFault, HasValue, HaveValues, told_of_term, IsTermFault, HaveTermFault, Start, AreStartValues, IsStartFault, misread, miscounted, misfitting}
+use Rattle.start_values.specs.StartValues.{WordTerm, HaveTerms, HaveWordFault, HasStartValue, HaveValues, told_of_term, IsTermFault, HaveTermFault, Start, AreStartValues, IsStartFault, misread, miscounted, misfitting}
 use Rattle.start_values.specs.StartView.{word_term_of, parameter_sorts, start_of, FailsAs, TellsTerm, TellsRefusal}
 
 -- ---- One after another
@@ -37,7 +37,7 @@ none_valued signature sorts terms = record { fine = λ others is. is; faulty = �
 
 pub one_valued : (signature : Signature) (sorts : List ℕ) (terms : List WordTerm) (sort : ℕ) (sorts_left : List ℕ) (given : WordTerm)
     (terms_left : List WordTerm) (values more : List Term) (value : Term)
-    → ValuedSoFar signature sorts terms (sort ∷ sorts_left) (given ∷ terms_left) values → HasValue signature sort given value
+    → ValuedSoFar signature sorts terms (sort ∷ sorts_left) (given ∷ terms_left) values → HasStartValue signature sort given value
     → more ≡ values ++ (value ∷ []) → ValuedSoFar signature sorts terms sorts_left terms_left more
 one_valued signature sorts terms sort sorts_left given terms_left values more value so_far is same = record {
   fine = λ others have.

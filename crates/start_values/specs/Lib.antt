@@ -4,3 +4,4 @@ pub mod StartLaws
 pub mod StartView
 pub mod Refusal
 pub mod RefusalView
+pub mod HandedOn

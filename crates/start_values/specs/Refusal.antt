@@ -1,9 +1,9 @@
 -- Why a specification is refused, as a plain value: the fault, and what is known of the specification by then.
 use Rattle.std.specs.Prelude.{ℕ, List, Option}
-use Rattle.term_algebra.specs.Equation.{Place, Data}
-use Rattle.term_algebra.specs.Term.{Term}
+use Rattle.lotos_base.specs.Equation.{Place, Data}
+use Rattle.lotos_base.specs.Term.{Term}
 use Rattle.sort_terms.specs.ReadingOutcome as reading
-use Rattle.type_mentions.specs.MentionFaults.{MentionFault}
+use Rattle.type_definitions.specs.MentionFaults.{MentionFault}
 use Rattle.type_definitions.specs.TypeFault.{TypeFault}
 use Rattle.scope_parts.specs.ScopeFault.{ScopeFault}
 use Rattle.behaviour_semantics.specs.Behaviour.{Specification}
@@ -27,7 +27,7 @@ pub data Refusal : Type 0 where
   unorientable : (equation : ℕ) → Refusal
   unjoined : (first second : ℕ) → (peak left right : Term) → Refusal
   start_values : (wanted given : ℕ) → Refusal
-  start_term : reading.Refusal → Refusal
+  start_term : reading.ReadingRefusal → Refusal
 
 -- A refusal with the names of the libraries whose texts were read, in the order of the numbers of these texts from 2 on; with
 -- the data, once the types are flattened; and with the specification, once its scopes are resolved.

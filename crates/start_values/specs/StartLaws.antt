@@ -1,6 +1,6 @@
 -- What the words behind `with` come to is one thing, and start values are ground terms of the sorts of the parameters.
 use Rattle.std.specs.Prelude.{◌≡◌, List}
-use Rattle.term_algebra.specs.Term.{Term}
+use Rattle.lotos_base.specs.Term.{Term}
 use Rattle.behaviour_semantics.specs.Rule.{AreValues}
 use Rattle.sort_terms.specs.ReadingLaws.{ReadingsAreWellSorted}
 use Rattle.start_values.specs.Refusal.{Refusal}

@@ -3,9 +3,9 @@
 use Rattle.std.specs.Prelude.{◌≡◌, ◌≢◌, ◌⊎◌, ℕ, ◌+◌, List, [], ◌∷◌, ◌++◌, map, length, Option, None, Some}
 use Rattle.lotos_base.specs.WrittenTerm.{WrittenTerm}
 use Rattle.lotos_base.specs.WrittenView.{text_place_of}
-use Rattle.term_algebra.specs.Equation.{Place}
-use Rattle.term_algebra.specs.Signature.{Signature}
-use Rattle.term_algebra.specs.Term.{Term}
+use Rattle.lotos_base.specs.Equation.{Place}
+use Rattle.lotos_base.specs.Signature.{Signature}
+use Rattle.lotos_base.specs.Term.{Term}
 use Rattle.sort_terms.specs.ReadingOutcome as reading
 use Rattle.sort_terms.specs.ReadingOutcome.{ReadingIs, answered}
 use Rattle.sentence_trees.specs.Reading.{IsTermsReading, IsTermsFault}
@@ -54,19 +54,19 @@ HaveWordFault number (word ∷ words) refusal =
     ⊎ ((own : List WrittenTerm) × IsTermsReading WORDS_TEXT word own × HaveWordFault (number + 1) words refusal)
 
 -- a term has one reading at the sort, in which there are no variables: this value
-abbrev pub HasValue : Signature → ℕ → WordTerm → Term → Type 0
-HasValue signature sort given value =
+abbrev pub HasStartValue : Signature → ℕ → WordTerm → Term → Type 0
+HasStartValue signature sort given value =
     ReadingIs signature [] given.term (Some sort) (answered (record { term = value; sort = sort }))
 
 -- the terms have these values at the sorts, one by one
 abbrev pub HaveValues : Signature → List ℕ → List WordTerm → List Term → Type 0
 HaveValues signature [] [] [] = Unit {0}
 HaveValues signature (sort ∷ sorts) (given ∷ others) (value ∷ values) =
-    HasValue signature sort given value × HaveValues signature sorts others values
+    HasStartValue signature sort given value × HaveValues signature sorts others values
 HaveValues signature _ _ _ = ⊥
 
 -- a refusal of a term of the word with the number
-abbrev pub told_of_term : ℕ → reading.Refusal → Refusal
+abbrev pub told_of_term : ℕ → reading.ReadingRefusal → Refusal
 told_of_term word (reading.unknown_name place) = start_term (reading.unknown_name (in_word word place))
 told_of_term word (reading.unknown_sort place) = start_term (reading.unknown_sort (in_word word place))
 told_of_term word (reading.no_reading place) = start_term (reading.no_reading (in_word word place))
@@ -74,14 +74,14 @@ told_of_term word (reading.two_readings place) = start_term (reading.two_reading
 
 abbrev pub IsTermFault : Signature → ℕ → WordTerm → Refusal → Type 0
 IsTermFault signature sort given refusal =
-    (found : reading.Refusal) × ReadingIs signature [] given.term (Some sort) (reading.refused found)
+    (found : reading.ReadingRefusal) × ReadingIs signature [] given.term (Some sort) (reading.refused found)
     × (refusal ≡ told_of_term given.word found)
 
 -- the first of the terms that has no value at its sort is refused for this
 abbrev pub HaveTermFault : Signature → List ℕ → List WordTerm → Refusal → Type 0
 HaveTermFault signature (sort ∷ sorts) (given ∷ others) refusal =
     IsTermFault signature sort given refusal
-    ⊎ ((value : Term) × HasValue signature sort given value × HaveTermFault signature sorts others refusal)
+    ⊎ ((value : Term) × HasStartValue signature sort given value × HaveTermFault signature sorts others refusal)
 HaveTermFault signature _ _ _ = ⊥
 
 -- what is given: the sorts of the parameters over a signature, and the words

@@ -45,7 +45,7 @@ TellsWord number fault NoMemory = Unit {0}
 -- the answer tells this fault of a term of the word with the number; or memory was wanted
 abbrev pub TellsTerm : ℕ → SortFault → StartFault → Type 0
 TellsTerm word fault (Refused found) =
-    IsSomeAnd (reason_of fault) (λ (reason : reading.Refusal). refusal_of found ≡ Some (told_of_term word reason))
+    IsSomeAnd (reason_of fault) (λ (reason : reading.ReadingRefusal). refusal_of found ≡ Some (told_of_term word reason))
 TellsTerm word fault NoMemory = Unit {0}
 
 -- the answer tells this refusal

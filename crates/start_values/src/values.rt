@@ -14,7 +14,7 @@ ghost use Rattle.start_values.specs.declared.spec_fault.SpecFault.TheVariants.{
 };
 ghost use Rattle.start_values.specs.StartValues.{
   AreStartValues,
-  HasValue,
+  HasStartValue,
   HaveTermFault,
   HaveValues,
   IsStartFault,
@@ -122,7 +122,7 @@ fn value(
 ) -> Result<Sorted, StartFault>
     requires { variables_in scope.now ≡ [] }
     ensures read { MatchResult result
-        (λ value. HasValue (signature_read reader.now) parameter.now.sort
+        (λ value. HasStartValue (signature_read reader.now) parameter.now.sort
         (word_term_of given.now) (term_in value))
         (FailsAs (IsTermFault (signature_read reader.now) parameter.now.sort
         (word_term_of given.now))) }

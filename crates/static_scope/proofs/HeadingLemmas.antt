@@ -1,14 +1,14 @@
 -- A heading from its parts, where what was visible is forgotten.
 use Rattle.std.proofs.Common.{◌≡◌, ℕ, List, length, refl, subst}
 use Rattle.std.specs.Prelude.{Option}
-use Rattle.term_algebra.specs.Equation.{Variable}
+use Rattle.lotos_base.specs.Equation.{Variable}
 use Rattle.syntax_trees.specs.WrittenDefinition.{WrittenHeading}
 use Rattle.scope_parts.specs.ScopeFault.{ScopeFault}
 use Rattle.scope_parts.specs.Resolution.{Resolution, resolved, faulty, and_then}
 use Rattle.scope_parts.specs.Sorts.{variables_at, functionality_at}
 use Rattle.scope_parts.specs.Definitions.{Heading, formal_gates, heading_at}
 use Rattle.scope_parts.proofs.AnswerLemmas.{value_then, fault_then}
-use Rattle.static_scope.specs.ResolverState.{State, numbers_at}
+use Rattle.behaviour_scopes.specs.ResolverState.{State, numbers_at}
 use Rattle.static_scope.proofs.PointLemmas.{without_names}
 
 -- what comes of the parts

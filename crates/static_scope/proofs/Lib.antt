@@ -10,7 +10,3 @@ pub mod SizeLemmas
 pub mod SizeSteps
 pub mod OwnLemmas
 pub mod FormalLemmas
-pub mod CallLemmas
-pub mod NestedLemmas
-pub mod ResolverLemmas
-pub mod StandingLemmas

@@ -3,7 +3,7 @@ use Rattle.std.proofs.Common.{◌≡◌, ℕ, ◌+◌, ◌-◌, List, [], ◌++�
 use Rattle.std.proofs.Math.Seq.{drop-length}
 use Rattle.std.proofs.lemmas.List.{append_assoc, length-append, length-map}
 use Rattle.lotos_base.specs.WrittenTerm.{PlacedName}
-use Rattle.term_algebra.specs.Equation.{Variable}
+use Rattle.lotos_base.specs.Equation.{Variable}
 use Rattle.syntax_trees.specs.WrittenBehaviour.{WrittenBehaviour}
 use Rattle.syntax_trees.specs.WrittenDefinition.{WrittenHeading}
 use Rattle.scope_parts.specs.GatesDeclared.{Gates}
@@ -13,7 +13,7 @@ use Rattle.behaviour_semantics.specs.Behaviour.{Behaviour}
 use Rattle.scope_parts.specs.Behaviours.{BehaviourIs}
 use Rattle.scope_parts.specs.Resolution.{Resolution}
 use Rattle.scope_parts.specs.Definitions.{Heading, own_scope}
-use Rattle.static_scope.specs.ResolverState.{State, StandsFor, numbers_at, passed, with_first_variables, with_last_gates}
+use Rattle.behaviour_scopes.specs.ResolverState.{State, BehaviourStandsFor, numbers_at, passed, with_first_variables, with_last_gates}
 use Rattle.static_scope.specs.Points.{Point, point_of, numbers_of, inside, past_definition}
 
 all_dropped : (gates : List Binding) → drop (length gates - 0) gates ≡ []
@@ -143,9 +143,9 @@ definition_passed old mid new text heading body first later =
     (append_assoc old.names (spelled text.gates) (gates_in body))
 
 pub definition_stands : (old mid : State) (text : WrittenHeading) (heading : Heading) (body : WrittenBehaviour) (o : Resolution Behaviour)
-    → mid ≡ inside text heading old → StandsFor mid body o
+    → mid ≡ inside text heading old → BehaviourStandsFor mid body o
     → BehaviourIs old.signature (own_scope old.scope.processes (numbers_at old) text heading) (past_heading text (numbers_at old)) body o
 definition_stands old mid text heading body o same stands =
     subst
     (λ (n : Numbers). BehaviourIs old.signature (own_scope old.scope.processes (numbers_at old) text heading) n body o)
-    (numbers_inside text heading old) (subst (λ (s : State). StandsFor s body o) same stands)
+    (numbers_inside text heading old) (subst (λ (s : State). BehaviourStandsFor s body o) same stands)

@@ -1,12 +1,12 @@
 -- What a text comes to, from its heading and body and from its `where`.
 use Rattle.std.proofs.Common.{◌≡◌, ℕ, List, [], ◌∷◌, ◌++◌, inl, inr, ap, sym, ◌∙◌, subst}
 use Rattle.std.proofs.lemmas.List.{append-nil}
-use Rattle.term_algebra.specs.Equation.{Place}
-use Rattle.term_algebra.specs.Signature.{Signature}
-use Rattle.static_scope.specs.Places.{places_written}
+use Rattle.lotos_base.specs.Equation.{Place}
+use Rattle.lotos_base.specs.Signature.{Signature}
+use Rattle.behaviour_scopes.specs.Places.{places_written}
 use Rattle.syntax_trees.specs.WrittenDefinition.{WrittenSpecification, inners_of}
 use Rattle.behaviour_semantics.specs.Behaviour.{Behaviour, Process, Specification}
-use Rattle.static_scope.specs.ResolverState.{State, nothing_known}
+use Rattle.behaviour_scopes.specs.ResolverState.{State, nothing_known}
 use Rattle.scope_parts.specs.ScopeFault.{ScopeFault}
 use Rattle.scope_parts.specs.Resolution.{Resolution, resolved, faulty}
 use Rattle.scope_parts.specs.Scope.{Callable}

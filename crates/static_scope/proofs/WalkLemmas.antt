@@ -3,14 +3,14 @@ use Rattle.std.proofs.Common.{◌≡◌, ◌<◌, ℕ, suc, ◌+◌, ◌-◌, Li
 use Rattle.std.proofs.Math.Seq.{drop-append_seam}
 use Rattle.std.proofs.lemmas.List.{append-nil, append_assoc, length-append}
 use Rattle.std.specs.Prelude.{Option, None, Some, is_some, if◌then◌else◌}
-use Rattle.term_algebra.specs.Names.{folded}
-use Rattle.term_algebra.specs.Equation.{Place}
-use Rattle.term_algebra.specs.Signature.{Signature}
+use Rattle.lotos_base.specs.Names.{folded}
+use Rattle.lotos_base.specs.Equation.{Place}
+use Rattle.lotos_base.specs.Signature.{Signature}
 use Rattle.syntax_trees.specs.WrittenBehaviour.{WrittenBehaviour}
 use Rattle.syntax_trees.specs.WrittenDefinition.{WrittenHeading, WrittenInner, WrittenInners, inner_item, process, no_inner, inner_then}
 use Rattle.syntax_trees.specs.WrittenItem.{WrittenItem}
 use Rattle.behaviour_semantics.specs.Behaviour.{Behaviour, Process}
-use Rattle.static_scope.specs.Places.{places_written}
+use Rattle.behaviour_scopes.specs.Places.{places_written}
 use Rattle.scope_parts.specs.ScopeFault.{ScopeFault, double_name}
 use Rattle.scope_parts.specs.Resolution.{Resolution, resolved, faulty, Made}
 use Rattle.scope_parts.specs.Scope.{Binding, Callable, bind, bound_to}
@@ -19,7 +19,7 @@ use Rattle.scope_parts.specs.Definitions.{Heading, DefinitionIs, InnerIs, Inners
 use Rattle.static_scope.specs.Points.{Point, numbers_of, past_definition, past_number, with_processes}
 use Rattle.static_scope.specs.Sizes.{BeginsAt, sizes_of_all}
 use Rattle.static_scope.specs.TextPlaces.{inners_places}
-use Rattle.static_scope.specs.Walk.{Task, outermost, TasksAre, Fit, gates_left, sizes_left, places_left, steps_of, Walk, WalkIs, IsReady, behind_those, GoesOn, in_front}
+use Rattle.static_scope.specs.Walk.{Task, outermost, TasksAre, Fit, gates_left, sizes_left, places_left, steps_of, Walk, WalkIs, AreSizesKnown, behind_those, WalkGoesOn, in_front}
 use Rattle.static_scope.proofs.PointLemmas.{numbers_past}
 use Rattle.static_scope.proofs.SizeLemmas.{begins_inside, begins_front, begins_so}
 
@@ -37,7 +37,7 @@ behind_none : (o : Resolution (List Process)) → behind_those [] o ≡ o
 behind_none (resolved ps) = refl
 behind_none (faulty f) = refl
 
-pub not_gone : (sizes : List ℕ) (walk : Walk) → IsReady sizes walk → GoesOn sizes walk walk [] []
+pub not_gone : (sizes : List ℕ) (walk : Walk) → AreSizesKnown sizes walk → WalkGoesOn sizes walk walk [] []
 not_gone sizes walk ready = record {
   ready = ready;
   leads = λ o is. subst (WalkIs walk) (sym (behind_none o)) is;
@@ -47,8 +47,8 @@ not_gone sizes walk ready = record {
 }
 
 pub gone_on : (sizes : List ℕ) (first between last : Walk) (made more : List Process) (places others : List Place)
-    → GoesOn sizes first between made places → GoesOn sizes between last more others
-    → GoesOn sizes first last (made ++ more) (places ++ others)
+    → WalkGoesOn sizes first between made places → WalkGoesOn sizes between last more others
+    → WalkGoesOn sizes first last (made ++ more) (places ++ others)
 gone_on sizes first between last made more places others one two = record {
   ready = two.ready;
   leads = λ o is. subst (WalkIs first) (behind_both made more o) (one.leads (behind_those more o) (two.leads o is));
@@ -60,7 +60,7 @@ gone_on sizes first between last made more places others one two = record {
 
 -- a fault at a later step is a fault of the whole
 pub fault_there : (sizes : List ℕ) (first between : Walk) (made : List Process) (places : List Place) (f : ScopeFault)
-    → GoesOn sizes first between made places → WalkIs between (faulty f) → WalkIs first (faulty f)
+    → WalkGoesOn sizes first between made places → WalkIs between (faulty f) → WalkIs first (faulty f)
 fault_there sizes first between made places f on is = on.leads (faulty f) is
 
 -- ---- An item
@@ -82,8 +82,8 @@ item_leads signature visible numbers item task tasks (faulty f) (inr is) =
     inr (is.0, item_inners signature visible task.before numbers item task.inners (resolved is.0) is.1, is.2)
 
 pub past_item : (sizes : List ℕ) (point : Point) (item : WrittenItem) (task : Task) (tasks : List Task)
-    → IsReady sizes (standing point (in_front (inner_item item) task ∷ tasks))
-    → GoesOn sizes (standing point (in_front (inner_item item) task ∷ tasks)) (standing point (task ∷ tasks)) [] []
+    → AreSizesKnown sizes (standing point (in_front (inner_item item) task ∷ tasks))
+    → WalkGoesOn sizes (standing point (in_front (inner_item item) task ∷ tasks)) (standing point (task ∷ tasks)) [] []
 past_item sizes point item task tasks ready = record {
   ready = record { fit = ready.fit; sizes = ready.sizes };
   leads = λ o is.
@@ -119,8 +119,8 @@ end_leads signature visible numbers before outside tasks (resolved ps) is = ([],
 end_leads signature visible numbers before outside tasks (faulty f) is = inr ([], refl, is)
 
 pub past_end : (sizes : List ℕ) (point : Point) (before : List Binding) (outside : ℕ) (tasks : List Task)
-    → IsReady sizes (standing point (ended before outside ∷ tasks))
-    → GoesOn sizes (standing point (ended before outside ∷ tasks)) (standing (cut_off outside point) tasks) [] []
+    → AreSizesKnown sizes (standing point (ended before outside ∷ tasks))
+    → WalkGoesOn sizes (standing point (ended before outside ∷ tasks)) (standing (cut_off outside point) tasks) [] []
 past_end sizes point before outside tasks ready = record {
   ready = record { fit = ready.fit.1; sizes = ready.sizes };
   leads = λ o is.
@@ -248,12 +248,12 @@ fit_entered added visible task inner name tasks fit =
 
 pub past_process : (sizes : List ℕ) (point : Point) (heading : WrittenHeading) (body : WrittenBehaviour) (inner : WrittenInners)
     (task : Task) (tasks : List Task) (name : List ℕ) (made : Process)
-    → IsReady sizes (standing point (in_front (process heading body inner) task ∷ tasks))
+    → AreSizesKnown sizes (standing point (in_front (process heading body inner) task ∷ tasks))
     → resolved name ≡ new_process task.before heading
     → Made (process_with heading)
     (DefinitionIs point.signature (callables point.signature (suc point.process) inner ++ point.processes)
     (numbers_of (past_number point)) heading body) (resolved made)
-    → GoesOn sizes (standing point (in_front (process heading body inner) task ∷ tasks))
+    → WalkGoesOn sizes (standing point (in_front (process heading body inner) task ∷ tasks))
     (standing (entered heading body inner point) (own_task inner point.processes ∷ left_task heading.name task ∷ tasks))
     (made ∷ []) (heading.place ∷ places_written body)
 past_process sizes point heading body inner task tasks name made ready named defined = record {
@@ -319,7 +319,7 @@ one_task signature visible numbers inners (faulty f) (inl is) = is
 one_task signature visible numbers inners (faulty f) (inr is) = absurd (let no : faulty f ≡ resolved [] = is.2 in cc)
 
 pub ready_first : (sizes : List ℕ) (point : Point) (inners : WrittenInners) → BeginsAt (sizes_of_all inners) point.process sizes
-    → IsReady sizes (standing point (first_task inners ∷ []))
+    → AreSizesKnown sizes (standing point (first_task inners ∷ []))
 ready_first sizes point inners begins = record {
   fit = (omega arith, tt);
   sizes =
@@ -327,7 +327,7 @@ ready_first sizes point inners begins = record {
 }
 
 pub all_gone : (sizes : List ℕ) (first last : Point) (inners : WrittenInners) (made : List Process) (places : List Place)
-    → GoesOn sizes (standing first (first_task inners ∷ [])) (standing last []) made places
+    → WalkGoesOn sizes (standing first (first_task inners ∷ [])) (standing last []) made places
     → InnersAre first.signature first.processes [] (numbers_of first) inners (resolved made)
 all_gone sizes first last inners made places on =
     one_task first.signature first.processes (numbers_of first) inners (resolved made)
@@ -335,20 +335,20 @@ all_gone sizes first last inners made places on =
     (on.leads (resolved []) refl))
 
 pub fault_gone : (sizes : List ℕ) (first between : Point) (tasks : List Task) (inners : WrittenInners) (made : List Process)
-    (places : List Place) (f : ScopeFault) → GoesOn sizes (standing first (first_task inners ∷ [])) (standing between tasks) made places
+    (places : List Place) (f : ScopeFault) → WalkGoesOn sizes (standing first (first_task inners ∷ [])) (standing between tasks) made places
     → WalkIs (standing between tasks) (faulty f)
     → InnersAre first.signature first.processes [] (numbers_of first) inners (faulty f)
 fault_gone sizes first between tasks inners made places f on is =
     one_task first.signature first.processes (numbers_of first) inners (faulty f) (on.leads (faulty f) is)
 
 pub gates_gone : (sizes : List ℕ) (first last : Point) (inners : WrittenInners) (made : List Process) (places : List Place)
-    → GoesOn sizes (standing first (first_task inners ∷ [])) (standing last []) made places
+    → WalkGoesOn sizes (standing first (first_task inners ∷ [])) (standing last []) made places
     → last.names ≡ first.names ++ inners_gates inners
 gates_gone sizes first last inners made places on =
     sym (append-nil last.names) ∙ on.gates ∙ ap (λ (xs : List (List ℕ)). first.names ++ xs) (append-nil (inners_gates inners))
 
 pub places_gone : (sizes : List ℕ) (first last : Point) (inners : WrittenInners) (made : List Process) (places : List Place)
-    → GoesOn sizes (standing first (first_task inners ∷ [])) (standing last []) made places → places ≡ inners_places inners
+    → WalkGoesOn sizes (standing first (first_task inners ∷ [])) (standing last []) made places → places ≡ inners_places inners
 places_gone sizes first last inners made places on =
     sym (append-nil places) ∙ on.places ∙ append-nil (inners_places inners)
 
@@ -362,13 +362,13 @@ behind_name first second third inner numbered seen =
 
 pub entered_so : (sizes : List ℕ) (first second third last : Point) (heading : WrittenHeading) (body : WrittenBehaviour)
     (inner : WrittenInners) (task : Task) (tasks now : List Task) (name : List ℕ) (made : Process) (places : List Place)
-    → IsReady sizes (standing first (in_front (process heading body inner) task ∷ tasks))
+    → AreSizesKnown sizes (standing first (in_front (process heading body inner) task ∷ tasks))
     → resolved name ≡ new_process task.before heading
     → second ≡ past_number first → third ≡ with_processes (callables second.signature second.process inner) second
     → Made (process_with heading) (DefinitionIs third.signature third.processes (numbers_of third) heading body) (resolved made)
     → last ≡ past_definition heading body third
     → now ≡ own_task inner first.processes ∷ left_task heading.name task ∷ tasks → places ≡ heading.place ∷ places_written body
-    → GoesOn sizes (standing first (in_front (process heading body inner) task ∷ tasks)) (standing last now) (made ∷ []) places
+    → WalkGoesOn sizes (standing first (in_front (process heading body inner) task ∷ tasks)) (standing last now) (made ∷ []) places
 entered_so sizes first second third last heading body inner task tasks now name made places ready named numbered seen defined behind are
     at =
     let so = behind_name first second third inner numbered seen in
@@ -378,14 +378,14 @@ entered_so sizes first second third last heading body inner task tasks now name 
     (λ (p : Point). Made (process_with heading) (DefinitionIs p.signature p.processes (numbers_of p) heading body) (resolved made))
     so defined) in
     subst
-    (λ (p : Point). GoesOn sizes (standing first (in_front (process heading body inner) task ∷ tasks)) (standing p now) (made ∷ []) places)
+    (λ (p : Point). WalkGoesOn sizes (standing first (in_front (process heading body inner) task ∷ tasks)) (standing p now) (made ∷ []) places)
     (sym (behind ∙ ap (past_definition heading body) so))
     (subst
-    (λ (ts : List Task). GoesOn sizes (standing first (in_front (process heading body inner) task ∷ tasks))
+    (λ (ts : List Task). WalkGoesOn sizes (standing first (in_front (process heading body inner) task ∷ tasks))
     (standing (entered heading body inner first) ts) (made ∷ []) places)
     (sym are)
     (subst
-    (λ (ps : List Place). GoesOn sizes (standing first (in_front (process heading body inner) task ∷ tasks))
+    (λ (ps : List Place). WalkGoesOn sizes (standing first (in_front (process heading body inner) task ∷ tasks))
     (standing (entered heading body inner first) (own_task inner first.processes ∷ left_task heading.name task ∷ tasks)) (made ∷ []) ps)
     (sym at) here))
 
@@ -403,7 +403,7 @@ entering_fails first second third heading body inner task tasks name f named num
 -- the sizes of what a process declares are known where it is entered
 pub own_sizes : (sizes : List ℕ) (first second : Point) (heading : WrittenHeading) (body : WrittenBehaviour) (inner : WrittenInners)
     (task : Task) (tasks : List Task) → second ≡ past_number first
-    → IsReady sizes (standing first (in_front (process heading body inner) task ∷ tasks))
+    → AreSizesKnown sizes (standing first (in_front (process heading body inner) task ∷ tasks))
     → BeginsAt (sizes_of_all inner) second.process sizes
 own_sizes sizes first second heading body inner task tasks numbered ready =
     subst (λ (p : Point). BeginsAt (sizes_of_all inner) p.process sizes) (sym numbered)
@@ -423,13 +423,13 @@ with_number number point = record {
 
 -- an item is passed over, and a `where` ends, as they stand on the walk
 pub item_gone : (sizes : List ℕ) (point : Point) (x : WrittenInner) (item : WrittenItem) (task : Task) (tasks now : List Task)
-    → x ≡ inner_item item → now ≡ task ∷ tasks → IsReady sizes (standing point (in_front x task ∷ tasks))
-    → GoesOn sizes (standing point (in_front x task ∷ tasks)) (standing point now) [] []
+    → x ≡ inner_item item → now ≡ task ∷ tasks → AreSizesKnown sizes (standing point (in_front x task ∷ tasks))
+    → WalkGoesOn sizes (standing point (in_front x task ∷ tasks)) (standing point now) [] []
 item_gone sizes point x item task tasks now is are ready =
-    subst (λ (ts : List Task). GoesOn sizes (standing point (in_front x task ∷ tasks)) (standing point ts) [] []) (sym are)
-    (subst (λ (y : WrittenInner). GoesOn sizes (standing point (in_front y task ∷ tasks)) (standing point (task ∷ tasks)) [] []) (sym is)
+    subst (λ (ts : List Task). WalkGoesOn sizes (standing point (in_front x task ∷ tasks)) (standing point ts) [] []) (sym are)
+    (subst (λ (y : WrittenInner). WalkGoesOn sizes (standing point (in_front y task ∷ tasks)) (standing point (task ∷ tasks)) [] []) (sym is)
     (past_item sizes point item task tasks
-    (subst (λ (y : WrittenInner). IsReady sizes (standing point (in_front y task ∷ tasks))) is ready)))
+    (subst (λ (y : WrittenInner). AreSizesKnown sizes (standing point (in_front y task ∷ tasks))) is ready)))
 
 pub item_steps : (x : WrittenInner) (item : WrittenItem) (task : Task) (tasks now : List Task)
     → x ≡ inner_item item → now ≡ task ∷ tasks → steps_of now < steps_of (in_front x task ∷ tasks)
@@ -438,12 +438,12 @@ item_steps x item task tasks now is are =
     (subst (λ (y : WrittenInner). steps_of (task ∷ tasks) < steps_of (in_front y task ∷ tasks)) (sym is) (item_less item task tasks))
 
 pub end_gone : (sizes : List ℕ) (point next : Point) (task : Task) (before : List Binding) (outside : ℕ) (tasks : List Task)
-    → task ≡ ended before outside → next ≡ cut_off outside point → IsReady sizes (standing point (task ∷ tasks))
-    → GoesOn sizes (standing point (task ∷ tasks)) (standing next tasks) [] []
+    → task ≡ ended before outside → next ≡ cut_off outside point → AreSizesKnown sizes (standing point (task ∷ tasks))
+    → WalkGoesOn sizes (standing point (task ∷ tasks)) (standing next tasks) [] []
 end_gone sizes point next task before outside tasks is are ready =
-    subst (λ (p : Point). GoesOn sizes (standing point (task ∷ tasks)) (standing p tasks) [] []) (sym are)
-    (subst (λ (t : Task). GoesOn sizes (standing point (t ∷ tasks)) (standing (cut_off outside point) tasks) [] []) (sym is)
-    (past_end sizes point before outside tasks (subst (λ (t : Task). IsReady sizes (standing point (t ∷ tasks))) is ready)))
+    subst (λ (p : Point). WalkGoesOn sizes (standing point (task ∷ tasks)) (standing p tasks) [] []) (sym are)
+    (subst (λ (t : Task). WalkGoesOn sizes (standing point (t ∷ tasks)) (standing (cut_off outside point) tasks) [] []) (sym is)
+    (past_end sizes point before outside tasks (subst (λ (t : Task). AreSizesKnown sizes (standing point (t ∷ tasks))) is ready)))
 
 pub end_steps : (task : Task) (tasks : List Task) → steps_of tasks < steps_of (task ∷ tasks)
 end_steps task tasks = omega arith

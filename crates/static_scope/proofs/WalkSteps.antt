@@ -13,12 +13,12 @@ use Rattle.scope_parts.specs.declared.scope_faults.ScopeFault.{ScopeFault}
 use Rattle.syntax_trees.specs.TreeViews.{inner_of}
 use Rattle.syntax_trees.specs.WrittenDefinition.{WrittenInners}
 use Rattle.syntax_trees.specs.declared.definitions.InnerText.{InnerText}
-use Rattle.term_algebra.specs.Equation.{Place}
+use Rattle.lotos_base.specs.Equation.{Place}
 use Rattle.static_scope.specs.KeptPlaces.{places_of_process, places_of_processes}
 use Rattle.static_scope.specs.Points.{Point}
 use Rattle.static_scope.specs.Sizes.{BeginsAt, sizes_of_all}
 use Rattle.static_scope.specs.SizesView.{written_inners}
-use Rattle.static_scope.specs.Walk.{Task, GoesOn, in_front}
+use Rattle.static_scope.specs.Walk.{Task, WalkGoesOn, in_front}
 use Rattle.static_scope.specs.WalkView.{task_of, tasks_in, listed, made_of, places_of_made}
 use Rattle.static_scope.specs.declared.frames.Frame.{Frame}
 use Rattle.static_scope.proofs.SizeSteps.{none_left}
@@ -90,7 +90,7 @@ listed_every P made (Some p) first later = every_append P made (p ∷ []) first 
 
 abbrev pub Since : List ℕ → Point → WrittenInners → Point → List Task → List plain.Process → List Place → Type 0
 Since sizes first inners now tasks made places =
-    GoesOn sizes (standing first (first_task inners ∷ [])) (standing now tasks) made places
+    WalkGoesOn sizes (standing first (first_task inners ∷ [])) (standing now tasks) made places
 
 pub walk_started : (sizes : List ℕ) (point : Point) (list : List InnerText) (before after : List Frame) (frame : Frame)
     (made : List Process) → before ≡ [] → after ≡ before ++ frame ∷ [] → made ≡ [] → task_of frame ≡ first_task (written_inners list)
@@ -110,7 +110,7 @@ walk_started sizes point list before after frame made none are nothing is begins
 pub walk_stepped : (sizes : List ℕ) (first now next : Point) (inners : WrittenInners) (popped before after : List Frame) (frame : Frame)
     (made more : List Process) (definition : Option Process) → before ≡ popped ++ frame ∷ [] → more ≡ made ++ listed definition
     → Since sizes first inners now (tasks_in before) (map process_of made) (places_of_processes made)
-    → GoesOn sizes (standing now (task_of frame ∷ tasks_in popped)) (standing next (tasks_in after)) (made_of definition)
+    → WalkGoesOn sizes (standing now (task_of frame ∷ tasks_in popped)) (standing next (tasks_in after)) (made_of definition)
     (places_of_made definition)
     → Since sizes first inners next (tasks_in after) (map process_of more) (places_of_processes more)
 walk_stepped sizes first now next inners popped before after frame made more definition are added since step =

@@ -1,10 +1,10 @@
 -- The places that stay on a specification of the code.
 use Rattle.std.specs.Prelude.{List, [], ◌∷◌, ◌++◌}
-use Rattle.term_algebra.specs.Equation.{Place}
+use Rattle.lotos_base.specs.Equation.{Place}
 use Rattle.lotos_base.specs.WrittenView.{text_place_of}
 use Rattle.behaviour_tree.specs.declared.definitions.Process.{Process}
 use Rattle.behaviour_tree.specs.declared.definitions.Spec.{Spec}
-use Rattle.static_scope.specs.PlacesView.{places_in}
+use Rattle.behaviour_scopes.specs.PlacesView.{places_in}
 
 -- of a process and of processes of the code
 abbrev pub places_of_process : Process → List Place

@@ -10,8 +10,4 @@ pub mod SizesView
 pub mod CallableList
 pub mod OwnCallables
 pub mod ProcessView
-pub mod Grown
-pub mod Places
-pub mod PlacesView
-pub mod ResolverState
-pub mod ResolverView
+pub mod HandedOn

@@ -1,6 +1,6 @@
 -- What one declaration of a `where` gives its callers.
 use Rattle.std.specs.Prelude.{ℕ, List, [], ◌∷◌}
-use Rattle.term_algebra.specs.Signature.{Signature}
+use Rattle.lotos_base.specs.Signature.{Signature}
 use Rattle.syntax_trees.specs.WrittenDefinition.{WrittenInner, inner_item, process}
 use Rattle.scope_parts.specs.Scope.{Callable}
 use Rattle.scope_parts.specs.Definitions.{callable_of}

@@ -1,12 +1,12 @@
 -- What is known between two definitions of a text.
 use Rattle.std.specs.Prelude.{ℕ, suc, ◌+◌, List, ◌++◌, length}
-use Rattle.term_algebra.specs.Signature.{Signature}
+use Rattle.lotos_base.specs.Signature.{Signature}
 use Rattle.syntax_trees.specs.WrittenBehaviour.{WrittenBehaviour}
 use Rattle.syntax_trees.specs.WrittenDefinition.{WrittenHeading}
 use Rattle.scope_parts.specs.Scope.{Callable}
 use Rattle.scope_parts.specs.Numbering.{Numbers, spelled, own_gates, variable_count}
 use Rattle.scope_parts.specs.Definitions.{Heading, own_scope}
-use Rattle.static_scope.specs.ResolverState.{State, numbers_at}
+use Rattle.behaviour_scopes.specs.ResolverState.{State, numbers_at}
 
 -- The signature, the names of the gates that were declared so far, the processes that are visible, and the numbers of the
 -- next variable and the next process.

@@ -1,6 +1,6 @@
 -- What a resolver knows between two definitions.
-use Rattle.static_scope.specs.ResolverView.{state_in}
-use Rattle.static_scope.specs.declared.resolver.Resolver.{Resolver}
+use Rattle.behaviour_scopes.specs.ResolverView.{state_in}
+use Rattle.behaviour_scopes.specs.declared.resolver.Resolver.{Resolver}
 use Rattle.static_scope.specs.Points.{Point, point_of}
 
 abbrev pub point_in : Resolver → Point

@@ -1,9 +1,9 @@
 -- The places that stay on a specification once its names are resolved: those of the names of definitions, of the signs and
 -- of the names of calls, definition by definition in the order of the text.
 use Rattle.std.specs.Prelude.{List, [], ◌∷◌, ◌++◌}
-use Rattle.term_algebra.specs.Equation.{Place}
+use Rattle.lotos_base.specs.Equation.{Place}
 use Rattle.syntax_trees.specs.WrittenDefinition.{WrittenInner, WrittenInners, inner_item, process, no_inner, inner_then, inners_of, WrittenSpecification}
-use Rattle.static_scope.specs.Places.{places_written}
+use Rattle.behaviour_scopes.specs.Places.{places_written}
 
 abbrev mutual
   -- of what a `where` declares

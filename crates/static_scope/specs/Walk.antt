@@ -1,10 +1,10 @@
 -- The definitions that are still to be looked at, on a walk over the `where` of a text and those in it.
 use Rattle.std.specs.Prelude.{◌≡◌, ◌≤◌, ℕ, suc, ◌+◌, ◌-◌, List, [], ◌++◌, ◌∷◌, length, drop}
-use Rattle.term_algebra.specs.Equation.{Place}
-use Rattle.term_algebra.specs.Signature.{Signature}
+use Rattle.lotos_base.specs.Equation.{Place}
+use Rattle.lotos_base.specs.Signature.{Signature}
 use Rattle.syntax_trees.specs.WrittenDefinition.{WrittenInner, WrittenInners, inner_then}
 use Rattle.behaviour_semantics.specs.Behaviour.{Process}
-use Rattle.scope_parts.specs.Resolution.{Resolution, resolved, faulty, Is, Then, Made}
+use Rattle.scope_parts.specs.Resolution.{Resolution, resolved, faulty, Is, ThenResolves, Made}
 use Rattle.scope_parts.specs.Scope.{Binding, Callable}
 use Rattle.scope_parts.specs.Numbering.{Numbers, inners_gates, past_inners}
 use Rattle.scope_parts.specs.Definitions.{InnersAre}
@@ -26,7 +26,7 @@ outermost size processes = drop (length processes - size) processes
 abbrev pub TasksAre : Signature → List Callable → Numbers → List Task → Resolution (List Process) → Type 0
 TasksAre signature visible numbers [] = Is (resolved [])
 TasksAre signature visible numbers (task ∷ tasks) =
-    Then (InnersAre signature visible task.before numbers task.inners)
+    ThenResolves (InnersAre signature visible task.before numbers task.inners)
     (λ first. Made (λ rest. first ++ rest)
     (TasksAre signature (outermost task.outside visible) (past_inners task.inners numbers) tasks))
 
@@ -61,7 +61,7 @@ abbrev pub WalkIs : Walk → Resolution (List Process) → Type 0
 WalkIs walk = TasksAre walk.point.signature walk.point.processes (numbers_of walk.point) walk.tasks
 
 -- the sizes are known where the walk stands
-pub record IsReady (counts : List ℕ) (walk : Walk) : Type 0 where
+pub record AreSizesKnown (counts : List ℕ) (walk : Walk) : Type 0 where
   pub fit : Fit walk.point.processes walk.tasks
   pub sizes : BeginsAt (sizes_left walk.tasks) walk.point.process counts
 
@@ -71,8 +71,8 @@ behind_those made (resolved others) = resolved (made ++ others)
 behind_those made (faulty fault) = faulty fault
 
 -- the walk went on from the old standing to the new one, and made these processes, which have these places
-pub record GoesOn (counts : List ℕ) (old new : Walk) (made : List Process) (kept : List Place) : Type 0 where
-  pub ready : IsReady counts new
+pub record WalkGoesOn (counts : List ℕ) (old new : Walk) (made : List Process) (kept : List Place) : Type 0 where
+  pub ready : AreSizesKnown counts new
   pub leads : (resolution : Resolution (List Process)) → WalkIs new resolution → WalkIs old (behind_those made resolution)
   pub signature : new.point.signature ≡ old.point.signature
   pub gates : new.point.names ++ gates_left new.tasks ≡ old.point.names ++ gates_left old.tasks

@@ -1,10 +1,10 @@
 -- The walk over the definitions as the code keeps it.
 use Rattle.std.specs.Prelude.{List, [], ◌∷◌, map, reverse, Option, None, Some}
-use Rattle.term_algebra.specs.Equation.{Place}
+use Rattle.lotos_base.specs.Equation.{Place}
 use Rattle.behaviour_semantics.specs.Behaviour as plain
 use Rattle.behaviour_tree.specs.DefinitionView.{process_of}
 use Rattle.behaviour_tree.specs.declared.definitions.Process.{Process}
-use Rattle.static_scope.specs.declared.resolver.Resolver.{Resolver}
+use Rattle.behaviour_scopes.specs.declared.resolver.Resolver.{Resolver}
 use Rattle.scope_parts.specs.BindingsView.{bindings_in}
 use Rattle.static_scope.specs.PointsView.{point_in}
 use Rattle.static_scope.specs.SizesView.{written_inners}

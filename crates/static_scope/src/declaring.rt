@@ -7,8 +7,8 @@ ghost use Rattle.static_scope.specs.PointsView.{point_in};
 ghost use Rattle.scope_parts.specs.Definitions.{callables};
 ghost use Rattle.std.specs.Prelude.{◌≡◌, OnOk};
 
-use crate::Resolver;
 use crate::own_processes::make_visible;
+use behaviour_scopes::Resolver;
 use lotos_base::NoMemory;
 use std::alloc::Global;
 use syntax_trees::InnerText;

@@ -1,7 +1,7 @@
 //! Definitions: headings with their bodies.
 
-ghost use Rattle.static_scope.specs.Places.{places_written};
-ghost use Rattle.static_scope.specs.PlacesView.{places_in};
+ghost use Rattle.behaviour_scopes.specs.Places.{places_written};
+ghost use Rattle.behaviour_scopes.specs.PlacesView.{places_in};
 ghost use Rattle.behaviour_tree.specs.BehaviourTerms.{profiles_in};
 ghost use Rattle.behaviour_tree.specs.BehaviourView.{behaviour_of};
 ghost use Rattle.behaviour_tree.specs.DefinitionView.{process_of};
@@ -17,9 +17,9 @@ ghost use Rattle.scope_parts.specs.Resolution.{Made};
 ghost use Rattle.std.specs.Prelude.{◌≡◌, ◌∷◌, IfOk, OnOk};
 ghost use Rattle.syntax_trees.specs.TreeViews.{behaviour_of as written_behaviour};
 
-use crate::Resolver;
 use crate::heading_parts::{Heading, HeadingText};
 use crate::headings::resolved_heading;
+use behaviour_scopes::Resolver;
 use behaviour_tree::{Beh, Process};
 use scope_parts::ScopeFault;
 use std::alloc::Global;

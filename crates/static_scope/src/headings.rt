@@ -1,7 +1,7 @@
 //! Headings of definitions.
 
-ghost use Rattle.static_scope.specs.ResolverState.{numbers_at};
-ghost use Rattle.static_scope.specs.ResolverView.{state_in};
+ghost use Rattle.behaviour_scopes.specs.ResolverState.{numbers_at};
+ghost use Rattle.behaviour_scopes.specs.ResolverView.{state_in};
 ghost use Rattle.static_scope.specs.HeadingView.{heading_in, written_heading};
 ghost use Rattle.static_scope.specs.Points.{inside};
 ghost use Rattle.scope_parts.specs.Definitions.{heading_at};
@@ -9,9 +9,9 @@ ghost use Rattle.scope_parts.specs.FaultView.{Answers};
 ghost use Rattle.scope_parts.specs.Resolution.{Is};
 ghost use Rattle.std.specs.Prelude.{◌≡◌, IfOk};
 
-use crate::Resolver;
 use crate::formal::{formal_gates, functionality};
 use crate::heading_parts::{Heading, HeadingText};
+use behaviour_scopes::Resolver;
 use scope_parts::ScopeFault;
 use scope_parts::sorts::variables_at;
 use std::alloc::Global;

@@ -8,19 +8,19 @@ ghost use Rattle.static_scope.specs.TextPlaces.{text_places};
 ghost use Rattle.lotos_base.specs.Name.{spelling};
 ghost use Rattle.sort_terms.specs.SignatureView.{signature_of};
 ghost use Rattle.scope_parts.specs.Definitions.{SpecificationIs};
-ghost use Rattle.scope_faults.specs.FirstFault.{HasNoFault, IsFirstFault};
-ghost use Rattle.scope_faults.specs.TextOrder.{PlacesRise};
+ghost use Rattle.scope_parts.specs.FirstFault.{HasNoFault, IsFirstScopeFault};
+ghost use Rattle.scope_parts.specs.TextOrder.{PlacesRise};
 ghost use Rattle.scope_parts.specs.FaultView.{Answers, FaultIs};
 ghost use Rattle.scope_parts.specs.GateLists.{TextHasGateLists};
 ghost use Rattle.std.specs.Prelude.{◌≡◌, IfErr, IfOk, map};
 ghost use Rattle.syntax_trees.specs.TreeViews.{specification_of as written_specification};
 
-use crate::Resolver;
 use crate::declaring::declare;
 use crate::definitions::definition;
 use crate::heading_parts::HeadingText;
 use crate::sizes::sizes;
 use crate::walk::processes;
+use behaviour_scopes::Resolver;
 use behaviour_tree::Spec;
 use behaviour_tree::boxes::shared;
 use lotos_base::Name;
@@ -42,7 +42,7 @@ pub fn resolve(alloc: Global, text: &SpecText, signature: &Signature) -> Result<
     ensures places { IfOk result (λ spec. places_of spec
         ≡ text_places (written_specification text.now)) }
     ensures first { PlacesRise (written_specification text.now) → IfErr result (λ fault.
-        FaultIs fault (IsFirstFault (signature_of signature.now)
+        FaultIs fault (IsFirstScopeFault (signature_of signature.now)
         (written_specification text.now))) }
     ensures faultless { PlacesRise (written_specification text.now) → IfOk result (λ spec.
         HasNoFault (signature_of signature.now) (written_specification text.now)) }

@@ -13,7 +13,7 @@ ghost use Rattle.static_scope.specs.Sizes.{BeginsAt, sizes_of_all};
 ghost use Rattle.static_scope.specs.SizesView.{written_inners};
 ghost use Rattle.static_scope.specs.KeptPlaces.{places_of_process, places_of_processes};
 ghost use Rattle.static_scope.specs.TextPlaces.{inners_places};
-ghost use Rattle.static_scope.specs.Walk.{GoesOn, IsReady, WalkIs, in_front, steps_of};
+ghost use Rattle.static_scope.specs.Walk.{WalkGoesOn, AreSizesKnown, WalkIs, in_front, steps_of};
 ghost use Rattle.static_scope.specs.WalkView.{
   listed,
   made_of,
@@ -43,10 +43,10 @@ ghost use Rattle.std.specs.Prelude.{
 };
 ghost use Rattle.syntax_trees.specs.TreeViews.{inner_of};
 
-use crate::Resolver;
 use crate::declaring::declare;
 use crate::definitions::process;
 use crate::frames::Frame;
+use behaviour_scopes::Resolver;
 use behaviour_tree::Process;
 use lotos_base::NoMemory;
 use scope_parts::ScopeFault;
@@ -106,9 +106,9 @@ fn go_on<'t>(
     stack: &mut Vec<Frame<'t>>,
     frame: Frame<'t>,
 ) -> Result<Option<Process>, ScopeFault>
-    requires { IsReady sizes.now.items
+    requires { AreSizesKnown sizes.now.items
         (walk_at resolver.old (task_of frame ∷ tasks_in stack.old.items)) }
-    ensures on { IfOk result (λ made. GoesOn sizes.now.items
+    ensures on { IfOk result (λ made. WalkGoesOn sizes.now.items
         (walk_at resolver.old (task_of frame.entry ∷ tasks_in stack.old.items))
         (walk_at resolver.new (tasks_in stack.new.items)) (made_of made)
         (places_of_made made)) }
@@ -144,9 +144,9 @@ fn next_declared<'t>(
     left: Frame<'t>,
     first: &'t InnerText,
 ) -> Result<Option<Process>, ScopeFault>
-    requires { IsReady sizes.now.items (walk_at resolver.old
+    requires { AreSizesKnown sizes.now.items (walk_at resolver.old
         (in_front (inner_of first.now) (task_of left) ∷ tasks_in stack.old.items)) }
-    ensures on { IfOk result (λ made. GoesOn sizes.now.items
+    ensures on { IfOk result (λ made. WalkGoesOn sizes.now.items
         (walk_at resolver.old (in_front (inner_of first.now) (task_of left.entry)
         ∷ tasks_in stack.old.items)) (walk_at resolver.new (tasks_in stack.new.items))
         (made_of made) (places_of_made made)) }
@@ -180,10 +180,10 @@ fn enter<'t>(
     left: Frame<'t>,
     text: &'t ProcessText,
 ) -> Result<Process, ScopeFault>
-    requires { IsReady sizes.now.items (walk_at resolver.old
+    requires { AreSizesKnown sizes.now.items (walk_at resolver.old
         (in_front (written_definition text.now) (task_of left)
         ∷ tasks_in stack.old.items)) }
-    ensures on { IfOk result (λ made. GoesOn sizes.now.items
+    ensures on { IfOk result (λ made. WalkGoesOn sizes.now.items
         (walk_at resolver.old (in_front (written_definition text.now) (task_of left.entry)
         ∷ tasks_in stack.old.items)) (walk_at resolver.new (tasks_in stack.new.items))
         (process_of made ∷ []) (places_of_process made)) }

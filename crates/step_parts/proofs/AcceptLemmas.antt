@@ -5,12 +5,12 @@ use Rattle.std.specs.Cmp.{first_so, second_so}
 use Rattle.std.proofs.Math.Path.{fun_ext}
 use Rattle.std.proofs.lemmas.List.{append-nil}
 use Rattle.std.proofs.lemmas.Option.{none-some}
-use Rattle.term_algebra.specs.Signature.{Signature}
-use Rattle.term_algebra.specs.Term.{Term, variable}
-use Rattle.term_algebra.specs.Sorting.{IsGround, IsGroundOf, sort_of}
-use Rattle.term_algebra.specs.Equation.{Variable}
-use Rattle.term_algebra.specs.Substitution.{Substitution, binding, is_listed, without}
-use Rattle.term_algebra.proofs.SortLemmas.{sort_of_sorted}
+use Rattle.lotos_base.specs.Signature.{Signature}
+use Rattle.lotos_base.specs.Term.{Term, variable}
+use Rattle.lotos_base.specs.Sorting.{IsGround, IsGroundOf, sort_of}
+use Rattle.lotos_base.specs.Equation.{Variable}
+use Rattle.lotos_base.specs.Substitution.{Substitution, binding, is_listed, without}
+use Rattle.lotos_base.proofs.SortLemmas.{sort_of_sorted}
 use Rattle.behaviour_semantics.specs.Behaviour.{Behaviour, Specification, numbers_of, sorts_of}
 use Rattle.behaviour_semantics.specs.ClosingLaws.{AreGroundPairs}
 use Rattle.behaviour_semantics.specs.Replacement.{binding_of, with_values}

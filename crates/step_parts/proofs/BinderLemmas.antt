@@ -3,11 +3,11 @@ use Rattle.std.proofs.Common.{◌≡◌, ℕ, zero, suc, List, [], ◌∷◌, �
 use Rattle.std.specs.Prelude.{zip}
 use Rattle.std.proofs.lemmas.Option.{same_Some, none-some}
 use Rattle.std.proofs.lemmas.List.{append-nil}
-use Rattle.term_algebra.specs.Signature.{Signature, Operation}
-use Rattle.term_algebra.specs.Term.{Term}
-use Rattle.term_algebra.specs.Sorting.{HasSort, IsGround}
-use Rattle.term_algebra.specs.Equation.{Variable}
-use Rattle.term_algebra.specs.Substitution.{is_listed}
+use Rattle.lotos_base.specs.Signature.{Signature, Operation}
+use Rattle.lotos_base.specs.Term.{Term}
+use Rattle.lotos_base.specs.Sorting.{HasSort, IsGround}
+use Rattle.lotos_base.specs.Equation.{Variable}
+use Rattle.lotos_base.specs.Substitution.{is_listed}
 use Rattle.behaviour_semantics.specs.Behaviour.{Behaviour, Process, numbers_of, sorts_of}
 use Rattle.behaviour_semantics.specs.Rule.{AreValues}
 use Rattle.behaviour_semantics.specs.WellFormed.{AreDistinct, IsBehaviour, sort_in}

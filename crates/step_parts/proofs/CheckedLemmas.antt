@@ -3,7 +3,7 @@ use Rattle.std.proofs.Common.{◌≡◌, ℕ, Option, Some, Result, Ok, Err, sym
 use Rattle.std.specs.Prelude.{IfOk}
 use Rattle.std.specs.Result.{IsErrAnd}
 use Rattle.behaviour_semantics.specs.Fault.{Wrong}
-use Rattle.step_parts.specs.StepFaults.{IsChecked, IsWrongTold, TellsWrong, UnlessMemory}
+use Rattle.step_parts.specs.StepFaults.{IsStepChecked, IsWrongTold, TellsWrong, UnlessMemory}
 use Rattle.step_parts.specs.declared.faults.StepFault.{StepFault}
 use Rattle.step_parts.specs.declared.faults.StepFault.TheVariants as step_fault
 
@@ -47,6 +47,6 @@ if_ok (Err e) p = tt
 
 -- what leaves by `?`
 pub checked_err : {T : Type 0} (number : ℕ) (wrong : Option Wrong) (result : Result T StepFault) (fault : StepFault)
-    → IsErrAnd result (λ e. e ≡ fault) → UnlessMemory (IsWrongTold number wrong) fault → IsChecked number wrong result
+    → IsErrAnd result (λ e. e ≡ fault) → UnlessMemory (IsWrongTold number wrong) fault → IsStepChecked number wrong result
 checked_err number wrong (Ok x) fault is told = absurd is
 checked_err number wrong (Err e) fault is told = subst (λ (f : StepFault). UnlessMemory (IsWrongTold number wrong) f) (sym is) told

@@ -1,11 +1,11 @@
 -- Variables for which a substitution puts themselves stay free in a behaviour.
 use Rattle.std.proofs.Common.{◌≡◌, ◌⊎◌, inl, inr, ℕ, List, [], ◌∷◌, map, Bool, false, if◌then◌else◌, Option, None, Some, refl, ap, sym, ◌∙◌, subst}
 use Rattle.std.specs.Prelude.{option_map}
-use Rattle.term_algebra.specs.Term.{Term, variable}
-use Rattle.term_algebra.specs.Sorting.{Occurs}
-use Rattle.term_algebra.specs.Equation.{Variable}
-use Rattle.term_algebra.specs.Substitution.{Substitution, substituted, is_listed, without}
-use Rattle.term_algebra.proofs.SubstitutionLemmas.{occurs_substituted}
+use Rattle.lotos_base.specs.Term.{Term, variable}
+use Rattle.lotos_base.specs.Sorting.{Occurs}
+use Rattle.lotos_base.specs.Equation.{Variable}
+use Rattle.lotos_base.specs.Substitution.{Substitution, substituted, is_listed, without}
+use Rattle.lotos_base.proofs.SubstitutionLemmas.{occurs_substituted}
 use Rattle.behaviour_semantics.specs.Behaviour.{Behaviour, stop, exit_with, action, inner_action, guard, choice, parallel, hide, enable, disable, let_be, choose_value, choose_gate, par_gate, call, relabel, Test, Offer, give, ask, ExitValue, exit_value, any_of, asked_variables, numbers_of, let_variables, let_terms}
 use Rattle.behaviour_semantics.specs.Replacement.{exit_value_with, offer_with, test_with, with_values}
 use Rattle.behaviour_semantics.proofs.ReplacementLemmas.{asked-with, let_variables-with}

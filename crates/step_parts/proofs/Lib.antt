@@ -9,3 +9,4 @@ pub mod TestLemmas
 pub mod OfferLemmas
 pub mod PairLemmas
 pub mod PlacedLemmas
+pub mod HandedOn

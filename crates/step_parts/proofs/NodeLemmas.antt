@@ -6,11 +6,11 @@ use Rattle.std.proofs.Math.Path.{fun_ext}
 use Rattle.std.proofs.Math.Seq.{drop-cons}
 use Rattle.std.proofs.lemmas.List.{append-nil}
 use Rattle.std.proofs.lemmas.Option.{none-some, same_Some}
-use Rattle.term_algebra.specs.Signature.{Signature}
-use Rattle.term_algebra.specs.Term.{variable}
-use Rattle.term_algebra.specs.Sorting.{IsGround}
-use Rattle.term_algebra.specs.Equation.{Variable}
-use Rattle.term_algebra.specs.Substitution.{Substitution, binding, is_listed}
+use Rattle.lotos_base.specs.Signature.{Signature}
+use Rattle.lotos_base.specs.Term.{variable}
+use Rattle.lotos_base.specs.Sorting.{IsGround}
+use Rattle.lotos_base.specs.Equation.{Variable}
+use Rattle.lotos_base.specs.Substitution.{Substitution, binding, is_listed}
 use Rattle.behaviour_semantics.specs.Behaviour.{Behaviour, Relabelling, Specification, SynchronisationSet, call, parallel, relabel}
 use Rattle.behaviour_semantics.specs.Label.{formals_of, under}
 use Rattle.behaviour_semantics.specs.Replacement.{with_values}

@@ -2,9 +2,9 @@
 use Rattle.std.proofs.Common.{◌≡◌, ◌<◌, ◌+◌, ◌++◌, ℕ, suc, List, [], ◌∷◌, map, length, drop, get_or, add-one, refl, ap, sym, ◌∙◌, subst, arith}
 use Rattle.std.specs.Prelude.{zip}
 use Rattle.std.proofs.Math.Seq.{drop-cons}
-use Rattle.term_algebra.specs.Signature.{Signature}
-use Rattle.term_algebra.specs.Substitution.{Substitution}
-use Rattle.term_algebra.specs.Term.{Term}
+use Rattle.lotos_base.specs.Signature.{Signature}
+use Rattle.lotos_base.specs.Substitution.{Substitution}
+use Rattle.lotos_base.specs.Term.{Term}
 use Rattle.behaviour_semantics.specs.Behaviour.{asked_variables, let_terms, let_variables, numbers_of, open_sorts, sorts_of}
 use Rattle.behaviour_semantics.specs.Move.{taken}
 use Rattle.behaviour_semantics.specs.Rule.{offered, results_of}

@@ -1,6 +1,6 @@
 -- Terms with the values of an environment put in are of the signature.
 use Rattle.std.proofs.Common.{ℕ, List, [], ◌∷◌, map, Bool, true, false, nat_eq, if◌then◌else◌}
-use Rattle.term_algebra.specs.Signature.{Signature, IsSort}
+use Rattle.lotos_base.specs.Signature.{Signature, IsSort}
 use Rattle.sort_terms.specs.ProfiledTerm.{ProfiledTerm, IsOf}
 use Rattle.sort_terms.specs.SortedView.{profiled_in}
 use Rattle.sort_terms.specs.declared.sorted.Sorted.{Sorted}

@@ -1,8 +1,8 @@
 -- Tests that hold and tests that fail.
 use Rattle.std.proofs.Common.{◌≡◌, List, [], ◌∷◌, None, Some, Bool, true, false, if◌then◌else◌, ap}
-use Rattle.term_algebra.specs.Term.{Term}
-use Rattle.term_algebra.specs.Tests.{term_eq}
-use Rattle.term_algebra.proofs.TestLemmas.{Decides-term_eq}
+use Rattle.lotos_base.specs.Term.{Term}
+use Rattle.lotos_base.specs.Tests.{term_eq}
+use Rattle.lotos_base.proofs.TestLemmas.{Decides-term_eq}
 use Rattle.behaviour_semantics.specs.Behaviour.{Test}
 use Rattle.behaviour_semantics.specs.Fault.{Wrong, first_unmet, unmet}
 use Rattle.step_parts.proofs.LeafLemmas.{not_true}

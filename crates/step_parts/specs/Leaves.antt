@@ -1,7 +1,7 @@
 -- What is wrong with one leaf of a node.
 use Rattle.std.specs.Prelude.{ℕ, Option, None, Some, if◌then◌else◌}
-use Rattle.term_algebra.specs.Signature.{Signature}
-use Rattle.term_algebra.specs.Term.{Term}
+use Rattle.lotos_base.specs.Signature.{Signature}
+use Rattle.lotos_base.specs.Term.{Term}
 use Rattle.behaviour_semantics.specs.Fault.{Wrong, bad_value}
 use Rattle.behaviour_semantics.specs.SortTest.{is_value}
 

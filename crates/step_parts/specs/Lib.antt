@@ -2,3 +2,4 @@ pub mod StepFaults
 pub mod TargetNodes
 pub mod Leaves
 pub mod Beside
+pub mod HandedOn

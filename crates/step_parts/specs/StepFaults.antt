@@ -38,6 +38,6 @@ pub record IsWrongTold (number : ℕ) (wrong : Option Wrong) (fault : StepFault)
   pub told : TellsWrong number what fault
 
 -- Nothing is wrong, or the refusal tells what is.
-abbrev pub IsChecked : {T : Type 0} → ℕ → Option Wrong → Result T StepFault → Type 0
-IsChecked number wrong (Ok x) = wrong ≡ None
-IsChecked number wrong (Err fault) = UnlessMemory (IsWrongTold number wrong) fault
+abbrev pub IsStepChecked : {T : Type 0} → ℕ → Option Wrong → Result T StepFault → Type 0
+IsStepChecked number wrong (Ok x) = wrong ≡ None
+IsStepChecked number wrong (Err fault) = UnlessMemory (IsWrongTold number wrong) fault

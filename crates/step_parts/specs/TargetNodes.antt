@@ -1,10 +1,10 @@
 -- Nodes whose relabellings may still be of any form: each environment closes its behaviour. With a closed well-formed
 -- behaviour, whose relabellings have distinct formal gates, such a node is a state.
 use Rattle.std.specs.Prelude.{◌++◌, ℕ, List, [], ◌∷◌, Bool, length, not, if◌then◌else◌}
-use Rattle.term_algebra.specs.Signature.{Signature}
-use Rattle.term_algebra.specs.Sorting.{IsGround}
-use Rattle.term_algebra.specs.Equation.{Variable}
-use Rattle.term_algebra.specs.Substitution.{binding, is_listed, without}
+use Rattle.lotos_base.specs.Signature.{Signature}
+use Rattle.lotos_base.specs.Sorting.{IsGround}
+use Rattle.lotos_base.specs.Equation.{Variable}
+use Rattle.lotos_base.specs.Substitution.{binding, is_listed, without}
 use Rattle.behaviour_semantics.specs.Behaviour.{Behaviour, Relabelling, Specification, numbers_of, sorts_of}
 use Rattle.behaviour_semantics.specs.Label.{formals_of, gate_under}
 use Rattle.behaviour_semantics.specs.Replacement.{with_values}

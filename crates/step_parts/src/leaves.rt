@@ -24,8 +24,8 @@ ghost use Rattle.std.specs.Prelude.{
   nat_lt,
 };
 ghost use Rattle.step_parts.specs.Leaves.{leaf_wrong};
-ghost use Rattle.step_parts.specs.StepFaults.{IsChecked, kept_number};
-ghost use Rattle.term_algebra.specs.Signature.{Signature};
+ghost use Rattle.step_parts.specs.StepFaults.{IsStepChecked, kept_number};
+ghost use Rattle.lotos_base.specs.Signature.{Signature};
 
 use crate::faults::{At, StepFault, kept, misfit};
 use behaviour_tree::{ExitValue, Offer};
@@ -38,7 +38,7 @@ use std::alloc::Global;
 pub fn checked_leaves(leaves: &[Sorted], at: At, sorts: &[u32]) -> Result<(), StepFault>
     ensures checked { (signature : Signature) (n : ℕ)
         → AreTermsOf signature (profiles_of leaves.now) → at.node ≡ kept_number n
-        → IsChecked n (wrong_leaves signature (terms_of leaves.now) at.leaf sorts.now) result }
+        → IsStepChecked n (wrong_leaves signature (terms_of leaves.now) at.leaf sorts.now) result }
     ensures enough { IfOk result (λ _. at.leaf + length sorts.now ≤ length leaves.now) }
 {
     if are_too_few(leaves.len(), at.leaf, sorts.len()) {
@@ -62,7 +62,7 @@ fn are_too_few(many: usize, first: usize, wanted: usize) -> bool
 fn checked_from(leaves: &[Sorted], first: usize, sorts: &[u32]) -> Result<(), StepFault>
     requires { first + length sorts.now ≤ length leaves.now }
     ensures { (signature : Signature) (n : ℕ) → AreTermsOf signature (profiles_of leaves.now)
-        → IsChecked n (first_bad signature (leaves_in (terms_of leaves.now)) first sorts.now)
+        → IsStepChecked n (first_bad signature (leaves_in (terms_of leaves.now)) first sorts.now)
         result }
 {
     for i in 0..sorts.len() {
@@ -74,7 +74,7 @@ fn checked_from(leaves: &[Sorted], first: usize, sorts: &[u32]) -> Result<(), St
 // Answers nothing where the leaf is a value of the sort.
 fn checked_leaf(leaf: &Sorted, sort: u32, number: usize) -> Result<(), StepFault>
     ensures { (signature : Signature) (n : ℕ) → IsOf signature (profiled_in leaf.now)
-        → IsChecked n (leaf_wrong signature sort (term_in leaf.now) number) result }
+        → IsStepChecked n (leaf_wrong signature sort (term_in leaf.now) number) result }
 {
     if !leaf.ground() {
         return Err(StepFault::BadValue { leaf: kept(number) });

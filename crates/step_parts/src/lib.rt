@@ -11,4 +11,6 @@ pub mod node_tests;
 pub mod offers;
 pub mod targets;
 
+pub use draft_parts::rules::{hide_label, may_move_alone, relabel};
+pub use event_offers::labels::values;
 pub use faults::StepFault;

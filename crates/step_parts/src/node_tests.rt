@@ -8,11 +8,12 @@ ghost use Rattle.behaviour_tree.specs.BehaviourView.{terms_of, test_of};
 ghost use Rattle.behaviour_tree.specs.Closed.{OccursInTestOption};
 ghost use Rattle.behaviour_tree.specs.Over.{AreTermsOf};
 ghost use Rattle.behaviour_tree.specs.StateView.{environment_of, pair_profile};
+ghost use Rattle.event_offers.specs.Keeping.{KeepsData};
 ghost use Rattle.sort_terms.specs.ProfiledTerm.{IsOf};
 ghost use Rattle.sort_terms.specs.SortedView.{profiled_in, term_in};
 ghost use Rattle.std.specs.Prelude.{◌≡◌, ◌∷◌, [], ℕ, IfOk, map, option_map};
-ghost use Rattle.step_parts.specs.StepFaults.{IsChecked, kept_number};
-ghost use Rattle.term_algebra.specs.Substitution.{binding};
+ghost use Rattle.step_parts.specs.StepFaults.{IsStepChecked, kept_number};
+ghost use Rattle.lotos_base.specs.Substitution.{binding};
 ghost use Rattle.term_match.specs.SubstView.{profiled_pairs};
 
 use crate::faults::{At, StepFault};
@@ -30,12 +31,11 @@ pub fn checked_pair<D: Deciding>(
     requires left { IsOf (D.known_data data.old).signature (profiled_in left.now) }
     requires right { IsOf (D.known_data data.old).signature (profiled_in right.now) }
     ensures checked { (n : ℕ) → at.node ≡ kept_number n
-        → IsChecked n (first_unmet (D.canon data.old)
+        → IsStepChecked n (first_unmet (D.canon data.old)
         (record { left = term_in left.now; right = term_in right.now } ∷ [])) result }
     ensures equal { IfOk result (λ _. D.canon data.old (term_in left.now)
         ≡ D.canon data.old (term_in right.now)) }
-    ensures same_data { D.known_data data.new ≡ D.known_data data.old }
-    ensures same_canon { D.canon data.new ≡ D.canon data.old }
+    ensures same_known { KeepsData D.known_data D.canon data.old data.new }
 {
     let left = data.normal(left)?;
     let right = data.normal(right)?;
@@ -63,11 +63,10 @@ pub fn checked_test<D: Deciding>(
     requires suited { SuitsWhere (profiled_pairs pairs.now.items)
         (λ n s. OccursInTestOption n s (option_map test_of test.now)) }
     ensures checked { (n : ℕ) → at.node ≡ kept_number n
-        → IsChecked n (first_unmet (D.canon data.old)
+        → IsStepChecked n (first_unmet (D.canon data.old)
         (tests_of (binding (environment_of pairs.now.items)) (option_map test_of test.now)))
         result }
-    ensures same_data { D.known_data data.new ≡ D.known_data data.old }
-    ensures same_canon { D.canon data.new ≡ D.canon data.old }
+    ensures same_known { KeepsData D.known_data D.canon data.old data.new }
 {
     match test {
         None => Ok(()),
@@ -89,10 +88,9 @@ pub fn checked_pairs<D: Deciding>(
     requires left { AreTermsOf (D.known_data data.old).signature (profiles_of left.now) }
     requires right { AreTermsOf (D.known_data data.old).signature (profiles_of right.now) }
     ensures checked { (n : ℕ) → at.node ≡ kept_number n
-        → IsChecked n (first_unmet (D.canon data.old)
+        → IsStepChecked n (first_unmet (D.canon data.old)
         (pairwise (terms_of left.now) (terms_of right.now))) result }
-    ensures same_data { D.known_data data.new ≡ D.known_data data.old }
-    ensures same_canon { D.canon data.new ≡ D.canon data.old }
+    ensures same_known { KeepsData D.known_data D.canon data.old data.new }
 {
     for i in 0..left.len() {
         if i >= right.len() {

@@ -22,9 +22,10 @@ ghost use Rattle.behaviour_tree.specs.Over.{AreTermsOf};
 ghost use Rattle.behaviour_tree.specs.declared.behaviours.ExitValue.{ExitValue as ExitResult};
 ghost use Rattle.behaviour_tree.specs.declared.behaviours.Offer.{Offer as OfferValue};
 ghost use Rattle.behaviour_tree.specs.StateView.{environment_of, pair_profile};
+ghost use Rattle.event_offers.specs.Keeping.{KeepsData};
 ghost use Rattle.sort_terms.specs.ProfiledTerm.{IsOf};
 ghost use Rattle.sort_terms.specs.SortedView.{profiled_in, term_in};
-ghost use Rattle.term_algebra.specs.Term.{Term};
+ghost use Rattle.lotos_base.specs.Term.{Term};
 ghost use Rattle.std.specs.Prelude.{
   ℕ,
   ◌≡◌,
@@ -66,8 +67,7 @@ pub fn offered<D: Deciding>(
         (plain.sorts_of (plain.asked_variables (map offer_of offers.now.items))))) }
     ensures over { IfOk result (λ made. AreTermsOf (D.known_data data.old).signature
         (profiles_of made.items)) }
-    ensures same_data { D.known_data data.new ≡ D.known_data data.old }
-    ensures same_canon { D.canon data.new ≡ D.canon data.old }
+    ensures same_known { KeepsData D.known_data D.canon data.old data.new }
 {
     let mut values = Vec::with_capacity(alloc, offers.len())?;
     let mut next = first;
@@ -103,8 +103,7 @@ fn push_offered<D: Deciding>(
     ensures over { IfOk result
         (λ _. AreTermsOf (D.known_data data.old).signature (profiles_of values.old.items)
         → AreTermsOf (D.known_data data.old).signature (profiles_of values.new.items)) }
-    ensures same_data { D.known_data data.new ≡ D.known_data data.old }
-    ensures same_canon { D.canon data.new ≡ D.canon data.old }
+    ensures same_known { KeepsData D.known_data D.canon data.old data.new }
 {
     match offer {
         Offer::Give(term) => {
@@ -130,8 +129,7 @@ fn push_canon<D: Deciding>(
     ensures over { IfOk result
         (λ _. AreTermsOf (D.known_data data.old).signature (profiles_of values.old.items)
         → AreTermsOf (D.known_data data.old).signature (profiles_of values.new.items)) }
-    ensures same_data { D.known_data data.new ≡ D.known_data data.old }
-    ensures same_canon { D.canon data.new ≡ D.canon data.old }
+    ensures same_known { KeepsData D.known_data D.canon data.old data.new }
 {
     let value = data.normal(term)?;
     Ok(values.push(value)?)
@@ -155,8 +153,7 @@ pub fn asked_values<D: Deciding>(
         (plain.sorts_of (plain.asked_variables (map offer_of offers.now.items)))))) }
     ensures over { IfOk result (λ made. AreTermsOf (D.known_data data.old).signature
         (map pair_profile made.items)) }
-    ensures same_data { D.known_data data.new ≡ D.known_data data.old }
-    ensures same_canon { D.canon data.new ≡ D.canon data.old }
+    ensures same_known { KeepsData D.known_data D.canon data.old data.new }
 {
     let mut pairs = Vec::new(alloc);
     let mut next = first;
@@ -191,8 +188,7 @@ fn push_pair<D: Deciding>(
     ensures over { IfOk result
         (λ _. AreTermsOf (D.known_data data.old).signature (map pair_profile pairs.old.items)
         → AreTermsOf (D.known_data data.old).signature (map pair_profile pairs.new.items)) }
-    ensures same_data { D.known_data data.new ≡ D.known_data data.old }
-    ensures same_canon { D.canon data.new ≡ D.canon data.old }
+    ensures same_known { KeepsData D.known_data D.canon data.old data.new }
 {
     match offer {
         Offer::Give(_) => Ok(next),
@@ -217,8 +213,7 @@ fn push_value<D: Deciding>(
     ensures over { IfOk result
         (λ _. AreTermsOf (D.known_data data.old).signature (map pair_profile pairs.old.items)
         → AreTermsOf (D.known_data data.old).signature (map pair_profile pairs.new.items)) }
-    ensures same_data { D.known_data data.new ≡ D.known_data data.old }
-    ensures same_canon { D.canon data.new ≡ D.canon data.old }
+    ensures same_known { KeepsData D.known_data D.canon data.old data.new }
 {
     let value = data.normal(term)?;
     Ok(pairs.push((number, value))?)
@@ -243,8 +238,7 @@ pub fn results<D: Deciding>(
         (plain.open_sorts (map exit_value_of values.now.items)))) }
     ensures over { IfOk result (λ made. AreTermsOf (D.known_data data.old).signature
         (profiles_of made.items)) }
-    ensures same_data { D.known_data data.new ≡ D.known_data data.old }
-    ensures same_canon { D.canon data.new ≡ D.canon data.old }
+    ensures same_known { KeepsData D.known_data D.canon data.old data.new }
 {
     let mut made = Vec::with_capacity(alloc, values.len())?;
     let mut next = first;
@@ -278,8 +272,7 @@ fn push_result<D: Deciding>(
     ensures over { IfOk result
         (λ _. AreTermsOf (D.known_data data.old).signature (profiles_of made.old.items)
         → AreTermsOf (D.known_data data.old).signature (profiles_of made.new.items)) }
-    ensures same_data { D.known_data data.new ≡ D.known_data data.old }
-    ensures same_canon { D.canon data.new ≡ D.canon data.old }
+    ensures same_known { KeepsData D.known_data D.canon data.old data.new }
 {
     match value {
         ExitValue::Give(term) => {
@@ -306,8 +299,7 @@ pub fn let_values<D: Deciding>(
         (map (D.canon data.old) (plain.let_terms (map let_of bindings.now.items)))) }
     ensures over { IfOk result (λ made. AreTermsOf (D.known_data data.old).signature
         (map pair_profile made.items)) }
-    ensures same_data { D.known_data data.new ≡ D.known_data data.old }
-    ensures same_canon { D.canon data.new ≡ D.canon data.old }
+    ensures same_known { KeepsData D.known_data D.canon data.old data.new }
 {
     let mut pairs = Vec::with_capacity(alloc, bindings.len())?;
     for binding in bindings {
@@ -329,8 +321,7 @@ pub fn call_values<D: Deciding>(
         (map (D.canon data.old) (terms_of values.now.items))) }
     ensures over { IfOk result (λ made. AreTermsOf (D.known_data data.old).signature
         (map pair_profile made.items)) }
-    ensures same_data { D.known_data data.new ≡ D.known_data data.old }
-    ensures same_canon { D.canon data.new ≡ D.canon data.old }
+    ensures same_known { KeepsData D.known_data D.canon data.old data.new }
 {
     let mut pairs = Vec::with_capacity(alloc, values.len())?;
     for i in 0..values.len() {

@@ -33,7 +33,6 @@ ghost use Rattle.behaviour_tree.specs.StateView.{
   node_profiles,
   number_of,
   pair_profile,
-  pairs_with,
   stands_for,
 };
 ghost use Rattle.behaviour_tree.specs.declared.states.Node.{Node as Entire, Stop};
@@ -62,15 +61,16 @@ ghost use Rattle.step_parts.specs.TargetNodes.{
   stands_apart,
   unbound,
 };
-ghost use Rattle.term_algebra.specs.Signature.{Signature};
-ghost use Rattle.term_algebra.specs.Sorting.{IsGround};
-ghost use Rattle.term_algebra.specs.Substitution.{binding, is_listed, without};
+ghost use Rattle.lotos_base.specs.Signature.{Signature};
+ghost use Rattle.lotos_base.specs.Sorting.{IsGround};
+ghost use Rattle.lotos_base.specs.Substitution.{binding, is_listed, without};
 ghost use Rattle.term_match.specs.SubstView.{profiled_pairs};
 
 use crate::labels::ends;
 use behaviour_instances::instance;
 use behaviour_tree::boxes::{owner, shared};
 use behaviour_tree::copies::term_copies;
+use behaviour_tree::states::add_pair;
 use behaviour_tree::{Beh, Label, Meet, Node};
 use draft_parts::rules::gate_under;
 use lotos_base::NoMemory;
@@ -226,20 +226,6 @@ fn with_pairs(
         add_pair(&mut pairs, variable.number, rest.pop())?;
     }
     Ok(pairs)
-}
-
-// The pairs with one more, where there is a value.
-fn add_pair(
-    pairs: &mut Vec<(u64, Sorted)>,
-    number: u64,
-    value: Option<Sorted>,
-) -> Result<(), NoMemory>
-    ensures { IfOk result (λ _. pairs.new.items ≡ pairs.old.items ++ pairs_with number value) }
-{
-    match value {
-        None => Ok(()),
-        Some(value) => Ok(pairs.push((number, value))?),
-    }
 }
 
 /// The node under a relabelling: `stop` stays, a call has its actual gates relabelled, a relabelled

@@ -1,6 +1,6 @@
 -- Labels of ends, and their values.
 use Rattle.std.proofs.Common.{◌≡◌, ℕ, List, true, false, refl}
-use Rattle.term_algebra.specs.Signature.{Signature}
+use Rattle.lotos_base.specs.Signature.{Signature}
 use Rattle.behaviour_semantics.specs.Behaviour.{Specification}
 use Rattle.behaviour_semantics.specs.Fault.{ends_with}
 use Rattle.behaviour_semantics.specs.Label.{exit_event, gate_event, inner_event, Label}

@@ -2,10 +2,9 @@
 use Rattle.std.proofs.Common.{◌≡◌, ◌≤◌, ℕ, suc, ◌+◌, List, [], ◌∷◌, length, map, Option, None, refl, ap, ◌∙◌, subst, inl, inr, Bool, true, false, nat_lt, if◌then◌else◌, ltb-true, arith}
 use Rattle.std.proofs.lemmas.Option.{none-some}
 use Rattle.std.specs.Prelude.{zip}
-use Rattle.term_algebra.specs.Canon.{IsCanon}
-use Rattle.term_algebra.specs.Equation.{Data}
-use Rattle.term_algebra.specs.Signature.{Signature}
-use Rattle.term_algebra.specs.Term.{Term}
+use Rattle.lotos_base.specs.Canon.{IsCanon}
+use Rattle.lotos_base.specs.Signature.{Signature}
+use Rattle.lotos_base.specs.Term.{Term}
 use Rattle.behaviour_semantics.specs.Behaviour.{action, asked_variables, Behaviour, ExitValue, exit_with, inner_action, numbers_of, Offer, open_sorts, sorts_of, stop, Test}
 use Rattle.behaviour_semantics.specs.Derives.{leaves_in}
 use Rattle.behaviour_semantics.specs.Fault.{at_node, first_of_two, first_unmet, wrong_leaves, Wrong}
@@ -34,15 +33,10 @@ use Rattle.step_parts.proofs.BinderLemmas.{bound_closed}
 use Rattle.step_parts.proofs.CheckedLemmas.{unless_more}
 use Rattle.step_taker.specs.Stands.{stand}
 use Rattle.step_taker.specs.Taken.{Ground}
-use Rattle.step_taker.specs.Walked.{chosen_values, IsChosen, IsFirstFault, IsMoved}
+use Rattle.step_taker.specs.Walked.{chosen_values, IsChosen, IsFirstStepFault, IsMoved}
 use Rattle.step_taker.specs.declared.moved.Moved.{Moved}
 use Rattle.step_taker.proofs.BodyLemmas.{keeps_ground}
 use Rattle.step_taker.proofs.MadeLemmas.{IsOver}
-
--- what holds over the data and the canon holds over equal ones
-pub carried : (P : Data → (Term → Term) → Type 0) (d e : Data) (c f : Term → Term) → d ≡ e → c ≡ f → P d c → P e f
-carried P d e c f same_data same_canon h =
-    subst (λ (canon : Term → Term). P e canon) same_canon (subst (λ (data_ : Data). P data_ c) same_data h)
 
 -- so many leaves of equal sorts
 pub enough_of : (k n : ℕ) (sorts others : List ℕ) → sorts ≡ others → k + length sorts ≤ n → k + length others ≤ n
@@ -65,10 +59,10 @@ module _ (ground : Ground) (leaves : List Term) where
   -- ---- `exit`
   pub exit_told : (results : List ExitValue) (n k : ℕ) (fault : StepFault)
       → UnlessMemory (IsWrongTold n (wrong_leaves ground.data_.signature leaves k (open_sorts results))) fault
-      → UnlessMemory (IsFirstFault ground leaves (stand (exit_with results) quit n k)) fault
+      → UnlessMemory (IsFirstStepFault ground leaves (stand (exit_with results) quit n k)) fault
   exit_told results n k =
       unless_more (IsWrongTold n (wrong_leaves ground.data_.signature leaves k (open_sorts results)))
-      (IsFirstFault ground leaves (stand (exit_with results) quit n k))
+      (IsFirstStepFault ground leaves (stand (exit_with results) quit n k))
       (λ fault h. record { first = record { node = n; wrong = h.what }; is = ap (at_node n) h.is; told = h.told })
 
   pub exit_moved : (results : List ExitValue) (n k : ℕ) (moved : Moved)
@@ -107,18 +101,18 @@ module _ (ground : Ground) (leaves : List Term) where
     tested = first_unmet ground.canon (tests_of (chosen_values ground.canon offers leaves k) test)
 
     pub leaves_told : (fault : StepFault) → UnlessMemory (IsWrongTold n right) fault
-        → UnlessMemory (IsFirstFault ground leaves (stand (action g offers test b) act n k)) fault
+        → UnlessMemory (IsFirstStepFault ground leaves (stand (action g offers test b) act n k)) fault
     leaves_told =
-        unless_more (IsWrongTold n right) (IsFirstFault ground leaves (stand (action g offers test b) act n k)) (λ fault h. record {
+        unless_more (IsWrongTold n right) (IsFirstStepFault ground leaves (stand (action g offers test b) act n k)) (λ fault h. record {
           first = record { node = n; wrong = h.what };
           is = ap (λ (w : Option Wrong). at_node n (first_of_two w tested)) h.is;
           told = h.told;
         })
 
     pub test_told : right ≡ None → (fault : StepFault) → UnlessMemory (IsWrongTold n tested) fault
-        → UnlessMemory (IsFirstFault ground leaves (stand (action g offers test b) act n k)) fault
+        → UnlessMemory (IsFirstStepFault ground leaves (stand (action g offers test b) act n k)) fault
     test_told e =
-        unless_more (IsWrongTold n tested) (IsFirstFault ground leaves (stand (action g offers test b) act n k)) (λ fault h. record {
+        unless_more (IsWrongTold n tested) (IsFirstStepFault ground leaves (stand (action g offers test b) act n k)) (λ fault h. record {
           first = record { node = n; wrong = h.what };
           is = ap (λ (w : Option Wrong). at_node n (first_of_two w tested)) e ∙ ap (at_node n) h.is;
           told = h.told;

@@ -1,7 +1,7 @@
 -- The rows of the forms with one part.
 use Rattle.std.proofs.Common.{◌≡◌, ℕ, suc, List, [], ◌∷◌, map, zip, slice_get, Option, None, Some, option_map, option_and_then, refl, ap, ◌∙◌}
-use Rattle.term_algebra.specs.Equation.{Variable}
-use Rattle.term_algebra.specs.Term.{Term}
+use Rattle.lotos_base.specs.Equation.{Variable}
+use Rattle.lotos_base.specs.Term.{Term}
 use Rattle.behaviour_semantics.specs.Behaviour.{Behaviour, call, choice, choose_gate, choose_value, disable, enable, guard, hide, let_be, parallel, Process, relabel, Relabelling, SynchronisationSet, Test, let_terms, let_variables}
 use Rattle.behaviour_semantics.specs.Derives.{leaves_in}
 use Rattle.behaviour_semantics.specs.Fault.{at_node, first_of_two, first_unmet, not_fitting, unless_there, wrong_leaves}

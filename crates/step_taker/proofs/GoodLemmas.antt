@@ -1,7 +1,7 @@
 -- What a move in a closed behaviour is: its label is closed, its target is closed and well formed, and its leaves are there.
 use Rattle.std.proofs.Common.{◌≡◌, ◌≤◌, ℕ, List, length, Option, None, Some, sym, subst}
-use Rattle.term_algebra.specs.Canon.{IsCanon}
-use Rattle.term_algebra.specs.Term.{Term}
+use Rattle.lotos_base.specs.Canon.{IsCanon}
+use Rattle.lotos_base.specs.Term.{Term}
 use Rattle.behaviour_semantics.specs.Behaviour.{Behaviour}
 use Rattle.behaviour_semantics.specs.Derives.{leaves_in}
 use Rattle.behaviour_semantics.specs.Fault.{Fault}

@@ -1,8 +1,8 @@
 -- The move of a node with one part, from that of the part, rule by rule.
 use Rattle.std.proofs.Common.{◌≡◌, ℕ, ◌+◌, List, length, not, Bool, true, false, if◌then◌else◌, None, Some, refl, ap, sym, ◌∙◌, subst}
-use Rattle.term_algebra.specs.Equation.{Variable}
-use Rattle.term_algebra.specs.Signature.{Signature}
-use Rattle.term_algebra.specs.Term.{Term}
+use Rattle.lotos_base.specs.Equation.{Variable}
+use Rattle.lotos_base.specs.Signature.{Signature}
+use Rattle.lotos_base.specs.Term.{Term}
 use Rattle.behaviour_semantics.specs.Behaviour.{Behaviour, enable, hide, Relabelling, SynchronisationSet, sorts_of}
 use Rattle.behaviour_semantics.specs.Fault.{ends_with, unless}
 use Rattle.behaviour_semantics.specs.Label as plain
@@ -14,7 +14,7 @@ use Rattle.behaviour_tree.specs.MoveView.{label_of}
 use Rattle.behaviour_tree.specs.Over.{AreTermsOf}
 use Rattle.behaviour_tree.specs.StateView.{node_profiles, stands_for}
 use Rattle.behaviour_tree.specs.declared.moves.Label.{Label}
-use Rattle.event_offers.specs.OfferView.{label_profiles}
+use Rattle.step_parts.specs.HandedOn.{label_profiles}
 use Rattle.step_parts.specs.TargetNodes.{HasClosedParts}
 use Rattle.step_taker.specs.Rows.{alone_row, disabling_row, enabling_row, hiding_row, passing_row, relabelling_row}
 use Rattle.step_taker.specs.Stands.{HasRow, Row, Stand}

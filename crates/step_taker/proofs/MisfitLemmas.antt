@@ -1,9 +1,9 @@
 -- Shapes that do not fit, and gates `par`, which have the faults and the moves of their copies.
 use Rattle.std.proofs.Common.{◌≡◌, ℕ, suc, ◌+◌, List, Option, Some, refl, ap}
-use Rattle.term_algebra.specs.Term.{Term}
+use Rattle.lotos_base.specs.Term.{Term}
 use Rattle.behaviour_semantics.specs.Behaviour.{Behaviour, par_gate, parallel, SynchronisationSet}
 use Rattle.behaviour_semantics.specs.Derives.{leaves_in}
-use Rattle.behaviour_semantics.specs.Fault.{act_wrong, at_node, both_part, both_parts, Fault, fault_from, inner_wrong, label_wrong, Node, node_of, not_fitting, one_part, own_wrong, part_of, quit_wrong, Sides, size, unless_there, Wrong}
+use Rattle.behaviour_semantics.specs.Fault.{act_wrong, at_node, both_part, both_parts, Fault, fault_from, inner_wrong, label_wrong, Node, node_of, not_fitting, one_part, own_wrong, part_of, quit_wrong, SidesFault, size, unless_there, Wrong}
 use Rattle.behaviour_semantics.specs.Move.{Move, move_of, opened, Setting}
 use Rattle.behaviour_semantics.specs.Rule.{copies}
 use Rattle.behaviour_semantics.specs.Shape.{act, at_gate, both_sides, called, enabled, guarded, hidden, inner_step, left_side, let_bound, passed, quit, relabelled, right_side, Shape, with_value}
@@ -16,7 +16,7 @@ own_first node faults moves e =
     ap (λ (own : Option Wrong). one_part (record { number = node.number; own = own; part = node.part; label = node.label }) faults
     moves) e
 
-not_both : (setting : Setting) (n k : ℕ) (sides : Sides) (b : Behaviour) → unless_there (both_part b) ≡ Some not_fitting
+not_both : (setting : Setting) (n k : ℕ) (sides : SidesFault) (b : Behaviour) → unless_there (both_part b) ≡ Some not_fitting
     → both_parts setting n k sides b ≡ Some (record { node = n; wrong = not_fitting })
 not_both setting n k sides (parallel meet b c) e = absurd (cc e)
 not_both setting n k sides _ e = refl

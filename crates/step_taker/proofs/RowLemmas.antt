@@ -1,7 +1,7 @@
 -- What a node with one part comes to: what is wrong with it by itself, the first fault of its part, what is wrong with the
 -- label of its part, or its move.
 use Rattle.std.proofs.Common.{◌≡◌, List, Option, None, Some, option_map, option_and_then, refl, ap, ◌∙◌}
-use Rattle.term_algebra.specs.Term.{Term}
+use Rattle.lotos_base.specs.Term.{Term}
 use Rattle.behaviour_semantics.specs.Fault.{at_node, Fault, first_of_two, Wrong}
 use Rattle.behaviour_semantics.specs.Move.{Move, Setting}
 use Rattle.step_taker.specs.Stands.{fault_at, HasRow, move_at, Row, Stand}

@@ -1,6 +1,6 @@
 -- Both sides of a parallel: their first fault, what is wrong with their labels, or their move.
 use Rattle.std.proofs.Common.{◌≡◌, ℕ, suc, ◌+◌, List, ◌++◌, length, Bool, true, false, if◌then◌else◌, Option, None, Some, option_and_then, refl, ap, ◌∙◌}
-use Rattle.term_algebra.specs.Term.{Term}
+use Rattle.lotos_base.specs.Term.{Term}
 use Rattle.behaviour_semantics.specs.Behaviour.{Behaviour, parallel, SynchronisationSet}
 use Rattle.behaviour_semantics.specs.Fault.{at_node, Fault, first_of_two, first_unmet, match_wrong, not_fitting, size, Wrong}
 use Rattle.behaviour_semantics.specs.Move.{Move, Setting, together}

@@ -1,8 +1,8 @@
 -- Terms of two lists, and what stands in a behaviour or a side of two parts.
 use Rattle.std.proofs.Common.{◌≡◌, ℕ, List, ◌++◌, Bool, true, if◌then◌else◌, Some, ap, sym, ◌∙◌, subst, append_assoc}
-use Rattle.term_algebra.specs.Equation.{Variable}
-use Rattle.term_algebra.specs.Substitution.{binding, without}
-use Rattle.term_algebra.specs.Term.{Term}
+use Rattle.lotos_base.specs.Equation.{Variable}
+use Rattle.lotos_base.specs.Substitution.{binding, without}
+use Rattle.lotos_base.specs.Term.{Term}
 use Rattle.behaviour_semantics.specs.Behaviour.{Behaviour, enable, numbers_of, SynchronisationSet}
 use Rattle.behaviour_semantics.specs.Fault.{first_unmet, match_wrong, not_fitting}
 use Rattle.behaviour_semantics.specs.Label.{Label}

@@ -2,10 +2,10 @@
 use Rattle.std.proofs.Common.{◌≡◌, ◌≤◌, ◌+◌, ℕ, zero, suc, List, [], ◌∷◌, map, length, slice_get, nat_lt, Bool, true, false, if◌then◌else◌, Option, None, Some, inr, refl, ap, sym, ◌∙◌, subst, ltb-true, arith}
 use Rattle.std.proofs.Math.Path.{fun_ext}
 use Rattle.std.proofs.lemmas.Option.{none-some}
-use Rattle.term_algebra.specs.Equation.{Variable}
-use Rattle.term_algebra.specs.Signature.{Signature}
-use Rattle.term_algebra.specs.Substitution.{binding, is_listed, Substitution, without}
-use Rattle.term_algebra.specs.Term.{variable}
+use Rattle.lotos_base.specs.Equation.{Variable}
+use Rattle.lotos_base.specs.Signature.{Signature}
+use Rattle.lotos_base.specs.Substitution.{binding, is_listed, Substitution, without}
+use Rattle.lotos_base.specs.Term.{variable}
 use Rattle.behaviour_semantics.specs.Behaviour.{Behaviour, enable, numbers_of, Specification}
 use Rattle.behaviour_semantics.specs.Replacement.{with_values}
 use Rattle.behaviour_semantics.specs.Shape.{Shape}

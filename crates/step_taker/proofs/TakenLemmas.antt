@@ -1,9 +1,9 @@
 -- From the walk through the whole state to the answer of a step.
 use Rattle.std.proofs.Common.{◌≡◌, ◌≤◌, ◌+◌, ℕ, suc, List, [], ◌∷◌, length, Bool, true, false, nat_lt, if◌then◌else◌, Option, None, Some, refl, ap, sym, ◌∙◌, subst, arith, ltb-false}
-use Rattle.term_algebra.specs.Canon.{IsCanon}
-use Rattle.term_algebra.specs.Signature.{Signature}
-use Rattle.term_algebra.specs.Substitution.{Substitution}
-use Rattle.term_algebra.specs.Term.{Term}
+use Rattle.lotos_base.specs.Canon.{IsCanon}
+use Rattle.lotos_base.specs.Signature.{Signature}
+use Rattle.lotos_base.specs.Substitution.{Substitution}
+use Rattle.lotos_base.specs.Term.{Term}
 use Rattle.behaviour_semantics.specs.Behaviour.{Behaviour}
 use Rattle.behaviour_semantics.specs.Derives.{leaves_in}
 use Rattle.behaviour_semantics.specs.Fault.{at_node, Fault, first_of_two, left_over, not_fitting, size, Wrong}
@@ -27,7 +27,7 @@ use Rattle.step_parts.proofs.CheckedLemmas.{unless_more}
 use Rattle.step_parts.proofs.TargetLemmas.{closed_state}
 use Rattle.step_taker.specs.Stands.{move_at, stand, Stand}
 use Rattle.step_taker.specs.Taken.{Ground, IsStepFault, IsTaken, setting_on}
-use Rattle.step_taker.specs.Walked.{IsClosedOn, IsFirstFault, IsMoved}
+use Rattle.step_taker.specs.Walked.{IsClosedOn, IsFirstStepFault, IsMoved}
 use Rattle.step_taker.specs.declared.moved.Moved.{Moved}
 use Rattle.step_taker.proofs.GoodLemmas.{moved_sound, target_closed}
 
@@ -72,10 +72,10 @@ module _ (ground : Ground) (state : State) (derivation : Derivation) where
   abbrev first : Option Fault → Option Move → Option Fault
   first faults moves = first_of_two faults (left_over (derivation_of derivation) moves)
 
-  pub root_told : (fault : StepFault) → UnlessMemory (IsFirstFault ground leaves root) fault
+  pub root_told : (fault : StepFault) → UnlessMemory (IsFirstStepFault ground leaves root) fault
       → UnlessMemory (IsStepFault ground state derivation) fault
   root_told =
-      unless_more (IsFirstFault ground leaves root) (IsStepFault ground state derivation) (λ fault h. record {
+      unless_more (IsFirstStepFault ground leaves root) (IsStepFault ground state derivation) (λ fault h. record {
         first = h.first;
         is = ap (λ (faults : Option Fault). first faults (move_at (setting_on ground) leaves root)) h.is;
         told = h.told;

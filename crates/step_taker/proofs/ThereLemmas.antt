@@ -1,6 +1,6 @@
 -- Places of a walk: what stands there, and what stands below.
 use Rattle.std.proofs.Common.{◌≡◌, ℕ, suc, List, Some, IsErrAnd, Result, Ok, Err, refl, sym, ◌∙◌, subst}
-use Rattle.term_algebra.specs.Term.{Term}
+use Rattle.lotos_base.specs.Term.{Term}
 use Rattle.behaviour_semantics.specs.Behaviour.{Behaviour, par_gate, SynchronisationSet}
 use Rattle.behaviour_semantics.specs.Fault.{not_fitting, own_wrong, size}
 use Rattle.behaviour_semantics.specs.Move.{opened}
@@ -13,7 +13,7 @@ use Rattle.step_parts.specs.declared.faults.StepFault.TheVariants as step_fault
 use Rattle.step_parts.proofs.CheckedLemmas.{no_memory, unless_more}
 use Rattle.step_taker.specs.Stands.{fault_at, stand, Stand}
 use Rattle.step_taker.specs.Taken.{Ground, setting_on}
-use Rattle.step_taker.specs.Walked.{IsBelow, IsFirstFault, IsMoved, IsThere, IsWalked}
+use Rattle.step_taker.specs.Walked.{IsBelow, IsFirstStepFault, IsMoved, IsThere, IsWalked}
 use Rattle.step_taker.specs.declared.moved.Moved.{Moved}
 use Rattle.step_taker.proofs.MisfitLemmas.{faults_of_copies, misfits, moves_of_copies}
 use Rattle.step_taker.proofs.WalkLemmas.{same_place, told_fault}
@@ -52,14 +52,14 @@ module _ (ground : Ground) (leaves : List Term) (place : Stand) (b : Behaviour) 
   there_walked result h =
       subst (λ (p : Stand). IsWalked ground leaves p result) (same_place place b s at.leaf there.behaviour there.same_shape there.leaf) h
 
-  pub there_refused : (fault : StepFault) → UnlessMemory (IsFirstFault ground leaves (stand b s place.number at.leaf)) fault
-      → UnlessMemory (IsFirstFault ground leaves place) fault
+  pub there_refused : (fault : StepFault) → UnlessMemory (IsFirstStepFault ground leaves (stand b s place.number at.leaf)) fault
+      → UnlessMemory (IsFirstStepFault ground leaves place) fault
   there_refused fault h =
-      subst (λ (p : Stand). UnlessMemory (IsFirstFault ground leaves p) fault) (same_place place b s at.leaf there.behaviour
+      subst (λ (p : Stand). UnlessMemory (IsFirstStepFault ground leaves p) fault) (same_place place b s at.leaf there.behaviour
       there.same_shape there.leaf) h
 
   pub misfit_there : (fault : StepFault) → own_wrong (setting_on ground) leaves s at.leaf (opened b) ≡ Some not_fitting
-      → ((n : ℕ) → at.node ≡ kept_number n → TellsWrong n not_fitting fault) → UnlessMemory (IsFirstFault ground leaves place) fault
+      → ((n : ℕ) → at.node ≡ kept_number n → TellsWrong n not_fitting fault) → UnlessMemory (IsFirstStepFault ground leaves place) fault
   misfit_there fault e told =
       there_refused fault (told_fault ground leaves (stand b s place.number at.leaf) not_fitting fault
       (misfits (setting_on ground) leaves s place.number at.leaf b e) (told place.number there.node))
@@ -67,7 +67,7 @@ module _ (ground : Ground) (leaves : List Term) (place : Stand) (b : Behaviour) 
   -- a part that is not there
   pub absent_there : (fault : StepFault)
       → fault_at (setting_on ground) leaves (stand b s place.number at.leaf) ≡ Some (record { node = place.number; wrong = not_fitting })
-      → ((n : ℕ) → at.node ≡ kept_number n → TellsWrong n not_fitting fault) → UnlessMemory (IsFirstFault ground leaves place) fault
+      → ((n : ℕ) → at.node ≡ kept_number n → TellsWrong n not_fitting fault) → UnlessMemory (IsFirstStepFault ground leaves place) fault
   absent_there fault e told =
       there_refused fault (told_fault ground leaves (stand b s place.number at.leaf) not_fitting fault e (told place.number there.node))
 
@@ -75,13 +75,13 @@ module _ (ground : Ground) (leaves : List Term) (place : Stand) (b : Behaviour) 
 pub memory_walked : (ground : Ground) (leaves : List Term) (place : Stand) (result : Result Moved StepFault)
     → IsErrAnd result (λ e. e ≡ step_fault.NoMemory) → IsWalked ground leaves place result
 memory_walked ground leaves place (Ok moved) is = absurd is
-memory_walked ground leaves place (Err fault) is = no_memory (IsFirstFault ground leaves place) fault is
+memory_walked ground leaves place (Err fault) is = no_memory (IsFirstStepFault ground leaves place) fault is
 
 pub refusal_walked : (ground : Ground) (leaves : List Term) (place : Stand) (result : Result Moved StepFault) (fault : StepFault)
-    → IsErrAnd result (λ e. e ≡ fault) → UnlessMemory (IsFirstFault ground leaves place) fault → IsWalked ground leaves place result
+    → IsErrAnd result (λ e. e ≡ fault) → UnlessMemory (IsFirstStepFault ground leaves place) fault → IsWalked ground leaves place result
 refusal_walked ground leaves place (Ok moved) fault is told = absurd is
 refusal_walked ground leaves place (Err e) fault is told =
-    subst (λ (f : StepFault). UnlessMemory (IsFirstFault ground leaves place) f) (sym is) told
+    subst (λ (f : StepFault). UnlessMemory (IsFirstStepFault ground leaves place) f) (sym is) told
 
 -- The answer for the copies of a gate `par` is that for it.
 copies_moved : (ground : Ground) (leaves : List Term) (g : ℕ) (gates : List ℕ) (meet : SynchronisationSet) (b : Behaviour) (s :
@@ -107,7 +107,7 @@ pub copies_walked : (ground : Ground) (leaves : List Term) (g : ℕ) (gates : Li
     → IsWalked ground leaves (stand (par_gate g gates meet b) s n k) result
 copies_walked ground leaves g gates meet b s n k (Ok moved) m = copies_moved ground leaves g gates meet b s n k moved m
 copies_walked ground leaves g gates meet b s n k (Err fault) h =
-    unless_more (IsFirstFault ground leaves (stand (copies g gates meet b) s n k)) (IsFirstFault ground leaves (stand (par_gate g gates
+    unless_more (IsFirstStepFault ground leaves (stand (copies g gates meet b) s n k)) (IsFirstStepFault ground leaves (stand (par_gate g gates
     meet b) s n k))
     (λ f first. record {
       first = first.first;

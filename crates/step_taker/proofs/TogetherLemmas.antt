@@ -1,7 +1,7 @@
 -- Both sides of a parallel: from the answers for the sides to that for the whole.
 use Rattle.std.proofs.Common.{◌≡◌, ℕ, suc, ◌+◌, List, ◌++◌, length, None, ap, sym, ◌∙◌, subst, arith}
 use Rattle.std.proofs.lemmas.List.{length-append}
-use Rattle.term_algebra.specs.Term.{Term}
+use Rattle.lotos_base.specs.Term.{Term}
 use Rattle.behaviour_semantics.specs.Behaviour.{Behaviour, parallel, SynchronisationSet}
 use Rattle.behaviour_semantics.specs.Fault.{match_wrong, size}
 use Rattle.behaviour_semantics.specs.Label as plain
@@ -13,39 +13,39 @@ use Rattle.step_parts.specs.declared.faults.StepFault.{StepFault}
 use Rattle.step_parts.proofs.CheckedLemmas.{unless_more}
 use Rattle.step_taker.specs.Stands.{stand}
 use Rattle.step_taker.specs.Taken.{Ground, setting_on}
-use Rattle.step_taker.specs.Walked.{IsFirstFault, IsMoved}
+use Rattle.step_taker.specs.Walked.{IsFirstStepFault, IsMoved}
 use Rattle.step_taker.specs.declared.moved.Moved.{Moved}
 use Rattle.step_taker.proofs.MadeLemmas.{IsOver}
 use Rattle.step_taker.proofs.SidesLemmas.{joined, left_fault, match_fault, moved_together, none_matched, right_fault}
 
 module _ (ground : Ground) (leaves : List Term) (meet : SynchronisationSet) (b c : Behaviour) (s t : plain_shape.Shape) (n k : ℕ) where
-  pub left_told : (fault : StepFault) → UnlessMemory (IsFirstFault ground leaves (stand b s (suc n) k)) fault
-      → UnlessMemory (IsFirstFault ground leaves (stand (parallel meet b c) (plain_shape.both_sides s t) n k)) fault
+  pub left_told : (fault : StepFault) → UnlessMemory (IsFirstStepFault ground leaves (stand b s (suc n) k)) fault
+      → UnlessMemory (IsFirstStepFault ground leaves (stand (parallel meet b c) (plain_shape.both_sides s t) n k)) fault
   left_told =
-      unless_more (IsFirstFault ground leaves (stand b s (suc n) k))
-      (IsFirstFault ground leaves (stand (parallel meet b c) (plain_shape.both_sides s t) n k)) (λ fault h. record {
+      unless_more (IsFirstStepFault ground leaves (stand b s (suc n) k))
+      (IsFirstStepFault ground leaves (stand (parallel meet b c) (plain_shape.both_sides s t) n k)) (λ fault h. record {
         first = h.first;
         is = left_fault (setting_on ground) leaves meet b c s t n k h.first h.is;
         told = h.told;
       })
 
   module _ (first : Moved) (l : IsMoved ground leaves (stand b s (suc n) k) first) where
-    told_right : (fault : StepFault) → UnlessMemory (IsFirstFault ground leaves (stand c t (suc (n + size s)) (k + length l.move.sorts)))
+    told_right : (fault : StepFault) → UnlessMemory (IsFirstStepFault ground leaves (stand c t (suc (n + size s)) (k + length l.move.sorts)))
         fault
-        → UnlessMemory (IsFirstFault ground leaves (stand (parallel meet b c) (plain_shape.both_sides s t) n k)) fault
+        → UnlessMemory (IsFirstStepFault ground leaves (stand (parallel meet b c) (plain_shape.both_sides s t) n k)) fault
     told_right =
-        unless_more (IsFirstFault ground leaves (stand c t (suc (n + size s)) (k + length l.move.sorts)))
-        (IsFirstFault ground leaves (stand (parallel meet b c) (plain_shape.both_sides s t) n k)) (λ fault h. record {
+        unless_more (IsFirstStepFault ground leaves (stand c t (suc (n + size s)) (k + length l.move.sorts)))
+        (IsFirstStepFault ground leaves (stand (parallel meet b c) (plain_shape.both_sides s t) n k)) (λ fault h. record {
           first = h.first;
           is = right_fault (setting_on ground) leaves meet b c s t n k l.faultless l.move l.is h.first h.is;
           told = h.told;
         })
 
-    pub right_told : (fault : StepFault) → UnlessMemory (IsFirstFault ground leaves (stand c t (suc (n + size s)) first.behind.leaf))
+    pub right_told : (fault : StepFault) → UnlessMemory (IsFirstStepFault ground leaves (stand c t (suc (n + size s)) first.behind.leaf))
         fault
-        → UnlessMemory (IsFirstFault ground leaves (stand (parallel meet b c) (plain_shape.both_sides s t) n k)) fault
+        → UnlessMemory (IsFirstStepFault ground leaves (stand (parallel meet b c) (plain_shape.both_sides s t) n k)) fault
     right_told fault h =
-        told_right fault (subst (λ (next : ℕ). UnlessMemory (IsFirstFault ground leaves (stand c t (suc (n + size s)) next)) fault)
+        told_right fault (subst (λ (next : ℕ). UnlessMemory (IsFirstStepFault ground leaves (stand c t (suc (n + size s)) next)) fault)
         l.leaf_behind h)
 
     module _ (second : Moved) (r : IsMoved ground leaves (stand c t (suc (n + size s)) (k + length l.move.sorts)) second) where
@@ -57,10 +57,10 @@ module _ (ground : Ground) (leaves : List Term) (meet : SynchronisationSet) (b c
 
       matched_told : (fault : StepFault)
           → UnlessMemory (IsWrongTold n (match_wrong (setting_on ground) meet (label_of first.label) (label_of second.label))) fault
-          → UnlessMemory (IsFirstFault ground leaves (stand (parallel meet b c) (plain_shape.both_sides s t) n k)) fault
+          → UnlessMemory (IsFirstStepFault ground leaves (stand (parallel meet b c) (plain_shape.both_sides s t) n k)) fault
       matched_told =
           unless_more (IsWrongTold n (match_wrong (setting_on ground) meet (label_of first.label) (label_of second.label)))
-          (IsFirstFault ground leaves (stand (parallel meet b c) (plain_shape.both_sides s t) n k)) (λ fault h. record {
+          (IsFirstStepFault ground leaves (stand (parallel meet b c) (plain_shape.both_sides s t) n k)) (λ fault h. record {
             first = record { node = n; wrong = h.what };
             is = match_fault (setting_on ground) leaves meet b c s t n k l.faultless l.move l.is r.faultless r.move r.is h.what
                 (same_match ∙ h.is);
@@ -103,7 +103,7 @@ module _ (ground : Ground) (leaves : List Term) (meet : SynchronisationSet) (b c
     pub match_told : (second : Moved) → IsMoved ground leaves (stand c t (suc (n + size s)) first.behind.leaf) second → (fault :
         StepFault)
         → UnlessMemory (IsWrongTold n (match_wrong (setting_on ground) meet (label_of first.label) (label_of second.label))) fault
-        → UnlessMemory (IsFirstFault ground leaves (stand (parallel meet b c) (plain_shape.both_sides s t) n k)) fault
+        → UnlessMemory (IsFirstStepFault ground leaves (stand (parallel meet b c) (plain_shape.both_sides s t) n k)) fault
     match_told second r fault h = matched_told second (there second r) fault h
 
     pub both_made : (second : Moved) → IsMoved ground leaves (stand c t (suc (n + size s)) first.behind.leaf) second → (made : Moved)

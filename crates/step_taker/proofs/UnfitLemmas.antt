@@ -2,8 +2,8 @@
 use Rattle.std.proofs.Common.{◌≡◌, ℕ, List, Option, Some, refl}
 use Rattle.std.specs.Prelude.{Box}
 use Rattle.std.specs.declared.alloc.Global.{Global}
-use Rattle.term_algebra.specs.Equation.{Variable}
-use Rattle.term_algebra.specs.Term.{Term}
+use Rattle.lotos_base.specs.Equation.{Variable}
+use Rattle.lotos_base.specs.Term.{Term}
 use Rattle.behaviour_semantics.specs.Behaviour.{action, Behaviour, call, choice, choose_gate, choose_value, disable, enable, ExitValue, exit_with, guard, hide, inner_action, let_be, Offer, parallel, relabel, Relabelling, stop, SynchronisationSet, Test}
 use Rattle.behaviour_semantics.specs.Fault.{not_fitting, own_wrong}
 use Rattle.behaviour_semantics.specs.Move.{Setting}

@@ -1,6 +1,6 @@
 -- What answers for nodes with one part come to, from those for the part.
 use Rattle.std.proofs.Common.{◌≡◌, ℕ, ◌+◌, List, length, None, Some, Result, Ok, Err, refl, ap, sym, ◌∙◌, arith}
-use Rattle.term_algebra.specs.Term.{Term}
+use Rattle.lotos_base.specs.Term.{Term}
 use Rattle.behaviour_semantics.specs.Behaviour.{Behaviour}
 use Rattle.behaviour_semantics.specs.Fault.{not_fitting, size, Wrong}
 use Rattle.behaviour_semantics.specs.Label.{Label}
@@ -9,14 +9,14 @@ use Rattle.behaviour_semantics.specs.Shape as plain
 use Rattle.behaviour_tree.specs.MoveView.{label_of}
 use Rattle.behaviour_tree.specs.Over.{AreTermsOf}
 use Rattle.behaviour_tree.specs.StateView.{node_profiles, stands_for}
-use Rattle.event_offers.specs.OfferView.{label_profiles}
+use Rattle.step_parts.specs.HandedOn.{label_profiles}
 use Rattle.step_parts.specs.StepFaults.{IsWrongTold, kept_number, TellsWrong, UnlessMemory}
 use Rattle.step_parts.specs.TargetNodes.{HasClosedParts}
 use Rattle.step_parts.specs.declared.faults.StepFault.{StepFault}
 use Rattle.step_parts.proofs.CheckedLemmas.{unless_more, unless_told}
 use Rattle.step_taker.specs.Stands.{fault_at, HasRow, Row, stand, Stand}
 use Rattle.step_taker.specs.Taken.{Ground, setting_on}
-use Rattle.step_taker.specs.Walked.{IsBelow, IsFirstFault, IsMoved, IsWalked}
+use Rattle.step_taker.specs.Walked.{IsBelow, IsFirstStepFault, IsMoved, IsWalked}
 use Rattle.step_taker.specs.declared.moved.Moved.{Moved}
 use Rattle.step_taker.proofs.RowLemmas.{label_fault, moved_after, no_fault, own_fault, part_fault}
 
@@ -30,9 +30,9 @@ same_place place b s k e f h =
 -- a refusal that tells the fault of a node
 pub told_fault : (ground : Ground) (leaves : List Term) (place : Stand) (w : Wrong) (fault : StepFault)
     → fault_at (setting_on ground) leaves place ≡ Some (record { node = place.number; wrong = w }) → TellsWrong place.number w fault
-    → UnlessMemory (IsFirstFault ground leaves place) fault
+    → UnlessMemory (IsFirstStepFault ground leaves place) fault
 told_fault ground leaves place w fault is told =
-    unless_told (IsFirstFault ground leaves place) fault (record {
+    unless_told (IsFirstStepFault ground leaves place) fault (record {
       first = record { node = place.number; wrong = w };
       is = is;
       told = told;
@@ -56,18 +56,18 @@ nodes_below whole part below = omega (arith, below.number, below.sizes)
 module _ (ground : Ground) (leaves : List Term) (whole part : Stand) (row : Row) (has : HasRow (setting_on ground) leaves whole part row)
   where
     pub walked_own : (fault : StepFault) → UnlessMemory (IsWrongTold whole.number row.own) fault
-        → UnlessMemory (IsFirstFault ground leaves whole) fault
+        → UnlessMemory (IsFirstStepFault ground leaves whole) fault
     walked_own =
-        unless_more (IsWrongTold whole.number row.own) (IsFirstFault ground leaves whole) (λ fault h. record {
+        unless_more (IsWrongTold whole.number row.own) (IsFirstStepFault ground leaves whole) (λ fault h. record {
           first = record { node = whole.number; wrong = h.what };
           is = own_fault (setting_on ground) leaves whole part row has h.what h.is;
           told = h.told;
         })
 
-    pub walked_part : row.own ≡ None → (fault : StepFault) → UnlessMemory (IsFirstFault ground leaves part) fault
-        → UnlessMemory (IsFirstFault ground leaves whole) fault
+    pub walked_part : row.own ≡ None → (fault : StepFault) → UnlessMemory (IsFirstStepFault ground leaves part) fault
+        → UnlessMemory (IsFirstStepFault ground leaves whole) fault
     walked_part e =
-        unless_more (IsFirstFault ground leaves part) (IsFirstFault ground leaves whole) (λ fault h. record {
+        unless_more (IsFirstStepFault ground leaves part) (IsFirstStepFault ground leaves whole) (λ fault h. record {
           first = h.first;
           is = part_fault (setting_on ground) leaves whole part row has e h.first h.is;
           told = h.told;
@@ -78,9 +78,9 @@ module _ (ground : Ground) (leaves : List Term) (whole part : Stand) (row : Row)
       same_label = ap row.label (sym m.label)
 
       pub walked_label : (fault : StepFault) → UnlessMemory (IsWrongTold whole.number (row.label (label_of moved.label))) fault
-          → UnlessMemory (IsFirstFault ground leaves whole) fault
+          → UnlessMemory (IsFirstStepFault ground leaves whole) fault
       walked_label =
-          unless_more (IsWrongTold whole.number (row.label (label_of moved.label))) (IsFirstFault ground leaves whole) (λ fault h.
+          unless_more (IsWrongTold whole.number (row.label (label_of moved.label))) (IsFirstStepFault ground leaves whole) (λ fault h.
           record {
             first = record { node = whole.number; wrong = h.what };
             is = label_fault (setting_on ground) leaves whole part row has e m.faultless m.move m.is h.what (same_label ∙ h.is);
@@ -90,7 +90,7 @@ module _ (ground : Ground) (leaves : List Term) (whole part : Stand) (row : Row)
       -- a label that does not suit the rule
       pub walked_misfit : (fault : StepFault) → row.label (label_of moved.label) ≡ Some not_fitting → TellsWrong whole.number not_fitting
           fault
-          → UnlessMemory (IsFirstFault ground leaves whole) fault
+          → UnlessMemory (IsFirstStepFault ground leaves whole) fault
       walked_misfit fault is told =
           told_fault ground leaves whole not_fitting fault
           (label_fault (setting_on ground) leaves whole part row has e m.faultless m.move m.is not_fitting (same_label ∙ is)) told

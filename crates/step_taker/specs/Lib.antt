@@ -3,3 +3,4 @@ pub mod Rows
 pub mod Taken
 pub mod Sides
 pub mod Walked
+pub mod HandedOn

@@ -1,7 +1,7 @@
 -- The rules of nodes with one part as rows: what is wrong at the node by itself, what is asked of the label, and the move.
 use Rattle.std.specs.Prelude.{ℕ, List, not, Option, None, Some}
-use Rattle.term_algebra.specs.Equation.{Variable}
-use Rattle.term_algebra.specs.Signature.{Signature}
+use Rattle.lotos_base.specs.Equation.{Variable}
+use Rattle.lotos_base.specs.Signature.{Signature}
 use Rattle.behaviour_semantics.specs.Behaviour.{Behaviour, Relabelling, SynchronisationSet, sorts_of}
 use Rattle.behaviour_semantics.specs.Fault.{ends_with, unless, Wrong}
 use Rattle.behaviour_semantics.specs.Label.{Label}

@@ -1,6 +1,6 @@
 -- Sides of behaviours, and the right side of `>>`, as a walk goes through them.
 use Rattle.std.specs.Prelude.{List, map, ◌++◌}
-use Rattle.term_algebra.specs.Substitution.{binding, without}
+use Rattle.lotos_base.specs.Substitution.{binding, without}
 use Rattle.behaviour_semantics.specs.Behaviour.{Behaviour, enable, numbers_of}
 use Rattle.behaviour_semantics.specs.Replacement.{with_values}
 use Rattle.sort_terms.specs.ProfiledTerm.{ProfiledTerm}

@@ -1,7 +1,7 @@
 -- Where a part of a derivation stands, its first fault and its move there, and how those of a node with one part follow
 -- from those of the part.
 use Rattle.std.specs.Prelude.{◌≡◌, ℕ, List, Option, option_and_then}
-use Rattle.term_algebra.specs.Term.{Term}
+use Rattle.lotos_base.specs.Term.{Term}
 use Rattle.behaviour_semantics.specs.Behaviour.{Behaviour}
 use Rattle.behaviour_semantics.specs.Derives.{leaves_in}
 use Rattle.behaviour_semantics.specs.Fault.{at_node, Fault, fault_from, first_of_two, Wrong}

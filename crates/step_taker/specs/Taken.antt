@@ -1,8 +1,8 @@
 -- What a step answers: the move with canonical values that the derivation gives the state, or its first fault.
 use Rattle.std.specs.Prelude.{◌≡◌, Some}
-use Rattle.term_algebra.specs.Term.{Term}
-use Rattle.term_algebra.specs.Equation.{Data}
-use Rattle.behaviour_semantics.specs.Derives.{Keeps}
+use Rattle.lotos_base.specs.Term.{Term}
+use Rattle.lotos_base.specs.Equation.{Data}
+use Rattle.behaviour_semantics.specs.Derives.{DerivesCanonically}
 use Rattle.behaviour_semantics.specs.Fault.{Fault, fault_of}
 use Rattle.behaviour_semantics.specs.Move.{Setting}
 use Rattle.behaviour_tree.specs.Closed.{IsClosedNode}
@@ -14,7 +14,7 @@ use Rattle.behaviour_tree.specs.declared.definitions.Spec.{Spec}
 use Rattle.behaviour_tree.specs.declared.moves.Derivation.{Derivation}
 use Rattle.behaviour_tree.specs.declared.moves.Label.{Label}
 use Rattle.behaviour_tree.specs.declared.states.State.{State}
-use Rattle.event_offers.specs.OfferView.{label_profiles}
+use Rattle.step_parts.specs.HandedOn.{label_profiles}
 use Rattle.step_parts.specs.declared.faults.StepFault.{StepFault}
 use Rattle.step_parts.specs.StepFaults.{TellsFault}
 
@@ -38,7 +38,7 @@ setting_on base = record {
 -- The label and the target are those of the derivation with canonical values, and the target is a state of the
 -- specification.
 pub record IsTaken (base : Ground) (state : State) (derivation : Derivation) (label : Label) (target : State) : Type 0 where
-  pub keeps : Keeps base.data_ base.canon (specification_of base.spec).processes (state_of state) (derivation_of derivation)
+  pub keeps : DerivesCanonically base.data_ base.canon (specification_of base.spec).processes (state_of state) (derivation_of derivation)
       (label_of label) (state_of target)
   pub values : AreTermsOf base.data_.signature (label_profiles label)
   pub over : IsStateOf base.data_.signature base.spec target

@@ -1,7 +1,7 @@
 -- Parts of a walk through a state: the move or the first fault of each, and what can be gone through.
 use Rattle.std.specs.Prelude.{◌≡◌, ◌≤◌, ℕ, suc, List, [], ◌++◌, ◌+◌, length, map, slice_get, Option, None, Some, Result, Ok, Err}
-use Rattle.term_algebra.specs.Substitution.{Substitution}
-use Rattle.term_algebra.specs.Term.{Term}
+use Rattle.lotos_base.specs.Substitution.{Substitution}
+use Rattle.lotos_base.specs.Term.{Term}
 use Rattle.behaviour_semantics.specs.Behaviour.{Behaviour, Offer, Test, asked_variables, sorts_of}
 use Rattle.behaviour_semantics.specs.Derives.{leaves_in}
 use Rattle.behaviour_semantics.specs.Fault.{Fault, size, wrong_leaves}
@@ -20,7 +20,7 @@ use Rattle.behaviour_tree.specs.Over.{AreTermsOf, IsSpecOver}
 use Rattle.behaviour_tree.specs.StateView.{node_profiles, stands_for}
 use Rattle.behaviour_tree.specs.declared.definitions.Process.{Process}
 use Rattle.behaviour_tree.specs.declared.states.Node.{Node}
-use Rattle.event_offers.specs.OfferView.{label_profiles}
+use Rattle.step_parts.specs.HandedOn.{label_profiles}
 use Rattle.step_parts.specs.StepFaults.{kept_number, TellsFault, UnlessMemory}
 use Rattle.step_parts.specs.TargetNodes.{HasClosedParts}
 use Rattle.step_parts.specs.declared.faults.At.{At}
@@ -54,7 +54,7 @@ pub record IsMoved (base : Ground) (leaves : List Term) (place : Stand) (moved :
   pub values : AreTermsOf base.data_.signature (label_profiles moved.label)
 
 -- The refusal tells the first fault of the part.
-pub record IsFirstFault (base : Ground) (leaves : List Term) (place : Stand) (fault : StepFault) : Type 0 where
+pub record IsFirstStepFault (base : Ground) (leaves : List Term) (place : Stand) (fault : StepFault) : Type 0 where
   pub first : Fault
   pub is : fault_at (setting_on base) leaves place ≡ Some first
   pub told : TellsFault first fault
@@ -62,7 +62,7 @@ pub record IsFirstFault (base : Ground) (leaves : List Term) (place : Stand) (fa
 -- The answer is the move of the part, or its first fault.
 abbrev pub IsWalked : Ground → List Term → Stand → Result Moved StepFault → Type 0
 IsWalked base leaves place (Ok moved) = IsMoved base leaves place moved
-IsWalked base leaves place (Err fault) = UnlessMemory (IsFirstFault base leaves place) fault
+IsWalked base leaves place (Err fault) = UnlessMemory (IsFirstStepFault base leaves place) fault
 
 -- The part stands one node below the whole, and its leaves begin where those of the whole do.
 pub record IsBelow (whole part : Stand) : Type 0 where
@@ -78,7 +78,7 @@ IsMadeBy row Given at moved result =
     → IsMoved base leaves part moved → IsWalked base leaves whole result
 
 -- The specification and the leaves are over the signature, and so many leaves are there.
-pub record IsWalk (base : Ground) (leaves : List Sorted) (next : ℕ) : Type 0 where
+pub record IsStepWalk (base : Ground) (leaves : List Sorted) (next : ℕ) : Type 0 where
   pub over : IsSpecOver base.data_.signature base.spec
   pub leaves_of_signature : AreTermsOf base.data_.signature (profiles_of leaves)
   pub within : next ≤ length leaves

@@ -8,6 +8,7 @@ ghost use Rattle.behaviour_tree.specs.BehaviourTerms.{let_profile, profiles_in, 
 ghost use Rattle.behaviour_tree.specs.BehaviourView.{behaviour_of, let_of, terms_of};
 ghost use Rattle.behaviour_tree.specs.DefinitionView.{process_of};
 ghost use Rattle.behaviour_tree.specs.Over.{AreTermsOf, IsSpecOver};
+ghost use Rattle.step_parts.specs.HandedOn.{KeepsData};
 ghost use Rattle.sort_terms.specs.EquationView.{variable_of};
 ghost use Rattle.std.specs.Prelude.{
   ◌≡◌,
@@ -24,10 +25,10 @@ ghost use Rattle.std.specs.Prelude.{
   option_map,
   slice_get,
 };
-ghost use Rattle.step_parts.specs.StepFaults.{IsChecked, kept_number};
-ghost use Rattle.term_algebra.specs.Signature.{Signature};
+ghost use Rattle.step_parts.specs.StepFaults.{IsStepChecked, kept_number};
+ghost use Rattle.lotos_base.specs.Signature.{Signature};
 ghost use Rattle.step_taker.specs.Taken.{ground_of};
-ghost use Rattle.step_taker.specs.Walked.{IsCalled, IsPassable, IsWalk};
+ghost use Rattle.step_taker.specs.Walked.{IsCalled, IsPassable, IsStepWalk};
 
 use crate::moved::Walk;
 use behaviour_instances::instance;
@@ -54,8 +55,7 @@ pub fn let_body<D: Deciding>(
         (behaviour_of next.now)) }
     ensures terms { IfOk result
         (λ b. AreTermsOf (D.known_data data.old).signature (profiles_in b)) }
-    ensures same_data { D.known_data data.new ≡ D.known_data data.old }
-    ensures same_canon { D.canon data.new ≡ D.canon data.old }
+    ensures same_known { KeepsData D.known_data D.canon data.old data.new }
 {
     let pairs = let_values(walk.alloc, bindings, data)?;
     instance(&pairs, next)
@@ -69,7 +69,7 @@ pub fn value_body<D: Deciding>(
     leaf: usize,
     data: &mut D,
 ) -> Result<Beh, NoMemory>
-    requires walk { IsWalk
+    requires walk { IsStepWalk
         (ground_of (D.known_data data.old) (D.canon data.old) walk.now.spec.now)
         walk.now.leaves.now leaf }
     requires part { IsPassable
@@ -84,8 +84,7 @@ pub fn value_body<D: Deciding>(
         (behaviour_of next.now)) }
     ensures terms { IfOk result
         (λ b. AreTermsOf (D.known_data data.old).signature (profiles_in b)) }
-    ensures same_data { D.known_data data.new ≡ D.known_data data.old }
-    ensures same_canon { D.canon data.new ≡ D.canon data.old }
+    ensures same_known { KeepsData D.known_data D.canon data.old data.new }
 {
     let value = data.normal(&walk.leaves[leaf])?;
     let pairs = value_pair(walk.alloc, variable.number, value)?;
@@ -108,8 +107,7 @@ pub fn call_body<D: Deciding>(
         (map (D.canon data.old) (terms_of values.now.items))) (process_of called.now).body) }
     ensures terms { IfOk result
         (λ b. AreTermsOf (D.known_data data.old).signature (profiles_in b)) }
-    ensures same_data { D.known_data data.new ≡ D.known_data data.old }
-    ensures same_canon { D.canon data.new ≡ D.canon data.old }
+    ensures same_known { KeepsData D.known_data D.canon data.old data.new }
 {
     let pairs = call_values(walk.alloc, &called.parameters, values, data)?;
     instance(&pairs, &called.body)
@@ -120,7 +118,7 @@ pub fn call_body<D: Deciding>(
 pub fn checked_value(leaves: &[Sorted], at: At, sort: u32) -> Result<(), StepFault>
     ensures checked { (signature : Signature) (n : ℕ)
         → AreTermsOf signature (profiles_of leaves.now) → at.node ≡ kept_number n
-        → IsChecked n (wrong_leaves signature (terms_of leaves.now) at.leaf (sort ∷ []))
+        → IsStepChecked n (wrong_leaves signature (terms_of leaves.now) at.leaf (sort ∷ []))
         result }
     ensures there { IfOk result (λ _. at.leaf + 1 ≤ length leaves.now) }
 {

@@ -12,14 +12,14 @@ ghost use Rattle.behaviour_semantics.specs.Behaviour.{Specification};
 ghost use Rattle.behaviour_semantics.specs.Replacement.{binding_of, with_values};
 ghost use Rattle.behaviour_semantics.specs.Rule.{label_values};
 ghost use Rattle.behaviour_semantics.specs.WellFormed.{IsClosedLabel};
-ghost use Rattle.event_offers.specs.OfferView.{label_profiles};
+ghost use Rattle.step_parts.specs.HandedOn.{label_profiles};
 ghost use Rattle.behaviour_tree.specs.DefinitionView.{specification_of};
 ghost use Rattle.std.specs.Prelude.{◌≡◌, ◌++◌, IfOk};
 ghost use Rattle.step_parts.specs.TargetNodes.{HasClosedParts, IsAccepting};
 ghost use Rattle.step_taker.specs.Rows.{enabling_row, passing_row};
 ghost use Rattle.step_taker.specs.Sides.{enabling_of, followed, following_profiles, IsFollowing};
 ghost use Rattle.step_taker.specs.Walked.{IsMadeBy, IsPassableFollowing};
-ghost use Rattle.term_algebra.specs.Signature.{Signature};
+ghost use Rattle.lotos_base.specs.Signature.{Signature};
 
 use crate::moved::Moved;
 use crate::sides::Following;

@@ -27,8 +27,9 @@ ghost use Rattle.behaviour_tree.specs.StateView.{
   pair_profile,
   stands_for,
 };
+ghost use Rattle.step_parts.specs.HandedOn.{KeepsData};
 ghost use Rattle.std.specs.Prelude.{◌≡◌, ◌++◌, ℕ, IfOk, List, map, option_map};
-ghost use Rattle.step_parts.specs.StepFaults.{IsChecked, kept_number};
+ghost use Rattle.step_parts.specs.StepFaults.{IsStepChecked, kept_number};
 ghost use Rattle.step_parts.specs.TargetNodes.{HasClosedParts};
 ghost use Rattle.step_taker.specs.Stands.{Stand};
 ghost use Rattle.step_taker.specs.Taken.{Ground, ground_of};
@@ -37,11 +38,11 @@ ghost use Rattle.step_taker.specs.Walked.{
   IsChosen,
   IsPassable,
   IsThere,
-  IsWalk,
+  IsStepWalk,
   IsWalked,
 };
-ghost use Rattle.term_algebra.specs.Substitution.{binding};
-ghost use Rattle.term_algebra.specs.Term.{Term};
+ghost use Rattle.lotos_base.specs.Substitution.{binding};
+ghost use Rattle.lotos_base.specs.Term.{Term};
 
 use crate::moved::{Moved, Walk};
 use crate::sides::Side;
@@ -64,7 +65,7 @@ pub fn exit_step<D: Deciding>(
     at: At,
     data: &mut D,
 ) -> Result<Moved, StepFault>
-    requires walk { IsWalk
+    requires walk { IsStepWalk
         (ground_of (D.known_data data.old) (D.canon data.old) walk.now.spec.now)
         walk.now.leaves.now at.leaf }
     requires part { IsPassable
@@ -76,8 +77,7 @@ pub fn exit_step<D: Deciding>(
         (shape_of shape.now) at
         → IsWalked (ground_of (D.known_data data.old) (D.canon data.old) walk.now.spec.now)
         (terms_of walk.now.leaves.now) place result }
-    ensures same_data { D.known_data data.new ≡ D.known_data data.old }
-    ensures same_canon { D.canon data.new ≡ D.canon data.old }
+    ensures same_known { KeepsData D.known_data D.canon data.old data.new }
 {
     let Shape::Quit = shape else {
         return Err(misfit(at));
@@ -107,7 +107,7 @@ pub fn action_step<D: Deciding>(
     at: At,
     data: &mut D,
 ) -> Result<Moved, StepFault>
-    requires walk { IsWalk
+    requires walk { IsStepWalk
         (ground_of (D.known_data data.old) (D.canon data.old) walk.now.spec.now)
         walk.now.leaves.now at.leaf }
     requires part { IsPassable
@@ -121,8 +121,7 @@ pub fn action_step<D: Deciding>(
         (option_map test_of test.now) (behaviour_of next.now.value)) (shape_of shape.now) at
         → IsWalked (ground_of (D.known_data data.old) (D.canon data.old) walk.now.spec.now)
         (terms_of walk.now.leaves.now) place result }
-    ensures same_data { D.known_data data.new ≡ D.known_data data.old }
-    ensures same_canon { D.canon data.new ≡ D.canon data.old }
+    ensures same_known { KeepsData D.known_data D.canon data.old data.new }
 {
     let Shape::Act = shape else {
         return Err(misfit(at));
@@ -150,7 +149,7 @@ fn action_target<D: Deciding>(
     at: At,
     data: &mut D,
 ) -> Result<Rc<Node>, StepFault>
-    requires walk { IsWalk
+    requires walk { IsStepWalk
         (ground_of (D.known_data data.old) (D.canon data.old) walk.now.spec.now)
         walk.now.leaves.now at.leaf }
     requires part { IsChosen
@@ -159,7 +158,7 @@ fn action_target<D: Deciding>(
         (terms_of walk.now.leaves.now) at.leaf }
     requires test { AreTermsOf (D.known_data data.old).signature (option_profiles test.now) }
     requires next { AreTermsOf (D.known_data data.old).signature (profiles_in next.now.value) }
-    ensures checked { (n : ℕ) → at.node ≡ kept_number n → IsChecked n
+    ensures checked { (n : ℕ) → at.node ≡ kept_number n → IsStepChecked n
         (first_unmet (D.canon data.old) (tests_of (chosen_values (D.canon data.old)
         (map offer_of offers.now.items) (terms_of walk.now.leaves.now) at.leaf)
         (option_map test_of test.now))) result }
@@ -169,8 +168,7 @@ fn action_target<D: Deciding>(
     ensures terms { IfOk result
         (λ made. AreTermsOf (D.known_data data.old).signature (node_profiles made.value)) }
     ensures closed_parts { IfOk result (λ made. HasClosedParts made.value) }
-    ensures same_data { D.known_data data.new ≡ D.known_data data.old }
-    ensures same_canon { D.canon data.new ≡ D.canon data.old }
+    ensures same_known { KeepsData D.known_data D.canon data.old data.new }
 {
     let pairs = asked_values(walk.alloc, offers, walk.leaves, at.leaf, data)?;
     checked_test(&pairs, test, at, data)?;

@@ -5,7 +5,8 @@ ghost use Rattle.behaviour_semantics.specs.Fault.{size};
 ghost use Rattle.behaviour_semantics.specs.Shape as plain_shape;
 ghost use Rattle.behaviour_tree.specs.BehaviourView.{meet_of};
 ghost use Rattle.behaviour_tree.specs.StateView.{node_profiles, stands_for};
-ghost use Rattle.event_offers.specs.OfferView.{label_profiles};
+ghost use Rattle.step_parts.specs.HandedOn.{KeepsData};
+ghost use Rattle.step_parts.specs.HandedOn.{label_profiles};
 ghost use Rattle.behaviour_tree.specs.Over.{AreTermsOf};
 ghost use Rattle.std.specs.Prelude.{◌≡◌, ◌+◌, ℕ, suc, IfOk, List};
 ghost use Rattle.step_parts.specs.StepFaults.{kept_number};
@@ -15,15 +16,13 @@ ghost use Rattle.step_taker.specs.Sides.{side_of, side_profiles};
 ghost use Rattle.step_taker.specs.Stands.{stand};
 ghost use Rattle.step_taker.specs.Taken.{Ground, ground_of};
 ghost use Rattle.step_taker.specs.Walked.{IsMadeBy, IsMoved, IsPassableSide, IsWalked};
-ghost use Rattle.term_algebra.specs.Signature.{Signature};
-ghost use Rattle.term_algebra.specs.Term.{Term};
+ghost use Rattle.lotos_base.specs.Signature.{Signature};
+ghost use Rattle.lotos_base.specs.Term.{Term};
 
 use crate::moved::{Moved, Walk};
 use crate::sides::Side;
 use behaviour_tree::boxes::shared;
 use behaviour_tree::{Meet, Node};
-use draft_parts::rules::may_move_alone;
-use event_offers::labels::values;
 use lotos_base::NoMemory;
 use sort_terms::Deciding;
 use std::alloc::Global;
@@ -31,6 +30,7 @@ use std::rc::Rc;
 use step_parts::faults::{At, StepFault, misfit};
 use step_parts::labels::may_move_together;
 use step_parts::node_tests::checked_pairs;
+use step_parts::{may_move_alone, values};
 
 /// The move of a parallel whose left side moves alone.
 pub fn left_alone(
@@ -97,8 +97,7 @@ pub fn together<D: Deciding>(
         (stand c t (suc (n + size s)) first.behind.leaf) second
         → IsWalked (ground_of (D.known_data data.old) (D.canon data.old) walk.now.spec.now) leaves
         (stand (plain.parallel (meet_of meet.now) b c) (plain_shape.both_sides s t) n k) result }
-    ensures same_data { D.known_data data.new ≡ D.known_data data.old }
-    ensures same_canon { D.canon data.new ≡ D.canon data.old }
+    ensures same_known { KeepsData D.known_data D.canon data.old data.new }
 {
     if !may_move_together(meet, &first.label, &second.label) {
         return Err(misfit(at));

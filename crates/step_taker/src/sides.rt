@@ -9,7 +9,7 @@ ghost use Rattle.behaviour_tree.specs.StateView.{node_profiles, stands_for};
 ghost use Rattle.std.specs.Prelude.{◌≡◌, IfOk};
 ghost use Rattle.step_parts.specs.TargetNodes.{HasClosedParts};
 ghost use Rattle.step_taker.specs.Sides.{IsSideState, side_of, side_profiles};
-ghost use Rattle.term_algebra.specs.Signature.{Signature};
+ghost use Rattle.lotos_base.specs.Signature.{Signature};
 
 use behaviour_tree::boxes::{owner, shared};
 use behaviour_tree::{Beh, Node};

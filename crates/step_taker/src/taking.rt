@@ -4,9 +4,10 @@ ghost use Rattle.behaviour_tree.specs.BehaviourTerms.{profiles_of};
 ghost use Rattle.behaviour_tree.specs.Closed.{IsClosedNode};
 ghost use Rattle.behaviour_tree.specs.Over.{AreTermsOf, IsSpecOver, IsStateOf};
 ghost use Rattle.behaviour_tree.specs.StateView.{node_profiles, stands_for};
+ghost use Rattle.step_parts.specs.HandedOn.{KeepsData};
 ghost use Rattle.std.specs.Prelude.{◌≡◌, ℕ, IfOk, length, MatchResult, nat_lt, None, Some, if◌then◌else◌};
 ghost use Rattle.behaviour_semantics.specs.Fault.{not_fitting};
-ghost use Rattle.step_parts.specs.StepFaults.{IsChecked, kept_number, UnlessMemory};
+ghost use Rattle.step_parts.specs.StepFaults.{IsStepChecked, kept_number, UnlessMemory};
 ghost use Rattle.step_taker.specs.Taken.{ground_of, IsStepFault, IsTaken};
 
 use crate::moved::Walk;
@@ -37,8 +38,7 @@ pub fn take<D: Deciding>(
         state.now derivation.now moved.0 moved.1)
         (λ fault. UnlessMemory (IsStepFault (ground_of (D.known_data data.old)
         (D.canon data.old) spec.now) state.now derivation.now) fault) }
-    ensures same_data { D.known_data data.new ≡ D.known_data data.old }
-    ensures same_canon { D.canon data.new ≡ D.canon data.old }
+    ensures same_known { KeepsData D.known_data D.canon data.old data.new }
 {
     let walk = Walk {
         spec,
@@ -55,7 +55,7 @@ pub fn take<D: Deciding>(
 // Answers nothing where the derivation has no leaf behind those of its nodes.
 fn none_left_over(leaves: &[Sorted], behind: At) -> Result<(), StepFault>
     ensures { (n : ℕ) → behind.node ≡ kept_number n
-        → IsChecked n (if nat_lt behind.leaf (length leaves.now) then Some not_fitting else None)
+        → IsStepChecked n (if nat_lt behind.leaf (length leaves.now) then Some not_fitting else None)
         result }
 {
     if behind.leaf < leaves.len() {

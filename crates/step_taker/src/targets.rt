@@ -13,7 +13,7 @@ ghost use Rattle.step_parts.specs.TargetNodes.{HasClosedParts};
 ghost use Rattle.step_taker.specs.Rows.{disabling_row, hiding_row, relabelling_row};
 ghost use Rattle.step_taker.specs.Sides.{side_of, side_profiles};
 ghost use Rattle.step_taker.specs.Taken.{Ground};
-ghost use Rattle.term_algebra.specs.Signature.{Signature};
+ghost use Rattle.lotos_base.specs.Signature.{Signature};
 ghost use Rattle.step_taker.specs.Walked.{IsClosedOn, IsMadeBy, IsPassableSide};
 
 use crate::moved::Moved;
@@ -24,8 +24,8 @@ use lotos_base::NoMemory;
 use std::alloc::Global;
 use std::rc::Rc;
 use step_parts::faults::{At, StepFault};
-use step_parts::labels::{hide_label, relabel_label};
 use step_parts::targets::{gate_pair, still_disabled, under};
+use step_parts::{hide_label, relabel};
 
 /// The move under `hide`.
 pub fn hidden(alloc: Global, gates: &Vec<u32>, moved: Moved, at: At) -> Result<Moved, StepFault>
@@ -176,7 +176,7 @@ fn relabelled(
     ensures { IsMadeBy (λ base. relabelling_row pairs.items)
         (λ base. IsClosedOn base (stands_for moved.target.value)) at moved result }
 {
-    let label = relabel_label(moved.label, pairs.as_slice());
+    let label = relabel(moved.label, pairs.as_slice());
     let target = target_under(alloc, moved.target, pairs)?;
     Ok(Moved {
         label,

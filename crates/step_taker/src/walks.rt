@@ -17,8 +17,9 @@ ghost use Rattle.behaviour_tree.specs.BehaviourView.{
 ghost use Rattle.behaviour_tree.specs.MoveView.{shape_of};
 ghost use Rattle.behaviour_tree.specs.StateView.{node_profiles, stands_for};
 ghost use Rattle.behaviour_tree.specs.Closed.{IsClosedNode};
+ghost use Rattle.step_parts.specs.HandedOn.{KeepsData};
 ghost use Rattle.sort_terms.specs.EquationView.{variable_of};
-ghost use Rattle.std.specs.Prelude.{◌≡◌, ◌++◌, map};
+ghost use Rattle.std.specs.Prelude.{◌++◌, map};
 ghost use Rattle.step_taker.specs.Sides.{
   enabling_of,
   following_profiles,
@@ -34,7 +35,7 @@ ghost use Rattle.step_taker.specs.Walked.{
   IsPassableNode,
   IsPassableSide,
   IsThere,
-  IsWalk,
+  IsStepWalk,
   IsWalked,
 };
 
@@ -62,7 +63,7 @@ pub fn node_step<D: Deciding>(
     at: At,
     data: &mut D,
 ) -> Result<Moved, StepFault>
-    requires walk { IsWalk
+    requires walk { IsStepWalk
         (ground_of (D.known_data data.old) (D.canon data.old) walk.now.spec.now)
         walk.now.leaves.now at.leaf }
     requires node { IsPassableNode
@@ -72,8 +73,7 @@ pub fn node_step<D: Deciding>(
         (stands_for node.now) (shape_of shape.now) at
         → IsWalked (ground_of (D.known_data data.old) (D.canon data.old) walk.now.spec.now)
         (terms_of walk.now.leaves.now) place result }
-    ensures same_data { D.known_data data.new ≡ D.known_data data.old }
-    ensures same_canon { D.canon data.new ≡ D.canon data.old }
+    ensures same_known { KeepsData D.known_data D.canon data.old data.new }
 {
     match node {
         Node::Stop => Err(misfit(at)),
@@ -118,7 +118,7 @@ fn beh_step<D: Deciding>(
     at: At,
     data: &mut D,
 ) -> Result<Moved, StepFault>
-    requires walk { IsWalk
+    requires walk { IsStepWalk
         (ground_of (D.known_data data.old) (D.canon data.old) walk.now.spec.now)
         walk.now.leaves.now at.leaf }
     requires part { IsPassable
@@ -130,8 +130,7 @@ fn beh_step<D: Deciding>(
         (behaviour_of behaviour.now) (shape_of shape.now) at
         → IsWalked (ground_of (D.known_data data.old) (D.canon data.old) walk.now.spec.now)
         (terms_of walk.now.leaves.now) place result }
-    ensures same_data { D.known_data data.new ≡ D.known_data data.old }
-    ensures same_canon { D.canon data.new ≡ D.canon data.old }
+    ensures same_known { KeepsData D.known_data D.canon data.old data.new }
 {
     match behaviour {
         Beh::Stop => Err(misfit(at)),
@@ -190,7 +189,7 @@ fn side_step<D: Deciding>(
     at: At,
     data: &mut D,
 ) -> Result<Moved, StepFault>
-    requires walk { IsWalk
+    requires walk { IsStepWalk
         (ground_of (D.known_data data.old) (D.canon data.old) walk.now.spec.now)
         walk.now.leaves.now at.leaf }
     requires side { IsPassableSide
@@ -200,8 +199,7 @@ fn side_step<D: Deciding>(
         (side_of side.now) (shape_of shape.now) at
         → IsWalked (ground_of (D.known_data data.old) (D.canon data.old) walk.now.spec.now)
         (terms_of walk.now.leaves.now) place result }
-    ensures same_data { D.known_data data.new ≡ D.known_data data.old }
-    ensures same_canon { D.canon data.new ≡ D.canon data.old }
+    ensures same_known { KeepsData D.known_data D.canon data.old data.new }
 {
     match side {
         Side::Closed(behaviour) => beh_step(walk, behaviour, shape, at, data),
@@ -219,7 +217,7 @@ fn guard_step<D: Deciding>(
     at: At,
     data: &mut D,
 ) -> Result<Moved, StepFault>
-    requires walk { IsWalk
+    requires walk { IsStepWalk
         (ground_of (D.known_data data.old) (D.canon data.old) walk.now.spec.now)
         walk.now.leaves.now at.leaf }
     requires part { IsPassable
@@ -231,8 +229,7 @@ fn guard_step<D: Deciding>(
         (plain.guard (test_of test.now) (behaviour_of next.now)) (shape_of shape.now) at
         → IsWalked (ground_of (D.known_data data.old) (D.canon data.old) walk.now.spec.now)
         (terms_of walk.now.leaves.now) place result }
-    ensures same_data { D.known_data data.new ≡ D.known_data data.old }
-    ensures same_canon { D.canon data.new ≡ D.canon data.old }
+    ensures same_known { KeepsData D.known_data D.canon data.old data.new }
 {
     let Shape::Guarded(inner) = shape else {
         return Err(misfit(at));
@@ -251,7 +248,7 @@ fn choice_step<D: Deciding>(
     at: At,
     data: &mut D,
 ) -> Result<Moved, StepFault>
-    requires walk { IsWalk
+    requires walk { IsStepWalk
         (ground_of (D.known_data data.old) (D.canon data.old) walk.now.spec.now)
         walk.now.leaves.now at.leaf }
     requires part { IsPassable
@@ -263,8 +260,7 @@ fn choice_step<D: Deciding>(
         (plain.choice (behaviour_of left.now) (behaviour_of right.now)) (shape_of shape.now) at
         → IsWalked (ground_of (D.known_data data.old) (D.canon data.old) walk.now.spec.now)
         (terms_of walk.now.leaves.now) place result }
-    ensures same_data { D.known_data data.new ≡ D.known_data data.old }
-    ensures same_canon { D.canon data.new ≡ D.canon data.old }
+    ensures same_known { KeepsData D.known_data D.canon data.old data.new }
 {
     match shape {
         Shape::Left(inner) => beh_step(walk, left, inner, at.below(), data),
@@ -284,7 +280,7 @@ fn parallel_step<D: Deciding>(
     at: At,
     data: &mut D,
 ) -> Result<Moved, StepFault>
-    requires walk { IsWalk
+    requires walk { IsStepWalk
         (ground_of (D.known_data data.old) (D.canon data.old) walk.now.spec.now)
         walk.now.leaves.now at.leaf }
     requires part { IsPassable
@@ -298,8 +294,7 @@ fn parallel_step<D: Deciding>(
         (shape_of shape.now) at
         → IsWalked (ground_of (D.known_data data.old) (D.canon data.old) walk.now.spec.now)
         (terms_of walk.now.leaves.now) place result }
-    ensures same_data { D.known_data data.new ≡ D.known_data data.old }
-    ensures same_canon { D.canon data.new ≡ D.canon data.old }
+    ensures same_known { KeepsData D.known_data D.canon data.old data.new }
 {
     match shape {
         Shape::Left(inner) => {
@@ -329,7 +324,7 @@ fn hide_step<D: Deciding>(
     at: At,
     data: &mut D,
 ) -> Result<Moved, StepFault>
-    requires walk { IsWalk
+    requires walk { IsStepWalk
         (ground_of (D.known_data data.old) (D.canon data.old) walk.now.spec.now)
         walk.now.leaves.now at.leaf }
     requires part { IsPassable
@@ -342,8 +337,7 @@ fn hide_step<D: Deciding>(
         (plain.hide gates.now.items (side_of inner.now)) (shape_of shape.now) at
         → IsWalked (ground_of (D.known_data data.old) (D.canon data.old) walk.now.spec.now)
         (terms_of walk.now.leaves.now) place result }
-    ensures same_data { D.known_data data.new ≡ D.known_data data.old }
-    ensures same_canon { D.canon data.new ≡ D.canon data.old }
+    ensures same_known { KeepsData D.known_data D.canon data.old data.new }
 {
     let Shape::Hidden(below) = shape else {
         return Err(misfit(at));
@@ -362,7 +356,7 @@ fn enable_step<D: Deciding>(
     at: At,
     data: &mut D,
 ) -> Result<Moved, StepFault>
-    requires walk { IsWalk
+    requires walk { IsStepWalk
         (ground_of (D.known_data data.old) (D.canon data.old) walk.now.spec.now)
         walk.now.leaves.now at.leaf }
     requires part { IsPassable
@@ -375,8 +369,7 @@ fn enable_step<D: Deciding>(
         (enabling_of (side_of left.now) side.now) (shape_of shape.now) at
         → IsWalked (ground_of (D.known_data data.old) (D.canon data.old) walk.now.spec.now)
         (terms_of walk.now.leaves.now) place result }
-    ensures same_data { D.known_data data.new ≡ D.known_data data.old }
-    ensures same_canon { D.canon data.new ≡ D.canon data.old }
+    ensures same_known { KeepsData D.known_data D.canon data.old data.new }
 {
     match shape {
         Shape::Passed(inner) => {
@@ -401,7 +394,7 @@ fn disable_step<D: Deciding>(
     at: At,
     data: &mut D,
 ) -> Result<Moved, StepFault>
-    requires walk { IsWalk
+    requires walk { IsStepWalk
         (ground_of (D.known_data data.old) (D.canon data.old) walk.now.spec.now)
         walk.now.leaves.now at.leaf }
     requires part { IsPassable
@@ -414,8 +407,7 @@ fn disable_step<D: Deciding>(
         (plain.disable (side_of left.now) (side_of right.now)) (shape_of shape.now) at
         → IsWalked (ground_of (D.known_data data.old) (D.canon data.old) walk.now.spec.now)
         (terms_of walk.now.leaves.now) place result }
-    ensures same_data { D.known_data data.new ≡ D.known_data data.old }
-    ensures same_canon { D.canon data.new ≡ D.canon data.old }
+    ensures same_known { KeepsData D.known_data D.canon data.old data.new }
 {
     match shape {
         Shape::Left(inner) => {
@@ -437,7 +429,7 @@ fn let_step<D: Deciding>(
     at: At,
     data: &mut D,
 ) -> Result<Moved, StepFault>
-    requires walk { IsWalk
+    requires walk { IsStepWalk
         (ground_of (D.known_data data.old) (D.canon data.old) walk.now.spec.now)
         walk.now.leaves.now at.leaf }
     requires part { IsPassable
@@ -450,8 +442,7 @@ fn let_step<D: Deciding>(
         (shape_of shape.now) at
         → IsWalked (ground_of (D.known_data data.old) (D.canon data.old) walk.now.spec.now)
         (terms_of walk.now.leaves.now) place result }
-    ensures same_data { D.known_data data.new ≡ D.known_data data.old }
-    ensures same_canon { D.canon data.new ≡ D.canon data.old }
+    ensures same_known { KeepsData D.known_data D.canon data.old data.new }
 {
     let Shape::Bound(inner) = shape else {
         return Err(misfit(at));
@@ -470,7 +461,7 @@ fn value_step<D: Deciding>(
     at: At,
     data: &mut D,
 ) -> Result<Moved, StepFault>
-    requires walk { IsWalk
+    requires walk { IsStepWalk
         (ground_of (D.known_data data.old) (D.canon data.old) walk.now.spec.now)
         walk.now.leaves.now at.leaf }
     requires part { IsPassable
@@ -483,8 +474,7 @@ fn value_step<D: Deciding>(
         (shape_of shape.now) at
         → IsWalked (ground_of (D.known_data data.old) (D.canon data.old) walk.now.spec.now)
         (terms_of walk.now.leaves.now) place result }
-    ensures same_data { D.known_data data.new ≡ D.known_data data.old }
-    ensures same_canon { D.canon data.new ≡ D.canon data.old }
+    ensures same_known { KeepsData D.known_data D.canon data.old data.new }
 {
     let Shape::Value(inner) = shape else {
         return Err(misfit(at));
@@ -509,7 +499,7 @@ fn gate_step<D: Deciding>(
     at: At,
     data: &mut D,
 ) -> Result<Moved, StepFault>
-    requires walk { IsWalk
+    requires walk { IsStepWalk
         (ground_of (D.known_data data.old) (D.canon data.old) walk.now.spec.now)
         walk.now.leaves.now at.leaf }
     requires part { IsPassable
@@ -521,8 +511,7 @@ fn gate_step<D: Deciding>(
         (plain.choose_gate formal gates.now.items (behaviour_of next.now)) (shape_of shape.now) at
         → IsWalked (ground_of (D.known_data data.old) (D.canon data.old) walk.now.spec.now)
         (terms_of walk.now.leaves.now) place result }
-    ensures same_data { D.known_data data.new ≡ D.known_data data.old }
-    ensures same_canon { D.canon data.new ≡ D.canon data.old }
+    ensures same_known { KeepsData D.known_data D.canon data.old data.new }
 {
     let Shape::Gate(position, inner) = shape else {
         return Err(misfit(at));
@@ -545,7 +534,7 @@ fn call_step<D: Deciding>(
     at: At,
     data: &mut D,
 ) -> Result<Moved, StepFault>
-    requires walk { IsWalk
+    requires walk { IsStepWalk
         (ground_of (D.known_data data.old) (D.canon data.old) walk.now.spec.now)
         walk.now.leaves.now at.leaf }
     requires part { IsPassable
@@ -557,8 +546,7 @@ fn call_step<D: Deciding>(
         (plain.call process gates.now.items (terms_of values.now.items)) (shape_of shape.now) at
         → IsWalked (ground_of (D.known_data data.old) (D.canon data.old) walk.now.spec.now)
         (terms_of walk.now.leaves.now) place result }
-    ensures same_data { D.known_data data.new ≡ D.known_data data.old }
-    ensures same_canon { D.canon data.new ≡ D.canon data.old }
+    ensures same_known { KeepsData D.known_data D.canon data.old data.new }
 {
     let Shape::Called(inner) = shape else {
         return Err(misfit(at));
@@ -581,7 +569,7 @@ fn relabel_step<D: Deciding>(
     at: At,
     data: &mut D,
 ) -> Result<Moved, StepFault>
-    requires walk { IsWalk
+    requires walk { IsStepWalk
         (ground_of (D.known_data data.old) (D.canon data.old) walk.now.spec.now)
         walk.now.leaves.now at.leaf }
     requires part { IsPassable
@@ -594,8 +582,7 @@ fn relabel_step<D: Deciding>(
         (plain.relabel pairs.now.items (stands_for inner.now)) (shape_of shape.now) at
         → IsWalked (ground_of (D.known_data data.old) (D.canon data.old) walk.now.spec.now)
         (terms_of walk.now.leaves.now) place result }
-    ensures same_data { D.known_data data.new ≡ D.known_data data.old }
-    ensures same_canon { D.canon data.new ≡ D.canon data.old }
+    ensures same_known { KeepsData D.known_data D.canon data.old data.new }
 {
     let Shape::Relabelled(below) = shape else {
         return Err(misfit(at));

@@ -4,7 +4,7 @@ use Rattle.std.specs.Prelude.{All, Some, length}
 use Rattle.std.proofs.lemmas.List.{append-nil, map-append}
 use Rattle.std.proofs.lemmas.List.Elements.{All-nil, All-cons, All-head, All-tail, All-append, All-map}
 use Rattle.syntax_trees.specs.Grouping.{Leftmost, closed, in_front, leftmost}
-use Rattle.syntax_trees.specs.Waiting.{EndsWeaker, Takes, Rises, grouped_onto}
+use Rattle.syntax_trees.specs.Waiting.{EndsWeaker, Takes, StrengthRises, grouped_onto}
 use Rattle.syntax_trees.proofs.Groupings.{stays, all_closed, more_is, Among, more}
 
 module _ {W S A : Type 0} (binds : W → ℕ) (view : W → S × A) (join : S → A → A → A) (strength : ℕ) where
@@ -31,7 +31,7 @@ not_before_end : {W : Type 0} (binds : W → ℕ) (strength : ℕ) (first : W) (
 not_before_end binds strength first waiting ends second rest is front last same = ends (first ∷ front) last (ap (λ l. first ∷ l) same)
 
 -- where the last of the signs is weaker, all are
-all_weaker : {W : Type 0} (binds : W → ℕ) (strength : ℕ) (waiting : List W) → Rises binds waiting → EndsWeaker binds strength waiting
+all_weaker : {W : Type 0} (binds : W → ℕ) (strength : ℕ) (waiting : List W) → StrengthRises binds waiting → EndsWeaker binds strength waiting
     → All (λ w. binds w < strength) waiting
 all_weaker binds strength [] rises ends = All-nil (λ w. binds w < strength)
 all_weaker binds strength (first ∷ []) rises ends = All-cons (λ w. binds w < strength) first [] (ends [] first refl)
@@ -43,7 +43,7 @@ all_weaker binds strength (first ∷ second ∷ rest) rises ends =
     let next = All-head (λ w. binds w < strength) second rest behind in
     All-cons (λ w. binds w < strength) first (second ∷ rest) (omega (arith, here, next)) behind
 
-rises_front : {W : Type 0} (binds : W → ℕ) (waiting more : List W) → Rises binds (waiting ++ more) → Rises binds waiting
+rises_front : {W : Type 0} (binds : W → ℕ) (waiting more : List W) → StrengthRises binds (waiting ++ more) → StrengthRises binds waiting
 rises_front binds [] more rises = tt
 rises_front {W} binds (first ∷ waiting) more rises = (
   all_front (λ later. binds first < binds later) waiting more rises.0,
@@ -54,8 +54,8 @@ rises_front {W} binds (first ∷ waiting) more rises = (
     all_front P [] ys all = All-nil P
     all_front P (x ∷ xs) ys all = All-cons P x xs (All-head P x (xs ++ ys) all) (all_front P xs ys (All-tail P x (xs ++ ys) all))
 
-rises_more : {W : Type 0} (binds : W → ℕ) (waiting : List W) (last : W) → Rises binds waiting → All (λ w. binds w < binds last) waiting
-    → Rises binds (waiting ++ last ∷ [])
+rises_more : {W : Type 0} (binds : W → ℕ) (waiting : List W) (last : W) → StrengthRises binds waiting → All (λ w. binds w < binds last) waiting
+    → StrengthRises binds (waiting ++ last ∷ [])
 rises_more binds [] last rises weaker = (All-nil (λ later. binds last < binds later), tt)
 rises_more binds (first ∷ waiting) last rises weaker = (
   All-append (λ later. binds first < binds later) waiting (last ∷ []) rises.0
@@ -64,7 +64,7 @@ rises_more binds (first ∷ waiting) last rises weaker = (
   rises_more binds waiting last rises.1 (All-tail (λ w. binds w < binds last) first waiting weaker),
 )
 
-nothing_weaker : {W : Type 0} (binds : W → ℕ) (waiting : List W) → Rises binds waiting → EndsWeaker binds 0 waiting → waiting ≡ []
+nothing_weaker : {W : Type 0} (binds : W → ℕ) (waiting : List W) → StrengthRises binds waiting → EndsWeaker binds 0 waiting → waiting ≡ []
 nothing_weaker binds [] rises ends = refl
 nothing_weaker binds (first ∷ waiting) rises ends =
     let all = all_weaker binds 0 (first ∷ waiting) rises ends in
@@ -88,13 +88,13 @@ module _ {W S A : Type 0} (strength : S → ℕ) (join : S → A → A → A) (v
   among_view P taken all = All-map (λ (e : S × A). P e.0) view taken all
 
   -- a further sign is put in front by closing those that bind at least as strongly
-  pub put_in_front : (sign : S) (before after : List W) (first right : A) → Rises binding before
+  pub put_in_front : (sign : S) (before after : List W) (first right : A) → StrengthRises binding before
       → Takes binding view join (strength sign) before after first right →
       EndsWeaker binding (strength sign) after →
       in_front strength join sign (map view before) first ≡ map view after ++ (sign, right) ∷ []
   put_in_front sign before after first right rises takes ends =
       let weaker = all_weaker binding (strength sign) after (rises_front binding after takes.taken
-      (subst (Rises binding) takes.falls rises)) ends in
+      (subst (StrengthRises binding) takes.falls rises)) ends in
       ap (λ (l : List (S × A)). in_front strength join sign l first) (ap (map view) takes.falls ∙ map-append view after takes.taken)
       ∙ stay_before sign after (map view takes.taken) first weaker
       ∙ ap (λ (l : List (S × A)). map view after ++ l)
@@ -102,11 +102,11 @@ module _ {W S A : Type 0} (strength : S → ℕ) (join : S → A → A → A) (v
       (λ later. strength sign ≤ strength later) takes.taken takes.no_weaker)
       ∙ ap (λ (t : A). (sign, t) ∷ []) (sym takes.tree_is))
 
-  pub still_rises : (sign : S) (before after : List W) (first right : A) (last : W) → Rises binding before
+  pub still_rises : (sign : S) (before after : List W) (first right : A) (last : W) → StrengthRises binding before
       → Takes binding view join (strength sign) before after first right →
-      EndsWeaker binding (strength sign) after → (view last).0 ≡ sign → Rises binding (after ++ last ∷ [])
+      EndsWeaker binding (strength sign) after → (view last).0 ≡ sign → StrengthRises binding (after ++ last ∷ [])
   still_rises sign before after first right last rises takes ends is =
-      let front = rises_front binding after takes.taken (subst (Rises binding) takes.falls rises) in
+      let front = rises_front binding after takes.taken (subst (StrengthRises binding) takes.falls rises) in
       let weaker = all_weaker binding (strength sign) after front ends in
       rises_more binding after last front (subst (λ (s : S). All (λ w. binding w < strength s) after) (sym is) weaker)
 
@@ -132,9 +132,9 @@ module _ {W S A : Type 0} (strength : S → ℕ) (join : S → A → A → A) (v
       (onto_last operands signs last (omega (arith, same)))
 
   -- at the end all that waits is closed
-  pub all_is_closed : (before after : List W) (first tree : A) → Rises binding before
+  pub all_is_closed : (before after : List W) (first tree : A) → StrengthRises binding before
       → Takes binding view join 0 before after first tree → EndsWeaker binding 0 after →
       closed join (map view before) first ≡ tree
   all_is_closed before after first tree rises takes ends =
-      let none = nothing_weaker binding after (rises_front binding after takes.taken (subst (Rises binding) takes.falls rises)) ends in
+      let none = nothing_weaker binding after (rises_front binding after takes.taken (subst (StrengthRises binding) takes.falls rises)) ends in
       ap (λ (l : List W). closed join (map view l) first) (takes.falls ∙ ap (λ (l : List W). l ++ takes.taken) none) ∙ sym takes.tree_is

@@ -3,7 +3,7 @@ use Rattle.std.proofs.Common.{◌≡◌, ◌∙◌, ℕ, ◌+◌, List, [], ◌�
 use Rattle.std.specs.Prelude.{Option, Some, None, length, option_map, Result, Ok, Err, IfOk, OnOk}
 use Rattle.std.proofs.lemmas.List.{map-append, length-map, length-append}
 use Rattle.syntax_trees.specs.Grouping.{Leftmost, closed, leftmost, grouped}
-use Rattle.syntax_trees.specs.Waiting.{EndsWeaker, Takes, Rises, grouped_onto}
+use Rattle.syntax_trees.specs.Waiting.{EndsWeaker, Takes, StrengthRises, grouped_onto}
 use Rattle.syntax_trees.proofs.Closing.{put_in_front, still_rises, onto_more, onto_last, all_is_closed}
 
 module _ {A S O G : Type 0} (strength : S → ℕ) (join : S → A → A → A) (plain : O → A) (plain_sign : G → S) where
@@ -23,7 +23,7 @@ module _ {A S O G : Type 0} (strength : S → ℕ) (join : S → A → A → A) 
       × (leftmost strength join (map plain all_operands) (map plain_sign all_signs)
       ≡ Some (grouped_onto strength join (map plain operands) (map plain_sign signs)
       (record { first = plain tree; waiting = map (λ w. (plain_sign w.0, plain w.1)) waiting })))
-      × Rises (λ w. strength (plain_sign w.0)) waiting
+      × StrengthRises (λ w. strength (plain_sign w.0)) waiting
 
   same_lengths : (operands : List O) (signs : List G) → length operands ≡ length signs
       → length (map plain operands) ≡ length (map plain_sign signs)
@@ -79,7 +79,7 @@ module _ {A S O G : Type 0} (strength : S → ℕ) (join : S → A → A → A) 
             ∙ ap (λ (w : List (S × A)). Some (grouped_onto strength join (map plain operands) (map plain_sign signs)
             (record { first = plain left; waiting = w })))
             (in_front_is ∙ sym waiting_is),
-        subst (Rises binding) (sym new_is) (still_rises strength join viewed (plain_sign sign) waiting after (plain tree) (plain right)
+        subst (StrengthRises binding) (sym new_is) (still_rises strength join viewed (plain_sign sign) waiting after (plain tree) (plain right)
             (sign, right) inv.2 takes_it ends_so refl),
       )
 

@@ -19,6 +19,6 @@ abbrev pub declared_in : List InnerText → ℕ
 declared_in list = declarations_among (inners_of (inner_list_of list))
 
 -- of a first declaration with so many, and others, one is dropped, or all are there and the next one has fewer
-abbrev pub IsTurnOf : ℕ → ℕ → Turn → Type 0
-IsTurnOf first others (Further next list) = (declared_by next < first) × (declared_by next + declared_in list.items ≡ first + others)
-IsTurnOf first others (Done left) = declared_in left.items < first + others
+abbrev pub IsCountingTurnOf : ℕ → ℕ → Turn → Type 0
+IsCountingTurnOf first others (Further next list) = (declared_by next < first) × (declared_by next + declared_in list.items ≡ first + others)
+IsCountingTurnOf first others (Done left) = declared_in left.items < first + others

@@ -2,8 +2,8 @@
 -- their own root. The parts of a node are one deeper than it. Brackets and `of` are no nodes. A `choice` and a `par` are
 -- no nodes either, but each name that they declare is one, placed at that name, the first outermost.
 use Rattle.std.specs.Prelude.{ℕ, ◌+◌, nat_lt, cond, List, [], ◌∷◌, ◌++◌, flat_map, Option, Some, None, length}
-use Rattle.term_algebra.specs.Equation.{Place}
-use Rattle.term_algebra.specs.Signature.{Form, prefix_form, infix_form}
+use Rattle.lotos_base.specs.Equation.{Place}
+use Rattle.lotos_base.specs.Signature.{Form, prefix_form, infix_form}
 use Rattle.lotos_base.specs.WrittenTerm.{WrittenTerm, WrittenTerms, written, no_written, written_then}
 use Rattle.syntax_trees.specs.WrittenVariable.{WrittenVariable}
 use Rattle.syntax_trees.specs.WrittenEquation.{WrittenPremiss, WrittenEquation, WrittenGroup, WrittenEquations}

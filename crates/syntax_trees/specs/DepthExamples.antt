@@ -1,7 +1,7 @@
 -- The depths of some small trees.
 use Rattle.std.specs.Prelude.{◌≡◌, ℕ, List, [], ◌∷◌, Option, Some, None, map}
-use Rattle.term_algebra.specs.Equation.{Place}
-use Rattle.term_algebra.specs.Signature.{Form, prefix_form, infix_form}
+use Rattle.lotos_base.specs.Equation.{Place}
+use Rattle.lotos_base.specs.Signature.{Form, prefix_form, infix_form}
 use Rattle.lotos_base.specs.WrittenTerm.{WrittenTerm, written, written_terms}
 use Rattle.syntax_trees.specs.WrittenVariable.{WrittenVariable}
 use Rattle.syntax_trees.specs.WrittenBehaviour.{WrittenBehaviour, choice_sign, stop, inner_action, choose_value, binary}

@@ -2,7 +2,7 @@
 -- whatever depth the trees stand: so trees need not be made to find it.
 use Rattle.std.specs.Prelude.{ℕ, List, [], ◌∷◌, ◌++◌, Option, Some, None, length, drop, slice_get}
 use Rattle.std.specs.Option.{option_or}
-use Rattle.term_algebra.specs.Equation.{Place}
+use Rattle.lotos_base.specs.Equation.{Place}
 
 -- The place with the index d is that of the first node that stands d or more below the root; past the list it is `rest`, which
 -- is the place of a node that is too deep wherever the root stands, as in a term inside a behaviour.

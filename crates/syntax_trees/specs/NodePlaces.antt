@@ -1,6 +1,6 @@
 -- Where the nodes of a tree stand: a binary behaviour at its sign, every other form at its first token, a term at the
 -- name of its operation or variable.
-use Rattle.term_algebra.specs.Equation.{Place}
+use Rattle.lotos_base.specs.Equation.{Place}
 use Rattle.lotos_base.specs.WrittenTerm.{WrittenTerm, written_head}
 use Rattle.syntax_trees.specs.WrittenBehaviour.{WrittenBehaviour, stop, exit, call, action, inner_action, guard, hide, let_be, choose_value, choose_gate, par_gate, binary}
 

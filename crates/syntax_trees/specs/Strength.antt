@@ -1,6 +1,6 @@
 -- Signs at their places, how strongly they bind, and what they make of two behaviours.
 use Rattle.std.specs.Prelude.{ℕ}
-use Rattle.term_algebra.specs.Equation.{Place}
+use Rattle.lotos_base.specs.Equation.{Place}
 use Rattle.syntax_trees.specs.WrittenBehaviour.{WrittenSign, choice_sign, interleaving, full_synchronisation, synchronising, disabling, enabling, WrittenBehaviour, binary}
 
 -- a sign with its place

@@ -1,8 +1,8 @@
 -- The first nodes of terms and of behaviours from each depth on. The terms in a behaviour count from their own roots, so
 -- what is too deep in them is so wherever the behaviour stands.
 use Rattle.std.specs.Prelude.{ℕ, List, [], ◌∷◌, ◌++◌, map, flat_map}
-use Rattle.term_algebra.specs.Equation.{Place}
-use Rattle.term_algebra.specs.Signature.{Form, prefix_form, infix_form}
+use Rattle.lotos_base.specs.Equation.{Place}
+use Rattle.lotos_base.specs.Signature.{Form, prefix_form, infix_form}
 use Rattle.lotos_base.specs.WrittenTerm.{WrittenTerm, WrittenTerms, written, no_written, written_then}
 use Rattle.syntax_trees.specs.WrittenBehaviour.{WrittenBehaviour, stop, exit, call, action, inner_action, guard, hide, let_be, choose_value, choose_gate, par_gate, binary}
 use Rattle.syntax_trees.specs.Depth.{first_deeper, nodes_of_term, nodes_of_terms, nodes_of_premiss, nodes_of_maybe_premiss, nodes_of_offer, nodes_of_exit_value}

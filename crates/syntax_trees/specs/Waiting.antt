@@ -17,9 +17,9 @@ pub record Takes {W S A : Type 0} (binds : W → ℕ) (view : W → S × A) (joi
   pub tree_is : tree ≡ closed join (map view taken) first
 
 -- each of the signs binds more strongly than those before it
-abbrev pub Rises : {W : Type 0} → (W → ℕ) → List W → Type 0
-Rises binds [] = Unit {0}
-Rises binds (first ∷ waiting) = All (λ later. binds first < binds later) waiting × Rises binds waiting
+abbrev pub StrengthRises : {W : Type 0} → (W → ℕ) → List W → Type 0
+StrengthRises binds [] = Unit {0}
+StrengthRises binds (first ∷ waiting) = All (λ later. binds first < binds later) waiting × StrengthRises binds waiting
 
 -- further operands in front of what is grouped so far, each with the sign behind it
 abbrev pub grouped_onto : {A S : Type 0} → (S → ℕ) → (S → A → A → A) → List A → List S → Leftmost A S → Leftmost A S

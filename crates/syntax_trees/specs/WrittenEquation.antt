@@ -1,6 +1,6 @@
 -- Equations and premisses as they are written.
 use Rattle.std.specs.Prelude.{ℕ, List, Option}
-use Rattle.term_algebra.specs.Equation.{Place}
+use Rattle.lotos_base.specs.Equation.{Place}
 use Rattle.lotos_base.specs.WrittenTerm.{WrittenTerm}
 use Rattle.syntax_trees.specs.WrittenVariable.{WrittenVariable}
 

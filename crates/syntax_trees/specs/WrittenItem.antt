@@ -1,7 +1,7 @@
 -- Data types of ACT ONE and mentions of libraries as they are written.
 use Rattle.std.specs.Prelude.{ℕ, List}
-use Rattle.term_algebra.specs.Equation.{Place}
-use Rattle.term_algebra.specs.Signature.{Form}
+use Rattle.lotos_base.specs.Equation.{Place}
+use Rattle.lotos_base.specs.Signature.{Form}
 use Rattle.lotos_base.specs.WrittenTerm.{PlacedName}
 use Rattle.syntax_trees.specs.WrittenEquation.{WrittenEquations}
 

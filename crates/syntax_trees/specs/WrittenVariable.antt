@@ -1,6 +1,6 @@
 -- Variables as they are written: each with its sort, also where several share one.
 use Rattle.std.specs.Prelude.{ℕ, List}
-use Rattle.term_algebra.specs.Equation.{Place}
+use Rattle.lotos_base.specs.Equation.{Place}
 
 -- a variable at its place, with its sort and the place of the sort
 pub record WrittenVariable : Type 0 where

@@ -1,7 +1,7 @@
 //! The drop of a specification by a loop. It takes no memory: the lists that are still to be dropped hang in one another.
 
 ghost use Rattle.std.specs.Prelude.{◌≡◌, ◌+◌, ◌<◌};
-ghost use Rattle.syntax_trees.specs.Counting.{IsTurnOf, declared_by, declared_by_process, declared_in};
+ghost use Rattle.syntax_trees.specs.Counting.{IsCountingTurnOf, declared_by, declared_by_process, declared_in};
 
 use crate::{InnerText, ProcessText, SpecText};
 use std::mem;
@@ -45,7 +45,7 @@ fn exchanged(process: ProcessText, inner: Vec<InnerText>) -> (InnerText, Vec<Inn
 /// Drops a process that declares nothing, or behind which nothing is left. Any other takes the declarations behind it for
 /// its own, and stands where its own first one stood, which is next.
 fn turned(process: ProcessText, others: Vec<InnerText>) -> Turn
-    ensures { IsTurnOf (declared_by_process process) (declared_in others.items) result }
+    ensures { IsCountingTurnOf (declared_by_process process) (declared_in others.items) result }
 {
     if process.inner.is_empty() {
         return Turn::Done(others);

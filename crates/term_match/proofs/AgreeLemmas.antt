@@ -3,14 +3,14 @@ use Rattle.std.proofs.Common.{◌≡◌, ℕ, List, [], ◌∷◌, Bool, true, f
 use Rattle.std.specs.Prelude.{◌⊎◌, ◌||◌, if◌then◌else◌, Some, slice_get}
 use Rattle.std.proofs.lemmas.Option.{same_Some}
 use Rattle.std.proofs.lemmas.Bool.Decides.{Decides-eqb}
-use Rattle.term_algebra.specs.Signature.{Signature, Operation}
-use Rattle.term_algebra.specs.Term.{variable, node, term_then}
-use Rattle.term_algebra.specs.Sorting.{Occurs, OccursAmong}
-use Rattle.term_algebra.specs.Substitution.{Substitution, substituted, all_substituted}
+use Rattle.lotos_base.specs.Signature.{Signature, Operation}
+use Rattle.lotos_base.specs.Term.{variable, node, term_then}
+use Rattle.lotos_base.specs.Sorting.{Occurs, OccursAmong}
+use Rattle.lotos_base.specs.Substitution.{Substitution, substituted, all_substituted}
 use Rattle.rewriting_theory.proofs.UnifyLemmas.{no_occurring_unifier}
 use Rattle.sort_terms.specs.ProfiledTerm.{ProfiledTerm, ProfiledTerms, profiled_variable, profiled_node, no_profiled_terms, profiled_term_then, bare, all_bare, head_sort, FitsProfiles, FitArguments, IsOf, AreOf}
 use Rattle.term_match.proofs.MatchLemmas.{All, IsInherited}
-use Rattle.term_match.specs.Disagreement.{Disagreement, agreed, clashing, binds, has_number, have_number, is_number, against, or_else, disagreement, disagreements}
+use Rattle.term_match.specs.Disagreement.{TermDisagreement, agreed, clashing, binds, has_number, have_number, is_number, against, or_else, disagreement, disagreements}
 
 -- ---- Numbers that stand in terms
 
@@ -91,28 +91,28 @@ against_clashing n s t e = go (is_number n t) (has_number n t) refl refl e
 
 -- ---- Lists
 
-or_bound : (d e : Disagreement) (n s : ℕ) (t : ProfiledTerm) → or_else d e ≡ binds n s t
+or_bound : (d e : TermDisagreement) (n s : ℕ) (t : ProfiledTerm) → or_else d e ≡ binds n s t
     → (d ≡ binds n s t) ⊎ ((d ≡ agreed) × (e ≡ binds n s t))
 or_bound agreed e n s t h = inr (refl, h)
 or_bound clashing e n s t h = cc
 or_bound (binds m r u) e n s t h = inl h
 
-or_agreed : (d e : Disagreement) → or_else d e ≡ agreed → (d ≡ agreed) × (e ≡ agreed)
+or_agreed : (d e : TermDisagreement) → or_else d e ≡ agreed → (d ≡ agreed) × (e ≡ agreed)
 or_agreed agreed e h = (refl, h)
 or_agreed clashing e h = cc
 or_agreed (binds m r u) e h = cc
 
-or_clashing : (d e : Disagreement) → or_else d e ≡ clashing → (d ≡ clashing) ⊎ (e ≡ clashing)
+or_clashing : (d e : TermDisagreement) → or_else d e ≡ clashing → (d ≡ clashing) ⊎ (e ≡ clashing)
 or_clashing agreed e h = inr h
 or_clashing clashing e h = inl refl
 or_clashing (binds m r u) e h = cc
 
-if_bound : (b : Bool) (d : Disagreement) (n s : ℕ) (t : ProfiledTerm) → (if b then d else clashing) ≡ binds n s t
+if_bound : (b : Bool) (d : TermDisagreement) (n s : ℕ) (t : ProfiledTerm) → (if b then d else clashing) ≡ binds n s t
     → (b ≡ true) × (d ≡ binds n s t)
 if_bound true d n s t h = (refl, h)
 if_bound false d n s t h = cc
 
-if_agreed : (b : Bool) (d : Disagreement) → (if b then d else clashing) ≡ agreed → (b ≡ true) × (d ≡ agreed)
+if_agreed : (b : Bool) (d : TermDisagreement) → (if b then d else clashing) ≡ agreed → (b ≡ true) × (d ≡ agreed)
 if_agreed true d h = (refl, h)
 if_agreed false d h = cc
 

@@ -4,13 +4,13 @@ use Rattle.std.specs.Prelude.{◌⊎◌, if◌then◌else◌, Some, None, slice_
 use Rattle.std.proofs.lemmas.Option.{same_Some}
 use Rattle.std.proofs.lemmas.List.{map-append}
 use Rattle.std.proofs.lemmas.Bool.Decides.{Decides-eqb}
-use Rattle.term_algebra.specs.Term.{Term, variable, node, Terms, no_terms, term_then}
-use Rattle.term_algebra.specs.Sorting.{Occurs}
-use Rattle.term_algebra.specs.Substitution.{substituted, all_substituted, renaming, is_listed}
-use Rattle.term_algebra.proofs.SubstitutionLemmas.{substituted_occurs}
+use Rattle.lotos_base.specs.Term.{Term, variable, node, Terms, no_terms, term_then}
+use Rattle.lotos_base.specs.Sorting.{Occurs}
+use Rattle.lotos_base.specs.Substitution.{substituted, all_substituted, renaming, is_listed}
+use Rattle.lotos_base.proofs.SubstitutionLemmas.{substituted_occurs}
 use Rattle.rewriting_theory.specs.Numbering.{variable_numbers, all_variable_numbers, IsByAppearance}
 use Rattle.rewriting_theory.proofs.PlaceListLemmas.{IsIn}
-use Rattle.term_match.specs.Numbers.{AreDistinct}
+use Rattle.term_match.specs.Numbers.{AreDistinctNumbers}
 use Rattle.term_match.specs.Appearance.{noted, appearances, counted}
 use Rattle.term_match.specs.Renumbering.{new_number, old_numbers, new_numbers}
 use Rattle.term_match.specs.NewNumbers.{IsByFirstAppearance}
@@ -71,7 +71,7 @@ counted_news k [] i v e = let none : None ≡ Some v = e in cc
 counted_news k (n ∷ ns) zero v e = let same : k ≡ v = same_Some k v e in omega (arith, same)
 counted_news k (n ∷ ns) (suc i) v e = let rest = counted_news (suc k) ns i v e in omega (arith, rest)
 
-counted_distinct : (ns : List ℕ) → AreDistinct (new_numbers (counted 0 ns))
+counted_distinct : (ns : List ℕ) → AreDistinctNumbers (new_numbers (counted 0 ns))
 counted_distinct ns i j n e d =
     let one = counted_news 0 ns i n e in
     let two = counted_news 0 ns j n d in

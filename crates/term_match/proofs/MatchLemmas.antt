@@ -3,17 +3,17 @@ use Rattle.std.proofs.Common.{◌≡◌, ℕ, zero, suc, List, [], ◌∷◌, �
 use Rattle.std.specs.Prelude.{Option, Some, None, slice_get, if◌then◌else◌}
 use Rattle.std.proofs.lemmas.Option.{same_Some}
 use Rattle.std.proofs.lemmas.Bool.Decides.{Decides-eqb}
-use Rattle.term_algebra.specs.Signature.{Signature, Operation}
-use Rattle.term_algebra.specs.Sorting.{Occurs, OccursAmong}
-use Rattle.term_algebra.specs.Substitution.{binding}
-use Rattle.term_algebra.specs.Tests.{term_eq}
+use Rattle.lotos_base.specs.Signature.{Signature, Operation}
+use Rattle.lotos_base.specs.Sorting.{Occurs, OccursAmong}
+use Rattle.lotos_base.specs.Substitution.{binding}
+use Rattle.lotos_base.specs.Tests.{term_eq}
 use Rattle.sort_terms.specs.ProfiledTerm.{ProfiledTerm, ProfiledTerms, profiled_variable, profiled_node, no_profiled_terms, profiled_term_then, bare, all_bare, FitsProfiles, FitArguments, IsOf, AreOf}
 use Rattle.sort_terms.specs.declared.sorted.Sorted.{Sorted}
 use Rattle.term_match.specs.SubstView.{profiled_pairs}
 use Rattle.term_match.specs.ProfiledInstance.{bare_pairs}
-use Rattle.term_match.specs.Numbers.{AreDistinct}
+use Rattle.term_match.specs.Numbers.{AreDistinctNumbers}
 use Rattle.term_match.specs.Search.{looked_up, bound, searched, all_searched}
-use Rattle.term_match.specs.Matched.{HasOneSortPerNumber, HasMatch, IsPair, NumberOccurs, IsMatchedBy}
+use Rattle.term_match.specs.Matched.{TermHasOneSortPerNumber, HasMatch, IsPair, NumberOccurs, IsMatchedBy}
 use Rattle.term_match.proofs.PathLemmas.{and_then_some}
 use Rattle.term_match.proofs.DistinctLemmas.{IsAbsent, distinct_more}
 use Rattle.term_match.proofs.SearchLemmas.{Pairs, if_some, all_search_extends, search_sound, search_complete, binding_agrees, found_last}
@@ -41,13 +41,13 @@ not_found_absent n (pair ∷ pairs) e i h = go (nat_eq pair.0 n) refl e i h (λ 
     go false test d (suc k) f rest = rest d k f
 
 bound_distinct : (n : ℕ) (t : ProfiledTerm) (found more : Pairs) (o : Option ProfiledTerm) → looked_up n found ≡ o
-    → bound n t found o ≡ Some more → AreDistinct (numbers_of found) → AreDistinct (numbers_of more)
+    → bound n t found o ≡ Some more → AreDistinctNumbers (numbers_of found) → AreDistinctNumbers (numbers_of more)
 bound_distinct n t found more None is e distinct =
-    subst (λ (p : Pairs). AreDistinct (numbers_of p)) (same_Some _ _ e)
-    (subst (λ (ns : List ℕ). AreDistinct ns) (sym (numbers_of-append n t found))
+    subst (λ (p : Pairs). AreDistinctNumbers (numbers_of p)) (same_Some _ _ e)
+    (subst (λ (ns : List ℕ). AreDistinctNumbers ns) (sym (numbers_of-append n t found))
     (distinct_more n (numbers_of found) distinct (not_found_absent n found is)))
 bound_distinct n t found more (Some u) is e distinct =
-    subst (λ (p : Pairs). AreDistinct (numbers_of p)) (if_some (term_eq (bare u) (bare t)) found more e).1 distinct
+    subst (λ (p : Pairs). AreDistinctNumbers (numbers_of p)) (if_some (term_eq (bare u) (bare t)) found more e).1 distinct
 
 -- what a test lets through
 pub if_through : (b : Bool) (o : Option Pairs) (y : Pairs) → (if b then o else None) ≡ Some y → o ≡ Some y
@@ -56,16 +56,16 @@ if_through false o y e = cc
 
 mutual
   search_distinct : (l t : ProfiledTerm) (found more : Pairs) → searched l t found ≡ Some more
-      → AreDistinct (numbers_of found) → AreDistinct (numbers_of more)
+      → AreDistinctNumbers (numbers_of found) → AreDistinctNumbers (numbers_of more)
   search_distinct (profiled_variable n s) t found more e distinct = bound_distinct n t found more (looked_up n found) refl e distinct
   search_distinct (profiled_node f operation ls) (profiled_variable m r) found more e distinct = cc
   search_distinct (profiled_node f operation ls) (profiled_node g other ts) found more e distinct =
       all_search_distinct ls ts found more (if_through (nat_eq f g) (all_searched ls ts found) more e) distinct
 
   all_search_distinct : (ls ts : ProfiledTerms) (found more : Pairs) → all_searched ls ts found ≡ Some more
-      → AreDistinct (numbers_of found) → AreDistinct (numbers_of more)
+      → AreDistinctNumbers (numbers_of found) → AreDistinctNumbers (numbers_of more)
   all_search_distinct no_profiled_terms no_profiled_terms found more e distinct =
-      subst (λ (p : Pairs). AreDistinct (numbers_of p)) (same_Some _ _ e) distinct
+      subst (λ (p : Pairs). AreDistinctNumbers (numbers_of p)) (same_Some _ _ e) distinct
   all_search_distinct no_profiled_terms (profiled_term_then t ts) found more e distinct = cc
   all_search_distinct (profiled_term_then l ls) no_profiled_terms found more e distinct = cc
   all_search_distinct (profiled_term_then l ls) (profiled_term_then t ts) found more e distinct =
@@ -197,7 +197,7 @@ search_is_match pattern t pairs e = record {
     everything no_profiled_terms = tt
     everything (profiled_term_then u us) = (tt, everything us)
 
-pub search_is_distinct : (pattern t : ProfiledTerm) (pairs : Pairs) → searched pattern t [] ≡ Some pairs → AreDistinct (numbers_of pairs)
+pub search_is_distinct : (pattern t : ProfiledTerm) (pairs : Pairs) → searched pattern t [] ≡ Some pairs → AreDistinctNumbers (numbers_of pairs)
 search_is_distinct pattern t pairs e = search_distinct pattern t [] pairs e (λ i j n h d. cc)
 
 pub search_fits : (pattern t : ProfiledTerm) (pairs : Pairs) → searched pattern t [] ≡ Some pairs → FitsProfiles t
@@ -207,7 +207,7 @@ search_fits pattern t pairs e fits n u is =
     (search_keeps FitsProfiles (λ m. Unit {0}) fits_inherited pattern t [] pairs e fits (λ m s o. tt)
     (λ m v none. let k : None ≡ Some (m, v) = none.1 in cc) n u is).0
 
-pub no_search_no_match : (pattern t : ProfiledTerm) → HasOneSortPerNumber (bare pattern) → searched pattern t [] ≡ None
+pub no_search_no_match : (pattern t : ProfiledTerm) → TermHasOneSortPerNumber (bare pattern) → searched pattern t [] ≡ None
     → ¬ HasMatch pattern t
 no_search_no_match pattern t one e found =
     let there = search_complete (bare pattern) found.1.0 one pattern t [] (λ n s o. o) found.1.1 (λ n s u o h. cc) in

@@ -3,15 +3,15 @@ use Rattle.std.proofs.Common.{◌≡◌, ◌≤◌, ◌<◌, ◌+◌, ℕ, zero,
 use Rattle.std.specs.Prelude.{if◌then◌else◌, Some, slice_get}
 use Rattle.std.proofs.lemmas.Option.{same_Some}
 use Rattle.std.proofs.lemmas.Bool.Decides.{Decides-eqb}
-use Rattle.term_algebra.specs.Term.{Term, variable, node, Terms, no_terms, term_then}
-use Rattle.term_algebra.specs.Sorting.{Occurs, OccursAmong}
-use Rattle.term_algebra.specs.Substitution.{substituted, renaming, is_listed}
+use Rattle.lotos_base.specs.Term.{Term, variable, node, Terms, no_terms, term_then}
+use Rattle.lotos_base.specs.Sorting.{Occurs, OccursAmong}
+use Rattle.lotos_base.specs.Substitution.{substituted, renaming, is_listed}
 use Rattle.rewriting_theory.specs.Numbering.{variable_numbers, all_variable_numbers}
 use Rattle.rewriting_theory.proofs.PlaceListLemmas.{IsIn, in_left, in_right}
 use Rattle.sort_terms.specs.ProfiledTerm.{ProfiledTerm, bare, FitsProfiles}
 use Rattle.sort_terms.specs.TermView.{terms_of, term_of}
 use Rattle.sort_terms.specs.declared.terms.Term.{Term as CodeTerm}
-use Rattle.term_match.specs.Numbers.{AreDistinct}
+use Rattle.term_match.specs.Numbers.{AreDistinctNumbers}
 use Rattle.term_match.specs.ProfiledInstance.{profiled_instance}
 use Rattle.term_match.proofs.InstanceLemmas.{instance_bare, instance_fits}
 use Rattle.term_match.specs.Appearance.{noted, appearances}
@@ -133,7 +133,7 @@ new_at (pair ∷ pairs) zero n k e = ap (λ (m : ℕ). Some m) (ap (λ (p : ℕ 
 new_at (pair ∷ pairs) (suc i) n k e = new_at pairs i n k e
 
 -- different new numbers tell the variables apart that have a pair
-pub distinct_tells : (pairs : List (ℕ × ℕ)) → AreDistinct (new_numbers pairs) → (n r m s : ℕ) → IsIn n (old_numbers pairs)
+pub distinct_tells : (pairs : List (ℕ × ℕ)) → AreDistinctNumbers (new_numbers pairs) → (n r m s : ℕ) → IsIn n (old_numbers pairs)
     → IsIn m (old_numbers pairs) → new_number pairs n r ≡ new_number pairs m s → n ≡ m
 distinct_tells pairs distinct n r m s one two same =
     let first = given pairs n r one in

@@ -6,9 +6,9 @@ use Rattle.std.specs.declared.rc.Rc.{Rc}
 use Rattle.std.proofs.Math.Seq.{take-length}
 use Rattle.std.proofs.lemmas.Option.{same_Some}
 use Rattle.std.proofs.lemmas.Bool.Decides.{Decides-eqb}
-use Rattle.term_algebra.specs.Signature.{Signature, Operation}
-use Rattle.term_algebra.specs.Term.{Term as PlainTerm, node, term_then}
-use Rattle.term_algebra.specs.Path.{argument_at, with_argument, subterm, put_at}
+use Rattle.lotos_base.specs.Signature.{Signature, Operation}
+use Rattle.lotos_base.specs.Term.{Term as PlainTerm, node, term_then}
+use Rattle.lotos_base.specs.Path.{argument_at, with_argument, subterm, put_at}
 use Rattle.sort_terms.specs.Operations.{operation_of}
 use Rattle.sort_terms.specs.ProfiledTerm.{ProfiledTerm, ProfiledTerms, profiled_variable, profiled_node, no_profiled_terms, profiled_term_then, bare, all_bare, head_sort, FitsProfiles, FitArguments, IsOf, AreOf}
 use Rattle.sort_terms.specs.TermView.{profiled_of, all_profiled}

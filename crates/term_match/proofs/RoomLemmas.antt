@@ -3,11 +3,11 @@ use Rattle.std.proofs.Common.{◌≡◌, ◌≤◌, ◌<◌, ℕ, zero, suc, Lis
 use Rattle.std.specs.Prelude.{if◌then◌else◌, Some}
 use Rattle.std.proofs.lemmas.Option.{same_Some}
 use Rattle.std.proofs.lemmas.Bool.Decides.{Decides-eqb}
-use Rattle.term_algebra.specs.Term.{Term, variable, node, Terms, no_terms, term_then}
-use Rattle.term_algebra.specs.Sorting.{Occurs, OccursAmong}
+use Rattle.lotos_base.specs.Term.{Term, variable, node, Terms, no_terms, term_then}
+use Rattle.lotos_base.specs.Sorting.{Occurs, OccursAmong}
 use Rattle.rewriting_theory.specs.Numbering.{variable_numbers, all_variable_numbers}
 use Rattle.rewriting_theory.proofs.PlaceListLemmas.{IsIn, in_left, in_right}
-use Rattle.term_match.specs.Numbers.{AreDistinct}
+use Rattle.term_match.specs.Numbers.{AreDistinctNumbers}
 use Rattle.term_match.proofs.DistinctLemmas.{IsAbsent}
 
 -- the list without a number
@@ -44,12 +44,12 @@ left_out_keeps n k (m ∷ ms) is differ = go (nat_eq m n) refl is (λ later. lef
     go false e (inl at) later = inl at
     go false e (inr at) later = inr (later at)
 
-pub distinct_rest : (m : ℕ) (numbers : List ℕ) → AreDistinct (m ∷ numbers) → AreDistinct numbers
+pub distinct_rest : (m : ℕ) (numbers : List ℕ) → AreDistinctNumbers (m ∷ numbers) → AreDistinctNumbers numbers
 distinct_rest m numbers distinct i j n e d =
     let same : suc i ≡ suc j = distinct (suc i) (suc j) n e d in
     omega (arith, same)
 
-pub first_absent : (m : ℕ) (numbers : List ℕ) → AreDistinct (m ∷ numbers) → IsAbsent m numbers
+pub first_absent : (m : ℕ) (numbers : List ℕ) → AreDistinctNumbers (m ∷ numbers) → IsAbsent m numbers
 first_absent m numbers distinct i e =
     let same : zero ≡ suc i = distinct zero (suc i) m refl e in
     omega (arith, same)
@@ -65,7 +65,7 @@ in_not_absent k [] is absent = is
 in_not_absent k (m ∷ ms) (inl at) absent = absent zero (ap (λ (j : ℕ). Some j) at)
 in_not_absent k (m ∷ ms) (inr at) absent = in_not_absent k ms at (λ i. absent (suc i))
 
-pub distinct_fits : (ns zs : List ℕ) → AreDistinct ns → ((n : ℕ) → IsIn n ns → IsIn n zs) → length ns ≤ length zs
+pub distinct_fits : (ns zs : List ℕ) → AreDistinctNumbers ns → ((n : ℕ) → IsIn n ns → IsIn n zs) → length ns ≤ length zs
 distinct_fits [] zs distinct inside = omega arith
 distinct_fits (n ∷ ns) zs distinct inside =
     let absent = first_absent n ns distinct in

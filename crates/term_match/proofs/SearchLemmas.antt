@@ -4,18 +4,18 @@ use Rattle.std.specs.Prelude.{◌⊎◌, Option, Some, None, slice_get, if◌the
 use Rattle.std.specs.Option.{option_and_then}
 use Rattle.std.proofs.lemmas.Option.{same_Some}
 use Rattle.std.proofs.lemmas.Bool.Decides.{Decides-eqb}
-use Rattle.term_algebra.specs.Term.{Term, node, term_then}
-use Rattle.term_algebra.specs.Sorting.{Occurs, OccursAmong}
-use Rattle.term_algebra.specs.Substitution.{Substitution, substituted, all_substituted, binding}
-use Rattle.term_algebra.specs.Tests.{term_eq}
-use Rattle.term_algebra.proofs.TestLemmas.{Decides-term_eq}
+use Rattle.lotos_base.specs.Term.{Term, node, term_then}
+use Rattle.lotos_base.specs.Sorting.{Occurs, OccursAmong}
+use Rattle.lotos_base.specs.Substitution.{Substitution, substituted, all_substituted, binding}
+use Rattle.lotos_base.specs.Tests.{term_eq}
+use Rattle.lotos_base.proofs.TestLemmas.{Decides-term_eq}
 use Rattle.sort_terms.specs.ProfiledTerm.{ProfiledTerm, ProfiledTerms, profiled_variable, profiled_node, no_profiled_terms, profiled_term_then, bare, all_bare}
 use Rattle.sort_terms.specs.TermView.{all_profiled, profiled_of}
 use Rattle.sort_terms.specs.declared.terms.Term.{Term as CodeTerm}
 use Rattle.term_match.specs.FoundView.{found_pair, found_pairs}
 use Rattle.term_match.specs.ProfiledInstance.{bare_pairs}
 use Rattle.term_match.specs.Search.{looked_up, bound, searched, all_searched}
-use Rattle.term_match.specs.Matched.{HasOneSortPerNumber}
+use Rattle.term_match.specs.Matched.{TermHasOneSortPerNumber}
 use Rattle.term_match.proofs.PathLemmas.{and_then_some}
 
 abbrev pub Pairs : Type 0
@@ -147,7 +147,7 @@ abbrev AgreesOn : Term → Substitution → Pairs → Type 0
 AgreesOn whole values pairs = (n s : ℕ) (u : ProfiledTerm) → Occurs n s whole → looked_up n pairs ≡ Some u → values n s ≡ bare u
 
 bound_complete : (whole : Term) (values : Substitution) (n s : ℕ) (t : ProfiledTerm) (found : Pairs) (o : Option ProfiledTerm)
-    → looked_up n found ≡ o → HasOneSortPerNumber whole → Occurs n s whole → values n s ≡ bare t → AgreesOn whole values found
+    → looked_up n found ≡ o → TermHasOneSortPerNumber whole → Occurs n s whole → values n s ≡ bare t → AgreesOn whole values found
     → (more : Pairs) × (bound n t found o ≡ Some more) × AgreesOn whole values more
 bound_complete whole values n s t found None is one o e agrees = (
   found ++ (n, t) ∷ [],
@@ -164,7 +164,7 @@ bound_complete whole values n s t found (Some u) is one o e agrees =
     (found, ap (λ (b : Bool). if b then Some found else None) ((Decides-term_eq (bare u) (bare t)).1 (sym (agrees n s u o is) ∙ e)), agrees)
 
 mutual
-  pub search_complete : (whole : Term) (values : Substitution) → HasOneSortPerNumber whole → (l t : ProfiledTerm) (found : Pairs)
+  pub search_complete : (whole : Term) (values : Substitution) → TermHasOneSortPerNumber whole → (l t : ProfiledTerm) (found : Pairs)
       → ((n s : ℕ) → Occurs n s (bare l) → Occurs n s whole) → substituted values (bare l) ≡ bare t → AgreesOn whole values found
       → (more : Pairs) × (searched l t found ≡ Some more) × AgreesOn whole values more
   search_complete whole values one (profiled_variable n s) t found inside e agrees =
@@ -176,7 +176,7 @@ mutual
       let below = all_search_complete whole values one ls ts found inside arguments agrees in
       (below.0, ap (λ (b : Bool). if b then all_searched ls ts found else None) ((Decides-eqb f g).1 heads) ∙ below.1, below.2)
 
-  pub all_search_complete : (whole : Term) (values : Substitution) → HasOneSortPerNumber whole → (ls ts : ProfiledTerms) (found : Pairs)
+  pub all_search_complete : (whole : Term) (values : Substitution) → TermHasOneSortPerNumber whole → (ls ts : ProfiledTerms) (found : Pairs)
       → ((n s : ℕ) → OccursAmong n s (all_bare ls) → Occurs n s whole) → all_substituted values (all_bare ls) ≡ all_bare ts
       → AgreesOn whole values found → (more : Pairs) × (all_searched ls ts found ≡ Some more) × AgreesOn whole values more
   all_search_complete whole values one no_profiled_terms no_profiled_terms found inside e agrees = (found, refl, agrees)

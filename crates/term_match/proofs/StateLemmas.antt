@@ -4,16 +4,16 @@ use Rattle.std.proofs.Common.{◌≡◌, ℕ, zero, suc, List, [], ◌∷◌, �
 use Rattle.std.specs.Prelude.{◌⊎◌, if◌then◌else◌, Some, None}
 use Rattle.std.proofs.lemmas.Option.{same_Some}
 use Rattle.std.proofs.lemmas.Bool.Decides.{Decides-eqb}
-use Rattle.term_algebra.specs.Signature.{Signature, IsSort}
-use Rattle.term_algebra.specs.Term.{Term}
-use Rattle.term_algebra.specs.Sorting.{Occurs, OccursAmong}
-use Rattle.term_algebra.specs.Substitution.{Substitution, substituted, followed_by, binding}
-use Rattle.term_algebra.proofs.SubstitutionLemmas.{substituted_occurs, substituted_twice, substituted_agree}
+use Rattle.lotos_base.specs.Signature.{Signature, IsSort}
+use Rattle.lotos_base.specs.Term.{Term}
+use Rattle.lotos_base.specs.Sorting.{Occurs, OccursAmong}
+use Rattle.lotos_base.specs.Substitution.{Substitution, substituted, followed_by, binding}
+use Rattle.lotos_base.proofs.SubstitutionLemmas.{substituted_occurs, substituted_twice, substituted_agree}
 use Rattle.rewriting_theory.specs.Unification.{IsUnifier, OccursInEither}
 use Rattle.sort_terms.specs.ProfiledTerm.{ProfiledTerm, ProfiledTerms, profiled_variable, profiled_node, no_profiled_terms, profiled_term_then, bare, all_bare, head_sort, IsOf, AreOf}
 use Rattle.term_match.specs.ProfiledInstance.{ProfiledSubstitution, profiled_instance, profiled_instances, profiled_binding, bare_pairs}
 use Rattle.term_match.specs.Matched.{IsPair}
-use Rattle.term_match.specs.Numbers.{AreDistinct}
+use Rattle.term_match.specs.Numbers.{AreDistinctNumbers}
 use Rattle.term_match.proofs.DistinctLemmas.{IsAbsent}
 use Rattle.term_match.proofs.MatchLemmas.{All, IsInherited, numbers_of}
 use Rattle.term_match.proofs.InstanceLemmas.{instance_by_pairs, instance_of}
@@ -179,7 +179,7 @@ pub record IsSolving (left right : ProfiledTerm) (pairs : Pairs) (l r : Profiled
   pub is_left : l ≡ profiled_instance (profiled_binding pairs) left
   pub is_right : r ≡ profiled_instance (profiled_binding pairs) right
   pub heads : head_sort l ≡ head_sort r
-  pub distinct : AreDistinct (numbers_of pairs)
+  pub distinct : AreDistinctNumbers (numbers_of pairs)
   pub sorts : (n : ℕ) (u : ProfiledTerm) → IsPair pairs n u → OccursInEither (bare left) (bare right) n (head_sort u)
   pub inside : (n s m q : ℕ) → OccursInEither (bare left) (bare right) n s → Occurs m q (values_of pairs n s)
       → OccursInEither (bare left) (bare right) m q
@@ -270,7 +270,7 @@ pub value_of_pair : {left right l r : ProfiledTerm} {pairs : Pairs} → IsSolvin
     → IsPair pairs n u → (s : ℕ) → profiled_binding pairs n s ≡ u
 value_of_pair {pairs = pairs} is n u at s = go pairs is.distinct at
   where
-    go : (ps : Pairs) → AreDistinct (numbers_of ps) → IsPair ps n u → profiled_binding ps n s ≡ u
+    go : (ps : Pairs) → AreDistinctNumbers (numbers_of ps) → IsPair ps n u → profiled_binding ps n s ≡ u
     go [] distinct there = let none : None ≡ Some (n, u) = there.1 in cc
     go (pair ∷ ps) distinct (zero, e) =
         let same : pair ≡ (n, u) = same_Some pair (n, u) e in

@@ -3,11 +3,11 @@ use Rattle.std.proofs.Common.{◌≡◌, ◌≤◌, ◌<◌, ◌-◌, ℕ, zero,
 use Rattle.std.specs.Prelude.{◌⊎◌, if◌then◌else◌, Some, None, slice_get}
 use Rattle.std.proofs.lemmas.Option.{same_Some}
 use Rattle.std.proofs.lemmas.Bool.Decides.{Decides-eqb}
-use Rattle.term_algebra.specs.Signature.{Signature}
-use Rattle.term_algebra.specs.Term.{Term}
-use Rattle.term_algebra.specs.Sorting.{Occurs}
-use Rattle.term_algebra.specs.Substitution.{Substitution, substituted, followed_by}
-use Rattle.term_algebra.proofs.SubstitutionLemmas.{substituted_occurs, substituted_twice, substituted_agree}
+use Rattle.lotos_base.specs.Signature.{Signature}
+use Rattle.lotos_base.specs.Term.{Term}
+use Rattle.lotos_base.specs.Sorting.{Occurs}
+use Rattle.lotos_base.specs.Substitution.{Substitution, substituted, followed_by}
+use Rattle.lotos_base.proofs.SubstitutionLemmas.{substituted_occurs, substituted_twice, substituted_agree}
 use Rattle.rewriting_theory.specs.Numbering.{variable_numbers}
 use Rattle.rewriting_theory.specs.Unification.{IsUnifier, OccursInEither}
 use Rattle.rewriting_theory.proofs.PlaceListLemmas.{IsIn, in_left, in_right}
@@ -17,11 +17,11 @@ use Rattle.sort_terms.specs.SortedView.{profiled_in}
 use Rattle.sort_terms.specs.declared.sorted.Sorted.{Sorted}
 use Rattle.term_match.specs.SubstView.{profiled_pairs}
 use Rattle.term_match.specs.Matched.{IsPair}
-use Rattle.term_match.specs.Numbers.{AreDistinct}
+use Rattle.term_match.specs.Numbers.{AreDistinctNumbers}
 use Rattle.term_match.proofs.DistinctLemmas.{IsAbsent, distinct_more}
 use Rattle.term_match.proofs.MatchLemmas.{numbers_of, of_inherited}
 use Rattle.term_match.proofs.InstanceLemmas.{instance_bare, binding_bare}
-use Rattle.term_match.specs.Disagreement.{Disagreement, agreed, clashing, binds, has_number, disagreement}
+use Rattle.term_match.specs.Disagreement.{TermDisagreement, agreed, clashing, binds, has_number, disagreement}
 use Rattle.term_match.specs.Solving.{nothing_more, given_up, put_for, asked, one_binding, bound_pairs}
 use Rattle.term_match.specs.Unified.{HaveOneSortPerNumber, HasUnifier, IsUnifiedBy}
 use Rattle.term_match.proofs.AgreeLemmas.{has_number_true, bound_parts, bound_apart, bound_same, bound_sort, agreed_same, clashing_none}
@@ -36,7 +36,7 @@ record IsDemand (l r : ProfiledTerm) (n : ℕ) (t : ProfiledTerm) : Type 0 where
   is : disagreement l r ≡ binds n sort t
   sorted : head_sort t ≡ sort
 
-asked_put : (d : Disagreement) (n : ℕ) (t : ProfiledTerm) → asked d ≡ put_for n t → (s : ℕ) × (d ≡ binds n s t) × (head_sort t ≡ s)
+asked_put : (d : TermDisagreement) (n : ℕ) (t : ProfiledTerm) → asked d ≡ put_for n t → (s : ℕ) × (d ≡ binds n s t) × (head_sort t ≡ s)
 asked_put agreed n t e = cc
 asked_put clashing n t e = cc
 asked_put (binds m s u) n t e = go (nat_eq (head_sort u) s) refl e
@@ -52,7 +52,7 @@ asked_put (binds m s u) n t e = go (nat_eq (head_sort u) s) refl e
 demanded : (l r : ProfiledTerm) (n : ℕ) (t : ProfiledTerm) → asked (disagreement l r) ≡ put_for n t → IsDemand l r n t
 demanded l r n t e = let found = asked_put (disagreement l r) n t e in record { sort = found.0; is = found.1; sorted = found.2 }
 
-asked_nothing : (d : Disagreement) → asked d ≡ nothing_more → d ≡ agreed
+asked_nothing : (d : TermDisagreement) → asked d ≡ nothing_more → d ≡ agreed
 asked_nothing agreed e = refl
 asked_nothing clashing e = cc
 asked_nothing (binds m s u) e = go (nat_eq (head_sort u) s) e
@@ -61,7 +61,7 @@ asked_nothing (binds m s u) e = go (nat_eq (head_sort u) s) e
     go true h = cc
     go false h = cc
 
-asked_failed : (d : Disagreement) → asked d ≡ given_up
+asked_failed : (d : TermDisagreement) → asked d ≡ given_up
     → (d ≡ clashing) ⊎ ((n : ℕ) × (s : ℕ) × (t : ProfiledTerm) × (d ≡ binds n s t) × (head_sort t ≡ s → ⊥))
 asked_failed agreed e = cc
 asked_failed clashing e = inl refl
@@ -212,7 +212,7 @@ solving_bound left right pairs l r n t single is e =
           ∙ is.heads
           ∙ sym (step_head left right pairs l r n demand.sort t r single step demand.sorted (λ m q o. (right_is_left is m q o).0));
       distinct =
-          subst (λ (ns : List ℕ). AreDistinct ns) (sym (bound_numbers n t pairs))
+          subst (λ (ns : List ℕ). AreDistinctNumbers ns) (sym (bound_numbers n t pairs))
           (distinct_more n (numbers_of pairs) is.distinct step.absent);
       sorts = λ m u at. sorts_after demand.sort step demand.sorted m u (bound_either n t pairs m u at);
       inside = λ k p m q occurs o. (after_value left right pairs l r n demand.sort t is step k p m q occurs o).occurs;

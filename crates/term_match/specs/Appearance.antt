@@ -1,7 +1,7 @@
 -- Numbers by first appearance.
 use Rattle.std.specs.Prelude.{ℕ, suc, List, [], ◌∷◌, ◌++◌, if◌then◌else◌}
-use Rattle.term_algebra.specs.Term.{Term}
-use Rattle.term_algebra.specs.Substitution.{is_listed}
+use Rattle.lotos_base.specs.Term.{Term}
+use Rattle.lotos_base.specs.Substitution.{is_listed}
 use Rattle.rewriting_theory.specs.Numbering.{variable_numbers}
 
 -- The numbers seen before, and after them each further number of the list at its first place.

@@ -3,10 +3,10 @@ use Rattle.std.specs.Prelude.{ℕ, Bool, false, nat_eq, ◌||◌, if◌then◌el
 use Rattle.sort_terms.specs.ProfiledTerm.{ProfiledTerm, ProfiledTerms, profiled_variable, profiled_node, no_profiled_terms, profiled_term_then}
 
 -- Two terms agree, or clash at a place, or have at a place a variable, with its number and sort, and a term without it.
-pub data Disagreement : Type 0 where
-  agreed : Disagreement
-  clashing : Disagreement
-  binds : ℕ → ℕ → ProfiledTerm → Disagreement
+pub data TermDisagreement : Type 0 where
+  agreed : TermDisagreement
+  clashing : TermDisagreement
+  binds : ℕ → ℕ → ProfiledTerm → TermDisagreement
 
 abbrev mutual
   -- Whether a variable with this number stands in the term.
@@ -25,24 +25,24 @@ is_number n (profiled_variable m r) = nat_eq m n
 is_number n (profiled_node f operation ts) = false
 
 -- A variable and a term.
-abbrev pub against : ℕ → ℕ → ProfiledTerm → Disagreement
+abbrev pub against : ℕ → ℕ → ProfiledTerm → TermDisagreement
 against n s t = if is_number n t then agreed else (if has_number n t then clashing else binds n s t)
 
 -- The first one where there is one, else the second one.
-abbrev pub or_else : Disagreement → Disagreement → Disagreement
+abbrev pub or_else : TermDisagreement → TermDisagreement → TermDisagreement
 or_else agreed rest = rest
 or_else clashing rest = clashing
 or_else (binds n s t) rest = binds n s t
 
 abbrev mutual
   -- The first disagreement of two terms.
-  pub disagreement : ProfiledTerm → ProfiledTerm → Disagreement
+  pub disagreement : ProfiledTerm → ProfiledTerm → TermDisagreement
   disagreement (profiled_variable n s) t = against n s t
   disagreement (profiled_node f operation ts) (profiled_variable m r) = against m r (profiled_node f operation ts)
   disagreement (profiled_node f operation ts) (profiled_node g other us) = if nat_eq f g then disagreements ts us else clashing
 
   -- That of the terms of two lists.
-  pub disagreements : ProfiledTerms → ProfiledTerms → Disagreement
+  pub disagreements : ProfiledTerms → ProfiledTerms → TermDisagreement
   disagreements no_profiled_terms no_profiled_terms = agreed
   disagreements no_profiled_terms (profiled_term_then u us) = clashing
   disagreements (profiled_term_then t ts) no_profiled_terms = clashing

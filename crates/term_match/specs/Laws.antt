@@ -1,10 +1,10 @@
 -- Laws of instances, paths and matching over terms with profiles: they forget their profiles, and stay of a signature.
 use Rattle.std.specs.Prelude.{◌≡◌, ℕ, List, Some}
 use Rattle.std.specs.Option.{option_map}
-use Rattle.term_algebra.specs.Signature.{Signature}
-use Rattle.term_algebra.specs.Sorting.{Occurs}
-use Rattle.term_algebra.specs.Substitution.{substituted, binding}
-use Rattle.term_algebra.specs.Path.{subterm, put_at}
+use Rattle.lotos_base.specs.Signature.{Signature}
+use Rattle.lotos_base.specs.Sorting.{Occurs}
+use Rattle.lotos_base.specs.Substitution.{substituted, binding}
+use Rattle.lotos_base.specs.Path.{subterm, put_at}
 use Rattle.sort_terms.specs.ProfiledTerm.{ProfiledTerm, bare, IsOf}
 use Rattle.term_match.specs.ProfiledInstance.{ProfiledSubstitution, profiled_instance, profiled_binding, bare_pairs}
 use Rattle.term_match.specs.ProfiledPath.{profiled_subterm, profiled_put_at}

@@ -1,16 +1,16 @@
 -- When a pattern matches a term, and what the pairs are that show it.
 use Rattle.std.specs.Prelude.{◌≡◌, ℕ, List, Some, slice_get}
-use Rattle.term_algebra.specs.Term.{Term}
-use Rattle.term_algebra.specs.Signature.{Signature}
-use Rattle.term_algebra.specs.Sorting.{Occurs}
-use Rattle.term_algebra.specs.Substitution.{substituted, binding}
+use Rattle.lotos_base.specs.Term.{Term}
+use Rattle.lotos_base.specs.Signature.{Signature}
+use Rattle.lotos_base.specs.Sorting.{Occurs}
+use Rattle.lotos_base.specs.Substitution.{substituted, binding}
 use Rattle.rewriting_theory.specs.Matching.{Matches}
 use Rattle.sort_terms.specs.ProfiledTerm.{ProfiledTerm, bare, head_sort, IsOf}
 use Rattle.term_match.specs.ProfiledInstance.{bare_pairs}
 
 -- In the term a variable number has one sort.
-abbrev pub HasOneSortPerNumber : Term → Type 0
-HasOneSortPerNumber t = (n r s : ℕ) → Occurs n r t → Occurs n s t → r ≡ s
+abbrev pub TermHasOneSortPerNumber : Term → Type 0
+TermHasOneSortPerNumber t = (n r s : ℕ) → Occurs n r t → Occurs n s t → r ≡ s
 
 -- The pattern has the sort of the term, and some substitution makes it the term.
 abbrev pub HasMatch : ProfiledTerm → ProfiledTerm → Type 0

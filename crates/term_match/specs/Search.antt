@@ -2,7 +2,7 @@
 -- for it. What this search finds is said by the laws and by the contracts of the public functions.
 use Rattle.std.specs.Prelude.{ℕ, List, [], ◌∷◌, ◌++◌, Option, None, Some, nat_eq, if◌then◌else◌}
 use Rattle.std.specs.Option.{option_and_then}
-use Rattle.term_algebra.specs.Tests.{term_eq}
+use Rattle.lotos_base.specs.Tests.{term_eq}
 use Rattle.sort_terms.specs.ProfiledTerm.{ProfiledTerm, ProfiledTerms, profiled_variable, profiled_node, no_profiled_terms, profiled_term_then, bare}
 
 -- what the first pair with the number has

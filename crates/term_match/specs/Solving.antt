@@ -1,10 +1,10 @@
 -- Steps of unification: what the first disagreement of two terms asks for, and what binding a variable makes of the pairs.
 use Rattle.std.specs.Prelude.{◌≡◌, ℕ, List, [], ◌∷◌, ◌++◌, map, nat_eq, if◌then◌else◌}
-use Rattle.term_algebra.specs.Term.{Term}
-use Rattle.term_algebra.specs.Sorting.{Occurs}
+use Rattle.lotos_base.specs.Term.{Term}
+use Rattle.lotos_base.specs.Sorting.{Occurs}
 use Rattle.sort_terms.specs.ProfiledTerm.{ProfiledTerm, head_sort}
 use Rattle.term_match.specs.ProfiledInstance.{ProfiledSubstitution, profiled_instance, profiled_binding}
-use Rattle.term_match.specs.Disagreement.{Disagreement, agreed, clashing, binds}
+use Rattle.term_match.specs.Disagreement.{TermDisagreement, agreed, clashing, binds}
 
 -- What is to be done: nothing more, since the terms are one; nothing more, since they have no unifier; or a term is to be
 -- put for the variable with a number.
@@ -14,7 +14,7 @@ pub data Demand : Type 0 where
   put_for : ℕ → ProfiledTerm → Demand
 
 -- What a disagreement asks for. A variable and a term of another sort have no unifier.
-abbrev pub asked : Disagreement → Demand
+abbrev pub asked : TermDisagreement → Demand
 asked agreed = nothing_more
 asked clashing = given_up
 asked (binds n s t) = if nat_eq (head_sort t) s then put_for n t else given_up

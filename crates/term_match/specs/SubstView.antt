@@ -3,7 +3,7 @@ use Rattle.std.specs.Prelude.{ℕ, List, map}
 use Rattle.sort_terms.specs.ProfiledTerm.{ProfiledTerm}
 use Rattle.sort_terms.specs.SortedView.{profiled_in}
 use Rattle.sort_terms.specs.declared.sorted.Sorted.{Sorted}
-use Rattle.term_algebra.specs.Substitution.{Substitution, binding}
+use Rattle.lotos_base.specs.Substitution.{Substitution, binding}
 use Rattle.term_match.specs.ProfiledInstance.{ProfiledSubstitution, profiled_binding, bare_pairs}
 use Rattle.term_match.specs.declared.substitutions.Subst.{Subst}
 

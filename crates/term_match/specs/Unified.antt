@@ -1,9 +1,9 @@
 -- When two terms have a unifier, and what the pairs are that are a most general one.
 use Rattle.std.specs.Prelude.{◌≡◌, ℕ, List}
-use Rattle.term_algebra.specs.Signature.{Signature}
-use Rattle.term_algebra.specs.Term.{Term}
-use Rattle.term_algebra.specs.Sorting.{Occurs}
-use Rattle.term_algebra.specs.Substitution.{Substitution, binding}
+use Rattle.lotos_base.specs.Signature.{Signature}
+use Rattle.lotos_base.specs.Term.{Term}
+use Rattle.lotos_base.specs.Sorting.{Occurs}
+use Rattle.lotos_base.specs.Substitution.{Substitution, binding}
 use Rattle.rewriting_theory.specs.Unification.{IsUnifier, IsMostGeneral, OccursInEither, KeepsTo}
 use Rattle.sort_terms.specs.ProfiledTerm.{ProfiledTerm, bare, head_sort, IsOf}
 use Rattle.term_match.specs.ProfiledInstance.{bare_pairs}

@@ -4,8 +4,8 @@ ghost use Rattle.sort_terms.specs.ProfiledTerm.{bare, head_sort};
 ghost use Rattle.sort_terms.specs.SortedView.{profiled_in, term_in};
 ghost use Rattle.sort_terms.specs.TermView.{all_profiled, profiled_of};
 ghost use Rattle.std.specs.Prelude.{◌≡◌, ℕ, IfOk};
-ghost use Rattle.term_algebra.specs.Sorting.{Occurs};
-ghost use Rattle.term_algebra.specs.Substitution.{substituted};
+ghost use Rattle.lotos_base.specs.Sorting.{Occurs};
+ghost use Rattle.lotos_base.specs.Substitution.{substituted};
 ghost use Rattle.term_match.specs.ProfiledInstance.{
   profiled_binding,
   profiled_instance,

@@ -4,7 +4,7 @@ ghost use Rattle.sort_terms.specs.ProfiledTerm.{FitsProfiles, ProfiledTerm};
 ghost use Rattle.sort_terms.specs.SortedView.{profiled_in, term_in};
 ghost use Rattle.std.specs.Prelude.{◌≡◌, ◌↔◌, ℕ, IfOk, IfSome, None};
 ghost use Rattle.term_match.specs.FoundView.{found_pairs};
-ghost use Rattle.term_match.specs.Matched.{HasMatch, HasOneSortPerNumber, IsMatchedBy, IsPair};
+ghost use Rattle.term_match.specs.Matched.{HasMatch, TermHasOneSortPerNumber, IsMatchedBy, IsPair};
 ghost use Rattle.term_match.specs.SubstView.{profiled_pairs};
 
 use crate::bindings::search;
@@ -17,7 +17,7 @@ use std::alloc::Global;
 /// where there is none. Terms of different sorts do not match. A variable that occurs more than
 /// once has to stand for one term.
 pub fn matches(alloc: Global, pattern: &Sorted, term: &Sorted) -> Result<Option<Subst>, NoMemory>
-    requires one_sort { HasOneSortPerNumber (term_in pattern.now) }
+    requires one_sort { TermHasOneSortPerNumber (term_in pattern.now) }
     ensures none { IfOk result (λ o. (o ≡ None)
         ↔ (¬ HasMatch (profiled_in pattern.now) (profiled_in term.now))) }
     ensures some { IfOk result (λ o. IfSome o

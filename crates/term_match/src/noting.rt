@@ -4,7 +4,7 @@ ghost use Rattle.term_match.specs.Appearance.{noted};
 ghost use Rattle.rewriting_theory.specs.Numbering.{all_variable_numbers, variable_numbers};
 ghost use Rattle.sort_terms.specs.TermView.{term_of, terms_of};
 ghost use Rattle.std.specs.Prelude.{◌≡◌, ◌∷◌, [], IfOk};
-ghost use Rattle.term_algebra.specs.Substitution.{is_listed};
+ghost use Rattle.lotos_base.specs.Substitution.{is_listed};
 
 use lotos_base::NoMemory;
 use sort_terms::Term;

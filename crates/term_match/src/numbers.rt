@@ -5,7 +5,7 @@ ghost use Rattle.term_match.specs.NewNumbers.{AreFresh, IsByFirstAppearance, Kee
 ghost use Rattle.term_match.specs.Renumbering.{new_number};
 ghost use Rattle.sort_terms.specs.TermView.{term_of};
 ghost use Rattle.std.specs.Prelude.{◌≡◌, ◌≤◌, ◌+◌, IfOk, false};
-ghost use Rattle.term_algebra.specs.Substitution.{is_listed};
+ghost use Rattle.lotos_base.specs.Substitution.{is_listed};
 
 use crate::noting::{listed, note};
 use lotos_base::NoMemory;

@@ -5,7 +5,7 @@ ghost use Rattle.sort_terms.specs.SortedView.{profiled_in, term_in};
 ghost use Rattle.sort_terms.specs.TermView.{all_profiled, profiled_of};
 ghost use Rattle.std.specs.Option.{option_map};
 ghost use Rattle.std.specs.Prelude.{◌≡◌, ◌∷◌, ◌<◌, [], IfOk, length};
-ghost use Rattle.term_algebra.specs.Path.{subterm as subterm_at};
+ghost use Rattle.lotos_base.specs.Path.{subterm as subterm_at};
 ghost use Rattle.term_match.specs.ProfiledPath.{
   profiled_put_at,
   profiled_subterm,

@@ -4,7 +4,7 @@ ghost use Rattle.term_match.specs.Renumbering.{new_number, profiled_renaming};
 ghost use Rattle.sort_terms.specs.SortedView.{profiled_in, term_in};
 ghost use Rattle.sort_terms.specs.TermView.{all_profiled, profiled_of};
 ghost use Rattle.std.specs.Prelude.{◌≡◌, IfOk};
-ghost use Rattle.term_algebra.specs.Substitution.{renaming, substituted};
+ghost use Rattle.lotos_base.specs.Substitution.{renaming, substituted};
 ghost use Rattle.term_match.specs.ProfiledInstance.{profiled_instance, profiled_instances};
 
 use lotos_base::NoMemory;

@@ -1,7 +1,7 @@
 //! Substitutions.
 
 ghost use Rattle.std.specs.Prelude.{◌≡◌, map};
-ghost use Rattle.term_match.specs.Numbers.{AreDistinct, AreDistinct-prop};
+ghost use Rattle.term_match.specs.Numbers.{AreDistinctNumbers, AreDistinct-prop};
 
 use sort_terms::Sorted;
 
@@ -9,13 +9,13 @@ use sort_terms::Sorted;
 #[derive(Debug, Drop)]
 pub struct Subst {
     pairs: Vec<(u64, Sorted)>,
-    pub ghost distinct: { AreDistinct (map (λ pair. pair.0) pairs.items) } by { AreDistinct-prop (map (λ pair. pair.0) pairs.items) },
+    pub ghost distinct: { AreDistinctNumbers (map (λ pair. pair.0) pairs.items) } by { AreDistinct-prop (map (λ pair. pair.0) pairs.items) },
 }
 
 impl Subst {
     /// The substitution with these pairs.
     pub fn of(pairs: Vec<(u64, Sorted)>) -> Subst
-        requires { AreDistinct (map (λ pair. pair.0) pairs.items) }
+        requires { AreDistinctNumbers (map (λ pair. pair.0) pairs.items) }
         ensures { result.pairs ≡ pairs }
     {
         Subst { pairs }

@@ -3,7 +3,7 @@
 ghost use Rattle.sort_terms.specs.ProfiledTerm.{IsOf};
 ghost use Rattle.sort_terms.specs.SortedView.{profiled_in, term_in};
 ghost use Rattle.std.specs.Prelude.{◌≡◌, ◌↔◌, IfOk, IfSome, None};
-ghost use Rattle.term_algebra.specs.Signature.{Signature};
+ghost use Rattle.lotos_base.specs.Signature.{Signature};
 ghost use Rattle.term_match.specs.SubstView.{profiled_pairs};
 ghost use Rattle.term_match.specs.Unified.{HasUnifier, HaveOneSortPerNumber, IsUnifiedBy};
 

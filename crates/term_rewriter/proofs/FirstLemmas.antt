@@ -2,13 +2,13 @@
 use Rattle.std.proofs.Common.{◌≡◌, ℕ, zero, suc, ◌<◌, List, [], ◌∷◌, length, get_or, Bool, true, false, refl, ap, sym, ◌∙◌, subst, arith}
 use Rattle.std.specs.Prelude.{Some, None, slice_get}
 use Rattle.std.proofs.lemmas.Option.{same_Some, slice_get_within}
-use Rattle.term_algebra.specs.Term.{Term, variable, node, Terms}
+use Rattle.lotos_base.specs.Term.{Term, variable, node, Terms}
 use Rattle.rewriting_theory.specs.Rule.{Rule as PlainRule, IsNode}
 use Rattle.rewriting_theory.specs.Matching.{Matches}
 use Rattle.sort_terms.specs.ProfiledTerm.{ProfiledTerm, bare}
 use Rattle.sort_terms.specs.SortedView.{profiled_in, term_in}
 use Rattle.sort_terms.proofs.ScopeLemmas.{member_mapped}
-use Rattle.term_match.specs.Matched.{HasOneSortPerNumber}
+use Rattle.term_match.specs.Matched.{TermHasOneSortPerNumber}
 use Rattle.term_match.specs.Search.{searched}
 use Rattle.term_match.proofs.SearchLemmas.{search_complete}
 use Rattle.path_order.specs.RuleHead.{has_head, headed}
@@ -23,7 +23,7 @@ use Rattle.term_rewriter.proofs.HeadLemmas.{headed_number, headed_has, headed_ri
 
 -- ---- a search that finds nothing
 
-pub no_search : (l t : ProfiledTerm) → HasOneSortPerNumber (bare l) → searched l t [] ≡ None → ¬ Matches (bare l) (bare t)
+pub no_search : (l t : ProfiledTerm) → TermHasOneSortPerNumber (bare l) → searched l t [] ≡ None → ¬ Matches (bare l) (bare t)
 no_search l t one e found =
     let there = search_complete (bare l) found.0 one l t [] (λ n s o. o) found.1 (λ n s u o h. cc) in
     let clash : None ≡ Some there.0 = sym e ∙ there.1 in cc

@@ -4,7 +4,7 @@ use Rattle.std.specs.Prelude.{Some, slice_get, if◌then◌else◌, ◌⊎◌}
 use Rattle.std.proofs.lemmas.Grind.{get_or_default_zero}
 use Rattle.std.proofs.lemmas.Option.{same_Some}
 use Rattle.std.proofs.lemmas.Bool.Decides.{Decides-eqb}
-use Rattle.term_algebra.specs.Term.{Term, variable, node, Terms}
+use Rattle.lotos_base.specs.Term.{Term, variable, node, Terms}
 use Rattle.rewriting_theory.specs.Rule.{Rule, IsNode}
 use Rattle.rewriting_theory.specs.Matching.{Matches}
 use Rattle.path_order.specs.RuleHead.{has_head, headed_from, headed}

@@ -2,8 +2,8 @@
 use Rattle.std.proofs.Common.{◌≡◌, ◌+◌, ◌<◌, ◌≤◌, ℕ, List, [], ap, sym, ◌∙◌, subst, refl, arith}
 use Rattle.std.specs.Prelude.{Some, slice_get}
 use Rattle.std.proofs.lemmas.Option.{same_Some}
-use Rattle.term_algebra.specs.Signature.{Operation}
-use Rattle.term_algebra.specs.Term.{node}
+use Rattle.lotos_base.specs.Signature.{Operation}
+use Rattle.lotos_base.specs.Term.{node}
 use Rattle.rewriting_theory.specs.Rule.{Rule as PlainRule}
 use Rattle.rewriting_theory.specs.Matching.{Matches}
 use Rattle.rewriting_theory.specs.ChosenForm.{AllChosen, all_chosen, chosen_then, chosen_done, chosen_next}
@@ -21,7 +21,7 @@ use Rattle.path_order.specs.RulesView.{plain_rules_in, signature_in}
 use Rattle.path_order.specs.declared.rule.Rule.{Rule}
 use Rattle.path_order.specs.declared.rules.Rules.{Rules}
 use Rattle.path_order.proofs.RulesLemmas.{rules_well_formed, rules_end, rules_have_forms}
-use Rattle.term_rewriter.specs.Begun.{IsReady, LeadsTo, IsBegunOf, form_size, left_of}
+use Rattle.term_rewriter.specs.Begun.{IsReadyForRoot, LeadsTo, IsBegunOf, form_size, left_of}
 use Rattle.term_rewriter.specs.FirstMatch.{NoneMatches, IsFirstMatch, IsFirstRule}
 use Rattle.term_rewriter.specs.Form.{IsNormalOf, by_pairs, IsFormOf}
 use Rattle.term_rewriter.specs.Reduced.{IsReducedBelow}
@@ -85,7 +85,7 @@ whole_leads rules t whole f operation made whole_is h have =
 
 -- ---- no rule matches
 
-pub ready_done : (rules : Rules) (whole : ProfiledTerm) → IsReady rules whole → NoneMatches rules.rules.items whole
+pub ready_done : (rules : Rules) (whole : ProfiledTerm) → IsReadyForRoot rules whole → NoneMatches rules.rules.items whole
     → IsFormIn rules whole whole
 ready_done rules whole ready none =
     subst (λ (u : ProfiledTerm). IsFormIn rules u u) (sym ready.shape)
@@ -107,7 +107,7 @@ pub record NextRight (rules : Rules) (whole right instance : ProfiledTerm) : Typ
   pub made : (form : ProfiledTerm) → IsFormOf (signature_in rules) (plain_rules_in rules) instance form
       → IsFormOf (signature_in rules) (plain_rules_in rules) whole form
 
-ready_next : (rules : Rules) (whole : ProfiledTerm) (found : Pairs) (number : ℕ) (rule : Rule) → IsReady rules whole
+ready_next : (rules : Rules) (whole : ProfiledTerm) (found : Pairs) (number : ℕ) (rule : Rule) → IsReadyForRoot rules whole
     → IsFirstMatch rules.rules.items number whole found → slice_get rules.rules.items number ≡ Some rule
     → NextRight rules whole (profiled_in rule.right) (by_pairs found (profiled_in rule.right))
 ready_next rules whole found number rule ready m is =
@@ -130,7 +130,7 @@ ready_next rules whole found number rule ready m is =
 
 -- the same of the instance that the code makes
 pub next_right : (rules : Rules) (whole : ProfiledTerm) (number : ℕ) (rule : Rule) (left right : Term) (instance : ProfiledTerm)
-    → IsReady rules whole → IsFirstRule rules.rules.items number whole → slice_get rules.rules.items number ≡ Some rule
+    → IsReadyForRoot rules whole → IsFirstRule rules.rules.items number whole → slice_get rules.rules.items number ≡ Some rule
     → left ≡ rule.left.term → right ≡ rule.right.term → IsRewritten (profiled_of left) (profiled_of right) whole instance
     → NextRight rules whole (profiled_of right) instance
 next_right rules whole number rule left right instance ready m is left_is right_is rewritten =

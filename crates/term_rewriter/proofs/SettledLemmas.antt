@@ -1,6 +1,6 @@
 -- A chosen form is its own chosen form, and to find that out costs no more than to find the form.
 use Rattle.std.proofs.Common.{◌≡◌, ◌≤◌, ℕ, List, refl, sym, subst, arith}
-use Rattle.term_algebra.specs.Term.{Term, node, Terms, term_then}
+use Rattle.lotos_base.specs.Term.{Term, node, Terms, term_then}
 use Rattle.rewriting_theory.specs.Rule.{Rule, AreWellFormedRules}
 use Rattle.rewriting_theory.specs.Matching.{NoMatch, FirstStep}
 use Rattle.rewriting_theory.specs.ChosenForm.{Chosen, chosen_variable, chosen_done, chosen_next, AllChosen, all_chosen, chosen_then}

@@ -4,14 +4,14 @@ use Rattle.std.specs.Prelude.{Option, Some, None, if◌then◌else◌}
 use Rattle.std.proofs.lemmas.List.{drop_more, map-append, length-drop}
 use Rattle.std.proofs.Math.Seq.{take-length, drop-length}
 use Rattle.std.proofs.lemmas.Option.{same_Some}
-use Rattle.term_algebra.specs.Signature.{Operation}
-use Rattle.term_algebra.specs.Tests.{term_eq}
+use Rattle.lotos_base.specs.Signature.{Operation}
+use Rattle.lotos_base.specs.Tests.{term_eq}
 use Rattle.sort_terms.specs.ProfiledTerm.{ProfiledTerm, ProfiledTerms, profiled_variable, profiled_node, no_profiled_terms, bare}
 use Rattle.sort_terms.specs.TermView.{profiled_of, all_profiled}
 use Rattle.sort_terms.specs.declared.terms.Term.{Term}
 use Rattle.term_match.specs.Search.{looked_up, bound, searched, all_searched}
 use Rattle.term_match.proofs.PathLemmas.{and_then_some}
-use Rattle.term_rewriter.specs.Taken.{owned_pair, owned_pairs, AreTaken, AreAllTaken, IsBound}
+use Rattle.term_rewriter.specs.Taken.{owned_pair, owned_pairs, AreTaken, AreAllTaken, IsTakenAtVariable}
 
 abbrev Pairs : Type 0
 Pairs = List (ℕ × ProfiledTerm)
@@ -34,13 +34,13 @@ if_passed : (b : Bool) (o : Option Pairs) (y : Pairs) → (if b then o else None
 if_passed true o y e = e
 if_passed false o y e = cc
 
-pub bound_known : (n : ℕ) (t u : ProfiledTerm) (before : Pairs) → looked_up n before ≡ Some u → IsBound n t before before
+pub bound_known : (n : ℕ) (t u : ProfiledTerm) (before : Pairs) → looked_up n before ≡ Some u → IsTakenAtVariable n t before before
 bound_known n t u before known found e =
     if_only (term_eq (bare u) (bare t)) before found
     (subst (λ (o : Option ProfiledTerm). bound n t before o ≡ Some found) known e)
 
 pub bound_new : (n : ℕ) (t : Term) (values new : List (ℕ × Term)) → looked_up n (owned_pairs values) ≡ None
-    → new ≡ values ++ (n, t) ∷ [] → IsBound n (profiled_of t) (owned_pairs values) (owned_pairs new)
+    → new ≡ values ++ (n, t) ∷ [] → IsTakenAtVariable n (profiled_of t) (owned_pairs values) (owned_pairs new)
 bound_new n t values new none is found e =
     ap owned_pairs is ∙ owned-append values n t
     ∙ same_Some _ _ (subst (λ (o : Option ProfiledTerm). bound n (profiled_of t) (owned_pairs values) o ≡ Some found) none e)
@@ -48,7 +48,7 @@ bound_new n t values new none is found e =
 -- ---- a pattern
 
 pub taken_variable : (pattern t : ProfiledTerm) (n s : ℕ) (before after : Pairs) → pattern ≡ profiled_variable n s
-    → IsBound n t before after → AreTaken pattern t before after
+    → IsTakenAtVariable n t before after → AreTaken pattern t before after
 taken_variable pattern t n s before after shape is =
     subst (λ (p : ProfiledTerm). AreTaken p t before after) (sym shape) is
 

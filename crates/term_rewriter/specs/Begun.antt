@@ -1,6 +1,6 @@
 -- Terms on the way to their chosen forms: the arguments are irreducible, and only the root is left.
 use Rattle.std.specs.Prelude.{◌≡◌, ◌<◌, ◌+◌, ℕ}
-use Rattle.term_algebra.specs.Signature.{Operation, IsOperation}
+use Rattle.lotos_base.specs.Signature.{Operation, IsOperation}
 use Rattle.rewriting_theory.specs.Measure.{choice_cost}
 use Rattle.sort_terms.specs.ProfiledTerm.{ProfiledTerm, ProfiledTerms, profiled_node, bare}
 use Rattle.sort_terms.specs.TermView.{profiled_of}
@@ -13,7 +13,7 @@ use Rattle.term_rewriter.specs.declared.forms.Progress.{Progress}
 use Rattle.term_rewriter.specs.declared.forms.Progress.TheVariants.{Form, Whole}
 
 -- The term is an operation of the signature on irreducible terms of it.
-pub record IsReady (rules : Rules) (t : ProfiledTerm) : Type 0 where
+pub record IsReadyForRoot (rules : Rules) (t : ProfiledTerm) : Type 0 where
   pub number : ℕ
   pub operation : Operation
   pub arguments : ProfiledTerms
@@ -27,7 +27,7 @@ form_size rules t = choice_cost (rules_have_forms rules) (bare t)
 
 -- The second term is ready, has a chosen form of a lesser size than the bound, and its chosen form is that of the first.
 pub record LeadsTo (rules : Rules) (t : ProfiledTerm) (bound : ℕ) (whole : ProfiledTerm) : Type 0 where
-  pub ready : IsReady rules whole
+  pub ready : IsReadyForRoot rules whole
   pub smaller : form_size rules whole < bound
   pub form : (made : ProfiledTerm) → IsFormOf (signature_in rules) (plain_rules_in rules) whole made
       → IsFormOf (signature_in rules) (plain_rules_in rules) t made

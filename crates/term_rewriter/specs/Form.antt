@@ -1,7 +1,7 @@
 -- Chosen forms of instances of terms, with profiles.
 use Rattle.std.specs.Prelude.{ℕ, List}
-use Rattle.term_algebra.specs.Signature.{Signature}
-use Rattle.term_algebra.specs.Sorting.{Occurs}
+use Rattle.lotos_base.specs.Signature.{Signature}
+use Rattle.lotos_base.specs.Sorting.{Occurs}
 use Rattle.rewriting_theory.specs.Rule.{Rule}
 use Rattle.rewriting_theory.specs.Rewriting.{IsNormal}
 use Rattle.rewriting_theory.specs.ChosenForm.{Chosen}

@@ -1,10 +1,10 @@
 -- The chosen form of a term by the rules of data.
 use Rattle.std.specs.Prelude.{List}
-use Rattle.term_algebra.specs.Term.{Term}
-use Rattle.term_algebra.specs.Equation.{Data}
+use Rattle.lotos_base.specs.Term.{Term}
+use Rattle.lotos_base.specs.Equation.{Data}
 use Rattle.rewriting_theory.specs.ChosenForm.{Chosen}
-use Rattle.termination_theory.specs.Precedence.{Precedence}
-use Rattle.termination_theory.specs.Orientation.{NumberedRule, rules_of, IsOrientation}
+use Rattle.path_order.specs.HandedOn.{Precedence}
+use Rattle.path_order.specs.HandedOn.{NumberedRule, rules_of, IsOrientation}
 
 -- The data have rules by the precedence, and the second term is the chosen form of the first one by them.
 pub record IsFormByData (precedence : Precedence) (data_ : Data) (t form : Term) : Type 0 where

@@ -1,6 +1,6 @@
 -- Instances of a term by irreducible terms.
 use Rattle.std.specs.Prelude.{List}
-use Rattle.term_algebra.specs.Signature.{Signature}
+use Rattle.lotos_base.specs.Signature.{Signature}
 use Rattle.rewriting_theory.specs.Rule.{Rule}
 use Rattle.sort_terms.specs.ProfiledTerm.{ProfiledTerm, ProfiledTerms, profiled_variable, profiled_node, no_profiled_terms, profiled_term_then}
 use Rattle.term_rewriter.specs.Form.{IsNormalOf}

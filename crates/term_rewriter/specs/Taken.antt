@@ -23,8 +23,8 @@ abbrev pub AreAllTaken : ProfiledTerms → ProfiledTerms → List (ℕ × Profil
 AreAllTaken patterns ts before after = (found : List (ℕ × ProfiledTerm)) → all_searched patterns ts before ≡ Some found → after ≡ found
 
 -- The same at a variable.
-abbrev pub IsBound : ℕ → ProfiledTerm → List (ℕ × ProfiledTerm) → List (ℕ × ProfiledTerm) → Type 0
-IsBound n t before after = (found : List (ℕ × ProfiledTerm)) → bound n t before (looked_up n before) ≡ Some found → after ≡ found
+abbrev pub IsTakenAtVariable : ℕ → ProfiledTerm → List (ℕ × ProfiledTerm) → List (ℕ × ProfiledTerm) → Type 0
+IsTakenAtVariable n t before after = (found : List (ℕ × ProfiledTerm)) → bound n t before (looked_up n before) ≡ Some found → after ≡ found
 
 -- The term is the instance of the right side by what the variables of the left side have in the term that it matches.
 abbrev pub IsRewritten : ProfiledTerm → ProfiledTerm → ProfiledTerm → ProfiledTerm → Type 0

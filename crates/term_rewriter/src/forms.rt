@@ -4,7 +4,7 @@ ghost use Rattle.path_order.specs.RulesView.{plain_rules_in, signature_in};
 ghost use Rattle.sort_terms.specs.ProfiledTerm.{IsOf};
 ghost use Rattle.sort_terms.specs.TermView.{profiled_of};
 ghost use Rattle.std.specs.Prelude.{◌+◌, IfOk};
-ghost use Rattle.term_rewriter.specs.Begun.{IsBegunOf, IsReady, form_size};
+ghost use Rattle.term_rewriter.specs.Begun.{IsBegunOf, IsReadyForRoot, form_size};
 ghost use Rattle.term_rewriter.specs.Form.{IsFormOf};
 ghost use Rattle.term_rewriter.specs.Reduced.{IsReducedBelow};
 
@@ -87,7 +87,7 @@ fn begun(alloc: Global, rules: &Rules, shape: &Term, instance: Term) -> Result<P
 // in their chosen forms; or the term itself where no rule matches.
 #[cycle(form)]
 fn after(alloc: Global, rules: &Rules, whole: Term) -> Result<Progress, NoMemory>
-    requires { IsReady rules.now (profiled_of whole) }
+    requires { IsReadyForRoot rules.now (profiled_of whole) }
     ensures { IfOk result (λ next. IsBegunOf rules.now (profiled_of whole)
         (form_size rules.now (profiled_of whole)) next) }
 {

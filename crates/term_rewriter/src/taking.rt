@@ -2,7 +2,7 @@
 
 ghost use Rattle.sort_terms.specs.TermView.{all_profiled, profiled_of};
 ghost use Rattle.std.specs.Prelude.{IfOk};
-ghost use Rattle.term_rewriter.specs.Taken.{AreAllTaken, AreTaken, IsBound, owned_pairs};
+ghost use Rattle.term_rewriter.specs.Taken.{AreAllTaken, AreTaken, IsTakenAtVariable, owned_pairs};
 
 use crate::wanting::place_of;
 use lotos_base::NoMemory;
@@ -57,7 +57,7 @@ fn bound(
     term: Term,
     mut values: Vec<(u64, Term)>,
 ) -> Result<Vec<(u64, Term)>, NoMemory>
-    ensures { IfOk result (λ more. IsBound number (profiled_of term) (owned_pairs values.items)
+    ensures { IfOk result (λ more. IsTakenAtVariable number (profiled_of term) (owned_pairs values.items)
         (owned_pairs more.items)) }
 {
     match place_of(values.as_slice(), number) {

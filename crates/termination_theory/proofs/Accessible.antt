@@ -1,7 +1,7 @@
 -- Every term is accessible under the path order: below it nothing descends without end. The proof is by the rank of
 -- the operation, then by the arguments in the order in which they are compared (Baader and Nipkow, 5.4).
 use Rattle.std.proofs.Common.{◌<◌, ℕ, zero, suc, arith}
-use Rattle.term_algebra.specs.Term.{Term, variable, node, Terms, no_terms, term_then}
+use Rattle.lotos_base.specs.Term.{Term, variable, node, Terms, no_terms, term_then}
 use Rattle.termination_theory.specs.Precedence.{Status, from_left, from_right, Precedence, IsOver}
 use Rattle.termination_theory.specs.OrderFamily.{SameLength, Exceeds, by_argument, by_operation, by_comparison, SomeReaches, is_first, first_exceeds, among_rest, ExceedsAll, than_first, ListExceeds, left_here, left_later, right_here, right_later}
 

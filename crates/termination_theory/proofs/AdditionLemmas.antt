@@ -2,14 +2,14 @@
 use Rattle.std.proofs.Common.{◌≡◌, ℕ, zero, suc, List, [], ◌∷◌, refl, sym, ◌∙◌, subst}
 use Rattle.std.specs.Prelude.{Some}
 use Rattle.std.proofs.lemmas.Option.{same_Some}
-use Rattle.term_algebra.specs.Term.{Term}
-use Rattle.term_algebra.specs.Sorting.{IsGroundOf}
-use Rattle.term_algebra.specs.Path.{subterm}
-use Rattle.term_algebra.specs.Substitution.{Substitution, substituted, renaming, followed_by}
-use Rattle.term_algebra.specs.SmallData.{natural_data, nought, successor, plus, x_natural, y_natural}
-use Rattle.term_algebra.proofs.ExampleLemmas.{sorting_examples}
-use Rattle.term_algebra.proofs.SortLemmas.{well_formed_sides}
-use Rattle.term_algebra.proofs.SubstitutionLemmas.{substituted_twice}
+use Rattle.lotos_base.specs.Term.{Term}
+use Rattle.lotos_base.specs.Sorting.{IsGroundOf}
+use Rattle.lotos_base.specs.Path.{subterm}
+use Rattle.lotos_base.specs.Substitution.{Substitution, substituted, renaming, followed_by}
+use Rattle.lotos_base.specs.SmallData.{natural_data, nought, successor, plus, x_natural, y_natural}
+use Rattle.lotos_base.proofs.ExampleLemmas.{sorting_examples}
+use Rattle.lotos_base.proofs.SortLemmas.{well_formed_sides}
+use Rattle.lotos_base.proofs.SubstitutionLemmas.{substituted_twice}
 use Rattle.rewriting_theory.specs.Rule.{Rule, IsNode, IsRuleAt}
 use Rattle.rewriting_theory.specs.CriticalPair.{CriticalPair, IsCriticalPair}
 use Rattle.termination_theory.specs.OrderCases.{later_above}

@@ -1,6 +1,6 @@
 -- The worked cases of the path order, by its test.
 use Rattle.std.proofs.Common.{◌≡◌, true, false, refl}
-use Rattle.term_algebra.specs.Term.{Term, variable}
+use Rattle.lotos_base.specs.Term.{Term, variable}
 use Rattle.termination_theory.specs.Precedence.{Precedence}
 use Rattle.termination_theory.specs.PathOrder.{IsGreater}
 use Rattle.termination_theory.specs.OrderTest.{is_greater}

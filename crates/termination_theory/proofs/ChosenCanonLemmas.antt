@@ -1,12 +1,12 @@
 -- Chosen forms of oriented data: rewriting ends, so they are there; where it is confluent, they are a canon.
 use Rattle.std.proofs.Common.{◌≡◌, ℕ, List, sym, ◌∙◌}
 use Rattle.std.specs.Prelude.{◌↔◌}
-use Rattle.term_algebra.specs.Term.{Term}
-use Rattle.term_algebra.specs.Sorting.{IsGroundOf}
-use Rattle.term_algebra.specs.Equation.{Data, HasSortedSides}
-use Rattle.term_algebra.specs.Equality.{Equal}
-use Rattle.term_algebra.specs.Canon.{IsCanon}
-use Rattle.term_algebra.proofs.CanonLemmas.{canon_tells}
+use Rattle.lotos_base.specs.Term.{Term}
+use Rattle.lotos_base.specs.Sorting.{IsGroundOf}
+use Rattle.lotos_base.specs.Equation.{Data, HasSortedSides}
+use Rattle.lotos_base.specs.Equality.{Equal}
+use Rattle.lotos_base.specs.Canon.{IsCanon}
+use Rattle.lotos_base.proofs.CanonLemmas.{canon_tells}
 use Rattle.rewriting_theory.specs.Rule.{Rule, AreSortedRulesOf}
 use Rattle.rewriting_theory.specs.Rewriting.{AreConfluent}
 use Rattle.rewriting_theory.specs.ChosenForm.{Chosen, Chooses}

@@ -2,11 +2,11 @@
 use Rattle.std.proofs.Common.{◌≡◌, ℕ, zero, suc, List, [], ◌∷◌, sym, ◌∙◌, subst, inl, inr}
 use Rattle.std.specs.Prelude.{Some}
 use Rattle.std.proofs.lemmas.Option.{same_Some}
-use Rattle.term_algebra.specs.Term.{Term, variable, node, Terms, no_terms, term_then}
-use Rattle.term_algebra.specs.Sorting.{Occurs, OccursAmong}
-use Rattle.term_algebra.specs.Path.{argument_at, with_argument, subterm, put_at}
-use Rattle.term_algebra.specs.Substitution.{Substitution, substituted, all_substituted}
-use Rattle.term_algebra.proofs.PathLemmas.{subterm_below, put_below}
+use Rattle.lotos_base.specs.Term.{Term, variable, node, Terms, no_terms, term_then}
+use Rattle.lotos_base.specs.Sorting.{Occurs, OccursAmong}
+use Rattle.lotos_base.specs.Path.{argument_at, with_argument, subterm, put_at}
+use Rattle.lotos_base.specs.Substitution.{Substitution, substituted, all_substituted}
+use Rattle.lotos_base.proofs.PathLemmas.{subterm_below, put_below}
 use Rattle.termination_theory.specs.Precedence.{Status, from_left, from_right, Precedence}
 use Rattle.termination_theory.specs.OrderFamily.{SameLength, Exceeds, by_occurrence, by_argument, by_operation, by_comparison, SomeReaches, is_first, first_exceeds, among_rest, ExceedsAll, than_none, than_first, ListExceeds, left_here, left_later, right_here, right_later}
 use Rattle.termination_theory.proofs.Accessible.{same_length_refl}

@@ -12,3 +12,4 @@ pub mod ChosenCanonLemmas
 pub mod CaseTests
 pub mod OrientationCaseLemmas
 pub mod AdditionLemmas
+pub mod HandedOn

@@ -3,10 +3,10 @@
 use Rattle.std.proofs.Common.{◌≡◌, ◌≤◌, ◌+◌, ℕ, zero, suc, List, [], ◌∷◌, refl, sym, subst, inl, inr, arith}
 use Rattle.std.specs.Prelude.{Some, ◌⊎◌, slice_get}
 use Rattle.std.proofs.lemmas.Option.{same_Some}
-use Rattle.term_algebra.specs.Term.{Term, variable, node, Terms, no_terms, term_then}
-use Rattle.term_algebra.specs.Sorting.{Occurs}
-use Rattle.term_algebra.specs.Path.{argument_at}
-use Rattle.term_algebra.specs.Substitution.{substituted}
+use Rattle.lotos_base.specs.Term.{Term, variable, node, Terms, no_terms, term_then}
+use Rattle.lotos_base.specs.Sorting.{Occurs}
+use Rattle.lotos_base.specs.Path.{argument_at}
+use Rattle.lotos_base.specs.Substitution.{substituted}
 use Rattle.rewriting_theory.specs.Rule.{Rule, IsRule}
 use Rattle.rewriting_theory.specs.Matching.{Matches}
 use Rattle.rewriting_theory.specs.Step.{IsRootStep, RootStep, Step, at_root, in_arguments, StepAmong, here, there}

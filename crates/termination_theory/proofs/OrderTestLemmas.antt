@@ -3,10 +3,10 @@ use Rattle.std.proofs.Common.{◌≡◌, ℕ, Bool, nat_eq, nat_lt, refl, subst,
 use Rattle.std.specs.Prelude.{◌&&◌, ◌||◌, ◌⊎◌}
 use Rattle.std.specs.Bool.{Decides}
 use Rattle.std.proofs.lemmas.Bool.Decides.{Decides-eqb, Decides-ltb, Decides-and, Decides-or, Decides-like}
-use Rattle.term_algebra.specs.Term.{Term, variable, node, Terms, no_terms, term_then}
-use Rattle.term_algebra.specs.Sorting.{OccursAmong}
-use Rattle.term_algebra.specs.Tests.{term_eq, terms_eq, occurs_among}
-use Rattle.term_algebra.proofs.TestLemmas.{Decides-term_eq, Decides-terms_eq, Decides-occurs_among}
+use Rattle.lotos_base.specs.Term.{Term, variable, node, Terms, no_terms, term_then}
+use Rattle.lotos_base.specs.Sorting.{OccursAmong}
+use Rattle.lotos_base.specs.Tests.{term_eq, terms_eq, occurs_among}
+use Rattle.lotos_base.proofs.TestLemmas.{Decides-term_eq, Decides-terms_eq, Decides-occurs_among}
 use Rattle.termination_theory.specs.Precedence.{Status, from_left, from_right, Precedence, IsOver}
 use Rattle.termination_theory.specs.OrderFamily.{SameLength, Exceeds, by_occurrence, by_argument, by_operation, by_comparison, SomeReaches, is_first, first_exceeds, among_rest, ExceedsAll, than_none, than_first, ListExceeds, left_here, left_later, right_here, right_later}
 use Rattle.termination_theory.specs.OrderTest.{same_length, node_exceeds, node_exceeds_all, is_greater, some_reaches, list_exceeds, exceeds_all}

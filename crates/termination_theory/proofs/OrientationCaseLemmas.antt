@@ -2,12 +2,12 @@
 use Rattle.std.proofs.Common.{◌≡◌, ◌<◌, inl, inr, ℕ, zero, suc, List, [], ◌∷◌, true, false, refl, subst, arith}
 use Rattle.std.specs.Prelude.{Some, slice_get}
 use Rattle.std.proofs.lemmas.Option.{same_Some}
-use Rattle.term_algebra.specs.Term.{Term, variable, no_terms, term_then}
-use Rattle.term_algebra.specs.Path.{argument_at}
-use Rattle.term_algebra.specs.Tests.{term_eq}
-use Rattle.term_algebra.specs.Equation.{Equation}
-use Rattle.term_algebra.specs.Equality.{Direction, forward, backward, old_side, new_side}
-use Rattle.term_algebra.specs.SmallData.{nought, successor, plus, x_natural, nought_law, successor_law}
+use Rattle.lotos_base.specs.Term.{Term, variable, no_terms, term_then}
+use Rattle.lotos_base.specs.Path.{argument_at}
+use Rattle.lotos_base.specs.Tests.{term_eq}
+use Rattle.lotos_base.specs.Equation.{Equation}
+use Rattle.lotos_base.specs.Equality.{Direction, forward, backward, old_side, new_side}
+use Rattle.lotos_base.specs.SmallData.{nought, successor, plus, x_natural, nought_law, successor_law}
 use Rattle.termination_theory.specs.Precedence.{Precedence}
 use Rattle.termination_theory.specs.OrderTest.{is_greater}
 use Rattle.termination_theory.specs.Orientation.{NumberedRule, GiveRules, no_more, dropped, turned_next, IsUnorientable, IsFirstUnorientable}

@@ -2,11 +2,11 @@
 use Rattle.std.proofs.Common.{◌≡◌, ◌≢◌, ◌<◌, ◌+◌, ℕ, zero, suc, List, [], ◌∷◌, Bool, true, false, refl, sym, ◌∙◌, ap, subst, inl, inr, arith, ◌++◌, length, ◌+◌}
 use Rattle.std.specs.Prelude.{Some, ◌⊎◌, slice_get}
 use Rattle.std.proofs.lemmas.Option.{same_Some}
-use Rattle.term_algebra.specs.Term.{Term, variable, node}
-use Rattle.term_algebra.specs.Tests.{term_eq}
-use Rattle.term_algebra.specs.Equation.{Equation, Data}
-use Rattle.term_algebra.specs.Equality.{Direction, forward, backward, old_side, new_side}
-use Rattle.term_algebra.proofs.TestLemmas.{Decides-term_eq}
+use Rattle.lotos_base.specs.Term.{Term, variable, node}
+use Rattle.lotos_base.specs.Tests.{term_eq}
+use Rattle.lotos_base.specs.Equation.{Equation, Data}
+use Rattle.lotos_base.specs.Equality.{Direction, forward, backward, old_side, new_side}
+use Rattle.lotos_base.proofs.TestLemmas.{Decides-term_eq}
 use Rattle.rewriting_theory.specs.Rule.{Rule, IsRule, IsNode, AreWellFormedRules, IsTurned, AreRulesOf}
 use Rattle.termination_theory.specs.Precedence.{Precedence}
 use Rattle.termination_theory.specs.PathOrder.{IsGreater}

@@ -2,10 +2,10 @@
 use Rattle.std.proofs.Common.{◌≡◌, ◌<◌, ◌≢◌, ℕ, zero, suc, List, [], ◌∷◌, length, refl, ap, sym, ◌∙◌, subst, arith}
 use Rattle.std.specs.Prelude.{Some}
 use Rattle.std.proofs.lemmas.Option.{same_Some}
-use Rattle.term_algebra.specs.Signature.{Signature, Operation}
-use Rattle.term_algebra.specs.Term.{Term, variable, node, Terms, no_terms, term_then, list_of}
-use Rattle.term_algebra.specs.Sorting.{HasSort, HaveSorts, Occurs}
-use Rattle.term_algebra.specs.Path.{argument_at}
+use Rattle.lotos_base.specs.Signature.{Signature, Operation}
+use Rattle.lotos_base.specs.Term.{Term, variable, node, Terms, no_terms, term_then, list_of}
+use Rattle.lotos_base.specs.Sorting.{HasSort, HaveSorts, Occurs}
+use Rattle.lotos_base.specs.Path.{argument_at}
 use Rattle.termination_theory.specs.Precedence.{Status, from_left, from_right, Precedence}
 use Rattle.termination_theory.specs.PathOrder.{IsDecidingPlace, IsGreater, by_variable, by_same_argument, by_greater_argument, by_rank, by_arguments}
 use Rattle.termination_theory.specs.OrderFamily.{SameLength, Exceeds, by_occurrence, by_argument, by_operation, by_comparison, SomeReaches, is_first, first_exceeds, among_rest, ExceedsAll, than_none, than_first, ListExceeds, left_here, left_later, right_here, right_later}

@@ -1,7 +1,7 @@
 -- The path order is irreflexive and transitive. Transitivity is by induction on the first term, then on the second
 -- one, then on the third one.
 use Rattle.std.proofs.Common.{ℕ, refl, arith}
-use Rattle.term_algebra.specs.Term.{Term, variable, node, Terms, no_terms, term_then}
+use Rattle.lotos_base.specs.Term.{Term, variable, node, Terms, no_terms, term_then}
 use Rattle.termination_theory.specs.Precedence.{Status, Precedence}
 use Rattle.termination_theory.specs.OrderFamily.{Exceeds, by_argument, by_operation, by_comparison, by_occurrence, SomeReaches, is_first, first_exceeds, among_rest, ExceedsAll, than_none, than_first, ListExceeds, left_here, left_later, right_here, right_later}
 use Rattle.termination_theory.proofs.Accessible.{Ends, ends, term_ends, nothing_below_variable, same_length_trans, list_exceeds_length}

@@ -1,8 +1,8 @@
 -- Rewriting by oriented rules ends: each link makes the term lesser, every term is accessible, and a term has
 -- finitely many successors.
 use Rattle.std.proofs.Common.{◌≤◌, ℕ, zero, suc, List, subst, inl, inr, arith}
-use Rattle.term_algebra.specs.Term.{Term, variable, node, Terms}
-use Rattle.term_algebra.specs.Substitution.{substituted}
+use Rattle.lotos_base.specs.Term.{Term, variable, node, Terms}
+use Rattle.lotos_base.specs.Substitution.{substituted}
 use Rattle.rewriting_theory.specs.Rule.{Rule}
 use Rattle.rewriting_theory.specs.Reduction.{EndsFor}
 use Rattle.rewriting_theory.specs.Rewriting.{Rewrites, Terminates}

@@ -1,9 +1,9 @@
 -- A worked case of the canon: the addition of natural numbers meets all that is asked for one.
-use Rattle.term_algebra.specs.Term.{Term}
-use Rattle.term_algebra.specs.Equation.{HasSortedSides}
-use Rattle.term_algebra.specs.Equality.{Equal}
-use Rattle.term_algebra.specs.Canon.{IsCanon}
-use Rattle.term_algebra.specs.SmallData.{natural_data, nought, successor, plus}
+use Rattle.lotos_base.specs.Term.{Term}
+use Rattle.lotos_base.specs.Equation.{HasSortedSides}
+use Rattle.lotos_base.specs.Equality.{Equal}
+use Rattle.lotos_base.specs.Canon.{IsCanon}
+use Rattle.lotos_base.specs.SmallData.{natural_data, nought, successor, plus}
 use Rattle.rewriting_theory.specs.Rewriting.{Terminates, AreConfluent}
 use Rattle.rewriting_theory.specs.ChosenForm.{Chooses}
 use Rattle.rewriting_theory.specs.CriticalPair.{CriticalPair, IsCriticalPair}

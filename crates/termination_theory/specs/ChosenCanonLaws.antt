@@ -1,11 +1,11 @@
 -- Laws of the chosen forms of oriented data: each term has exactly one, and where the rules are confluent it is the
 -- canon of the data. Of the data nothing more is asked than that the two sides of each equation have one sort.
 use Rattle.std.specs.Prelude.{◌≡◌, ◌↔◌, ℕ, List}
-use Rattle.term_algebra.specs.Term.{Term}
-use Rattle.term_algebra.specs.Sorting.{IsGroundOf}
-use Rattle.term_algebra.specs.Equation.{Data, HasSortedSides}
-use Rattle.term_algebra.specs.Equality.{Equal}
-use Rattle.term_algebra.specs.Canon.{IsCanon}
+use Rattle.lotos_base.specs.Term.{Term}
+use Rattle.lotos_base.specs.Sorting.{IsGroundOf}
+use Rattle.lotos_base.specs.Equation.{Data, HasSortedSides}
+use Rattle.lotos_base.specs.Equality.{Equal}
+use Rattle.lotos_base.specs.Canon.{IsCanon}
 use Rattle.rewriting_theory.specs.Rule.{Rule, AreSortedRulesOf}
 use Rattle.rewriting_theory.specs.Rewriting.{AreConfluent}
 use Rattle.rewriting_theory.specs.ChosenForm.{Chosen, Chooses}

@@ -10,3 +10,4 @@ pub mod ChosenCanonLaws
 pub mod OrderCases
 pub mod OrientationCases
 pub mod CanonCases
+pub mod HandedOn

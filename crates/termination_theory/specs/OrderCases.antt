@@ -1,6 +1,6 @@
 -- Worked cases of the path order: each of its four cases both ways, with either status.
 use Rattle.std.specs.Prelude.{ℕ, if◌then◌else◌, nat_eq}
-use Rattle.term_algebra.specs.Term.{Term, variable, node, no_terms, term_then}
+use Rattle.lotos_base.specs.Term.{Term, variable, node, no_terms, term_then}
 use Rattle.termination_theory.specs.Precedence.{from_left, from_right, Precedence}
 use Rattle.termination_theory.specs.PathOrder.{IsGreater}
 

@@ -1,8 +1,8 @@
 -- The path order once more, by recursion along the argument lists. Proofs use this form; a law says that it is the
 -- same order.
 use Rattle.std.specs.Prelude.{ℕ}
-use Rattle.term_algebra.specs.Term.{Term, variable, node, Terms, no_terms, term_then}
-use Rattle.term_algebra.specs.Sorting.{OccursAmong}
+use Rattle.lotos_base.specs.Term.{Term, variable, node, Terms, no_terms, term_then}
+use Rattle.lotos_base.specs.Sorting.{OccursAmong}
 use Rattle.termination_theory.specs.Precedence.{Status, from_left, from_right, Precedence, IsOver}
 
 -- The argument lists have one length.

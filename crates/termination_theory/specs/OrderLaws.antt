@@ -1,10 +1,10 @@
 -- Laws of the path order (Baader and Nipkow, 5.4).
 use Rattle.std.specs.Prelude.{◌≡◌, ◌↔◌, ℕ, List, ◌∷◌, Some, IsTrue, length, nat_eq, nat_lt, ◌&&◌, ◌||◌}
-use Rattle.term_algebra.specs.Signature.{Signature}
-use Rattle.term_algebra.specs.Term.{Term, node, Terms, list_of}
-use Rattle.term_algebra.specs.Sorting.{HasSort, Occurs}
-use Rattle.term_algebra.specs.Path.{subterm, put_at}
-use Rattle.term_algebra.specs.Substitution.{Substitution, substituted}
+use Rattle.lotos_base.specs.Signature.{Signature}
+use Rattle.lotos_base.specs.Term.{Term, node, Terms, list_of}
+use Rattle.lotos_base.specs.Sorting.{HasSort, Occurs}
+use Rattle.lotos_base.specs.Path.{subterm, put_at}
+use Rattle.lotos_base.specs.Substitution.{Substitution, substituted}
 use Rattle.termination_theory.specs.Precedence.{Precedence}
 use Rattle.termination_theory.specs.PathOrder.{IsGreater}
 use Rattle.termination_theory.specs.OrderFamily.{Exceeds}

@@ -1,7 +1,7 @@
 -- A test of the path order that computes. The outer recursion is on the greater term, the inner one on the lesser.
 use Rattle.std.specs.Prelude.{ℕ, Bool, true, false, nat_eq, nat_lt, ◌&&◌, ◌||◌}
-use Rattle.term_algebra.specs.Term.{Term, variable, node, Terms, no_terms, term_then}
-use Rattle.term_algebra.specs.Tests.{term_eq, terms_eq, occurs_among}
+use Rattle.lotos_base.specs.Term.{Term, variable, node, Terms, no_terms, term_then}
+use Rattle.lotos_base.specs.Tests.{term_eq, terms_eq, occurs_among}
 use Rattle.termination_theory.specs.Precedence.{Status, from_left, from_right, Precedence}
 
 -- Whether the lists have one length.

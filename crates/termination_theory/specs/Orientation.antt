@@ -1,8 +1,8 @@
 -- Orientation: the equations whose sides differ become rules, each turned toward its smaller side (Baader and
 -- Nipkow, 7.1).
 use Rattle.std.specs.Prelude.{◌≡◌, ◌≢◌, ◌<◌, ℕ, zero, suc, List, [], ◌∷◌, Some, slice_get, map}
-use Rattle.term_algebra.specs.Equation.{Equation, Data}
-use Rattle.term_algebra.specs.Equality.{Direction}
+use Rattle.lotos_base.specs.Equation.{Equation, Data}
+use Rattle.lotos_base.specs.Equality.{Direction}
 use Rattle.rewriting_theory.specs.Rule.{Rule, IsRule, IsTurned}
 use Rattle.termination_theory.specs.Precedence.{Precedence}
 use Rattle.termination_theory.specs.PathOrder.{IsGreater}

@@ -1,9 +1,9 @@
 -- Worked cases of orientation: which rules small data give under which order, or which equation cannot be oriented, and
 -- the chosen forms of some terms.
 use Rattle.std.specs.Prelude.{ℕ, List, [], ◌∷◌}
-use Rattle.term_algebra.specs.Term.{Term, variable, node, no_terms, term_then}
-use Rattle.term_algebra.specs.Equation.{Equation}
-use Rattle.term_algebra.specs.SmallData.{equation_of, nought, successor, plus, x_natural, y_natural, natural_data}
+use Rattle.lotos_base.specs.Term.{Term, variable, node, no_terms, term_then}
+use Rattle.lotos_base.specs.Equation.{Equation}
+use Rattle.lotos_base.specs.SmallData.{equation_of, nought, successor, plus, x_natural, y_natural, natural_data}
 use Rattle.rewriting_theory.specs.Rule.{Rule}
 use Rattle.rewriting_theory.specs.ChosenForm.{Chosen}
 use Rattle.termination_theory.specs.Orientation.{NumberedRule, GiveRules, IsOrientation, IsFirstUnorientable}

@@ -1,7 +1,7 @@
 -- Laws of orientation.
 use Rattle.std.specs.Prelude.{◌≡◌, ◌⊎◌, ℕ, ◌+◌, List, ◌++◌, length, Some, slice_get}
-use Rattle.term_algebra.specs.Equation.{Equation, Data, IsEquation}
-use Rattle.term_algebra.specs.Equality.{Direction}
+use Rattle.lotos_base.specs.Equation.{Equation, Data, IsEquation}
+use Rattle.lotos_base.specs.Equality.{Direction}
 use Rattle.rewriting_theory.specs.Rule.{Rule, AreWellFormedRules, IsTurned, AreRulesOf}
 use Rattle.termination_theory.specs.Precedence.{Precedence}
 use Rattle.termination_theory.specs.Orientation.{AreOriented, NumberedRule, rules_of, GiveRules, IsOrientation, IsUnorientable, IsFirstUnorientable}

@@ -1,8 +1,8 @@
 -- The lexicographic path order with statuses (Baader and Nipkow, 5.4).
 use Rattle.std.specs.Prelude.{◌≡◌, ◌≢◌, ℕ, Some, length}
-use Rattle.term_algebra.specs.Term.{Term, variable, node, Terms, list_of}
-use Rattle.term_algebra.specs.Sorting.{Occurs}
-use Rattle.term_algebra.specs.Path.{argument_at}
+use Rattle.lotos_base.specs.Term.{Term, variable, node, Terms, list_of}
+use Rattle.lotos_base.specs.Sorting.{Occurs}
+use Rattle.lotos_base.specs.Path.{argument_at}
 use Rattle.termination_theory.specs.Precedence.{Status, Precedence, IsOver, IsComparedBefore}
 
 -- The deciding place of two argument lists of one length is the first place, as the status counts, where they

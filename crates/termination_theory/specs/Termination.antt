@@ -1,8 +1,8 @@
 -- Termination: no chain of rewriting from a term exceeds some number, with or without steps into arguments between.
 use Rattle.std.specs.Prelude.{◌≡◌, ◌⊎◌, ℕ, List, Some}
-use Rattle.term_algebra.specs.Term.{Term, variable, node}
-use Rattle.term_algebra.specs.Path.{argument_at}
-use Rattle.term_algebra.specs.Equation.{Data}
+use Rattle.lotos_base.specs.Term.{Term, variable, node}
+use Rattle.lotos_base.specs.Path.{argument_at}
+use Rattle.lotos_base.specs.Equation.{Data}
 use Rattle.rewriting_theory.specs.Rule.{Rule}
 use Rattle.rewriting_theory.specs.Reduction.{EndsFor}
 use Rattle.rewriting_theory.specs.Rewriting.{Rewrites, Terminates}

@@ -1,16 +1,16 @@
 -- What the rows of behaviours keep is what is kept of what they mean.
 use Rattle.std.proofs.Common.{◌≡◌, ◌∙◌, ℕ, List, [], ◌∷◌, ◌++◌, map, length, Some, None, refl, ap, sym, inl, inr, append-nil, append_assoc, arith}
 use Rattle.std.specs.Prelude.{Option}
-use Rattle.term_algebra.specs.Equation.{Place}
+use Rattle.lotos_base.specs.Equation.{Place}
 use Rattle.lotos_lexer.specs.declared.tokens.Token.{Token}
-use Rattle.term_algebra.specs.Equation as plain
+use Rattle.lotos_base.specs.Equation as plain
 use Rattle.lotos_base.specs.WrittenTerm.{PlacedName}
 use Rattle.lotos_lexer.specs.declared.tokens.Token.{Token}
 use Rattle.syntax_trees.specs.WrittenBehaviour.{WrittenSign, synchronising, enabling, exit_term, exit_any, offer_value, offer_variable, stop, exit, call, action, inner_action, guard, hide, let_be, choose_value, choose_gate, par_gate}
 use Rattle.syntax_trees.specs.Strength.{strength_of, joined}
 use Rattle.syntax_trees.specs.Grouping.{grouped}
-use Rattle.lotos_sentences.specs.Names.{place_of, variables_of_sort}
-use Rattle.lotos_sentences.specs.Behaviours.{variable_named, gate_choices_among}
+use Rattle.lotos_rows.specs.Names.{place_of, variables_of_sort}
+use Rattle.lotos_rows.specs.Behaviours.{variable_named, gate_choices_among}
 use Rattle.tree_building.specs.Meaning.{a_behaviour, a_call, a_gate_choice, a_name, a_premiss, a_sign, a_term, a_value_choice, an_action, some_exit_values, some_gate_choices, some_lets, some_names, some_offers, some_operands, some_terms, some_variables, Meaning}
 use Rattle.tree_building.specs.Parts.{next_in, action_in, behaviour_in, call_in, exit_values_in, gate_choice_in, gate_choices_in, lets_in, name_in, names_in, offers_in, operands_in, premiss_in, sign_in, term_in, terms_in, value_choice_in, variables_in}
 use Rattle.tree_building.specs.BehavioursMeaning.{alone, before_tail, prefixed, hidden, let_in, choice_of_values, choice_of_gates, choice_after_word, par_after_word, inner_prefixed, guarded, action_of_gate, call_of_process, name_first, stopped, exited, bracketed_behaviour, no_tail, sign_before_behaviour, action_without_offers, offers_before_action, action_with_selection, call_without_name, offer_of_value, offers_of_variables, no_exit_values, same_exit_values, any_before_exit_values, term_before_exit_values, let_before_lets, no_lets, same_lets, value_choice_end, gate_choice_end, chosen, gates_before_gate_choices, no_gate_choices, same_gate_choices, sign_of_token, same_sign, enabling_sign, gates_sign}

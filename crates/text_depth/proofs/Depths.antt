@@ -11,7 +11,7 @@ use Rattle.text_depth.specs.declared.part.KeptPart.{KeptPart}
 use Rattle.text_depth.specs.PartView.{kept_of}
 use Rattle.std.specs.List.{list_all}
 use Rattle.ll_engine.specs.declared.symbol.Symbol.TheVariants.{Part}
-use Rattle.ll_engine.specs.Derivation.{Production, Forest, Derives, leaves}
+use Rattle.ll_engine.specs.Derivation.{Production, Forest, DerivesSymbols, leaves}
 use Rattle.ll_engine.specs.Language.{ContextFree}
 use Rattle.ll_engine.proofs.KeptSets.{predictive_after}
 use Rattle.ll_engine.proofs.Uniqueness.{one_tree}
@@ -48,11 +48,11 @@ pub kept_in_rows : (g : ContextFree) → HasLotosRows g → list_all (λ row. ke
 kept_in_rows g is = ap (λ (all : List Production). list_all (λ row. kept_in_front is_kept_kind row.right) all) is.rows_are ∙ kept_rows
 
 pub value_is : (limit : ℕ) (text : List ℕ) (g : ContextFree) → HasLotosRows g → (tokens : List Token) (tree : Forest) →
-    Derives g.rows tree (Part g.start ∷ []) → leaves tree ≡ map kind_of tokens → (found : Meaning) → Derived text g.start tokens found →
+    DerivesSymbols g.rows tree (Part g.start ∷ []) → leaves tree ≡ map kind_of tokens → (found : Meaning) → Derived text g.start tokens found →
     value_of_tree (numbered_row_depth limit) is_kept_kind tree tokens ≡ Some (depth_of limit found)
 value_is limit text g is tokens tree derives leaves_are found derived =
-    let other : Derives g.rows derived.0 (Part g.start ∷ []) =
-    subst (λ (all : List Production). Derives all derived.0 (Part g.start ∷ [])) (sym is.rows_are) derived.1 in
+    let other : DerivesSymbols g.rows derived.0 (Part g.start ∷ []) =
+    subst (λ (all : List Production). DerivesSymbols all derived.0 (Part g.start ∷ [])) (sym is.rows_are) derived.1 in
     let same : tree ≡ derived.0 = one_tree g is.well_formed is.predictive tree derived.0 derives other (leaves_are ∙ sym derived.2) in
     ap (λ (it : Forest). value_of_tree (numbered_row_depth limit) is_kept_kind it tokens) same
     ∙ ap (option_and_then first_value) (depths_hold limit text g.start derived.0 tokens found derived.1 derived.3)

@@ -4,7 +4,7 @@ use Rattle.std.specs.Prelude.{Option}
 use Rattle.lotos_lexer.specs.declared.tokens.Token.{Token}
 use Rattle.lotos_base.specs.WrittenTerm.{WrittenTerm}
 use Rattle.lotos_lexer.specs.declared.tokens.Token.{Token}
-use Rattle.lotos_sentences.specs.Names.{place_of}
+use Rattle.lotos_rows.specs.Names.{place_of}
 use Rattle.tree_building.specs.Meaning.{PlainStartedTerm, PlainConclusion, a_conclusion, a_name, a_premiss, a_term, after_term, an_equation, maybe_conclusion, maybe_term, some_equations, some_groups, some_variables, Meaning}
 use Rattle.tree_building.specs.Parts.{next_in, after_term_in, conclusion_in, equation_in, equations_in, groups_in, maybe_conclusion_in, maybe_term_in, name_in, premiss_in, term_in, variables_in}
 use Rattle.tree_building.specs.EquationsMeaning.{no_groups, group_before_groups, no_equations_listed, same_equations, equation_before_equations, first_premiss, equation_with_premisses, equation_from, equation_of_term, equals_after_term, conclusion_after_term, no_conclusion, some_conclusion, premiss_before_conclusion, conclusion_of_terms, premiss_of_term, no_right_side, some_right_side}

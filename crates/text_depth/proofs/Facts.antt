@@ -3,11 +3,11 @@ use Rattle.std.proofs.Common.{◌≡◌, ◌∙◌, ℕ, Bool, true, false, List
 use Rattle.std.specs.Prelude.{◌&&◌, Option, option_map, flat_map, fold}
 use Rattle.std.specs.Option.{option_or}
 use Rattle.std.proofs.lemmas.List.{map-append}
-use Rattle.term_algebra.specs.Equation.{Place}
+use Rattle.lotos_base.specs.Equation.{Place}
 use Rattle.lotos_base.specs.WrittenTerm.{PlacedName, WrittenTerm, written, no_written, written_then, written_terms}
-use Rattle.lotos_sentences.specs.Names.{variables_of_sort}
-use Rattle.lotos_sentences.specs.Terms.{applied, infix_term}
-use Rattle.lotos_sentences.specs.Behaviours.{before_first, gate_choices_among}
+use Rattle.lotos_rows.specs.Names.{variables_of_sort}
+use Rattle.lotos_rows.specs.Terms.{applied, infix_term}
+use Rattle.lotos_rows.specs.Behaviours.{before_first, gate_choices_among}
 use Rattle.syntax_trees.specs.WrittenVariable.{WrittenVariable}
 use Rattle.syntax_trees.specs.WrittenEquation.{WrittenPremiss}
 use Rattle.syntax_trees.specs.WrittenBehaviour.{WrittenGateChoice, WrittenOffer, offer_variable, WrittenBehaviour, action, inner_action, guard}

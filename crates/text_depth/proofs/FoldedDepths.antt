@@ -4,7 +4,7 @@ use Rattle.std.specs.Prelude.{Option, option_and_then, slice_get, ◌&&◌, ◌=
 use Rattle.std.specs.List.{list_all}
 use Rattle.ll_engine.specs.declared.symbol.Symbol.{Symbol}
 use Rattle.ll_engine.specs.declared.symbol.Symbol.TheVariants.{Token, Part}
-use Rattle.ll_engine.specs.Derivation.{Production, Forest, empty, leaf, node, Derives, leaves}
+use Rattle.ll_engine.specs.Derivation.{Production, Forest, empty, leaf, node, DerivesSymbols, leaves}
 use Rattle.ll_engine.specs.Fold.{folded, in_front, first_if, tree_begins_kept}
 use Rattle.ll_engine.specs.Run.{count_parts}
 use Rattle.lotos_lexer.specs.declared.tokens.Token as lexer
@@ -71,7 +71,7 @@ more_parts : (n : ℕ) (count : ℕ) → n ≡ count → suc n ≡ count + 1
 more_parts n count e = omega arith
 
 holds : (limit : ℕ) (text : List ℕ) (tree : Forest) (symbols : List Symbol) (tokens : List lexer.Token) (meanings : List Meaning) →
-    Derives rows tree symbols → folded (numbered_row_means text) is_kept_kind tree tokens ≡ Some meanings →
+    DerivesSymbols rows tree symbols → folded (numbered_row_means text) is_kept_kind tree tokens ≡ Some meanings →
     Holds limit tree symbols tokens meanings
 holds limit text empty [] tokens meanings derives e =
     let none : [] ≡ meanings = cc (e) in

@@ -8,7 +8,7 @@ use Rattle.syntax_trees.specs.WrittenItem.{WrittenOperation, WrittenPair, Writte
 use Rattle.syntax_trees.specs.WrittenBehaviour.{WrittenGateChoice, WrittenExitValue, WrittenOffer, WrittenBehaviour}
 use Rattle.syntax_trees.specs.WrittenDefinition.{WrittenHeading, WrittenInner, WrittenSpecification}
 use Rattle.syntax_trees.specs.Strength.{PlacedSign}
-use Rattle.lotos_sentences.specs.Names.{NamedOperation, PlacedProfile}
+use Rattle.lotos_rows.specs.Names.{NamedOperation, PlacedProfile}
 use Rattle.tree_building.specs.Meaning.{PlainStartedTerm, PlainConclusion, PlainAfterTerm, PlainAfterBase, PlainFlat, PlainActionEnd, PlainCallEnd, PlainValueChoiceEnd, PlainGateChoiceEnd, Meaning, a_name, some_names, some_variables, an_operation, some_named_operations, a_profile, maybe_profile, a_term, some_factors, some_terms, some_groups, some_equations, an_equation, a_conclusion, maybe_conclusion, after_term, a_premiss, maybe_term, some_pairs, both_pairs, an_item, some_items, a_body, after_base, some_sections, declared_operations, an_equation_section, some_operands, an_action, a_call, some_offers, some_exit_values, some_lets, some_gate_choices, a_value_choice, a_gate_choice, a_behaviour, a_sign, a_heading, a_functionality, some_inner, a_process, a_word, a_specification, some_order_items}
 use Rattle.tree_building.specs.Parts.{next_in, action_in, after_base_in, after_term_in, behaviour_in, body_in, both_pairs_in, call_in, conclusion_in, declared_operations_in, equation_in, equation_section_in, equations_in, exit_values_in, factors_in, functionality_in, gate_choice_in, gate_choices_in, groups_in, heading_in, inner_in, item_in, items_in, lets_in, maybe_conclusion_in, maybe_profile_in, maybe_term_in, name_in, names_in, offers_in, operands_in, operation_in, operations_in, order_items_in, pairs_in, premiss_in, process_in, profile_in, sections_in, sign_in, specification_in, term_in, terms_in, value_choice_in, variables_in, word_in}
 use Rattle.tree_building.specs.BehavioursMeaning.{or_else}

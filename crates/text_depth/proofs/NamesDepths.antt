@@ -2,13 +2,13 @@
 use Rattle.std.proofs.Common.{◌≡◌, ◌∙◌, ℕ, List, [], ◌∷◌, ◌++◌, map, length, Some, refl, ap}
 use Rattle.std.specs.Prelude.{Option}
 use Rattle.lotos_lexer.specs.declared.tokens.Token.{Token}
-use Rattle.term_algebra.specs.Signature.{prefix_form, infix_form}
+use Rattle.lotos_base.specs.Signature.{prefix_form, infix_form}
 use Rattle.lotos_lexer.specs.declared.tokens.Token.{Token}
-use Rattle.lotos_sentences.specs.Names.{named, variables_of_sort}
+use Rattle.lotos_rows.specs.Names.{named, variables_of_sort}
 use Rattle.tree_building.specs.Meaning.{a_name, a_profile, an_operation, some_names, some_variables, Meaning}
 use Rattle.tree_building.specs.Parts.{next_in, name_in, names_in, variables_in}
 use Rattle.tree_building.specs.NamesMeaning.{token_named, same_name, no_names, same_names, name_alone, name_before_names, no_variables, same_variables, variables_before_variables, prefix_operation, infix_operation, profile_of_names}
-use Rattle.lotos_sentences.specs.Names.{named}
+use Rattle.lotos_rows.specs.Names.{named}
 use Rattle.text_depth.specs.DepthPart.{of_names, depth_of}
 use Rattle.text_depth.specs.RowDepth.{token_name, closing, together, around_middle}
 use Rattle.text_depth.proofs.Inversions.{and_then_some, map_some, taken, shape0, shape1, shape2, shape3, name_in_is, names_in_is, variables_in_is}

@@ -5,7 +5,7 @@ use Rattle.std.specs.Option.{is_some}
 use Rattle.lotos_base.specs.declared.places.Place as code
 use Rattle.lotos_base.specs.WrittenView.{text_place_of}
 use Rattle.std.proofs.lemmas.List.{length-map, length-reverse}
-use Rattle.term_algebra.specs.Equation.{Place}
+use Rattle.lotos_base.specs.Equation.{Place}
 use Rattle.ll_engine.specs.Run.{from_last}
 use Rattle.syntax_trees.specs.Grouping.{leftmost, grouped}
 use Rattle.syntax_trees.specs.Firsts.{Firsts, between, everywhere, followed, below}

@@ -1,6 +1,6 @@
 -- What the rows of renamings keep is what is kept of what they mean.
 use Rattle.std.proofs.Common.{◌≡◌, ℕ, List, [], ◌∷◌, map, length, Some, refl}
-use Rattle.lotos_sentences.specs.Renamings.{pair_for}
+use Rattle.lotos_rows.specs.Renamings.{pair_for}
 use Rattle.tree_building.specs.Meaning.{a_name, an_operation, both_pairs, some_pairs, Meaning}
 use Rattle.tree_building.specs.Parts.{next_in, name_in, operation_in, pairs_in}
 use Rattle.tree_building.specs.RenamingsMeaning.{pairs_of_both, no_pairs, same_pairs, sort_pair_before_pairs, operation_pair_before_pairs}

@@ -1,7 +1,7 @@
 -- What the rows of starts keep is what is kept of what they mean.
 use Rattle.std.proofs.Common.{◌≡◌, ◌∙◌, ℕ, List, [], ◌∷◌, ◌++◌, map, length, Some, None, refl, ap, append-nil}
 use Rattle.std.specs.Prelude.{option_map, flat_map}
-use Rattle.lotos_sentences.specs.Starts.{profile_by_name}
+use Rattle.lotos_rows.specs.Starts.{profile_by_name}
 use Rattle.tree_building.specs.Meaning.{a_heading, a_profile, a_specification, a_word, an_operation, maybe_profile, some_inner, some_items, some_operands, some_order_items, Meaning}
 use Rattle.tree_building.specs.Parts.{next_in, heading_in, inner_in, items_in, maybe_profile_in, operands_in, operation_in, order_items_in, profile_in, word_in}
 use Rattle.tree_building.specs.StartsMeaning.{a_behaviour_word, specification_of_parts, no_order_items, item_before_order, no_profile, some_profile}

@@ -4,8 +4,8 @@ use Rattle.std.specs.Prelude.{Option}
 use Rattle.lotos_lexer.specs.declared.tokens.Token.{Token}
 use Rattle.lotos_lexer.specs.declared.tokens.Token.{Token}
 use Rattle.syntax_trees.specs.LeftGrouping.{grouped_left}
-use Rattle.lotos_sentences.specs.Names.{place_of}
-use Rattle.lotos_sentences.specs.Terms.{applied, infix_term}
+use Rattle.lotos_rows.specs.Names.{place_of}
+use Rattle.lotos_rows.specs.Terms.{applied, infix_term}
 use Rattle.tree_building.specs.Meaning.{a_name, a_term, some_factors, some_names, some_terms, Meaning}
 use Rattle.tree_building.specs.Parts.{next_in, factors_in, name_in, names_in, term_in, terms_in}
 use Rattle.tree_building.specs.TermsMeaning.{with_sorts, term_of_factors, no_factors, factor_before_factors, applied_factor, bracketed_factor, no_terms, same_terms, term_before_terms}

@@ -4,12 +4,12 @@ use Rattle.std.specs.Prelude.{Option}
 use Rattle.lotos_lexer.specs.declared.tokens.Token.{Token}
 use Rattle.lotos_lexer.specs.declared.tokens.Token.{Token}
 use Rattle.syntax_trees.specs.WrittenItem.{extends, libraries, type_declared}
-use Rattle.lotos_sentences.specs.Names.{place_of}
-use Rattle.lotos_sentences.specs.Types.{operations_of_profile, no_equations}
+use Rattle.lotos_rows.specs.Names.{place_of}
+use Rattle.lotos_rows.specs.Types.{operations_of_profile, no_equations}
 use Rattle.tree_building.specs.Meaning.{renamed, actualised, extended, a_body, a_name, a_profile, after_base, an_equation_section, an_item, an_operation, both_pairs, declared_operations, some_groups, some_items, some_named_operations, some_names, some_sections, some_variables, Meaning}
 use Rattle.tree_building.specs.Parts.{next_in, after_base_in, body_in, both_pairs_in, declared_operations_in, equation_section_in, groups_in, item_in, items_in, name_in, names_in, operation_in, operations_in, profile_in, sections_in, variables_in}
 use Rattle.tree_building.specs.TypesMeaning.{library_item, type_item, body_from, named_body, sections_body, renaming_after_base, actualisation_after_base, extension_after_base, sections_of_parts, no_operations_declared, same_operations_declared, line_before_lines, no_more_operations, operation_before_operations, no_equation_section, equation_section, no_items, same_items, item_before_items}
-use Rattle.lotos_sentences.specs.Types.{no_equations}
+use Rattle.lotos_rows.specs.Types.{no_equations}
 use Rattle.text_depth.specs.DepthPart.{depth_of}
 use Rattle.text_depth.specs.RowDepth.{closing}
 use Rattle.text_depth.proofs.Inversions.{and_then_some, taken, shape0, shape1, shape2, shape4, shape6, after_base_in_is, body_in_is, both_pairs_in_is, declared_operations_in_is, equation_section_in_is, groups_in_is, item_in_is, items_in_is, name_in_is, names_in_is, operation_in_is, operations_in_is, profile_in_is, sections_in_is, variables_in_is}

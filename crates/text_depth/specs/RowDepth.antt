@@ -1,8 +1,8 @@
 -- What each row keeps of its part, from what is kept of the parts of its right side.
 use Rattle.std.specs.Prelude.{ℕ, List, [], ◌∷◌, ◌++◌, fold, Option, Some, None, option_and_then, slice_get}
-use Rattle.term_algebra.specs.Equation.{Place}
+use Rattle.lotos_base.specs.Equation.{Place}
 use Rattle.lotos_lexer.specs.declared.tokens.Token.{Token}
-use Rattle.lotos_sentences.specs.Names.{place_of}
+use Rattle.lotos_rows.specs.Names.{place_of}
 use Rattle.lotos_rows.specs.declared.row_names.RowName.{RowName}
 use Rattle.lotos_rows.specs.declared.row_names.RowName.TheVariants as of_subject
 use Rattle.lotos_rows.specs.declared.names.NamesRow.{NamesRow}

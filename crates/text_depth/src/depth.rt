@@ -6,7 +6,7 @@ ghost use Rattle.lotos_base.specs.WrittenTerm.{WrittenTerm};
 ghost use Rattle.lotos_base.specs.WrittenView.{text_place_of};
 ghost use Rattle.lotos_rows.specs.Rows.{grammar_from};
 ghost use Rattle.lotos_rows.specs.declared.starts.TheConstants as starts;
-ghost use Rattle.lotos_sentences.specs.Starts.{AreItems, AreOptionalTerms, IsSpecification};
+ghost use Rattle.lotos_rows.specs.Starts.{AreItems, AreOptionalTerms, IsWrittenSpecification};
 ghost use Rattle.sentence_trees.specs.Sentences.{kind_of};
 ghost use Rattle.syntax_trees.specs.Depth.{first_deeper, nodes_of_specification, nodes_of_terms};
 ghost use Rattle.syntax_trees.specs.WrittenDefinition.{WrittenSpecification};
@@ -56,7 +56,7 @@ pub fn specification_depth(
     rows: &[u32],
 ) -> Result<Option<Place>, AllocError>
     requires { IsLeftmostDerivation (grammar_from starts.SPEC) rows.now (map kind_of tokens.now) }
-    ensures { IfOk result (λ deep. (text : List ℕ) (tree : WrittenSpecification) → IsSpecification text tokens.now tree → option_map text_place_of deep ≡ first_deeper node_limit (nodes_of_specification tree)) }
+    ensures { IfOk result (λ deep. (text : List ℕ) (tree : WrittenSpecification) → IsWrittenSpecification text tokens.now tree → option_map text_place_of deep ≡ first_deeper node_limit (nodes_of_specification tree)) }
 {
     let deep = depth(alloc, &specification_grammar(), tokens, rows);
     deep

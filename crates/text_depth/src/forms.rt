@@ -1,13 +1,14 @@
 //! What the rows of terms and behaviours keep of their parts.
+#![tactic(auto, using(tree_building::proofs::FromLast::from_last_more, tree_building::proofs::FromLast::from_last_none))]
 
-ghost use Rattle.std.specs.Prelude.{◌≡◌, IfOk, fold, option_map};
+ghost use Rattle.std.specs.Prelude.{◌≡◌, IfOk, OnOk, fold, option_map};
 ghost use Rattle.ll_engine.specs.Run.{from_last};
 ghost use Rattle.lotos_base.specs.WrittenView.{text_place_of};
 ghost use Rattle.syntax_trees.specs.Firsts.{between};
 ghost use Rattle.syntax_trees.specs.FirstsView.{firsts_of};
 ghost use Rattle.syntax_trees.specs.TreeFirsts.{names_firsts};
 ghost use Rattle.text_depth.specs.DepthPart.{before_first_operand, of_flat};
-ghost use Rattle.text_depth.specs.RowDepth.{applied_name, around_middle, bracket_first, bracketed_term, call_end, choice_form, chosen_part, end_of_choice, exit_first, factor_first, first_operand, guard_prefix, in_front, inner_prefix, left_grouped, named_first, one_operand, par_form, sign_part, stop_first, terms_before, token_name, word_form};
+ghost use Rattle.text_depth.specs.RowDepth.{applied_name, around_middle, below_first, bracket_first, bracketed_term, call_end, choice_form, chosen_part, end_of_choice, exit_first, factor_first, first_operand, guard_prefix, in_front, inner_prefix, left_grouped, named_first, one_operand, par_form, sign_part, stop_first, terms_before, token_name, word_form};
 ghost use Rattle.text_depth.specs.PartView.{kept_of};
 
 use crate::lists::{Kept, both};
@@ -18,7 +19,6 @@ use std::alloc::{AllocError, Global};
 use syntax_trees::FirstNodes;
 
 /// The name that is the row's token.
-#[tactic(auto, using(tree_building::proofs::FromLast::from_last_more, tree_building::proofs::FromLast::from_last_none))]
 pub fn token_name(alloc: Global, token: Option<Token>) -> Kept
     ensures { IfOk result (λ kept. option_map kept_of kept ≡ token_name token) }
 {
@@ -31,7 +31,6 @@ pub fn token_name(alloc: Global, token: Option<Token>) -> Kept
 }
 
 /// A term of its first factor and those behind it, which are held from the last to the first.
-#[tactic(auto, using(tree_building::proofs::FromLast::from_last_more, tree_building::proofs::FromLast::from_last_none))]
 fn factors(first: FirstNodes, mut behind: Vec<FirstNodes>) -> Result<FirstNodes, AllocError>
     ensures { IfOk result (λ term. firsts_of term ≡ fold between (firsts_of first) (from_last firsts_of behind.items)) }
 {
@@ -43,9 +42,8 @@ fn factors(first: FirstNodes, mut behind: Vec<FirstNodes>) -> Result<FirstNodes,
 }
 
 /// Two lists with one name between them.
-#[tactic(auto, using(tree_building::proofs::FromLast::from_last_more, tree_building::proofs::FromLast::from_last_none))]
-pub fn around_middle(alloc: Global, mut parts: Vec<KeptPart>) -> Kept
-    ensures { IfOk result (λ kept. option_map kept_of kept ≡ around_middle (from_last kept_of parts.items)) }
+pub fn around_middle(alloc: Global, parts: &mut Vec<KeptPart>) -> Kept
+    ensures { IfOk result (λ kept. option_map kept_of kept ≡ around_middle (from_last kept_of parts.old.items)) }
 {
     let Some(first) = parts.pop() else {
         return Ok(None);
@@ -60,9 +58,8 @@ pub fn around_middle(alloc: Global, mut parts: Vec<KeptPart>) -> Kept
 }
 
 /// A term of its factors.
-#[tactic(auto, using(tree_building::proofs::FromLast::from_last_more, tree_building::proofs::FromLast::from_last_none))]
-pub fn left_grouped(alloc: Global, mut parts: Vec<KeptPart>) -> Kept
-    ensures { IfOk result (λ kept. option_map kept_of kept ≡ left_grouped (from_last kept_of parts.items)) }
+pub fn left_grouped(alloc: Global, parts: &mut Vec<KeptPart>) -> Kept
+    ensures { IfOk result (λ kept. option_map kept_of kept ≡ left_grouped (from_last kept_of parts.old.items)) }
 {
     let Some(first) = parts.pop() else {
         return Ok(None);
@@ -75,9 +72,8 @@ pub fn left_grouped(alloc: Global, mut parts: Vec<KeptPart>) -> Kept
 }
 
 /// An operation, a factor, and more of them.
-#[tactic(auto, using(tree_building::proofs::FromLast::from_last_more, tree_building::proofs::FromLast::from_last_none))]
-pub fn factor_first(alloc: Global, mut parts: Vec<KeptPart>) -> Kept
-    ensures { IfOk result (λ kept. option_map kept_of kept ≡ factor_first (from_last kept_of parts.items)) }
+pub fn factor_first(alloc: Global, parts: &mut Vec<KeptPart>) -> Kept
+    ensures { IfOk result (λ kept. option_map kept_of kept ≡ factor_first (from_last kept_of parts.old.items)) }
 {
     let Some(_) = parts.pop() else {
         return Ok(None);
@@ -94,9 +90,8 @@ pub fn factor_first(alloc: Global, mut parts: Vec<KeptPart>) -> Kept
 }
 
 /// A name with its arguments.
-#[tactic(auto, using(tree_building::proofs::FromLast::from_last_more, tree_building::proofs::FromLast::from_last_none))]
-pub fn applied_name(alloc: Global, mut parts: Vec<KeptPart>) -> Kept
-    ensures { IfOk result (λ kept. option_map kept_of kept ≡ applied_name (from_last kept_of parts.items)) }
+pub fn applied_name(alloc: Global, parts: &mut Vec<KeptPart>) -> Kept
+    ensures { IfOk result (λ kept. option_map kept_of kept ≡ applied_name (from_last kept_of parts.old.items)) }
 {
     let Some(mut name) = parts.pop() else {
         return Ok(None);
@@ -115,9 +110,8 @@ pub fn applied_name(alloc: Global, mut parts: Vec<KeptPart>) -> Kept
 }
 
 /// A term in brackets.
-#[tactic(auto, using(tree_building::proofs::FromLast::from_last_more, tree_building::proofs::FromLast::from_last_none))]
-pub fn bracketed_term(alloc: Global, mut parts: Vec<KeptPart>) -> Kept
-    ensures { IfOk result (λ kept. option_map kept_of kept ≡ bracketed_term (from_last kept_of parts.items)) }
+pub fn bracketed_term(alloc: Global, parts: &mut Vec<KeptPart>) -> Kept
+    ensures { IfOk result (λ kept. option_map kept_of kept ≡ bracketed_term (from_last kept_of parts.old.items)) }
 {
     let Some(inside) = parts.pop() else {
         return Ok(None);
@@ -129,7 +123,6 @@ pub fn bracketed_term(alloc: Global, mut parts: Vec<KeptPart>) -> Kept
 }
 
 /// A flat list of one operand.
-#[tactic(auto, using(tree_building::proofs::FromLast::from_last_more, tree_building::proofs::FromLast::from_last_none))]
 fn one_operand(alloc: Global, operand: FirstNodes) -> Kept
     ensures { IfOk result (λ kept. option_map kept_of kept ≡ one_operand (firsts_of operand)) }
 {
@@ -139,9 +132,8 @@ fn one_operand(alloc: Global, operand: FirstNodes) -> Kept
 }
 
 /// A word, names or values, and a behaviour.
-#[tactic(auto, using(tree_building::proofs::FromLast::from_last_more, tree_building::proofs::FromLast::from_last_none))]
-pub fn word_form(alloc: Global, token: Option<Token>, mut parts: Vec<KeptPart>) -> Kept
-    ensures { IfOk result (λ kept. option_map kept_of kept ≡ word_form token (from_last kept_of parts.items)) }
+pub fn word_form(alloc: Global, token: Option<Token>, parts: &mut Vec<KeptPart>) -> Kept
+    ensures { IfOk result (λ kept. option_map kept_of kept ≡ word_form token (from_last kept_of parts.old.items)) }
 {
     let Some(before) = parts.pop() else {
         return Ok(None);
@@ -159,7 +151,6 @@ pub fn word_form(alloc: Global, token: Option<Token>, mut parts: Vec<KeptPart>) 
 
 /// Names each of which is a node below the one before, and what stands behind them. The names are held from the last to the
 /// first.
-#[tactic(auto, using(tree_building::proofs::FromLast::from_last_more, tree_building::proofs::FromLast::from_last_none))]
 fn names_first(names: Vec<Place>, inside: FirstNodes) -> Result<FirstNodes, AllocError>
     ensures { IfOk result (λ firsts. firsts_of firsts ≡ names_firsts (from_last text_place_of names.items) (firsts_of inside)) }
 {
@@ -173,8 +164,8 @@ fn names_first(names: Vec<Place>, inside: FirstNodes) -> Result<FirstNodes, Allo
 
 /// `choice`: names, and the rest of it.
 #[tactic(auto, using(tree_building::proofs::FromLast::from_last_more, tree_building::proofs::FromLast::from_last_none, crate::proofs::PartLists::names_firsts_append))]
-pub fn choice_form(alloc: Global, mut parts: Vec<KeptPart>) -> Kept
-    ensures { IfOk result (λ kept. option_map kept_of kept ≡ choice_form (from_last kept_of parts.items)) }
+pub fn choice_form(alloc: Global, parts: &mut Vec<KeptPart>) -> Kept
+    ensures { IfOk result (λ kept. option_map kept_of kept ≡ choice_form (from_last kept_of parts.old.items)) }
 {
     let Some(names) = parts.pop() else {
         return Ok(None);
@@ -194,9 +185,8 @@ pub fn choice_form(alloc: Global, mut parts: Vec<KeptPart>) -> Kept
 }
 
 /// `par`: gates, the sign, and a behaviour.
-#[tactic(auto, using(tree_building::proofs::FromLast::from_last_more, tree_building::proofs::FromLast::from_last_none))]
-pub fn par_form(alloc: Global, mut parts: Vec<KeptPart>) -> Kept
-    ensures { IfOk result (λ kept. option_map kept_of kept ≡ par_form (from_last kept_of parts.items)) }
+pub fn par_form(alloc: Global, parts: &mut Vec<KeptPart>) -> Kept
+    ensures { IfOk result (λ kept. option_map kept_of kept ≡ par_form (from_last kept_of parts.old.items)) }
 {
     let Some(gates) = parts.pop() else {
         return Ok(None);
@@ -213,37 +203,48 @@ pub fn par_form(alloc: Global, mut parts: Vec<KeptPart>) -> Kept
 }
 
 /// A node in front of the first operand.
-#[tactic(auto, using(tree_building::proofs::FromLast::from_last_more, tree_building::proofs::FromLast::from_last_none))]
-fn in_front(alloc: Global, place: Place, flat: KeptPart) -> Kept
-    ensures { IfOk result (λ kept. option_map kept_of kept ≡ in_front (text_place_of place) (kept_of flat)) }
+fn put_below(place: Place, operands: &mut Vec<FirstNodes>) -> Result<(), AllocError>
+    ensures { OnOk result (from_last firsts_of operands.new.items ≡ below_first (text_place_of place) (from_last firsts_of operands.old.items)) }
 {
-    let mut operands = flat.operands;
     if let Some(first) = operands.pop() {
         operands.push(first.below(place)?)?;
     }
-    Ok(Some(KeptPart::of_flat(alloc, operands, flat.strengths)))
+    Ok(())
+}
+
+/// A node in front of a flat list.
+fn in_front(alloc: Global, place: Place, mut flat: KeptPart) -> Kept
+    ensures { IfOk result (λ kept. option_map kept_of kept ≡ in_front (text_place_of place) (kept_of flat)) }
+{
+    put_below(place, &mut flat.operands)?;
+    Ok(Some(KeptPart::of_flat(alloc, flat.operands, flat.strengths)))
 }
 
 /// Terms in front of the first operand.
-#[tactic(auto, using(tree_building::proofs::FromLast::from_last_more, tree_building::proofs::FromLast::from_last_none))]
-fn with_terms_before(
-    alloc: Global,
-    terms: FirstNodes,
-    flat: KeptPart,
-) -> Result<KeptPart, AllocError>
-    ensures { IfOk result (λ kept. kept_of kept ≡ of_flat (before_first_operand (firsts_of terms) (kept_of flat).operands) (kept_of flat).strengths) }
+fn put_before(terms: FirstNodes, operands: &mut Vec<FirstNodes>) -> Result<(), AllocError>
+    ensures { OnOk result (from_last firsts_of operands.new.items ≡ before_first_operand (firsts_of terms) (from_last firsts_of operands.old.items)) }
 {
-    let mut operands = flat.operands;
     if let Some(first) = operands.pop() {
         operands.push(terms.followed(first)?)?;
     }
-    Ok(KeptPart::of_flat(alloc, operands, flat.strengths))
+    Ok(())
+}
+
+/// Terms in front of a flat list.
+fn with_terms_before(
+    alloc: Global,
+    terms: FirstNodes,
+    mut flat: KeptPart,
+) -> Result<KeptPart, AllocError>
+    ensures { IfOk result (λ kept. kept_of kept ≡ of_flat (before_first_operand (firsts_of terms) (kept_of flat).operands) (kept_of flat).strengths) }
+{
+    put_before(terms, &mut flat.operands)?;
+    Ok(KeptPart::of_flat(alloc, flat.operands, flat.strengths))
 }
 
 /// `i` in front of a flat list.
-#[tactic(auto, using(tree_building::proofs::FromLast::from_last_more, tree_building::proofs::FromLast::from_last_none))]
-pub fn inner_prefix(alloc: Global, token: Option<Token>, mut parts: Vec<KeptPart>) -> Kept
-    ensures { IfOk result (λ kept. option_map kept_of kept ≡ inner_prefix token (from_last kept_of parts.items)) }
+pub fn inner_prefix(alloc: Global, token: Option<Token>, parts: &mut Vec<KeptPart>) -> Kept
+    ensures { IfOk result (λ kept. option_map kept_of kept ≡ inner_prefix token (from_last kept_of parts.old.items)) }
 {
     let Some(flat) = parts.pop() else {
         return Ok(None);
@@ -255,9 +256,8 @@ pub fn inner_prefix(alloc: Global, token: Option<Token>, mut parts: Vec<KeptPart
 }
 
 /// A premiss in front of a flat list, or offers in front of an action.
-#[tactic(auto, using(tree_building::proofs::FromLast::from_last_more, tree_building::proofs::FromLast::from_last_none))]
-pub fn terms_before(alloc: Global, mut parts: Vec<KeptPart>) -> Kept
-    ensures { IfOk result (λ kept. option_map kept_of kept ≡ terms_before (from_last kept_of parts.items)) }
+pub fn terms_before(alloc: Global, parts: &mut Vec<KeptPart>) -> Kept
+    ensures { IfOk result (λ kept. option_map kept_of kept ≡ terms_before (from_last kept_of parts.old.items)) }
 {
     let Some(terms) = parts.pop() else {
         return Ok(None);
@@ -269,9 +269,8 @@ pub fn terms_before(alloc: Global, mut parts: Vec<KeptPart>) -> Kept
 }
 
 /// A guard.
-#[tactic(auto, using(tree_building::proofs::FromLast::from_last_more, tree_building::proofs::FromLast::from_last_none))]
-pub fn guard_prefix(alloc: Global, token: Option<Token>, mut parts: Vec<KeptPart>) -> Kept
-    ensures { IfOk result (λ kept. option_map kept_of kept ≡ guard_prefix token (from_last kept_of parts.items)) }
+pub fn guard_prefix(alloc: Global, token: Option<Token>, parts: &mut Vec<KeptPart>) -> Kept
+    ensures { IfOk result (λ kept. option_map kept_of kept ≡ guard_prefix token (from_last kept_of parts.old.items)) }
 {
     let Some(test) = parts.pop() else {
         return Ok(None);
@@ -287,9 +286,8 @@ pub fn guard_prefix(alloc: Global, token: Option<Token>, mut parts: Vec<KeptPart
 }
 
 /// A gate or a process, and what stands behind it.
-#[tactic(auto, using(tree_building::proofs::FromLast::from_last_more, tree_building::proofs::FromLast::from_last_none))]
-pub fn named_first(alloc: Global, mut parts: Vec<KeptPart>) -> Kept
-    ensures { IfOk result (λ kept. option_map kept_of kept ≡ named_first (from_last kept_of parts.items)) }
+pub fn named_first(alloc: Global, parts: &mut Vec<KeptPart>) -> Kept
+    ensures { IfOk result (λ kept. option_map kept_of kept ≡ named_first (from_last kept_of parts.old.items)) }
 {
     let Some(mut name) = parts.pop() else {
         return Ok(None);
@@ -304,7 +302,6 @@ pub fn named_first(alloc: Global, mut parts: Vec<KeptPart>) -> Kept
 }
 
 /// An operand in front of a tail.
-#[tactic(auto, using(tree_building::proofs::FromLast::from_last_more, tree_building::proofs::FromLast::from_last_none))]
 fn first_operand(alloc: Global, operand: FirstNodes, tail: KeptPart) -> Kept
     ensures { IfOk result (λ kept. option_map kept_of kept ≡ first_operand (firsts_of operand) (kept_of tail)) }
 {
@@ -314,9 +311,8 @@ fn first_operand(alloc: Global, operand: FirstNodes, tail: KeptPart) -> Kept
 }
 
 /// A call without its name.
-#[tactic(auto, using(tree_building::proofs::FromLast::from_last_more, tree_building::proofs::FromLast::from_last_none))]
-pub fn call_end(alloc: Global, mut parts: Vec<KeptPart>, limit: usize) -> Kept
-    ensures { IfOk result (λ kept. option_map kept_of kept ≡ call_end limit (from_last kept_of parts.items)) }
+pub fn call_end(alloc: Global, parts: &mut Vec<KeptPart>, limit: usize) -> Kept
+    ensures { IfOk result (λ kept. option_map kept_of kept ≡ call_end limit (from_last kept_of parts.old.items)) }
 {
     let Some(_) = parts.pop() else {
         return Ok(None);
@@ -332,9 +328,8 @@ pub fn call_end(alloc: Global, mut parts: Vec<KeptPart>, limit: usize) -> Kept
 }
 
 /// `stop`.
-#[tactic(auto, using(tree_building::proofs::FromLast::from_last_more, tree_building::proofs::FromLast::from_last_none))]
-pub fn stop_first(alloc: Global, token: Option<Token>, mut parts: Vec<KeptPart>) -> Kept
-    ensures { IfOk result (λ kept. option_map kept_of kept ≡ stop_first token (from_last kept_of parts.items)) }
+pub fn stop_first(alloc: Global, token: Option<Token>, parts: &mut Vec<KeptPart>) -> Kept
+    ensures { IfOk result (λ kept. option_map kept_of kept ≡ stop_first token (from_last kept_of parts.old.items)) }
 {
     let Some(tail) = parts.pop() else {
         return Ok(None);
@@ -347,9 +342,8 @@ pub fn stop_first(alloc: Global, token: Option<Token>, mut parts: Vec<KeptPart>)
 }
 
 /// `exit`.
-#[tactic(auto, using(tree_building::proofs::FromLast::from_last_more, tree_building::proofs::FromLast::from_last_none))]
-pub fn exit_first(alloc: Global, token: Option<Token>, mut parts: Vec<KeptPart>) -> Kept
-    ensures { IfOk result (λ kept. option_map kept_of kept ≡ exit_first token (from_last kept_of parts.items)) }
+pub fn exit_first(alloc: Global, token: Option<Token>, parts: &mut Vec<KeptPart>) -> Kept
+    ensures { IfOk result (λ kept. option_map kept_of kept ≡ exit_first token (from_last kept_of parts.old.items)) }
 {
     let Some(values) = parts.pop() else {
         return Ok(None);
@@ -365,9 +359,8 @@ pub fn exit_first(alloc: Global, token: Option<Token>, mut parts: Vec<KeptPart>)
 }
 
 /// A behaviour in brackets.
-#[tactic(auto, using(tree_building::proofs::FromLast::from_last_more, tree_building::proofs::FromLast::from_last_none))]
-pub fn bracket_first(alloc: Global, mut parts: Vec<KeptPart>) -> Kept
-    ensures { IfOk result (λ kept. option_map kept_of kept ≡ bracket_first (from_last kept_of parts.items)) }
+pub fn bracket_first(alloc: Global, parts: &mut Vec<KeptPart>) -> Kept
+    ensures { IfOk result (λ kept. option_map kept_of kept ≡ bracket_first (from_last kept_of parts.old.items)) }
 {
     let Some(inside) = parts.pop() else {
         return Ok(None);
@@ -380,9 +373,8 @@ pub fn bracket_first(alloc: Global, mut parts: Vec<KeptPart>) -> Kept
 }
 
 /// The end of a choice: a sort or gates, more names, and the behaviour.
-#[tactic(auto, using(tree_building::proofs::FromLast::from_last_more, tree_building::proofs::FromLast::from_last_none))]
-pub fn end_of_choice(alloc: Global, mut parts: Vec<KeptPart>) -> Kept
-    ensures { IfOk result (λ kept. option_map kept_of kept ≡ end_of_choice (from_last kept_of parts.items)) }
+pub fn end_of_choice(alloc: Global, parts: &mut Vec<KeptPart>) -> Kept
+    ensures { IfOk result (λ kept. option_map kept_of kept ≡ end_of_choice (from_last kept_of parts.old.items)) }
 {
     let Some(_) = parts.pop() else {
         return Ok(None);
@@ -402,9 +394,8 @@ pub fn end_of_choice(alloc: Global, mut parts: Vec<KeptPart>) -> Kept
 }
 
 /// A whole behaviour.
-#[tactic(auto, using(tree_building::proofs::FromLast::from_last_more, tree_building::proofs::FromLast::from_last_none))]
-pub fn chosen_part(alloc: Global, mut parts: Vec<KeptPart>) -> Kept
-    ensures { IfOk result (λ kept. option_map kept_of kept ≡ chosen_part (from_last kept_of parts.items)) }
+pub fn chosen_part(alloc: Global, parts: &mut Vec<KeptPart>) -> Kept
+    ensures { IfOk result (λ kept. option_map kept_of kept ≡ chosen_part (from_last kept_of parts.old.items)) }
 {
     let Some(inside) = parts.pop() else {
         return Ok(None);
@@ -414,7 +405,6 @@ pub fn chosen_part(alloc: Global, mut parts: Vec<KeptPart>) -> Kept
 }
 
 /// A sign.
-#[tactic(auto, using(tree_building::proofs::FromLast::from_last_more, tree_building::proofs::FromLast::from_last_none))]
 pub fn sign_part(alloc: Global, strength: u8) -> Kept
     ensures { IfOk result (λ kept. option_map kept_of kept ≡ sign_part strength) }
 {

@@ -35,7 +35,7 @@ fn names_row(
     limit: usize,
     row: NamesRow,
     token: Option<Token>,
-    parts: Vec<KeptPart>,
+    mut parts: Vec<KeptPart>,
 ) -> Kept
     ensures { IfOk result (λ kept. option_map kept_of kept ≡ names_row_depth limit row token (from_last kept_of parts.items)) }
 {
@@ -43,7 +43,7 @@ fn names_row(
         NamesRow::Name | NamesRow::DigitName | NamesRow::SignName => {
             forms::token_name(alloc, token)
         }
-        NamesRow::Variables => forms::around_middle(alloc, parts),
+        NamesRow::Variables => forms::around_middle(alloc, &mut parts),
         NamesRow::PrefixOperation | NamesRow::InfixOperation | NamesRow::Profile => {
             closing(alloc, parts, limit)
         }
@@ -52,14 +52,14 @@ fn names_row(
 }
 
 /// What a row of terms keeps.
-fn terms_row(alloc: Global, row: TermsRow, token: Option<Token>, parts: Vec<KeptPart>) -> Kept
+fn terms_row(alloc: Global, row: TermsRow, token: Option<Token>, mut parts: Vec<KeptPart>) -> Kept
     ensures { IfOk result (λ kept. option_map kept_of kept ≡ terms_row_depth row token (from_last kept_of parts.items)) }
 {
     match row {
-        TermsRow::Term => forms::left_grouped(alloc, parts),
-        TermsRow::MoreFactors => forms::factor_first(alloc, parts),
-        TermsRow::AppliedFactor => forms::applied_name(alloc, parts),
-        TermsRow::BracketedFactor => forms::bracketed_term(alloc, parts),
+        TermsRow::Term => forms::left_grouped(alloc, &mut parts),
+        TermsRow::MoreFactors => forms::factor_first(alloc, &mut parts),
+        TermsRow::AppliedFactor => forms::applied_name(alloc, &mut parts),
+        TermsRow::BracketedFactor => forms::bracketed_term(alloc, &mut parts),
         _ => together(alloc, parts),
     }
 }
@@ -115,29 +115,29 @@ fn behaviours_row(
     limit: usize,
     row: BehavioursRow,
     token: Option<Token>,
-    parts: Vec<KeptPart>,
+    mut parts: Vec<KeptPart>,
 ) -> Kept
     ensures { IfOk result (λ kept. option_map kept_of kept ≡ behaviours_row_depth limit row token (from_last kept_of parts.items)) }
 {
     match row {
-        BehavioursRow::Hide | BehavioursRow::Let => forms::word_form(alloc, token, parts),
-        BehavioursRow::Choice => forms::choice_form(alloc, parts),
-        BehavioursRow::Par => forms::par_form(alloc, parts),
-        BehavioursRow::Internal => forms::inner_prefix(alloc, token, parts),
-        BehavioursRow::Guarded => forms::guard_prefix(alloc, token, parts),
-        BehavioursRow::NameFirst => forms::named_first(alloc, parts),
-        BehavioursRow::Stop => forms::stop_first(alloc, token, parts),
-        BehavioursRow::Exit => forms::exit_first(alloc, token, parts),
-        BehavioursRow::BracketedBehaviour => forms::bracket_first(alloc, parts),
+        BehavioursRow::Hide | BehavioursRow::Let => forms::word_form(alloc, token, &mut parts),
+        BehavioursRow::Choice => forms::choice_form(alloc, &mut parts),
+        BehavioursRow::Par => forms::par_form(alloc, &mut parts),
+        BehavioursRow::Internal => forms::inner_prefix(alloc, token, &mut parts),
+        BehavioursRow::Guarded => forms::guard_prefix(alloc, token, &mut parts),
+        BehavioursRow::NameFirst => forms::named_first(alloc, &mut parts),
+        BehavioursRow::Stop => forms::stop_first(alloc, token, &mut parts),
+        BehavioursRow::Exit => forms::exit_first(alloc, token, &mut parts),
+        BehavioursRow::BracketedBehaviour => forms::bracket_first(alloc, &mut parts),
         BehavioursRow::ActionWithOffers
         | BehavioursRow::OneMoreOffer
-        | BehavioursRow::SelectionAfterOffers => forms::terms_before(alloc, parts),
-        BehavioursRow::Call => forms::call_end(alloc, parts, limit),
+        | BehavioursRow::SelectionAfterOffers => forms::terms_before(alloc, &mut parts),
+        BehavioursRow::Call => forms::call_end(alloc, &mut parts, limit),
         BehavioursRow::ChoiceOfValues | BehavioursRow::ChoiceOfGates => {
-            forms::end_of_choice(alloc, parts)
+            forms::end_of_choice(alloc, &mut parts)
         }
-        BehavioursRow::Chosen => forms::chosen_part(alloc, parts),
-        BehavioursRow::GateChoices => forms::around_middle(alloc, parts),
+        BehavioursRow::Chosen => forms::chosen_part(alloc, &mut parts),
+        BehavioursRow::GateChoices => forms::around_middle(alloc, &mut parts),
         BehavioursRow::ChoiceSign => forms::sign_part(alloc, 3),
         BehavioursRow::DisablingSign => forms::sign_part(alloc, 1),
         BehavioursRow::EnablingSign => forms::sign_part(alloc, 0),

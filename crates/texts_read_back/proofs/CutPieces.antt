@@ -10,7 +10,7 @@ use Rattle.lotos_lexer.specs.Pieces.{piece_at}
 use Rattle.lotos_lexer.specs.Tokens.{Lexed, start, behind, behind_all, at_next_line, at_next_column, with_token, token_at, list_open_behind, cut}
 use Rattle.lotos_lexer.specs.Cutting.{with_tokens}
 use Rattle.lotos_lexer.proofs.CuttingLemmas.{cut-token}
-use Rattle.lotos_sentences.specs.Names.{spelled}
+use Rattle.lotos_rows.specs.Names.{spelled}
 
 -- behind these bytes of a text
 abbrev pub behind_bytes : List ℕ → Position

@@ -2,9 +2,9 @@
 use Rattle.std.proofs.Common.{◌≡◌, ℕ, suc, ◌+◌, ◌≤◌, Bool, true, false, List, [], ◌∷◌, ◌++◌, refl, arith}
 use Rattle.std.specs.Prelude.{Some, None, max, nat_lt, cond, slice_get}
 use Rattle.std.proofs.lemmas.Bool.{ltb-true}
-use Rattle.term_algebra.specs.Equation.{Place}
-use Rattle.term_algebra.specs.Signature.{Signature, Form, prefix_form, infix_form}
-use Rattle.term_algebra.specs.Term.{Term, Terms, variable, node, no_terms, term_then, terms_of}
+use Rattle.lotos_base.specs.Equation.{Place}
+use Rattle.lotos_base.specs.Signature.{Signature, Form, prefix_form, infix_form}
+use Rattle.lotos_base.specs.Term.{Term, Terms, variable, node, no_terms, term_then, terms_of}
 use Rattle.lotos_base.specs.WrittenTerm.{WrittenTerm, WrittenTerms, written, no_written, written_then, written_terms}
 use Rattle.syntax_trees.specs.Depth.{TreeNode, node_at, before_parts, term_nodes, terms_nodes, nodes_of_term, nodes_of_terms, first_deeper}
 use Rattle.texts_read_back.specs.WrittenAs.{IsWrittenAs, AreWrittenAs}

@@ -6,7 +6,7 @@ use Rattle.std.specs.Option.{option_or}
 use Rattle.std.specs.Char.{is_ascii_alphabetic, is_ascii_digit, is_ascii_alphanumeric}
 use Rattle.std.specs.Int.{is_in_range}
 use Rattle.std.proofs.Math.Seq.{take-append_seam}
-use Rattle.std.proofs.lemmas.Bool.{and_parts, leb-true}
+use Rattle.std.proofs.lemmas.Bool.{and_parts, leb-true, not-true}
 use Rattle.std.proofs.lemmas.Bool.Decides.{Decides-eqb}
 use Rattle.lotos_lexer.specs.declared.lexemes.Lexeme.{Lexeme}
 use Rattle.lotos_lexer.specs.declared.kinds.TheConstants.{NAME, DIGIT_NAME, SIGN_NAME}
@@ -178,10 +178,6 @@ no_spelling (row ∷ rows) b bytes differ =
         ∙ below rest
     by false other rest below = cc
 
-negated : (x : Bool) → not x ≡ true → x ≡ false
-negated true h = sym h
-negated false h = refl
-
 below_letters : (b lower upper : ℕ) → nat_le b 57 ≡ true → 57 < lower → is_in_range lower upper b ≡ false
 below_letters b lower upper digit past = by (nat_le lower b) refl
   where
@@ -199,10 +195,10 @@ digit_no_letter b is =
     neither false lower h k = k
 
 sign_no_letter : (b : ℕ) → is_sign b ≡ true → is_ascii_alphabetic b ≡ false
-sign_no_letter b is = negated (is_ascii_alphabetic b) (each_in (codes "#%&*+-./<=>@\\^~{}") (λ x. not (is_ascii_alphabetic x)) refl b is)
+sign_no_letter b is = not-true (is_ascii_alphabetic b) (each_in (codes "#%&*+-./<=>@\\^~{}") (λ x. not (is_ascii_alphabetic x)) refl b is)
 
 sign_no_digit : (b : ℕ) → is_sign b ≡ true → is_ascii_digit b ≡ false
-sign_no_digit b is = negated (is_ascii_digit b) (each_in (codes "#%&*+-./<=>@\\^~{}") (λ x. not (is_ascii_digit x)) refl b is)
+sign_no_digit b is = not-true (is_ascii_digit b) (each_in (codes "#%&*+-./<=>@\\^~{}") (λ x. not (is_ascii_digit x)) refl b is)
 
 sign_no_operator : (b : ℕ) → is_sign b ≡ true → DiffersFrom operators b
 sign_no_operator b is =

@@ -1,5 +1,5 @@
 -- A name that is one whole token has no blank in it and is not `=>`.
-use Rattle.std.proofs.Common.{◌≡◌, ℕ, zero, suc, ◌+◌, Bool, true, false, ◌||◌, cond, List, [], ◌∷◌, length, refl, ap, sym, ◌∙◌, arith, inl, inr}
+use Rattle.std.proofs.Common.{◌≡◌, ℕ, zero, suc, ◌+◌, Bool, true, false, cond, List, [], ◌∷◌, length, refl, ap, sym, ◌∙◌, arith, inl, inr}
 use Rattle.std.specs.Prelude.{◌==◌, if◌then◌else◌}
 use Rattle.std.specs.List.{list_any, prefix_len}
 use Rattle.std.specs.Char.{is_ascii_alphabetic, is_ascii_digit, is_ascii_alphanumeric}
@@ -10,10 +10,7 @@ use Rattle.texts_read_back.specs.ReadBackLaws.{TextNamesArePlain}
 use Rattle.texts_read_back.proofs.NameTokens.{alphanumeric_token, sign_token}
 use Rattle.std.proofs.lemmas.Bool.Decides.{Decides-eqb}
 use Rattle.std.proofs.lemmas.Option.{none-some}
-
-neither : (x y : Bool) → x ≡ false → y ≡ false → (x || y) ≡ false
-neither true y h k = h
-neither false y h k = k
+use Rattle.std.proofs.lemmas.Bool.{or_from}
 
 under_shorter : (more count : ℕ) → underscore_before more ≡ suc count → more ≡ count
 under_shorter zero count is = absurd (omega arith)
@@ -27,9 +24,9 @@ no_blank_word (b ∷ bs) whole = by (is_ascii_alphanumeric b) refl (b == 95) ref
         → (if letter then suc (word_length bs) else (if under then underscore_before (word_length bs) else 0)) ≡ suc (length bs)
         → (word_length bs ≡ length bs → list_any is_blank bs ≡ false) → list_any is_blank (b ∷ bs) ≡ false
     by true letter under line whole below =
-        neither (is_blank b) (list_any is_blank bs) (alphanumeric_token b letter).no_blank (below (omega arith))
+        or_from (is_blank b) (list_any is_blank bs) (alphanumeric_token b letter).no_blank (below (omega arith))
     by false letter true line whole below =
-        neither (is_blank b) (list_any is_blank bs) (ap is_blank ((Decides-eqb b 95).0 line))
+        or_from (is_blank b) (list_any is_blank bs) (ap is_blank ((Decides-eqb b 95).0 line))
         (below (under_shorter (word_length bs) (length bs) whole))
     by false letter false line whole below = absurd (omega arith)
 
@@ -40,7 +37,7 @@ no_blank_run (b ∷ bs) whole = by (is_sign b) refl whole (λ is. no_blank_run b
     by : (sign : Bool) → is_sign b ≡ sign → cond sign (1 + prefix_len is_sign bs) 0 ≡ suc (length bs)
         → (prefix_len is_sign bs ≡ length bs → list_any is_blank bs ≡ false) → list_any is_blank (b ∷ bs) ≡ false
     by true sign whole below =
-        neither (is_blank b) (list_any is_blank bs) (sign_token b sign).no_blank (below (omega arith))
+        or_from (is_blank b) (list_any is_blank bs) (sign_token b sign).no_blank (below (omega arith))
     by false sign whole below = absurd (omega arith)
 
 pub names_are_plain : TextNamesArePlain

@@ -1,15 +1,15 @@
 -- The text of a ground term is cut into tokens, which are what the term is written as.
 use Rattle.std.proofs.Common.{◌≡◌, ℕ, Bool, true, false, List, [], ◌∷◌, ◌++◌, refl, ap, sym, ◌∙◌, subst, codes, append-nil, Some}
 use Rattle.std.specs.Prelude.{slice_get}
-use Rattle.term_algebra.specs.Signature.{Signature, Sort, Operation, IsOperation}
-use Rattle.term_algebra.specs.Twins.{HasTwin}
-use Rattle.term_algebra.specs.Term.{Term, Terms, node}
+use Rattle.lotos_base.specs.Signature.{Signature, Sort, Operation, IsOperation}
+use Rattle.lotos_base.specs.Twins.{HasTwin}
+use Rattle.lotos_base.specs.Term.{Term, Terms, node}
 use Rattle.lotos_base.specs.WrittenTerm.{PlacedName, WrittenHead, WrittenTerm, WrittenTerms, written}
 use Rattle.lotos_lexer.specs.declared.tokens.Token.{Token}
 use Rattle.lotos_lexer.specs.declared.kinds.TheConstants.{LEFT_PARENTHESIS, RIGHT_PARENTHESIS}
 use Rattle.syntax_trees.specs.LeftGrouping.{only}
-use Rattle.lotos_sentences.specs.Words.{Between, between}
-use Rattle.lotos_sentences.specs.Terms.{of_sort, IsTerm, grouped_factors, one_factor, IsFactor, without_sort, with_sort, IsBase, bracketed}
+use Rattle.lotos_rows.specs.Words.{Between, between}
+use Rattle.lotos_rows.specs.Terms.{of_sort, IsTerm, grouped_factors, one_factor, IsFactor, without_sort, with_sort, IsBase, bracketed}
 use Rattle.printed_texts.specs.Brackets.{round}
 use Rattle.printed_texts.specs.TermText.{Phrase, operand_text}
 use Rattle.texts_read_back.specs.WrittenAs.{IsMarkOf, no_mark, mark, IsHeadOf, IsWrittenAs, AreWrittenAs}

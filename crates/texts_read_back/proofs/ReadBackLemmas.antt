@@ -2,18 +2,18 @@
 use Rattle.std.proofs.Common.{◌≡◌, ℕ, zero, suc, ◌≤◌, false, List, [], ◌∷◌, ◌++◌, map, refl, ap, sym, ◌∙◌, subst, append-nil}
 use Rattle.std.specs.Prelude.{Some, slice_get}
 use Rattle.std.proofs.lemmas.Option.{none-some, same_Some}
-use Rattle.term_algebra.specs.Signature.{Signature, IsWellFormedSignature}
-use Rattle.term_algebra.specs.Sorting.{HaveSorts, AreGround}
-use Rattle.term_algebra.specs.Term.{Term, terms_of}
+use Rattle.lotos_base.specs.Signature.{Signature, IsWellFormedSignature}
+use Rattle.lotos_base.specs.Sorting.{HaveSorts, AreGround}
+use Rattle.lotos_base.specs.Term.{Term, terms_of}
 use Rattle.behaviour_semantics.specs.Rule.{AreValues}
 use Rattle.lotos_base.specs.WrittenTerm.{WrittenTerm, written_terms}
 use Rattle.lotos_lexer.specs.declared.tokens.Token.{Token}
 use Rattle.lotos_lexer.specs.Tokens as lexed
 use Rattle.lotos_lexer.specs.Tokens.{Lexed, start, tokens_of, cut}
 use Rattle.lotos_lexer.proofs.CuttingLemmas.{with_tokens-Tokens}
-use Rattle.lotos_sentences.specs.Words.{left_out, there}
-use Rattle.lotos_sentences.specs.Terms.{AreTerms}
-use Rattle.lotos_sentences.specs.Starts.{AreOptionalTerms}
+use Rattle.lotos_rows.specs.Words.{left_out, there}
+use Rattle.lotos_rows.specs.Terms.{AreTerms}
+use Rattle.lotos_rows.specs.Starts.{AreOptionalTerms}
 use Rattle.sentence_trees.specs.Reading.{node_limit, IsTermsReading}
 use Rattle.sentence_trees.proofs.Outcomes.{all_have_one_outcome}
 use Rattle.printed_texts.specs.Brackets.{commas}
@@ -23,7 +23,7 @@ use Rattle.texts_read_back.specs.WrittenAs.{AreWrittenAs}
 use Rattle.texts_read_back.proofs.WrittenLemmas.{terms_have_one_reading}
 use Rattle.texts_read_back.specs.TextNames.{HasTextNames}
 use Rattle.texts_read_back.specs.TermDepth.{term_depth}
-use Rattle.texts_read_back.specs.ReadBack.{AreReadAt, IsReadBack, AreReadBack}
+use Rattle.texts_read_back.specs.ReadBack.{AreReadBackAt, IsReadBack, AreReadBack}
 use Rattle.texts_read_back.specs.ReadBackLaws.{TermTextsAreReadBack, TermListsAreReadBack}
 use Rattle.texts_read_back.proofs.CutPieces.{IsCut}
 use Rattle.texts_read_back.proofs.PartsOfText.{Stands, nothing_apart}
@@ -48,7 +48,7 @@ texts_same signature [] = refl
 texts_same signature (t ∷ ts) = ap (λ (texts : List (List ℕ)). entry_term_text signature t ∷ texts) (texts_same signature ts)
 
 values_read : (signature : Signature) → IsWellFormedSignature signature → (sorts : List ℕ) (ts : List Term) (ws : List WrittenTerm)
-    → AreValues signature sorts ts → AreWrittenAs signature (terms_of ts) (written_terms ws) → AreReadAt signature sorts ws ts
+    → AreValues signature sorts ts → AreWrittenAs signature (terms_of ts) (written_terms ws) → AreReadBackAt signature sorts ws ts
 values_read signature well [] [] [] values writes = tt
 values_read signature well [] [] (w ∷ ws) values writes = absurd writes
 values_read signature well [] (t ∷ ts) ws values writes = absurd values
@@ -125,7 +125,7 @@ term_lists_read_back signature well spelled number sorts ts values within = reco
 
 one_read_back : (signature : Signature) (number sort : ℕ) (text : List ℕ) (t : Term) (terms : List WrittenTerm)
     → IsTermsReading number text terms → ((other : List WrittenTerm) → IsTermsReading number text other → other ≡ terms)
-    → AreReadAt signature (sort ∷ []) terms (t ∷ []) → IsReadBack signature number text sort t
+    → AreReadBackAt signature (sort ∷ []) terms (t ∷ []) → IsReadBack signature number text sort t
 one_read_back signature number sort text t [] is_text only are_read = absurd are_read
 one_read_back signature number sort text t (w ∷ []) is_text only are_read =
     record { written = w; is_text = is_text; only_text = only; is_read = are_read.0 }

@@ -2,9 +2,9 @@
 use Rattle.std.proofs.Common.{◌≡◌, ℕ, zero, suc, ◌≤◌, List, [], ◌∷◌, length, refl, subst, arith, inl, inr}
 use Rattle.std.specs.Prelude.{Some, slice_get, codes}
 use Rattle.std.proofs.lemmas.Option.{none-some, same_Some}
-use Rattle.term_algebra.specs.Signature.{Sort, Operation, infix_form, IsWellFormedSignature}
-use Rattle.term_algebra.specs.Sorting.{IsGroundOf}
-use Rattle.term_algebra.specs.Term.{Term}
+use Rattle.lotos_base.specs.Signature.{Sort, Operation, infix_form, IsWellFormedSignature}
+use Rattle.lotos_base.specs.Sorting.{IsGroundOf}
+use Rattle.lotos_base.specs.Term.{Term}
 use Rattle.sort_terms.proofs.WellFormedLemmas.{well_formed_test}
 use Rattle.sentence_trees.specs.Reading.{node_limit}
 use Rattle.printed_texts.specs.Samples.{sample_signature, a, f, plus, star, small_d, capital_d, minus}

@@ -1,20 +1,20 @@
 -- The phrase of each ground term stands in the text as what the term is written as.
 use Rattle.std.proofs.Common.{◌≡◌, ℕ, zero, suc, ◌<◌, Bool, true, false, not, List, [], ◌∷◌, ◌++◌, map, length, refl, sym, subst, arith, codes, Option, Some}
 use Rattle.std.specs.Prelude.{slice_get, if◌then◌else◌}
-use Rattle.term_algebra.specs.Signature.{Signature, Sort, Operation, Form, prefix_form, infix_form, IsOperation, IsWellFormedSignature}
-use Rattle.term_algebra.specs.Equation.{Variable}
-use Rattle.term_algebra.specs.Twins.{HasTwin, has_twin}
-use Rattle.term_algebra.specs.Sorting.{IsGround, AreGround, HasSort, HaveSorts}
-use Rattle.term_algebra.specs.Term.{Term, Terms, variable, node, no_terms, term_then}
-use Rattle.term_algebra.proofs.SignatureLemmas.{Decides-has_twin}
+use Rattle.lotos_base.specs.Signature.{Signature, Sort, Operation, Form, prefix_form, infix_form, IsOperation, IsWellFormedSignature}
+use Rattle.lotos_base.specs.Equation.{Variable}
+use Rattle.lotos_base.specs.Twins.{HasTwin, has_twin}
+use Rattle.lotos_base.specs.Sorting.{IsGround, AreGround, HasSort, HaveSorts}
+use Rattle.lotos_base.specs.Term.{Term, Terms, variable, node, no_terms, term_then}
+use Rattle.lotos_base.proofs.SignatureLemmas.{Decides-has_twin}
 use Rattle.std.proofs.lemmas.Bool.Decides.{not_from_Decides}
 use Rattle.lotos_base.specs.WrittenTerm.{PlacedName, WrittenTerm, no_written, written_then, written_terms}
 use Rattle.lotos_lexer.specs.declared.tokens.Token.{Token}
 use Rattle.lotos_lexer.specs.declared.kinds.TheConstants.{LEFT_PARENTHESIS, RIGHT_PARENTHESIS}
 use Rattle.syntax_trees.specs.LeftGrouping.{only, at_last}
-use Rattle.lotos_sentences.specs.Words.{Between, between}
-use Rattle.lotos_sentences.specs.Names.{IsOperationName}
-use Rattle.lotos_sentences.specs.Terms.{applied, infix_term, IsTerm, grouped_factors, one_factor, more_factors, IsFactor, without_sort, IsBase, without_arguments, with_arguments, AreTerms, one_term, more_terms}
+use Rattle.lotos_rows.specs.Words.{Between, between}
+use Rattle.lotos_rows.specs.Names.{IsOperationName}
+use Rattle.lotos_rows.specs.Terms.{applied, infix_term, IsTerm, grouped_factors, one_factor, more_factors, IsFactor, without_sort, IsBase, without_arguments, with_arguments, AreTerms, one_term, more_terms}
 use Rattle.printed_texts.specs.Brackets.{spaced, round, bracketed, commas}
 use Rattle.printed_texts.specs.TermText.{sort_name, sort_text, phrase_text, operand_text, arguments_text, prefix_phrase, operator_text, between_text, infix_phrase, application_phrase, node_phrase, phrase_of, phrases_of}
 use Rattle.texts_read_back.specs.WrittenAs.{IsWrittenAs, AreWrittenAs}

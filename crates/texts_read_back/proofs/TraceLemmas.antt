@@ -3,14 +3,14 @@ use Rattle.std.proofs.Common.{◌≡◌, ℕ, zero, suc, ◌≤◌, List, [], �
 use Rattle.std.specs.Prelude.{Some, slice_get}
 use Rattle.std.proofs.lemmas.Option.{none-some, same_Some}
 use Rattle.lotos_base.specs.WrittenTerm.{WrittenTerm}
-use Rattle.term_algebra.specs.Signature.{Signature, Sort, Operation, IsWellFormedSignature}
-use Rattle.term_algebra.specs.Term.{Term}
+use Rattle.lotos_base.specs.Signature.{Signature, Sort, Operation, IsWellFormedSignature}
+use Rattle.lotos_base.specs.Term.{Term}
 use Rattle.behaviour_semantics.specs.Rule.{AreValues}
 use Rattle.behaviour_semantics.specs.WellFormed.{Every}
 use Rattle.sentence_trees.specs.Reading.{node_limit}
 use Rattle.texts_read_back.specs.TextNames.{IsWordSpelling, IsOperationSpelling, HasTextNames}
 use Rattle.texts_read_back.specs.TermDepth.{term_depth}
-use Rattle.texts_read_back.specs.ReadBack.{AreReadAt, AreReadBack}
+use Rattle.texts_read_back.specs.ReadBack.{AreReadBackAt, AreReadBack}
 use Rattle.texts_read_back.specs.ReadBackLaws.{IsPlainSpelling}
 use Rattle.texts_read_back.proofs.PlainNames.{names_are_plain}
 use Rattle.texts_read_back.proofs.ReadBackLemmas.{term_lists_read_back}
@@ -50,7 +50,7 @@ plain_names basis names = record {
 }
 
 -- terms that are read one by one, in the words of replay
-are_read : (signature : Signature) (sorts : List ℕ) (terms : List WrittenTerm) (values : List Term) → AreReadAt signature sorts terms values
+are_read : (signature : Signature) (sorts : List ℕ) (terms : List WrittenTerm) (values : List Term) → AreReadBackAt signature sorts terms values
     → AreRead signature sorts terms values
 are_read signature [] [] [] read = tt
 are_read signature [] [] (t ∷ ts) read = absurd read

@@ -1,37 +1,39 @@
 -- What a ground term is written as has one reading.
-use Rattle.std.proofs.Common.{◌≡◌, ℕ, Bool, true, false, ◌&&◌, ◌||◌, List, [], ◌∷◌, ◌++◌, refl, ap, sym, ◌∙◌, subst}
+use Rattle.std.proofs.Common.{◌≡◌, ℕ, Bool, true, ◌&&◌, List, [], ◌∷◌, ◌++◌, refl, ap, sym, ◌∙◌, subst}
 use Rattle.std.specs.Prelude.{slice_get, if◌then◌else◌}
 use Rattle.std.proofs.lemmas.Option.{none-some, same_Some}
 use Rattle.std.proofs.lemmas.Slice.Eq.{bytes_eq-Decides}
+use Rattle.std.proofs.lemmas.Bool.{and_from, or_right}
+use Rattle.std.proofs.lemmas.Map.Keys.{any_passes_from_place}
+use Rattle.sort_terms.proofs.NodeLemmas.{eq_forms}
 use Rattle.lotos_base.specs.WrittenTerm.{PlacedName, WrittenHead, WrittenTerm, WrittenTerms, written, no_written, written_then, written_head}
-use Rattle.term_algebra.specs.Names.{folded, AreOneName}
-use Rattle.term_algebra.specs.Signature.{Signature, Sort, Operation, Form, prefix_form, infix_form, IsOperation, IsWellFormedSignature}
-use Rattle.term_algebra.specs.Equation.{Place}
-use Rattle.term_algebra.specs.Twins.{form_eq}
-use Rattle.term_algebra.specs.Sorting.{HasSort, HaveSorts}
-use Rattle.term_algebra.specs.Term.{Term, Terms, variable, node, no_terms, term_then}
-use Rattle.term_algebra.proofs.SignatureLemmas.{profiles_tell}
+use Rattle.lotos_base.specs.Names.{folded, AreOneName}
+use Rattle.lotos_base.specs.Signature.{Signature, Sort, Operation, Form, prefix_form, infix_form, IsOperation, IsWellFormedSignature}
+use Rattle.lotos_base.specs.Equation.{Place}
+use Rattle.lotos_base.specs.Twins.{form_eq}
+use Rattle.lotos_base.specs.Sorting.{HasSort, HaveSorts}
+use Rattle.lotos_base.specs.Term.{Term, Terms, variable, node, no_terms, term_then}
+use Rattle.lotos_base.proofs.SignatureLemmas.{profiles_tell}
 use Rattle.sort_terms.specs.Counting.{IsOnly}
 use Rattle.sort_terms.specs.Reading.{Reads, AllRead, IsAsked, IsOperationAt}
-use Rattle.sort_terms.specs.ReadingOutcome.{Refusal, unknown_name, unknown_sort, SortedTerm, answered, ComesTo, IsReading, one_name, is_known, is_operation_name, is_sort_name, unknown_at, unknown_sorts, unknown_in, unknown_in_each, together, in_text_order}
-use Rattle.sort_terms.proofs.UnknownLemmas.{any_member}
+use Rattle.sort_terms.specs.ReadingOutcome.{ReadingRefusal, unknown_name, unknown_sort, SortedTerm, answered, ComesTo, IsReading, one_name, is_known, is_operation_name, is_sort_name, unknown_at, unknown_sorts, unknown_in, unknown_in_each, together, in_text_order}
 use Rattle.texts_read_back.specs.WrittenAs.{IsMarkOf, no_mark, mark, IsHeadOf, IsWrittenAs, AreWrittenAs}
 use Rattle.texts_read_back.specs.WrittenLaws.{HasOneReading, HaveOneReading, WrittenTermsHaveOneReading, WrittenListsHaveOneReading}
 
 -- ---- No name stands for nothing
 
-none_before : (xs ys : List Refusal) → xs ++ ys ≡ [] → xs ≡ []
+none_before : (xs ys : List ReadingRefusal) → xs ++ ys ≡ [] → xs ≡ []
 none_before [] ys none = refl
 none_before (x ∷ xs) ys none = cc
 
-none_behind : (xs ys : List Refusal) → xs ++ ys ≡ [] → ys ≡ []
+none_behind : (xs ys : List ReadingRefusal) → xs ++ ys ≡ [] → ys ≡ []
 none_behind [] ys none = none
 none_behind (x ∷ xs) ys none = cc
 
-none_joined : (xs ys : List Refusal) → xs ≡ [] → ys ≡ [] → xs ++ ys ≡ []
-none_joined xs ys first second = ap (λ (zs : List Refusal). zs ++ ys) first ∙ second
+none_joined : (xs ys : List ReadingRefusal) → xs ≡ [] → ys ≡ [] → xs ++ ys ≡ []
+none_joined xs ys first second = ap (λ (zs : List ReadingRefusal). zs ++ ys) first ∙ second
 
-none_in_order : (form : Form) (here : List Refusal) (lists : List (List Refusal)) → here ≡ [] → together lists ≡ []
+none_in_order : (form : Form) (here : List ReadingRefusal) (lists : List (List ReadingRefusal)) → here ≡ [] → together lists ≡ []
     → in_text_order form here lists ≡ []
 none_in_order prefix_form here lists none rest = none_joined here (together lists) none rest
 none_in_order infix_form here [] none rest = none_joined here [] none refl
@@ -40,22 +42,8 @@ none_in_order infix_form here (list ∷ lists) none rest =
     (none_joined (list ++ []) here (none_joined list [] (none_before list (together lists) rest) refl) none)
     (none_behind list (together lists) rest)
 
-both_true : (x y : Bool) → x ≡ true → y ≡ true → (x && y) ≡ true
-both_true true y h k = k
-both_true false y h k = cc
-
-form_same : (one other : Form) → one ≡ other → form_eq one other ≡ true
-form_same prefix_form prefix_form same = refl
-form_same prefix_form infix_form same = cc
-form_same infix_form prefix_form same = cc
-form_same infix_form infix_form same = refl
-
 name_same : (one other : List ℕ) → AreOneName one other → one_name one other ≡ true
 name_same one other same = (bytes_eq-Decides (folded one) (folded other)).1 same
-
-or_true : (x y : Bool) → y ≡ true → (x || y) ≡ true
-or_true true y h = refl
-or_true false y h = h
 
 head_known : (signature : Signature) (f : ℕ) (operation : Operation) (head : WrittenHead) → IsOperation signature f operation
     → IsHeadOf signature operation head → unknown_at signature [] head ≡ []
@@ -64,10 +52,11 @@ head_known signature f operation head is_there is_head =
   where
     known : is_known signature [] head ≡ true
     known =
-        or_true _ (is_operation_name signature head.name head.form)
-        (any_member (λ (o : Operation). one_name o.name head.name && form_eq o.form head.form) signature.operations f operation is_there
-        (both_true _ _ (name_same operation.name head.name (ap folded (sym is_head.named)))
-        (form_same operation.form head.form (sym is_head.formed))))
+        or_right _ (is_operation_name signature head.name head.form)
+        (any_passes_from_place
+        (λ (o : Operation). one_name o.name head.name && form_eq o.form head.form) signature.operations f operation is_there
+        (and_from _ _ (name_same operation.name head.name (ap folded (sym is_head.named)))
+        (eq_forms operation.form head.form (sym is_head.formed))))
 
 mark_known : (signature : Signature) (operation : Operation) (sorts : List PlacedName) → IsMarkOf signature operation sorts
     → unknown_sorts signature sorts ≡ []
@@ -77,7 +66,7 @@ mark_known signature operation (asked ∷ []) (mark {sort} twin found named) =
   where
     known : is_sort_name signature asked.name ≡ true
     known =
-        any_member (λ (s : Sort). one_name s.name asked.name) signature.sorts operation.result sort found
+        any_passes_from_place (λ (s : Sort). one_name s.name asked.name) signature.sorts operation.result sort found
         (name_same sort.name asked.name (ap folded (sym named)))
 mark_known signature operation (asked ∷ (more ∷ rest)) marked = elim marked [ ]
 
@@ -216,7 +205,7 @@ mutual
 -- ---- The laws
 
 -- an answer to a question whose names are all known
-answer_found : (unknown : List Refusal) (place : Place) (P : SortedTerm → Type 0) (x : SortedTerm) → unknown ≡ [] → IsOnly P x
+answer_found : (unknown : List ReadingRefusal) (place : Place) (P : SortedTerm → Type 0) (x : SortedTerm) → unknown ≡ [] → IsOnly P x
     → ComesTo unknown place P (answered x)
 answer_found [] place P x none only = only
 answer_found (r ∷ rs) place P x none only = cc

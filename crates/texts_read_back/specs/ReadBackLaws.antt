@@ -2,9 +2,9 @@
 use Rattle.std.specs.Prelude.{◌≡◌, ◌≢◌, ◌≤◌, ℕ, List, false, Some, slice_get, codes}
 use Rattle.std.specs.List.{list_any}
 use Rattle.lotos_lexer.specs.Bytes.{is_blank}
-use Rattle.term_algebra.specs.Signature.{Signature, IsWellFormedSignature}
-use Rattle.term_algebra.specs.Sorting.{IsGroundOf}
-use Rattle.term_algebra.specs.Term.{Term}
+use Rattle.lotos_base.specs.Signature.{Signature, IsWellFormedSignature}
+use Rattle.lotos_base.specs.Sorting.{IsGroundOf}
+use Rattle.lotos_base.specs.Term.{Term}
 use Rattle.behaviour_semantics.specs.Rule.{AreValues}
 use Rattle.sentence_trees.specs.Reading.{node_limit}
 use Rattle.printed_texts.specs.Brackets.{commas}

@@ -1,6 +1,6 @@
 -- How deep a term is nested: a constant is one deep, and an operation one deeper than the deepest of its arguments.
 use Rattle.std.specs.Prelude.{ℕ, suc, max}
-use Rattle.term_algebra.specs.Term.{Term, Terms, variable, node, no_terms, term_then}
+use Rattle.lotos_base.specs.Term.{Term, Terms, variable, node, no_terms, term_then}
 
 abbrev mutual
   pub term_depth : Term → ℕ

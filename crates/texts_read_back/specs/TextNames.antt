@@ -5,7 +5,7 @@ use Rattle.std.specs.Char.{is_ascii_alphabetic, is_ascii_digit}
 use Rattle.lotos_lexer.specs.Bytes.{first_is, is_sign}
 use Rattle.lotos_lexer.specs.Lexemes.{word_length, kind_in, word_kind_in}
 use Rattle.lotos_lexer.specs.Spellings.{reserved_words, reserved_runs}
-use Rattle.term_algebra.specs.Signature.{Signature, Sort, Operation, IsOperation, infix_form}
+use Rattle.lotos_base.specs.Signature.{Signature, Sort, Operation, IsOperation, infix_form}
 
 -- a word that is not reserved: a letter, then letters, digits and inner underscores up to the end
 pub record IsWordSpelling (name : List ℕ) : Type 0 where

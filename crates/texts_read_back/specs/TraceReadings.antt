@@ -1,13 +1,13 @@
 -- The trace of a session over a specification with the names of a text, replayed from its first situation, leads to that session.
 use Rattle.std.specs.Prelude.{◌≡◌, ◌<◌, ◌≤◌, List}
-use Rattle.term_algebra.specs.Term.{Term}
+use Rattle.lotos_base.specs.Term.{Term}
 use Rattle.behaviour_semantics.specs.WellFormed.{Every}
 use Rattle.sentence_trees.specs.Reading.{node_limit}
 use Rattle.texts_read_back.specs.TextNames.{IsWordSpelling, HasTextNames}
 use Rattle.texts_read_back.specs.TermDepth.{term_depth}
 use Rattle.session_histories.specs.Session.{SessionBasis, Item, Situation, PastStep, items_of}
 use Rattle.session_histories.specs.Lawful.{IsSituation, LeadTo}
-use Rattle.session_histories.specs.Replay.{Outcome, ReplayRefusal, ReplayIs, goes_on}
+use Rattle.session_histories.specs.Replay.{LinesOutcome, ReplayRefusal, ReplayIs, goes_on}
 use Rattle.session_histories.specs.SessionLaws.{IsStateOver}
 use Rattle.session_histories.specs.TraceLaws.{trace_of}
 
@@ -36,7 +36,7 @@ pub record TracesAreReplayed : Type 0 where
       HasTextTrace basis first last steps →
       ReplayIs basis first (trace_of basis steps) (goes_on (record { situation = last; steps = steps }))
   pub alone :
-      (basis : SessionBasis) (first last : Situation) (steps : List PastStep) (outcome : Outcome ReplayRefusal) →
+      (basis : SessionBasis) (first last : Situation) (steps : List PastStep) (outcome : LinesOutcome ReplayRefusal) →
       HasTextTrace basis first last steps →
       ReplayIs basis first (trace_of basis steps) outcome →
       outcome ≡ goes_on (record { situation = last; steps = steps })

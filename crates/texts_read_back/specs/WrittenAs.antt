@@ -2,9 +2,9 @@
 -- it has a twin, on what its arguments are written as. Where the names stand is left open.
 use Rattle.std.specs.Prelude.{◌≡◌, List, [], ◌∷◌, Some, slice_get}
 use Rattle.lotos_base.specs.WrittenTerm.{PlacedName, WrittenHead, WrittenTerm, WrittenTerms, written, no_written, written_then}
-use Rattle.term_algebra.specs.Signature.{Signature, Sort, Operation, IsOperation}
-use Rattle.term_algebra.specs.Term.{Term, Terms, variable, node, no_terms, term_then}
-use Rattle.term_algebra.specs.Twins.{HasTwin}
+use Rattle.lotos_base.specs.Signature.{Signature, Sort, Operation, IsOperation}
+use Rattle.lotos_base.specs.Term.{Term, Terms, variable, node, no_terms, term_then}
+use Rattle.lotos_base.specs.Twins.{HasTwin}
 
 -- what `of` puts on an operation: the sort of its result where it has a twin, and nothing where it has none
 pub data IsMarkOf (signature : Signature) (operation : Operation) : List PlacedName → Type 0 where

@@ -1,9 +1,9 @@
 -- What a ground term is written as has one reading.
 use Rattle.std.specs.Prelude.{◌≡◌, ℕ, List, [], Option}
 use Rattle.lotos_base.specs.WrittenTerm.{WrittenTerm, WrittenTerms}
-use Rattle.term_algebra.specs.Signature.{Signature, IsWellFormedSignature}
-use Rattle.term_algebra.specs.Sorting.{IsGroundOf, HaveSorts}
-use Rattle.term_algebra.specs.Term.{Term, Terms}
+use Rattle.lotos_base.specs.Signature.{Signature, IsWellFormedSignature}
+use Rattle.lotos_base.specs.Sorting.{IsGroundOf, HaveSorts}
+use Rattle.lotos_base.specs.Term.{Term, Terms}
 use Rattle.sort_terms.specs.Reading.{Reads, AllRead}
 use Rattle.sort_terms.specs.ReadingOutcome.{answered, unknown_in, unknown_in_each, together, IsExpected, ReadingIs}
 use Rattle.texts_read_back.specs.WrittenAs.{IsWrittenAs, AreWrittenAs}

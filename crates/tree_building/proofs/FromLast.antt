@@ -1,7 +1,7 @@
 -- Lists whose last element comes first.
 use Rattle.std.proofs.Common.{◌≡◌, ◌∙◌, sym, List, [], ◌∷◌, ◌++◌, map, reverse, refl, ap}
 use Rattle.std.proofs.lemmas.List.{reverse-append, map-append}
-use Rattle.ll_engine.specs.Run.{from_last}
+use Rattle.lotos_rows.specs.HandedOn.{from_last}
 
 pub from_last_more : {A B : Type 0} (f : A → B) (list : List A) (last : A) → from_last f (list ++ last ∷ []) ≡ f last ∷ from_last f list
 unfolding from_last

@@ -1,14 +1,14 @@
 -- What the rows of behaviours mean, from what their parts mean.
 use Rattle.std.specs.Prelude.{ℕ, List, [], ◌∷◌, ◌++◌, map, Option, Some, None, option_map, option_and_then}
-use Rattle.term_algebra.specs.Equation as plain
+use Rattle.lotos_base.specs.Equation as plain
 use Rattle.lotos_base.specs.WrittenTerm.{PlacedName}
-use Rattle.lotos_lexer.specs.declared.tokens.Token.{Token}
+use Rattle.lotos_rows.specs.HandedOn.{Token}
 use Rattle.syntax_trees.specs.WrittenEquation.{WrittenPremiss}
 use Rattle.syntax_trees.specs.WrittenBehaviour.{WrittenSign, choice_sign, interleaving, full_synchronisation, synchronising, disabling, enabling, exit_term, exit_any, WrittenOffer, offer_value, offer_variable, WrittenBehaviour, stop, exit, call, action, inner_action, guard, hide, let_be, choose_value, choose_gate, par_gate}
 use Rattle.syntax_trees.specs.Strength.{PlacedSign, strength_of, joined}
 use Rattle.syntax_trees.specs.Grouping.{grouped}
-use Rattle.lotos_sentences.specs.Names.{place_of, variables_of_sort}
-use Rattle.lotos_sentences.specs.Behaviours.{before_first, variable_named, gate_choices_among}
+use Rattle.lotos_rows.specs.Names.{place_of, variables_of_sort}
+use Rattle.lotos_rows.specs.Behaviours.{before_first, variable_named, gate_choices_among}
 use Rattle.tree_building.specs.Meaning.{PlainFlat, PlainActionEnd, PlainCallEnd, Meaning, some_variables, some_operands, an_action, a_call, some_offers, some_exit_values, some_lets, some_gate_choices, a_value_choice, a_gate_choice, a_behaviour, a_sign}
 use Rattle.tree_building.specs.Parts.{with_next, name_in, names_in, variables_in, term_in, terms_in, premiss_in, operands_in, action_in, call_in, offers_in, exit_values_in, lets_in, gate_choices_in, value_choice_in, gate_choice_in, behaviour_in, sign_in}
 

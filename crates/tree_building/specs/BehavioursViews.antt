@@ -12,7 +12,7 @@ use Rattle.tree_building.specs.declared.behaviours_values.ActionEnd.{ActionEnd}
 use Rattle.tree_building.specs.declared.behaviours_values.CallEnd.{CallEnd}
 use Rattle.tree_building.specs.declared.behaviours_values.ValueChoiceEnd.{ValueChoiceEnd}
 use Rattle.tree_building.specs.declared.behaviours_values.GateChoiceEnd.{GateChoiceEnd}
-use Rattle.ll_engine.specs.Run.{from_last}
+use Rattle.lotos_rows.specs.HandedOn.{from_last}
 use Rattle.tree_building.specs.Meaning.{PlainFlat, PlainActionEnd, PlainCallEnd, PlainValueChoiceEnd, PlainGateChoiceEnd}
 
 abbrev pub let_of : VarText × Written → WrittenVariable × WrittenTerm

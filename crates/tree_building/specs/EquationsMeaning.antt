@@ -1,10 +1,10 @@
 -- What the rows of equations mean, from what their parts mean.
 use Rattle.std.specs.Prelude.{ℕ, List, [], ◌∷◌, ◌++◌, Option, Some, None, option_and_then}
-use Rattle.term_algebra.specs.Equation.{Place}
+use Rattle.lotos_base.specs.Equation.{Place}
 use Rattle.lotos_base.specs.WrittenTerm.{WrittenTerm}
-use Rattle.lotos_lexer.specs.declared.tokens.Token.{Token}
+use Rattle.lotos_rows.specs.HandedOn.{Token}
 use Rattle.syntax_trees.specs.WrittenEquation.{WrittenPremiss, WrittenEquation}
-use Rattle.lotos_sentences.specs.Names.{place_of}
+use Rattle.lotos_rows.specs.Names.{place_of}
 use Rattle.tree_building.specs.Meaning.{PlainStartedTerm, PlainConclusion, PlainAfterTerm, Meaning, some_groups, some_equations, an_equation, a_conclusion, maybe_conclusion, after_term, a_premiss, maybe_term}
 use Rattle.tree_building.specs.Parts.{with_next, name_in, variables_in, term_in, groups_in, equations_in, equation_in, conclusion_in, maybe_conclusion_in, after_term_in, premiss_in, maybe_term_in}
 

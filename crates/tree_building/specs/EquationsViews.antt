@@ -4,7 +4,7 @@ use Rattle.lotos_base.specs.WrittenView.{text_place_of, written_term_of}
 use Rattle.syntax_trees.specs.TreeViews.{premiss_of, equation_of, group_of}
 use Rattle.tree_building.specs.declared.equations_values.Conclusion.{Conclusion}
 use Rattle.tree_building.specs.declared.equations_values.AfterTerm.{AfterTerm}
-use Rattle.ll_engine.specs.Run.{from_last}
+use Rattle.lotos_rows.specs.HandedOn.{from_last}
 use Rattle.tree_building.specs.Meaning.{PlainConclusion, PlainAfterTerm}
 
 abbrev pub conclusion_of : Conclusion → PlainConclusion

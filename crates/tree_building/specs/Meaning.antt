@@ -1,6 +1,6 @@
 -- What the parts of a derivation mean, as plain values.
 use Rattle.std.specs.Prelude.{ℕ, List, [], ◌∷◌, Option, Some, None, option_map}
-use Rattle.term_algebra.specs.Equation.{Place}
+use Rattle.lotos_base.specs.Equation.{Place}
 use Rattle.lotos_base.specs.WrittenTerm.{PlacedName, WrittenTerm, ListedOperation}
 use Rattle.syntax_trees.specs.WrittenVariable.{WrittenVariable}
 use Rattle.syntax_trees.specs.WrittenEquation.{WrittenPremiss, WrittenEquation, WrittenGroup, WrittenEquations}
@@ -8,7 +8,7 @@ use Rattle.syntax_trees.specs.WrittenItem.{WrittenOperation, WrittenPair, Writte
 use Rattle.syntax_trees.specs.WrittenBehaviour.{WrittenGateChoice, WrittenExitValue, WrittenOffer, WrittenBehaviour}
 use Rattle.syntax_trees.specs.WrittenDefinition.{WrittenHeading, WrittenInner, WrittenSpecification}
 use Rattle.syntax_trees.specs.Strength.{PlacedSign}
-use Rattle.lotos_sentences.specs.Names.{NamedOperation, PlacedProfile}
+use Rattle.lotos_rows.specs.Names.{NamedOperation, PlacedProfile}
 
 -- a term, and the place of its first token
 pub record PlainStartedTerm : Type 0 where

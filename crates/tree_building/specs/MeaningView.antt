@@ -4,7 +4,7 @@ use Rattle.lotos_base.specs.WrittenView.{placed_name_of, written_term_of, listed
 use Rattle.syntax_trees.specs.TreeViews.{variable_of, group_of, equation_of, premiss_of, pair_of, item_of, operation_of, equations_of, offer_of, exit_value_of, gate_choice_of, behaviour_of, inner_of, process_of, specification_of, placed_sign_of}
 use Rattle.tree_building.specs.declared.value.Value.{Value}
 use Rattle.tree_building.specs.declared.value.Value.TheVariants as value
-use Rattle.ll_engine.specs.Run.{from_last}
+use Rattle.lotos_rows.specs.HandedOn.{from_last}
 use Rattle.tree_building.specs.Meaning.{Meaning, a_name, some_names, some_variables, an_operation, some_named_operations, a_profile, maybe_profile, a_term, some_factors, some_terms, some_groups, some_equations, an_equation, a_conclusion, maybe_conclusion, after_term, a_premiss, maybe_term, some_pairs, both_pairs, an_item, some_items, a_body, after_base, some_sections, declared_operations, an_equation_section, some_operands, an_action, a_call, some_offers, some_exit_values, some_lets, some_gate_choices, a_value_choice, a_gate_choice, a_behaviour, a_sign, a_heading, a_functionality, some_inner, a_process, a_word, a_specification, some_order_items}
 use Rattle.tree_building.specs.NamesViews.{named_operation_of, profile_of}
 use Rattle.tree_building.specs.TermsViews.{started_term_of, factor_of}

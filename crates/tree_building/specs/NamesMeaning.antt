@@ -1,9 +1,9 @@
 -- What the rows of names and lists of them mean, from what their parts mean.
 use Rattle.std.specs.Prelude.{ℕ, List, [], ◌∷◌, ◌++◌, Option, Some, None, option_map, option_and_then}
-use Rattle.term_algebra.specs.Signature.{prefix_form, infix_form}
+use Rattle.lotos_base.specs.Signature.{prefix_form, infix_form}
 use Rattle.lotos_base.specs.WrittenTerm.{PlacedName}
-use Rattle.lotos_lexer.specs.declared.tokens.Token.{Token}
-use Rattle.lotos_sentences.specs.Names.{named, variables_of_sort}
+use Rattle.lotos_rows.specs.HandedOn.{Token}
+use Rattle.lotos_rows.specs.Names.{named, variables_of_sort}
 use Rattle.tree_building.specs.Meaning.{Meaning, a_name, some_names, some_variables, an_operation, a_profile}
 use Rattle.tree_building.specs.Parts.{with_next, name_in, names_in, variables_in}
 

@@ -2,7 +2,7 @@
 use Rattle.std.specs.Prelude.{List, map, option_map}
 use Rattle.lotos_base.specs.WrittenView.{form_of, placed_name_of}
 use Rattle.syntax_trees.specs.TreeViews.{variable_of}
-use Rattle.lotos_sentences.specs.Names.{NamedOperation, PlacedProfile}
+use Rattle.lotos_rows.specs.Names.{NamedOperation, PlacedProfile}
 use Rattle.tree_building.specs.declared.names_values.NamedOp.{NamedOp}
 use Rattle.tree_building.specs.declared.names_values.OpProfile.{OpProfile}
 

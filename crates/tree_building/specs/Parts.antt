@@ -7,7 +7,7 @@ use Rattle.syntax_trees.specs.WrittenItem.{WrittenOperation, WrittenPair, Writte
 use Rattle.syntax_trees.specs.WrittenBehaviour.{WrittenGateChoice, WrittenExitValue, WrittenOffer, WrittenBehaviour}
 use Rattle.syntax_trees.specs.WrittenDefinition.{WrittenHeading, WrittenInner, WrittenSpecification}
 use Rattle.syntax_trees.specs.Strength.{PlacedSign}
-use Rattle.lotos_sentences.specs.Names.{NamedOperation, PlacedProfile}
+use Rattle.lotos_rows.specs.Names.{NamedOperation, PlacedProfile}
 use Rattle.tree_building.specs.Meaning.{PlainStartedTerm, PlainConclusion, PlainAfterTerm, PlainAfterBase, PlainFlat, PlainActionEnd, PlainCallEnd, PlainValueChoiceEnd, PlainGateChoiceEnd, Meaning, a_name, some_names, some_variables, an_operation, some_named_operations, a_profile, maybe_profile, a_term, some_factors, some_terms, some_groups, some_equations, an_equation, a_conclusion, maybe_conclusion, after_term, a_premiss, maybe_term, some_pairs, both_pairs, an_item, some_items, a_body, after_base, some_sections, declared_operations, an_equation_section, some_operands, an_action, a_call, some_offers, some_exit_values, some_lets, some_gate_choices, a_value_choice, a_gate_choice, a_behaviour, a_sign, a_heading, a_functionality, some_inner, a_process, a_word, a_specification, some_order_items}
 
 -- the first of the parts, where `found` says what it is, and those behind it

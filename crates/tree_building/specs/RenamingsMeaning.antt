@@ -1,6 +1,6 @@
 -- What the rows of renamings mean, from what their parts mean.
 use Rattle.std.specs.Prelude.{ℕ, List, [], ◌∷◌, Option, Some, None, option_and_then}
-use Rattle.lotos_sentences.specs.Renamings.{pair_for}
+use Rattle.lotos_rows.specs.Renamings.{pair_for}
 use Rattle.tree_building.specs.Meaning.{Meaning, some_pairs, both_pairs}
 use Rattle.tree_building.specs.Parts.{with_next, name_in, operation_in, pairs_in}
 

@@ -1,7 +1,7 @@
 -- What each row of the grammar means, from its first token, where that is kept, and from what its parts mean. The text is
 -- there for the spelling of names.
 use Rattle.std.specs.Prelude.{ℕ, List, Option, option_and_then, slice_get}
-use Rattle.lotos_lexer.specs.declared.tokens.Token.{Token}
+use Rattle.lotos_rows.specs.HandedOn.{Token}
 use Rattle.lotos_rows.specs.declared.row_names.RowName.{RowName}
 use Rattle.lotos_rows.specs.declared.row_names.RowName.TheVariants as of_subject
 use Rattle.lotos_rows.specs.declared.names.NamesRow.{NamesRow}

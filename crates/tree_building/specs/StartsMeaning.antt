@@ -1,6 +1,6 @@
 -- What the rows of the four texts mean, from what their parts mean.
 use Rattle.std.specs.Prelude.{ℕ, List, [], ◌∷◌, Option, Some, None, option_map, option_and_then}
-use Rattle.lotos_sentences.specs.Starts.{profile_by_name}
+use Rattle.lotos_rows.specs.Starts.{profile_by_name}
 use Rattle.tree_building.specs.Meaning.{Meaning, maybe_profile, a_word, a_specification, some_order_items}
 use Rattle.tree_building.specs.Parts.{with_next, operation_in, profile_in, maybe_profile_in, items_in, operands_in, heading_in, inner_in, word_in, order_items_in}
 use Rattle.tree_building.specs.BehavioursMeaning.{with_grouped}

@@ -1,10 +1,10 @@
 -- What the rows of terms mean, from what their parts mean.
 use Rattle.std.specs.Prelude.{ℕ, List, [], ◌∷◌, ◌++◌, Option, Some, None, option_and_then}
 use Rattle.lotos_base.specs.WrittenTerm.{PlacedName, WrittenTerm, written}
-use Rattle.lotos_lexer.specs.declared.tokens.Token.{Token}
+use Rattle.lotos_rows.specs.HandedOn.{Token}
 use Rattle.syntax_trees.specs.LeftGrouping.{grouped_left}
-use Rattle.lotos_sentences.specs.Names.{place_of}
-use Rattle.lotos_sentences.specs.Terms.{applied, infix_term}
+use Rattle.lotos_rows.specs.Names.{place_of}
+use Rattle.lotos_rows.specs.Terms.{applied, infix_term}
 use Rattle.tree_building.specs.Meaning.{Meaning, a_term, some_factors, some_terms}
 use Rattle.tree_building.specs.Parts.{with_next, name_in, names_in, term_in, factors_in, terms_in}
 

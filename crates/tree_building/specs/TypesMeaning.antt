@@ -1,10 +1,10 @@
 -- What the rows of types mean, from what their parts mean.
 use Rattle.std.specs.Prelude.{ℕ, List, [], ◌∷◌, ◌++◌, Option, Some, None, option_and_then}
 use Rattle.lotos_base.specs.WrittenTerm.{PlacedName}
-use Rattle.lotos_lexer.specs.declared.tokens.Token.{Token}
+use Rattle.lotos_rows.specs.HandedOn.{Token}
 use Rattle.syntax_trees.specs.WrittenItem.{WrittenTypeBody, extends, renames, actualises, libraries, type_declared}
-use Rattle.lotos_sentences.specs.Names.{place_of}
-use Rattle.lotos_sentences.specs.Types.{operations_of_profile, no_equations}
+use Rattle.lotos_rows.specs.Names.{place_of}
+use Rattle.lotos_rows.specs.Types.{operations_of_profile, no_equations}
 use Rattle.tree_building.specs.Meaning.{PlainAfterBase, renamed, actualised, extended, Meaning, some_named_operations, an_item, some_items, a_body, after_base, some_sections, declared_operations, an_equation_section}
 use Rattle.tree_building.specs.Parts.{with_next, name_in, names_in, variables_in, operation_in, operations_in, profile_in, groups_in, both_pairs_in, item_in, items_in, body_in, after_base_in, sections_in, declared_operations_in, equation_section_in}
 

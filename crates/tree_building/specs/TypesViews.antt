@@ -9,7 +9,7 @@ use Rattle.tree_building.specs.declared.types_values.TypeBody.TheVariants as typ
 use Rattle.tree_building.specs.declared.types_values.AfterBase.{AfterBase}
 use Rattle.tree_building.specs.declared.types_values.AfterBase.TheVariants as behind
 use Rattle.tree_building.specs.RenamingsViews.{both_pairs_of}
-use Rattle.ll_engine.specs.Run.{from_last}
+use Rattle.lotos_rows.specs.HandedOn.{from_last}
 use Rattle.tree_building.specs.Meaning.{PlainAfterBase, renamed, actualised, extended}
 
 abbrev pub sections_of : Sections → WrittenSections

@@ -7,7 +7,7 @@ ghost use Rattle.syntax_trees.specs.WrittenVariable.{WrittenVariable};
 ghost use Rattle.syntax_trees.specs.WrittenBehaviour.{WrittenBehaviour, WrittenExitValue, WrittenGateChoice, WrittenOffer};
 ghost use Rattle.syntax_trees.specs.Strength.{PlacedSign};
 ghost use Rattle.syntax_trees.specs.TreeViews.{offer_of, exit_value_of, gate_choice_of, behaviour_of, placed_sign_of};
-ghost use Rattle.ll_engine.specs.Run.{from_last};
+ghost use Rattle.lotos_rows.specs.HandedOn.{from_last};
 ghost use Rattle.tree_building.specs.Meaning.{PlainActionEnd, PlainCallEnd, PlainFlat, PlainGateChoiceEnd, PlainValueChoiceEnd};
 ghost use Rattle.tree_building.specs.MeaningView.{meaning};
 ghost use Rattle.tree_building.specs.Parts.{operands_in, action_in, call_in, offers_in, exit_values_in, lets_in, gate_choices_in, value_choice_in, gate_choice_in, behaviour_in, sign_in};

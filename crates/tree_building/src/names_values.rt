@@ -4,10 +4,10 @@
 ghost use Rattle.std.specs.Prelude.{◌≡◌, List, Option, option_map};
 ghost use Rattle.lotos_base.specs.WrittenTerm.{PlacedName};
 ghost use Rattle.syntax_trees.specs.WrittenVariable.{WrittenVariable};
-ghost use Rattle.lotos_sentences.specs.Names.{NamedOperation, PlacedProfile};
+ghost use Rattle.lotos_rows.specs.Names.{NamedOperation, PlacedProfile};
 ghost use Rattle.lotos_base.specs.WrittenView.{placed_name_of};
 ghost use Rattle.syntax_trees.specs.TreeViews.{variable_of};
-ghost use Rattle.ll_engine.specs.Run.{from_last};
+ghost use Rattle.lotos_rows.specs.HandedOn.{from_last};
 ghost use Rattle.tree_building.specs.MeaningView.{meaning};
 ghost use Rattle.tree_building.specs.Parts.{name_in, names_in, variables_in, operation_in, operations_in, profile_in, maybe_profile_in};
 ghost use Rattle.tree_building.specs.NamesViews.{named_operation_of, profile_of};

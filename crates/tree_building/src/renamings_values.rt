@@ -4,7 +4,7 @@
 ghost use Rattle.std.specs.Prelude.{◌≡◌, List, option_map};
 ghost use Rattle.syntax_trees.specs.WrittenItem.{WrittenPair, WrittenPairs};
 ghost use Rattle.syntax_trees.specs.TreeViews.{pair_of};
-ghost use Rattle.ll_engine.specs.Run.{from_last};
+ghost use Rattle.lotos_rows.specs.HandedOn.{from_last};
 ghost use Rattle.tree_building.specs.MeaningView.{meaning};
 ghost use Rattle.tree_building.specs.Parts.{pairs_in, both_pairs_in};
 ghost use Rattle.tree_building.specs.RenamingsViews.{both_pairs_of};

@@ -6,7 +6,7 @@ ghost use Rattle.lotos_base.specs.WrittenTerm.{ListedOperation};
 ghost use Rattle.syntax_trees.specs.WrittenDefinition.{WrittenSpecification};
 ghost use Rattle.lotos_base.specs.WrittenView.{listed_operation_of};
 ghost use Rattle.syntax_trees.specs.TreeViews.{specification_of};
-ghost use Rattle.ll_engine.specs.Run.{from_last};
+ghost use Rattle.lotos_rows.specs.HandedOn.{from_last};
 ghost use Rattle.tree_building.specs.MeaningView.{meaning};
 ghost use Rattle.tree_building.specs.Parts.{word_in, specification_in, order_items_in};
 

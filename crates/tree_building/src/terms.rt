@@ -2,9 +2,9 @@
 
 ghost use Rattle.std.specs.Prelude.{◌≡◌, ◌++◌, IfOk, OnOk, Some, map, option_map, reverse};
 ghost use Rattle.lotos_base.specs.WrittenView.{placed_name_of, written_term_of};
-ghost use Rattle.lotos_sentences.specs.Terms.{applied, infix_term};
+ghost use Rattle.lotos_rows.specs.Terms.{applied, infix_term};
 ghost use Rattle.syntax_trees.specs.LeftGrouping.{grouped_left};
-ghost use Rattle.ll_engine.specs.Run.{from_last};
+ghost use Rattle.lotos_rows.specs.HandedOn.{from_last};
 ghost use Rattle.tree_building.specs.MeaningView.{meaning};
 ghost use Rattle.tree_building.specs.RowMeaning.{terms_row_means};
 ghost use Rattle.tree_building.specs.TermsMeaning.{applied_factor, bracketed_factor, factor_before_factors, term_before_terms, term_of_factors, with_sorts};
@@ -14,7 +14,7 @@ use crate::names::{Built, one_name, turned};
 use crate::terms_values::StartedTerm;
 use crate::value::{Value, take};
 use lotos_base::{Form, Written};
-use lotos_lexer::Token;
+use lotos_rows::Token;
 use lotos_rows::terms::TermsRow;
 use std::alloc::{AllocError, Global};
 use syntax_trees::Named;

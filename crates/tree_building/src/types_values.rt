@@ -5,7 +5,7 @@ ghost use Rattle.std.specs.Prelude.{◌≡◌, List, option_map};
 ghost use Rattle.syntax_trees.specs.WrittenEquation.{WrittenEquations};
 ghost use Rattle.syntax_trees.specs.WrittenItem.{WrittenItem, WrittenOperation, WrittenSections, WrittenTypeBody};
 ghost use Rattle.syntax_trees.specs.TreeViews.{item_of, operation_of, equations_of};
-ghost use Rattle.ll_engine.specs.Run.{from_last};
+ghost use Rattle.lotos_rows.specs.HandedOn.{from_last};
 ghost use Rattle.tree_building.specs.Meaning.{PlainAfterBase};
 ghost use Rattle.tree_building.specs.MeaningView.{meaning};
 ghost use Rattle.tree_building.specs.Parts.{item_in, items_in, body_in, after_base_in, sections_in, declared_operations_in, equation_section_in};

@@ -1,7 +1,7 @@
 //! What the parts of a derivation are built into.
 
 ghost use Rattle.std.specs.Prelude.{◌≡◌, IfOk, None, Option, option_map};
-ghost use Rattle.ll_engine.specs.Run.{from_last};
+ghost use Rattle.lotos_rows.specs.HandedOn.{from_last};
 ghost use Rattle.tree_building.specs.Meaning.{Meaning};
 ghost use Rattle.tree_building.specs.MeaningView.{meaning};
 ghost use Rattle.tree_building.specs.Parts.{next_in};

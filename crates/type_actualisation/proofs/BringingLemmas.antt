@@ -3,8 +3,8 @@ use Rattle.std.proofs.Common.{◌≡◌, ℕ, suc, ◌+◌, ◌<◌, ◌≤◌, 
 use Rattle.std.specs.Prelude.{Option, Some, None, ◌^◌, ◌||◌, nat_lt}
 use Rattle.std.proofs.lemmas.Bool.{ltb-true}
 use Rattle.lotos_base.specs.WrittenTerm.{PlacedName}
-use Rattle.term_algebra.specs.Signature.{Sort, Operation}
-use Rattle.term_algebra.specs.Equation.{IsWellFormedData}
+use Rattle.lotos_base.specs.Signature.{Sort, Operation}
+use Rattle.lotos_base.specs.Equation.{IsWellFormedData}
 use Rattle.sort_terms.specs.WellFormedTest.{all_differ, are_one_operation, are_one_sort}
 use Rattle.type_definitions.specs.FaultView.{HoldsOfFault, IsFaultFound}
 use Rattle.type_definitions.specs.declared.type_faults.TypeFault.{TypeFault as CodeFault}
@@ -14,10 +14,8 @@ use Rattle.type_definitions.specs.Presentation.{Presentation as PlainPresentatio
 use Rattle.type_definitions.specs.Actualisation.{Actualising, actual_operation, actual_sort, actualisation, actualised_equations, actualised_operations, actualised_sorts, formal_operations_of, formal_sorts_of, other_operation_image, operation_renamer, other_operations_of, other_sort_image, other_sorts_of, sort_renamer}
 use Rattle.type_definitions.specs.ActualisationFaults.{Coming, coming_at, coming_clash, coming_fault, coming_operations, coming_sorts, coming_too_many, formal_operation_fault, formal_sort_fault, operations_clash, there_already}
 use Rattle.type_definitions.specs.Flattened.{data_of}
-use Rattle.type_presentations.specs.OperationListView.{HasOperationKeys, operations_in}
-use Rattle.type_presentations.specs.SortListView.{HasSortKeys, sorts_in}
-use Rattle.type_presentations.specs.declared.operation_list.OperationList.{OperationList}
-use Rattle.type_presentations.specs.declared.sort_list.SortList.{SortList}
+use Rattle.type_presentations.specs.OperationListView.{HasOperationKeys, OperationList, operations_in}
+use Rattle.type_presentations.specs.SortListView.{HasSortKeys, SortList, sorts_in}
 use Rattle.type_presentations.specs.EquationListView.{HasEquationKeys, HaveSidesOf, equations_in}
 use Rattle.type_presentations.specs.declared.equation_list.EquationList.{EquationList}
 use Rattle.type_definitions.specs.ProfiledImage.{number_in}

@@ -1,8 +1,8 @@
 -- The equations of the base come to the actual types, into which its sorts and operations were brought.
 use Rattle.std.proofs.Common.{◌≡◌, ℕ, List, map, ap, sym, ◌∙◌, subst}
 use Rattle.std.proofs.Math.Path.{fun_ext}
-use Rattle.term_algebra.specs.Signature.{Signature, Sort, Operation}
-use Rattle.term_algebra.specs.Equation.{Equation, IsWellFormedData}
+use Rattle.lotos_base.specs.Signature.{Signature, Sort, Operation}
+use Rattle.lotos_base.specs.Equation.{Equation, IsWellFormedData}
 use Rattle.sort_terms.specs.SortedView.{profiled_in}
 use Rattle.type_definitions.specs.Images.{equation_image}
 use Rattle.type_definitions.specs.ProfiledImage.{number_in}

@@ -1,8 +1,8 @@
 -- The data of an actualisation are well formed.
 use Rattle.std.proofs.Common.{◌≡◌, ℕ, true, List, ◌⊎◌, inl, inr, map, ap, sym, ◌∙◌, subst}
 use Rattle.std.specs.Prelude.{Some, slice_get}
-use Rattle.term_algebra.specs.Signature.{Operation, IsSort, IsWellFormedSignature}
-use Rattle.term_algebra.specs.Equation.{Equation, IsEquationOver, IsWellFormedData}
+use Rattle.lotos_base.specs.Signature.{Operation, IsSort, IsWellFormedSignature}
+use Rattle.lotos_base.specs.Equation.{Equation, IsEquationOver, IsWellFormedData}
 use Rattle.sort_terms.specs.WellFormedTest.{all_differ, are_one_sort, are_one_operation}
 use Rattle.type_definitions.specs.Images.{operation_image, equation_image}
 use Rattle.type_definitions.specs.Flattened.{data_of}

@@ -2,7 +2,7 @@
 use Rattle.std.proofs.Common.{◌≡◌, ℕ, Bool, true, List, refl, ap, sym, ◌∙◌}
 use Rattle.std.specs.Prelude.{Option, Some, None}
 use Rattle.lotos_base.specs.WrittenTerm.{PlacedName}
-use Rattle.term_algebra.specs.Equation.{Place}
+use Rattle.lotos_base.specs.Equation.{Place}
 use Rattle.type_definitions.specs.FaultView.{HoldsOfFault, IsFaultFound}
 use Rattle.type_definitions.specs.declared.type_faults.TypeFault.{TypeFault as CodeFault}
 use Rattle.type_definitions.proofs.HoldsLemmas.{holds_weaker}

@@ -6,10 +6,10 @@ use Rattle.std.specs.Str.{bytes_eq}
 use Rattle.std.proofs.lemmas.Bool.{eqb-true, and_parts}
 use Rattle.std.proofs.lemmas.Option.{none-some, same_Some}
 use Rattle.std.proofs.lemmas.Slice.Eq.{bytes_eq-Decides}
-use Rattle.term_algebra.specs.Signature.{Sort, Operation, Form}
-use Rattle.term_algebra.specs.Twins.{form_eq}
+use Rattle.lotos_base.specs.Signature.{Sort, Operation, Form}
+use Rattle.lotos_base.specs.Twins.{form_eq}
 use Rattle.sort_terms.specs.ReadingOutcome.{one_name, is_sort_name}
-use Rattle.type_mentions.proofs.NumberLists.{both_ways}
+use Rattle.type_definitions.proofs.NumberLists.{both_ways}
 use Rattle.type_definitions.specs.TypeFault.{TypeFault, fault_if, first_fault}
 use Rattle.type_definitions.specs.Presentation.{first_position, is_marked}
 use Rattle.type_definitions.specs.UnionLaws.{IsIn}

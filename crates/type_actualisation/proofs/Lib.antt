@@ -5,3 +5,4 @@ pub mod FormalLemmas
 pub mod MapLemmas
 pub mod DataLemmas
 pub mod BroughtLemmas
+pub mod HandedOn

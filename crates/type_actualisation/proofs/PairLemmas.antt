@@ -3,7 +3,7 @@ use Rattle.std.proofs.Common.{◌≡◌, List, [], map, ap, sym, ◌∙◌, subs
 use Rattle.std.specs.Prelude.{Option, None}
 use Rattle.lotos_base.specs.Name.{spelling}
 use Rattle.lotos_base.specs.WrittenView.{placed_name_of}
-use Rattle.term_algebra.specs.Signature.{Sort, Operation}
+use Rattle.lotos_base.specs.Signature.{Sort, Operation}
 use Rattle.syntax_trees.specs.WrittenItem.{WrittenPair}
 use Rattle.syntax_trees.specs.TreeViews.{pair_of}
 use Rattle.syntax_trees.specs.declared.items.PairText.{PairText}
@@ -16,7 +16,7 @@ use Rattle.type_definitions.specs.Presentation.{Presentation as PlainPresentatio
 use Rattle.type_definitions.specs.Renaming.{operation_pairs_fault}
 use Rattle.type_definitions.specs.Actualisation.{Actualising, formal_operations_of}
 use Rattle.type_definitions.specs.ActualisationFaults.{actual_pairs_fault, actualising_fault}
-use Rattle.type_pairs.specs.PairIndexView.{pairs_in}
+use Rattle.actual_members.specs.HandedOn.{pairs_in}
 use Rattle.type_presentations.specs.PresentationView.{presentation_of}
 use Rattle.type_presentations.specs.declared.presentations.Presentation.{Presentation}
 use Rattle.actual_members.specs.declared.source.Source.{Source}

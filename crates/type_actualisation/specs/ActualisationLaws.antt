@@ -1,6 +1,6 @@
 -- Laws of actualisations: the base goes into it under maps of sorts and operations, and its data are well formed.
 use Rattle.std.specs.Prelude.{◌≡◌, true, None}
-use Rattle.term_algebra.specs.Equation.{IsWellFormedData}
+use Rattle.lotos_base.specs.Equation.{IsWellFormedData}
 use Rattle.sort_terms.specs.WellFormedTest.{all_differ, are_one_sort, are_one_operation}
 use Rattle.type_definitions.specs.ImageLaws.{IsSignatureMap}
 use Rattle.type_definitions.specs.Flattened.{data_of}

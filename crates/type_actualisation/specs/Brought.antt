@@ -1,6 +1,6 @@
 -- The actual types, into which the sorts and operations of the base of an actualisation were brought.
 use Rattle.std.specs.Prelude.{◌≡◌, ℕ, true, List}
-use Rattle.term_algebra.specs.Equation.{IsWellFormedData}
+use Rattle.lotos_base.specs.Equation.{IsWellFormedData}
 use Rattle.sort_terms.specs.WellFormedTest.{all_differ, are_one_sort, are_one_operation}
 use Rattle.type_definitions.specs.Flattened.{data_of}
 use Rattle.type_definitions.specs.Actualisation.{Actualising, actualised_sort, actualised_sorts, actualised_operation, actualised_operations}

@@ -9,8 +9,8 @@ use Rattle.type_definitions.specs.Presentation.{Presentation as PlainPresentatio
 use Rattle.type_definitions.specs.Renaming.{operation_pairs_fault}
 use Rattle.type_definitions.specs.Actualisation.{Actualising, actualisation}
 use Rattle.type_definitions.specs.ActualisationFaults.{actual_pairs_fault, actualising_fault}
-use Rattle.type_pairs.specs.PairIndexView.{pairs_in}
-use Rattle.type_pairs.specs.declared.pair_index.PairIndex.{PairIndex}
+use Rattle.actual_members.specs.HandedOn.{pairs_in}
+use Rattle.actual_members.specs.HandedOn.{PairIndex}
 use Rattle.type_presentations.specs.PresentationView.{IsSound, IsWithinLimits, presentation_of}
 use Rattle.type_presentations.specs.declared.presentations.Presentation.{Presentation}
 use Rattle.actual_members.specs.SourceView.{IsSourceOfSorts}

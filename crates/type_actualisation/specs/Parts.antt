@@ -2,7 +2,7 @@
 use Rattle.std.specs.Prelude.{◌≡◌, ℕ, false, None, Option, map, List}
 use Rattle.lotos_base.specs.Name.{spelling}
 use Rattle.lotos_base.specs.WrittenView.{placed_name_of}
-use Rattle.term_algebra.specs.Equation.{IsWellFormedData}
+use Rattle.lotos_base.specs.Equation.{IsWellFormedData}
 use Rattle.type_presentations.specs.NamesView.{HasNames}
 use Rattle.type_definitions.specs.FaultView.{IsFaultFound}
 use Rattle.type_definitions.specs.declared.type_faults.TypeFault.{TypeFault as CodeFault}
@@ -11,11 +11,9 @@ use Rattle.type_definitions.specs.Presentation.{is_too_large}
 use Rattle.type_definitions.specs.Flattened.{data_of}
 use Rattle.type_definitions.specs.Actualisation.{Actualising, actualisation, formal_operations_of, formal_sorts_of}
 use Rattle.type_definitions.specs.ActualisationFaults.{coming_fault, formal_operation_fault, formal_sort_fault}
-use Rattle.type_pairs.specs.PairIndexView.{pairs_in}
-use Rattle.type_presentations.specs.SortListView.{sorts_in}
-use Rattle.type_presentations.specs.OperationListView.{operations_in}
-use Rattle.type_presentations.specs.declared.operation_list.OperationList.{OperationList}
-use Rattle.type_presentations.specs.declared.sort_list.SortList.{SortList}
+use Rattle.actual_members.specs.HandedOn.{pairs_in}
+use Rattle.type_presentations.specs.SortListView.{SortList, sorts_in}
+use Rattle.type_presentations.specs.OperationListView.{OperationList, operations_in}
 use Rattle.type_presentations.specs.EquationListView.{HaveSidesOf, equations_in}
 use Rattle.type_presentations.specs.MarksView.{marks_in}
 use Rattle.type_presentations.specs.PresentationView.{IsSound, IsWithinLimits, presentation_of}

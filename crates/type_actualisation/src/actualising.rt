@@ -1,6 +1,6 @@
 //! Actualisations.
 
-ghost use Rattle.type_pairs.specs.FormalNames.{names_of_formal_sorts};
+ghost use Rattle.actual_members.specs.HandedOn.{names_of_formal_sorts};
 ghost use Rattle.actual_members.specs.Actuals.{actualising_with};
 ghost use Rattle.lotos_base.specs.Name.{spelling};
 ghost use Rattle.lotos_base.specs.WrittenView.{placed_name_of};
@@ -28,12 +28,14 @@ ghost use Rattle.type_presentations.specs.PresentationView.{
 };
 
 use crate::bringing::bring;
-use actual_members::{Source, formal_op_names, formal_sort_names};
+use actual_members::{
+    PairIndex, Source, formal_op_names, formal_sort_names, look_at_actual_sort_pairs,
+    look_at_op_pairs,
+};
 use lotos_base::Name;
 use std::alloc::Global;
 use syntax_trees::{Named, PairText};
 use type_definitions::TypeFault;
-use type_pairs::{PairIndex, look_at_actual_sort_pairs, look_at_op_pairs};
 use type_presentations::{NamePositions, Presentation};
 
 /// The presentation of the type of this name that actualises the base by the actual types, whose

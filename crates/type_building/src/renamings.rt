@@ -2,7 +2,7 @@
 
 ghost use Rattle.std.specs.Prelude.{◌≡◌, IfOk, None, Some, option_map};
 ghost use Rattle.lotos_base.specs.WrittenView.{placed_name_of};
-ghost use Rattle.lotos_sentences.specs.Renamings.{pair_for};
+ghost use Rattle.lotos_rows.specs.Renamings.{pair_for};
 ghost use Rattle.syntax_trees.specs.TreeViews.{pair_of};
 ghost use Rattle.ll_engine.specs.Run.{from_last};
 ghost use Rattle.tree_building.specs.MeaningView.{meaning};

@@ -2,7 +2,7 @@
 
 ghost use Rattle.std.specs.Prelude.{◌≡◌, ◌++◌, ◌∷◌, [], IfOk, OnOk, Some, map, option_map, reverse};
 ghost use Rattle.lotos_base.specs.WrittenView.{placed_name_of};
-ghost use Rattle.lotos_sentences.specs.Types.{no_equations, operations_of_profile};
+ghost use Rattle.lotos_rows.specs.Types.{no_equations, operations_of_profile};
 ghost use Rattle.syntax_trees.specs.TreeViews.{equations_of, item_of, operation_of};
 ghost use Rattle.syntax_trees.specs.WrittenItem.{type_declared};
 ghost use Rattle.lotos_base.specs.Name.{spelling};

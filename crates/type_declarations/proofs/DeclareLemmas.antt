@@ -10,8 +10,8 @@ use Rattle.lotos_base.specs.WrittenView.{placed_name_of}
 use Rattle.lotos_base.specs.declared.places.Place.{Place as CodePlace}
 use Rattle.lotos_base.specs.declared.names.Name.{Name}
 use Rattle.syntax_trees.specs.TreeViews.{placed_names_of}
-use Rattle.term_algebra.specs.Signature.{Sort, Operation, Form, IsWellFormedSignature}
-use Rattle.term_algebra.specs.Equation.{Place}
+use Rattle.lotos_base.specs.Signature.{Sort, Operation, Form, IsWellFormedSignature}
+use Rattle.lotos_base.specs.Equation.{Place}
 use Rattle.syntax_trees.specs.WrittenItem.{WrittenOperation}
 use Rattle.sort_terms.specs.ReadingOutcome.{one_name, is_sort_name}
 use Rattle.sort_terms.specs.WellFormedTest.{has_known_sorts, all_below}

@@ -19,7 +19,7 @@ ghost use Rattle.std.specs.Prelude.{
 };
 ghost use Rattle.syntax_trees.specs.TreeViews.{operation_of as written_operation_of};
 ghost use Rattle.type_declarations.specs.DeclaredOperation.{
-  AreFewNames,
+  AreFewDeclaredNames,
   declared_operation,
   sort_names,
 };
@@ -126,7 +126,7 @@ fn op_of(
     type_name: &Name,
     op: &OpText,
 ) -> Result<Op, TypeFault>
-    requires { AreFewNames sorts.now }
+    requires { AreFewDeclaredNames sorts.now }
     ensures { (p : PlainPresentation) → HasNames sorts.now (sort_names p) → MatchResult result
         (λ made. (unknown_sort_among p ((written_operation_of op.now).arguments
         ++ (written_operation_of op.now).result ∷ []) ≡ None)

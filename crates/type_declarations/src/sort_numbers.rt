@@ -4,7 +4,7 @@ ghost use Rattle.lotos_base.specs.WrittenView.{placed_name_of};
 ghost use Rattle.type_presentations.specs.NamesView.{HasNames};
 ghost use Rattle.std.specs.Prelude.{◌≡◌, ◌∷◌, [], None, MatchResult, map};
 ghost use Rattle.syntax_trees.specs.TreeViews.{placed_names_of};
-ghost use Rattle.type_declarations.specs.DeclaredOperation.{AreFewNames, sort_names};
+ghost use Rattle.type_declarations.specs.DeclaredOperation.{AreFewDeclaredNames, sort_names};
 ghost use Rattle.type_definitions.specs.FaultView.{IsFaultFound};
 ghost use Rattle.type_definitions.specs.Declarations.{sort_numbered, unknown_sort_among};
 ghost use Rattle.type_definitions.specs.Presentation.{Presentation as PlainPresentation};
@@ -21,7 +21,7 @@ pub fn sorts_named(
     sorts: &NamePositions,
     names: &[Named],
 ) -> Result<Vec<u32>, TypeFault>
-    requires { AreFewNames sorts.now }
+    requires { AreFewDeclaredNames sorts.now }
     ensures { (p : PlainPresentation) → HasNames sorts.now (sort_names p) → MatchResult result
         (λ numbers. (unknown_sort_among p (placed_names_of names.now) ≡ None)
         × (numbers.items ≡ map (λ s. sort_numbered p s.name) (placed_names_of names.now)))
@@ -37,7 +37,7 @@ pub fn sorts_named(
 /// The number of the sort with this name, or the fault that there is none. The names of the sorts
 /// are given.
 pub fn sort_named(alloc: Global, sorts: &NamePositions, named: &Named) -> Result<u32, TypeFault>
-    requires { AreFewNames sorts.now }
+    requires { AreFewDeclaredNames sorts.now }
     ensures { (p : PlainPresentation) → HasNames sorts.now (sort_names p) → MatchResult result
         (λ number. (unknown_sort_among p (placed_name_of named.now ∷ []) ≡ None)
         × (number ≡ sort_numbered p (placed_name_of named.now).name))

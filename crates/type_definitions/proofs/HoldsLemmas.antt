@@ -1,6 +1,6 @@
 -- What a fault stands for, once more is known of it.
 use Rattle.lotos_base.specs.WrittenView.{text_place_of}
-use Rattle.sort_terms.specs.ReadingOutcome.{Refusal}
+use Rattle.sort_terms.specs.ReadingOutcome.{ReadingRefusal}
 use Rattle.sort_terms.specs.RefusalView.{UnlessNoMemory}
 use Rattle.sort_terms.specs.declared.sort_faults.SortFault.{SortFault}
 use Rattle.sort_terms.specs.declared.sort_faults.SortFault.TheVariants as sort
@@ -36,7 +36,7 @@ holds_weaker P Q (Term fault) weaker holds = of_term P Q fault weaker holds
 holds_weaker P Q NoMemory weaker holds = holds
 
 -- the fault of a term that was refused
-pub refused_term : (P : plain.TypeFault → Type 0) (fault : SortFault) → UnlessNoMemory fault (λ (r : Refusal). P (fault_of r))
+pub refused_term : (P : plain.TypeFault → Type 0) (fault : SortFault) → UnlessNoMemory fault (λ (r : ReadingRefusal). P (fault_of r))
     → HoldsOfFault (fault_of_term fault) P
 refused_term P (sort.UnknownName place) holds = holds
 refused_term P (sort.UnknownSort place) holds = holds

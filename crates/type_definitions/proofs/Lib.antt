@@ -2,3 +2,12 @@ pub mod WithNewLemmas
 pub mod ImageLemmas
 pub mod HoldsLemmas
 pub mod WalkLemmas
+pub mod MentionLemmas
+pub mod NumberLists
+pub mod ReachLemmas
+pub mod OrderLemmas
+pub mod MentionWalkLemmas
+pub mod CycleLemmas
+pub mod OrderingLemmas
+pub mod NameLemmas
+pub mod UnknownLemmas

@@ -7,12 +7,12 @@ use Rattle.std.proofs.lemmas.Bool.{eq-eqb}
 use Rattle.std.proofs.lemmas.List.Folds.{list_any-append}
 use Rattle.std.proofs.lemmas.Option.{none-some, same_Some}
 use Rattle.std.proofs.lemmas.Slice.Eq.{bytes_eq-Decides}
-use Rattle.term_algebra.specs.Names.{folded}
-use Rattle.term_algebra.specs.Signature.{Sort, Operation}
-use Rattle.term_algebra.specs.Equation.{Equation}
-use Rattle.term_algebra.proofs.TestLemmas.{Decides-term_eq}
+use Rattle.lotos_base.specs.Names.{folded}
+use Rattle.lotos_base.specs.Signature.{Sort, Operation}
+use Rattle.lotos_base.specs.Equation.{Equation}
+use Rattle.lotos_base.proofs.TestLemmas.{Decides-term_eq}
 use Rattle.sort_terms.proofs.NodeLemmas.{eq_forms}
-use Rattle.type_mentions.proofs.NumberLists.{both_ways, or_cases, or_left, or_right}
+use Rattle.type_definitions.proofs.NumberLists.{both_ways, or_cases, or_left, or_right}
 use Rattle.type_definitions.specs.Presentation.{Presentation, is_same_sort, is_same_operation, is_same_equation, with_new, first_position}
 use Rattle.type_definitions.specs.Union.{joined, joined_sort, joined_sorts, joined_operation, joined_operations, coming_operations, sort_in, operation_in}
 use Rattle.type_definitions.specs.UnionLaws.{IsIn, KeepsFirstAppearances, FirstAppearancesAreKept, UnionsKeepAndAdd}

@@ -4,9 +4,9 @@ use Rattle.std.specs.Prelude.{ℕ, suc, Bool, true, false, ◌&&◌, ◌||◌, n
 use Rattle.std.specs.List.{list_any}
 use Rattle.std.specs.Str.{bytes_eq}
 use Rattle.std.specs.Prelude.{nat_eq}
-use Rattle.term_algebra.specs.Signature.{Sort, Operation, Form, prefix_form, infix_form}
-use Rattle.term_algebra.specs.Equation.{Equation}
-use Rattle.term_algebra.specs.Twins.{form_eq}
+use Rattle.lotos_base.specs.Signature.{Sort, Operation, Form, prefix_form, infix_form}
+use Rattle.lotos_base.specs.Equation.{Equation}
+use Rattle.lotos_base.specs.Twins.{form_eq}
 use Rattle.syntax_trees.specs.WrittenItem.{WrittenPair, WrittenPairs}
 use Rattle.sort_terms.specs.ReadingOutcome.{one_name}
 use Rattle.type_definitions.specs.Presentation.{Presentation, is_same_sort, is_same_operation, is_same_equation, with_new, first_position, is_marked}

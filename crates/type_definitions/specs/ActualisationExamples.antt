@@ -1,9 +1,9 @@
 -- Small actualisations: an actual operation of the other form with the equation that speaks of it; two formal sorts that get
 -- one actual sort, and what then is one operation or two.
 use Rattle.std.specs.Prelude.{◌≡◌, ℕ, List, [], ◌∷◌, None, Some, codes}
-use Rattle.term_algebra.specs.Equation.{Equation}
-use Rattle.term_algebra.specs.Signature.{Operation, infix_form}
-use Rattle.term_algebra.specs.Term.{variable, node, no_terms, term_then}
+use Rattle.lotos_base.specs.Equation.{Equation}
+use Rattle.lotos_base.specs.Signature.{Operation, infix_form}
+use Rattle.lotos_base.specs.Term.{variable, node, no_terms, term_then}
 use Rattle.syntax_trees.specs.WrittenItem.{WrittenPair, WrittenPairs}
 use Rattle.type_definitions.specs.TypeFault.{double_operation, missing_actual}
 use Rattle.type_definitions.specs.Presentation.{Presentation}

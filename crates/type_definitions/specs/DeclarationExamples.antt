@@ -1,8 +1,8 @@
 -- What a small type declares, what is wrong with some others, and the variables of an equation.
 use Rattle.std.specs.Prelude.{◌≡◌, ℕ, List, [], ◌∷◌, None, Some, codes}
 use Rattle.lotos_base.specs.WrittenTerm.{PlacedName}
-use Rattle.term_algebra.specs.Signature.{Form, prefix_form, infix_form}
-use Rattle.term_algebra.specs.Term.{variable, node, no_terms, term_then}
+use Rattle.lotos_base.specs.Signature.{Form, prefix_form, infix_form}
+use Rattle.lotos_base.specs.Term.{variable, node, no_terms, term_then}
 use Rattle.syntax_trees.specs.WrittenEquation.{WrittenEquations}
 use Rattle.syntax_trees.specs.WrittenItem.{WrittenOperation, WrittenSections}
 use Rattle.type_definitions.specs.TypeFault.{double_sort, double_operation, unknown_sort, no_reading}

@@ -1,7 +1,7 @@
 -- The sorts and operations that a type declares itself: what they add to a presentation, and their faults.
 use Rattle.std.specs.Prelude.{ℕ, Bool, true, false, not, nat_eq, List, [], ◌∷◌, ◌++◌, length, map, fold, Option, None, Some, if◌then◌else◌}
 use Rattle.lotos_base.specs.WrittenTerm.{PlacedName}
-use Rattle.term_algebra.specs.Signature.{Sort, Form, prefix_form, infix_form}
+use Rattle.lotos_base.specs.Signature.{Sort, Form, prefix_form, infix_form}
 use Rattle.syntax_trees.specs.WrittenItem.{WrittenOperation, WrittenSections}
 use Rattle.sort_terms.specs.ReadingOutcome.{one_name, is_sort_name}
 use Rattle.type_definitions.specs.TypeFault.{TypeFault, unknown_sort, no_reading, fault_if, first_fault, fault_along}

@@ -3,13 +3,13 @@
 use Rattle.std.specs.Prelude.{◌≡◌, ◌⊎◌, ℕ, suc, Bool, true, false, ◌&&◌, nat_eq, List, [], ◌∷◌, ◌++◌, map, flat_map, Option, None, Some, slice_get, length, codes}
 use Rattle.std.specs.List.{list_any}
 use Rattle.lotos_base.specs.WrittenTerm.{WrittenTerm, written_head}
-use Rattle.term_algebra.specs.Signature.{Operation, prefix_form}
-use Rattle.term_algebra.specs.Equation.{Place, Variable, Equation}
-use Rattle.term_algebra.specs.Term.{Term, Terms, variable, node, no_terms, term_then}
-use Rattle.term_algebra.specs.Twins.{form_eq}
+use Rattle.lotos_base.specs.Signature.{Operation, prefix_form}
+use Rattle.lotos_base.specs.Equation.{Place, Variable, Equation}
+use Rattle.lotos_base.specs.Term.{Term, Terms, variable, node, no_terms, term_then}
+use Rattle.lotos_base.specs.Twins.{form_eq}
 use Rattle.syntax_trees.specs.WrittenVariable.{WrittenVariable}
 use Rattle.syntax_trees.specs.WrittenEquation.{WrittenPremiss, WrittenEquation, WrittenGroup, WrittenEquations}
-use Rattle.sort_terms.specs.ReadingOutcome.{Refusal, unknown_name as name_unknown, unknown_sort as sort_unknown, no_reading as none_read, two_readings as two_read, answered, refused, SortedTerm, SortedPair, ReadingIs, PairReadingIs, one_name, is_sort_name}
+use Rattle.sort_terms.specs.ReadingOutcome.{ReadingRefusal, unknown_name as name_unknown, unknown_sort as sort_unknown, no_reading as none_read, two_readings as two_read, answered, refused, SortedTerm, SortedPair, ReadingIs, PairReadingIs, one_name, is_sort_name}
 use Rattle.type_definitions.specs.TypeFault.{TypeFault, unknown_sort, premised, unknown_name, no_reading, two_readings, too_large}
 use Rattle.type_definitions.specs.Presentation.{Presentation, with_new, first_position, is_too_large}
 use Rattle.type_definitions.specs.Declarations.{sort_numbered}
@@ -23,21 +23,21 @@ pub record AskedEquation : Type 0 where
   pub equation : WrittenEquation
 
 -- a sort that has to be there, at its place; a formal equation, or one of the type's own
-pub data Asked : Type 0 where
-  sort_asked : Place → List ℕ → Asked
-  formal_asked own_asked : AskedEquation → Asked
+pub data EquationQuestion : Type 0 where
+  sort_asked : Place → List ℕ → EquationQuestion
+  formal_asked own_asked : AskedEquation → EquationQuestion
 
 -- the sorts of variables
-abbrev pub asked_of_variables : List WrittenVariable → List Asked
+abbrev pub asked_of_variables : List WrittenVariable → List EquationQuestion
 asked_of_variables variables = map (λ (v : WrittenVariable). sort_asked v.sort_place v.sort) variables
 
 -- an equation, formal or not
-abbrev pub equation_asked : Bool → AskedEquation → Asked
+abbrev pub equation_asked : Bool → AskedEquation → EquationQuestion
 equation_asked true equation = formal_asked equation
 equation_asked false equation = own_asked equation
 
 -- a group: its sort, the sorts of its `forall`, its equations; its variables come behind those of the section
-abbrev pub asked_of_group : Bool → List WrittenVariable → WrittenGroup → List Asked
+abbrev pub asked_of_group : Bool → List WrittenVariable → WrittenGroup → List EquationQuestion
 asked_of_group is_formal variables group =
     sort_asked group.place group.sort
     ∷ (asked_of_variables group.variables
@@ -47,7 +47,7 @@ asked_of_group is_formal variables group =
     group.equations)
 
 -- a section: the sorts of its `forall`, then its groups
-abbrev pub asked_of_section : Bool → WrittenEquations → List Asked
+abbrev pub asked_of_section : Bool → WrittenEquations → List EquationQuestion
 asked_of_section is_formal section =
     asked_of_variables section.variables ++ flat_map (asked_of_group is_formal section.variables) section.groups
 
@@ -63,7 +63,7 @@ abbrev pub scope_of : Presentation → AskedEquation → List Variable
 scope_of p asked = scope_from p 0 asked.variables
 
 -- the refusal of a term, as a fault
-abbrev pub fault_of : Refusal → TypeFault
+abbrev pub fault_of : ReadingRefusal → TypeFault
 fault_of (name_unknown place) = unknown_name place
 fault_of (sort_unknown place) = unknown_sort place None
 fault_of (none_read place) = no_reading place
@@ -79,7 +79,7 @@ IsSide p asked side t =
 -- a side is refused with this fault
 abbrev pub IsSideFault : Presentation → AskedEquation → WrittenTerm → TypeFault → Type 0
 IsSideFault p asked side fault =
-    (refusal : Refusal)
+    (refusal : ReadingRefusal)
     × ReadingIs p.signature (scope_of p asked) side (Some (sort_numbered p asked.sort)) (refused refusal)
     × (fault_of refusal ≡ fault)
 
@@ -109,11 +109,11 @@ IsReadPremiss p asked left None =
 -- the premiss is refused with this fault
 abbrev pub IsPremissFault : Presentation → AskedEquation → WrittenTerm → Option WrittenTerm → TypeFault → Type 0
 IsPremissFault p asked left (Some right) fault =
-    (refusal : Refusal) × PairReadingIs p.signature (scope_of p asked) left right (refused refusal) × (fault_of refusal ≡ fault)
+    (refusal : ReadingRefusal) × PairReadingIs p.signature (scope_of p asked) left right (refused refusal) × (fault_of refusal ≡ fault)
 IsPremissFault p asked left None fault =
     ((has_truth p ≡ false) × (fault ≡ no_reading (written_head left).place))
     ⊎ ((has_truth p ≡ true)
-    × ((refusal : Refusal) × ReadingIs p.signature (scope_of p asked) left (Some (bool_sort p)) (refused refusal)
+    × ((refusal : ReadingRefusal) × ReadingIs p.signature (scope_of p asked) left (Some (bool_sort p)) (refused refusal)
     × (fault_of refusal ≡ fault)))
 
 -- each premiss can be read
@@ -189,14 +189,14 @@ with_sides p asked left right = with_equation p (equation_of_sides asked.equatio
 -- ---- What each question gives, and its first fault. `type_name` is the name of the type.
 
 -- the question has no fault, and the presentation is the other one after it
-pub data Gives (p : Presentation) : Asked → Presentation → Type 0 where
-  sort_is_there : (place : Place) (name : List ℕ) → is_sort_name p.signature name ≡ true → Gives p (sort_asked place name) p
+pub data GivesPresentation (p : Presentation) : EquationQuestion → Presentation → Type 0 where
+  sort_is_there : (place : Place) (name : List ℕ) → is_sort_name p.signature name ≡ true → GivesPresentation p (sort_asked place name) p
   formal_is_read : (asked : AskedEquation) (left right : Term) → IsSide p asked asked.equation.left left
       → IsSide p asked asked.equation.right right → AreReadPremisses p asked asked.equation.premisses
-      → Gives p (formal_asked asked) p
+      → GivesPresentation p (formal_asked asked) p
   own_is_read : (asked : AskedEquation) (left right : Term) → asked.equation.arrow ≡ None
       → IsSide p asked asked.equation.left left → IsSide p asked asked.equation.right right
-      → is_too_large (with_sides p asked left right) ≡ false → Gives p (own_asked asked) (with_sides p asked left right)
+      → is_too_large (with_sides p asked left right) ≡ false → GivesPresentation p (own_asked asked) (with_sides p asked left right)
 
 -- a side of the equation has the fault that counts: the left one before the right one
 abbrev pub IsFaultOfSides : Presentation → AskedEquation → TypeFault → Type 0
@@ -205,32 +205,32 @@ IsFaultOfSides p asked fault =
     ⊎ ((left : Term) × IsSide p asked asked.equation.left left × IsSideFault p asked asked.equation.right fault)
 
 -- the question has this fault
-pub data HasFault (p : Presentation) (type_name : List ℕ) : Asked → TypeFault → Type 0 where
+pub data QuestionHasFault (p : Presentation) (type_name : List ℕ) : EquationQuestion → TypeFault → Type 0 where
   sort_is_unknown : (place : Place) (name : List ℕ) → is_sort_name p.signature name ≡ false
-      → HasFault p type_name (sort_asked place name) (unknown_sort place (Some name))
+      → QuestionHasFault p type_name (sort_asked place name) (unknown_sort place (Some name))
   formal_side : (asked : AskedEquation) (fault : TypeFault) → IsFaultOfSides p asked fault
-      → HasFault p type_name (formal_asked asked) fault
+      → QuestionHasFault p type_name (formal_asked asked) fault
   formal_premiss : (asked : AskedEquation) (left right : Term) (fault : TypeFault) → IsSide p asked asked.equation.left left
       → IsSide p asked asked.equation.right right → IsFirstPremissFault p asked asked.equation.premisses fault
-      → HasFault p type_name (formal_asked asked) fault
+      → QuestionHasFault p type_name (formal_asked asked) fault
   own_has_premisses : (asked : AskedEquation) (arrow : Place) → asked.equation.arrow ≡ Some arrow
-      → HasFault p type_name (own_asked asked) (premised arrow)
+      → QuestionHasFault p type_name (own_asked asked) (premised arrow)
   own_side : (asked : AskedEquation) (fault : TypeFault) → asked.equation.arrow ≡ None → IsFaultOfSides p asked fault
-      → HasFault p type_name (own_asked asked) fault
+      → QuestionHasFault p type_name (own_asked asked) fault
   one_too_many : (asked : AskedEquation) (left right : Term) → asked.equation.arrow ≡ None
       → IsSide p asked asked.equation.left left → IsSide p asked asked.equation.right right
       → is_too_large (with_sides p asked left right) ≡ true
-      → HasFault p type_name (own_asked asked) (too_large asked.equation.place type_name)
+      → QuestionHasFault p type_name (own_asked asked) (too_large asked.equation.place type_name)
 
 -- all questions have no fault, and the presentation is the last one after them
-pub data GiveAll : Presentation → List Asked → Presentation → Type 0 where
+pub data GiveAll : Presentation → List EquationQuestion → Presentation → Type 0 where
   none_asked : (p : Presentation) → GiveAll p [] p
-  next_gives : (p q r : Presentation) (a : Asked) (asked : List Asked) → Gives p a q → GiveAll q asked r
+  next_gives : (p q r : Presentation) (a : EquationQuestion) (asked : List EquationQuestion) → GivesPresentation p a q → GiveAll q asked r
       → GiveAll p (a ∷ asked) r
 
 -- the first question with a fault has this one
-pub data HasFirstFault (type_name : List ℕ) : Presentation → List Asked → TypeFault → Type 0 where
-  at_once : (p : Presentation) (a : Asked) (asked : List Asked) (fault : TypeFault) → HasFault p type_name a fault
+pub data HasFirstFault (type_name : List ℕ) : Presentation → List EquationQuestion → TypeFault → Type 0 where
+  at_once : (p : Presentation) (a : EquationQuestion) (asked : List EquationQuestion) (fault : TypeFault) → QuestionHasFault p type_name a fault
       → HasFirstFault type_name p (a ∷ asked) fault
-  further_on : (p q : Presentation) (a : Asked) (asked : List Asked) (fault : TypeFault) → Gives p a q
+  further_on : (p q : Presentation) (a : EquationQuestion) (asked : List EquationQuestion) (fault : TypeFault) → GivesPresentation p a q
       → HasFirstFault type_name q asked fault → HasFirstFault type_name p (a ∷ asked) fault

@@ -5,7 +5,7 @@ use Rattle.type_definitions.specs.TypeFault.{TypeFault, first_fault}
 use Rattle.type_definitions.specs.Presentation.{Presentation}
 use Rattle.type_definitions.specs.Union.{Mentioned, union_of, union_fault}
 use Rattle.type_definitions.specs.Declarations.{with_declarations, declaration_fault}
-use Rattle.type_definitions.specs.DeclaredEquations.{Asked, asked_of_section, GiveAll, HasFirstFault}
+use Rattle.type_definitions.specs.DeclaredEquations.{EquationQuestion, asked_of_section, GiveAll, HasFirstFault}
 
 -- the imports with the sorts and operations of the type
 abbrev pub extended : List Mentioned → List ℕ → WrittenSections → Presentation
@@ -17,7 +17,7 @@ extended_fault imports type_name sections =
     first_fault (union_fault imports) (declaration_fault type_name (union_of imports) sections)
 
 -- what is asked of the equations: the formal ones, then the type's own
-abbrev pub asked_of : WrittenSections → List Asked
+abbrev pub asked_of : WrittenSections → List EquationQuestion
 asked_of sections = asked_of_section true sections.formal_equations ++ asked_of_section false sections.equations
 
 -- the extension has no fault, and this is its presentation

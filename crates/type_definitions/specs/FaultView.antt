@@ -4,8 +4,8 @@ use Rattle.lotos_base.specs.Name.{spelling}
 use Rattle.lotos_base.specs.WrittenView.{text_place_of}
 use Rattle.sort_terms.specs.declared.sort_faults.SortFault.{SortFault}
 use Rattle.sort_terms.specs.declared.sort_faults.SortFault.TheVariants as sort
-use Rattle.type_mentions.specs.declared.name_faults.TypeNameFault.{TypeNameFault}
-use Rattle.type_mentions.specs.declared.name_faults.TypeNameFault.TheVariants as names
+use Rattle.type_definitions.specs.declared.name_faults.TypeNameFault.{TypeNameFault}
+use Rattle.type_definitions.specs.declared.name_faults.TypeNameFault.TheVariants as names
 use Rattle.type_definitions.specs.TypeFault as plain
 use Rattle.type_definitions.specs.declared.type_faults.TypeFault.{TypeFault}
 use Rattle.type_definitions.specs.declared.type_faults.TypeFault.TheVariants.{DoubleType, UnknownType, TypeCycle, DoubleSort, UnknownSort, DoubleOperation, UnknownOperation, NotFormal, MissingActual, TooLarge, Premised, Term, NoMemory}

@@ -3,11 +3,11 @@
 use Rattle.std.specs.Prelude.{◌≡◌, ◌⊎◌, ℕ, List, [], ◌∷◌, ◌++◌, map, flat_map, None, Some, slice_get, if◌then◌else◌}
 use Rattle.std.specs.Option.{option_to_list}
 use Rattle.lotos_base.specs.WrittenTerm.{PlacedName}
-use Rattle.term_algebra.specs.Equation.{Data}
+use Rattle.lotos_base.specs.Equation.{Data}
 use Rattle.syntax_trees.specs.WrittenItem.{WrittenTypeBody, extends, renames, actualises}
 use Rattle.sort_terms.specs.ReadingOutcome.{one_name}
-use Rattle.type_mentions.specs.DeclaredTypes.{DeclaredType, mention_graph}
-use Rattle.type_mentions.specs.FlatteningOrder.{IsFlatteningOrder}
+use Rattle.type_definitions.specs.DeclaredTypes.{DeclaredType, mention_graph}
+use Rattle.type_definitions.specs.FlatteningOrder.{IsFlatteningOrder}
 use Rattle.type_definitions.specs.TypeFault.{TypeFault}
 use Rattle.type_definitions.specs.Presentation.{Presentation, nothing}
 use Rattle.type_definitions.specs.Union.{Mentioned, union_of, union_fault}

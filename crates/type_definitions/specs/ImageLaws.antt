@@ -1,6 +1,6 @@
 -- Laws of images between two signatures.
 use Rattle.std.specs.Prelude.{◌<◌, ℕ, length}
-use Rattle.term_algebra.specs.Signature.{Signature, Operation, IsSort, IsOperation}
+use Rattle.lotos_base.specs.Signature.{Signature, Operation, IsSort, IsOperation}
 use Rattle.sort_terms.specs.ProfiledTerm.{ProfiledTerm, IsOf}
 use Rattle.type_definitions.specs.ProfiledImage.{profile_in, profiled_image, IsImageProfile, KeepsProfiles}
 

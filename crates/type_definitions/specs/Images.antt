@@ -1,8 +1,8 @@
 -- The image of what a signature and equations list under a map of the numbers of sorts and one of the numbers of operations.
 use Rattle.std.specs.Prelude.{ℕ, map}
-use Rattle.term_algebra.specs.Signature.{Operation}
-use Rattle.term_algebra.specs.Equation.{Variable, Equation}
-use Rattle.term_algebra.specs.Term.{Term, Terms, variable, node, no_terms, term_then}
+use Rattle.lotos_base.specs.Signature.{Operation}
+use Rattle.lotos_base.specs.Equation.{Variable, Equation}
+use Rattle.lotos_base.specs.Term.{Term, Terms, variable, node, no_terms, term_then}
 
 -- an operation, whose profile is mapped
 abbrev pub operation_image : (ℕ → ℕ) → Operation → Operation

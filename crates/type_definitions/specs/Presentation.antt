@@ -2,11 +2,11 @@
 -- checked where they stand and are no part of it.
 use Rattle.std.specs.Prelude.{ℕ, Bool, ◌&&◌, ◌||◌, not, nat_eq, nat_lt, List, [], ◌∷◌, ◌++◌, length, if◌then◌else◌}
 use Rattle.std.specs.List.{list_any}
-use Rattle.term_algebra.specs.Signature.{Signature, Sort, Operation}
-use Rattle.term_algebra.specs.Equation.{Place, Equation}
-use Rattle.term_algebra.specs.Tests.{term_eq}
+use Rattle.lotos_base.specs.Signature.{Signature, Sort, Operation}
+use Rattle.lotos_base.specs.Equation.{Place, Equation}
+use Rattle.lotos_base.specs.Tests.{term_eq}
 use Rattle.sort_terms.specs.ReadingOutcome.{one_name}
-pub use Rattle.type_mentions.specs.FirstPosition.{first_position}
+pub use Rattle.type_definitions.specs.FirstPosition.{first_position}
 use Rattle.sort_terms.specs.WellFormedTest.{all_differ, are_one_sort, are_one_operation}
 
 -- Sorts and operations have the numbers of their positions. The marks are the numbers of formal sorts and operations.

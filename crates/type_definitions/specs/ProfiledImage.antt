@@ -1,6 +1,6 @@
 -- Images of terms that carry profiles: the maps are lists, and each operation gets the profile of its image.
 use Rattle.std.specs.Prelude.{◌≡◌, ℕ, List, map, slice_index, slice_index_or}
-use Rattle.term_algebra.specs.Signature.{Operation}
+use Rattle.lotos_base.specs.Signature.{Operation}
 use Rattle.sort_terms.specs.ProfiledTerm.{ProfiledTerm, ProfiledTerms, profiled_variable, profiled_node, no_profiled_terms, profiled_term_then}
 
 -- the new number of each old one, by its position; 0 past the end

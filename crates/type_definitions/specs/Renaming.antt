@@ -2,8 +2,8 @@
 -- name and the renaming type as origin. Numbers, equations and marks stay.
 use Rattle.std.specs.Prelude.{ℕ, Bool, not, List, [], ◌∷◌, ◌++◌, map, Option, None, Some, if◌then◌else◌}
 use Rattle.std.specs.List.{list_any}
-use Rattle.term_algebra.specs.Signature.{Signature, Sort, Operation}
-use Rattle.term_algebra.specs.Equation.{Place}
+use Rattle.lotos_base.specs.Signature.{Signature, Sort, Operation}
+use Rattle.lotos_base.specs.Equation.{Place}
 use Rattle.syntax_trees.specs.WrittenItem.{WrittenPair, WrittenPairs}
 use Rattle.sort_terms.specs.ReadingOutcome.{one_name, is_sort_name}
 use Rattle.sort_terms.specs.WellFormedTest.{are_one_sort, are_one_operation}

@@ -1,6 +1,6 @@
 -- What can be wrong with the types of a text once their names are right, each fault with its place and name.
 use Rattle.std.specs.Prelude.{ℕ, List, [], ◌∷◌, Option, None, Some, if◌then◌else◌, Bool}
-use Rattle.term_algebra.specs.Equation.{Place}
+use Rattle.lotos_base.specs.Equation.{Place}
 
 -- A fault, at its place, with the name as it is spelled there. An unknown sort behind `of` in a term comes without a name.
 pub data TypeFault : Type 0 where

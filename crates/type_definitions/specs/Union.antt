@@ -2,8 +2,8 @@
 -- much, is the mention of the type whose presentation comes in.
 use Rattle.std.specs.Prelude.{ℕ, nat_eq, List, map, fold, Option, None, Some, slice_get}
 use Rattle.lotos_base.specs.WrittenTerm.{PlacedName}
-use Rattle.term_algebra.specs.Equation.{Place, Equation}
-use Rattle.term_algebra.specs.Signature.{Sort, Operation}
+use Rattle.lotos_base.specs.Equation.{Place, Equation}
+use Rattle.lotos_base.specs.Signature.{Sort, Operation}
 use Rattle.type_definitions.specs.TypeFault.{TypeFault, double_sort, double_operation, too_large, fault_if, first_fault, fault_along}
 use Rattle.type_definitions.specs.Presentation.{Presentation, nothing, is_same_sort, is_same_operation, is_same_equation, with_new, first_position, has_sort_clash, has_operation_clash, is_too_large}
 use Rattle.type_definitions.specs.Images.{operation_image, equation_image}

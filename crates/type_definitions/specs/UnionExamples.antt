@@ -1,8 +1,8 @@
 -- The union of two small presentations that share a sort, and the clash of one sort with a second one of its name.
 use Rattle.std.specs.Prelude.{◌≡◌, ℕ, List, [], ◌∷◌, None, Some, codes}
-use Rattle.term_algebra.specs.Equation.{Place, Equation}
-use Rattle.term_algebra.specs.Signature.{Sort, Operation, prefix_form}
-use Rattle.term_algebra.specs.Term.{variable, node, no_terms, term_then}
+use Rattle.lotos_base.specs.Equation.{Place, Equation}
+use Rattle.lotos_base.specs.Signature.{Sort, Operation, prefix_form}
+use Rattle.lotos_base.specs.Term.{variable, node, no_terms, term_then}
 use Rattle.type_definitions.specs.TypeFault.{double_sort}
 use Rattle.type_definitions.specs.Presentation.{Presentation}
 use Rattle.type_definitions.specs.Union.{Mentioned, union_of, union_fault}

@@ -2,10 +2,10 @@
 
 ghost use Rattle.std.specs.Prelude.{◌≡◌};
 
+use crate::TypeNameFault;
 use lotos_base::{Name, Place};
 use sort_terms::SortFault;
 use std::alloc::{AllocError, AllocFailed};
-use type_mentions::TypeNameFault;
 
 /// Why the types of a text were refused. Names are as spelled at the place.
 #[derive(Debug, Drop)]

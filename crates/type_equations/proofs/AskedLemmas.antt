@@ -7,7 +7,7 @@ use Rattle.std.proofs.lemmas.Option.{none-some, same_Some}
 use Rattle.std.proofs.Math.Seq.{take-length}
 use Rattle.lotos_base.specs.Name.{spelling}
 use Rattle.lotos_base.specs.WrittenView.{text_place_of}
-use Rattle.term_algebra.specs.Signature.{Sort, IsSort}
+use Rattle.lotos_base.specs.Signature.{Sort, IsSort}
 use Rattle.syntax_trees.specs.TreeViews.{variable_of as written_of, variables_of}
 use Rattle.syntax_trees.specs.declared.named.VarText.{VarText}
 use Rattle.sort_terms.specs.EquationView.{variable_of}
@@ -15,18 +15,18 @@ use Rattle.sort_terms.specs.declared.equations.Variable.{Variable as CodeVariabl
 use Rattle.sort_terms.specs.ReadingOutcome.{one_name, is_sort_name}
 use Rattle.type_definitions.proofs.WalkLemmas.{next_of, so_far}
 use Rattle.syntax_trees.specs.WrittenVariable.{WrittenVariable}
-use Rattle.term_algebra.specs.Equation.{Variable}
+use Rattle.lotos_base.specs.Equation.{Variable}
 use Rattle.type_definitions.specs.TypeFault.{TypeFault, unknown_sort}
 use Rattle.type_definitions.specs.Presentation.{Presentation, first_position}
 use Rattle.type_definitions.specs.Declarations.{sort_numbered}
-use Rattle.type_definitions.specs.DeclaredEquations.{Asked, sort_asked, asked_of_variables, sort_is_there, sort_is_unknown, GiveAll, none_asked, next_gives, HasFirstFault, at_once, further_on, scope_from}
+use Rattle.type_definitions.specs.DeclaredEquations.{EquationQuestion, sort_asked, asked_of_variables, sort_is_there, sort_is_unknown, GiveAll, none_asked, next_gives, HasFirstFault, at_once, further_on, scope_from}
 
-pub give_append : (p q r : Presentation) (xs ys : List Asked) → GiveAll p xs q → GiveAll q ys r → GiveAll p (xs ++ ys) r
+pub give_append : (p q r : Presentation) (xs ys : List EquationQuestion) → GiveAll p xs q → GiveAll q ys r → GiveAll p (xs ++ ys) r
 give_append p q r [] ys (none_asked _) later = later
 give_append p q r (a ∷ xs) ys (next_gives _ s _ _ _ one rest) later =
     next_gives p s r a (xs ++ ys) one (give_append s q r xs ys rest later)
 
-pub fault_later : (type_name : List ℕ) (p q : Presentation) (xs ys : List Asked) (fault : TypeFault) → GiveAll p xs q
+pub fault_later : (type_name : List ℕ) (p q : Presentation) (xs ys : List EquationQuestion) (fault : TypeFault) → GiveAll p xs q
     → HasFirstFault type_name q ys fault → HasFirstFault type_name p (xs ++ ys) fault
 fault_later type_name p q [] ys fault (none_asked _) later = later
 fault_later type_name p q (a ∷ xs) ys fault (next_gives _ s _ _ _ one rest) later =
@@ -45,7 +45,7 @@ scope_append p first (x ∷ xs) ys =
     (scope_append p (suc first) xs ys ∙ ap (λ (n : ℕ). scope_from p (suc first) xs ++ scope_from p n ys) at)
 
 -- the questions of variables, one by one
-abbrev asked_for : WrittenVariable → Asked
+abbrev asked_for : WrittenVariable → EquationQuestion
 asked_for v = sort_asked v.sort_place v.sort
 
 -- one variable more, whose sort is there
@@ -53,7 +53,7 @@ pub given_more : (p : Presentation) (xs : List VarText) (i : ℕ) (x : VarText) 
     → GiveAll p (asked_of_variables (variables_of (take i xs))) p → is_sort_name p.signature (spelling x.sort) ≡ true
     → GiveAll p (asked_of_variables (variables_of (take (i + 1) xs))) p
 given_more p xs i x within is before there =
-    subst (λ (asked : List Asked). GiveAll p asked p) (sym more)
+    subst (λ (asked : List EquationQuestion). GiveAll p asked p) (sym more)
     (give_append p p p (asked_of_variables (variables_of (take i xs))) (asked_for (written_of x) ∷ []) before
     (next_gives p p p (asked_for (written_of x)) [] (sort_is_there (text_place_of x.sort_place) (spelling x.sort) there) (none_asked p)))
   where
@@ -68,7 +68,7 @@ pub faulty_here : (type_name : List ℕ) (p : Presentation) (xs : List VarText) 
     → GiveAll p (asked_of_variables (variables_of (take i xs))) p → is_sort_name p.signature (spelling x.sort) ≡ false
     → HasFirstFault type_name p (asked_of_variables (variables_of xs)) (unknown_sort (text_place_of x.sort_place) (Some (spelling x.sort)))
 faulty_here type_name p xs i x within is before none =
-    subst (λ (asked : List Asked). HasFirstFault type_name p asked (unknown_sort (text_place_of x.sort_place) (Some (spelling x.sort))))
+    subst (λ (asked : List EquationQuestion). HasFirstFault type_name p asked (unknown_sort (text_place_of x.sort_place) (Some (spelling x.sort))))
     (sym whole)
     (fault_later type_name p p (asked_of_variables (variables_of (take i xs)))
     (asked_for (written_of x) ∷ asked_of_variables (variables_of (drop (i + 1) xs)))
@@ -157,5 +157,5 @@ pushed_view old new x grown = ap (λ (vs : List CodeVariable). map variable_of v
 pub give_both : (p : Presentation) (xs ys : List WrittenVariable) → GiveAll p (asked_of_variables xs) p
     → GiveAll p (asked_of_variables ys) p → GiveAll p (asked_of_variables (xs ++ ys)) p
 give_both p xs ys one other =
-    subst (λ (asked : List Asked). GiveAll p asked p) (sym (map-append asked_for xs ys))
+    subst (λ (asked : List EquationQuestion). GiveAll p asked p) (sym (map-append asked_for xs ys))
     (give_append p p p (asked_of_variables xs) (asked_of_variables ys) one other)

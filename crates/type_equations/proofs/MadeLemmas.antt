@@ -1,9 +1,9 @@
 -- Equations of two sides, put together from what was made of them.
 use Rattle.std.proofs.Common.{◌≡◌, ℕ, List, [], ap, sym, ◌∙◌, subst}
 use Rattle.std.specs.Prelude.{nat_eq}
-use Rattle.term_algebra.specs.Signature.{Signature}
-use Rattle.term_algebra.specs.Term.{Term as PlainTerm}
-use Rattle.term_algebra.specs.Equation.{Place, Variable, Equation}
+use Rattle.lotos_base.specs.Signature.{Signature}
+use Rattle.lotos_base.specs.Term.{Term as PlainTerm}
+use Rattle.lotos_base.specs.Equation.{Place, Variable, Equation}
 use Rattle.sort_terms.specs.ProfiledTerm.{ProfiledTerm, bare, IsOf}
 use Rattle.sort_terms.specs.TermView.{term_of}
 use Rattle.sort_terms.specs.declared.terms.Term.{Term}

@@ -3,13 +3,13 @@ use Rattle.std.proofs.Common.{◌≡◌, ℕ, suc, Bool, true, false, List, [], 
 use Rattle.std.specs.Prelude.{Some, slice_get, nat_eq, if◌then◌else◌}
 use Rattle.std.specs.List.{list_any}
 use Rattle.lotos_base.specs.WrittenTerm.{WrittenTerm, WrittenTerms, written, no_written, written_then}
-use Rattle.term_algebra.specs.Signature.{Signature}
-use Rattle.term_algebra.specs.Equation.{Variable}
-use Rattle.term_algebra.specs.Term.{Term, Terms, variable, node, no_terms, term_then}
-use Rattle.term_algebra.specs.Sorting.{HasSort, HaveSorts, Occurs, OccursAmong}
+use Rattle.lotos_base.specs.Signature.{Signature}
+use Rattle.lotos_base.specs.Equation.{Variable}
+use Rattle.lotos_base.specs.Term.{Term, Terms, variable, node, no_terms, term_then}
+use Rattle.lotos_base.specs.Sorting.{HasSort, HaveSorts, Occurs, OccursAmong}
 use Rattle.sort_terms.specs.Reading.{Reads, AllRead}
-use Rattle.type_mentions.specs.TypeGraph.{is_among}
-use Rattle.type_mentions.proofs.NumberLists.{or_left, among_left, among_right, among_cases, among_one, one_among, among_none}
+use Rattle.type_definitions.specs.TypeGraph.{is_among}
+use Rattle.type_definitions.proofs.NumberLists.{or_left, among_left, among_right, among_cases, among_one, one_among, among_none}
 use Rattle.type_definitions.specs.Presentation.{with_new, first_position}
 use Rattle.type_definitions.specs.DeclaredEquations.{variable_numbers, variable_numbers_among, renumbered, renumbered_among}
 use Rattle.type_equations.specs.SideLaws.{AreNumberedByPosition}

@@ -4,15 +4,15 @@ use Rattle.std.specs.Prelude.{Option, Some, slice_get, nat_eq}
 use Rattle.std.proofs.lemmas.Bool.{eq-eqb}
 use Rattle.std.proofs.lemmas.Option.{none-some, same_Some}
 use Rattle.lotos_base.specs.WrittenTerm.{WrittenTerm}
-use Rattle.term_algebra.specs.Signature.{Signature, IsSort}
-use Rattle.term_algebra.specs.Equation.{Place, Variable, IsDeclared}
-use Rattle.term_algebra.specs.Term.{Term}
-use Rattle.term_algebra.specs.Sorting.{Occurs}
+use Rattle.lotos_base.specs.Signature.{Signature, IsSort}
+use Rattle.lotos_base.specs.Equation.{Place, Variable, IsDeclared}
+use Rattle.lotos_base.specs.Term.{Term}
+use Rattle.lotos_base.specs.Sorting.{Occurs}
 use Rattle.syntax_trees.specs.WrittenVariable.{WrittenVariable}
 use Rattle.sort_terms.specs.Reading.{Reads}
 use Rattle.sort_terms.proofs.ReadsLemmas.{reads_sorted}
-use Rattle.type_mentions.specs.TypeGraph.{is_among}
-use Rattle.type_mentions.proofs.NumberLists.{among_left, among_right, among_cases, among_none, or_left, or_right}
+use Rattle.type_definitions.specs.TypeGraph.{is_among}
+use Rattle.type_definitions.proofs.NumberLists.{among_left, among_right, among_cases, among_none, or_left, or_right}
 use Rattle.type_definitions.specs.Presentation.{Presentation}
 use Rattle.type_definitions.specs.DeclaredEquations.{variable_numbers, appearing, renumbered, declared_as, declared_from, scope_from, equation_of_sides}
 use Rattle.type_equations.specs.SideLaws.{AreNumberedByPosition, ScopesAreNumbered, SidesMakeAnEquation}

@@ -5,9 +5,9 @@ use Rattle.std.specs.Option.{option_map}
 use Rattle.lotos_base.specs.WrittenView.{text_place_of}
 use Rattle.lotos_base.specs.declared.places.Place.{Place as CodePlace}
 use Rattle.lotos_base.specs.WrittenTerm.{WrittenTerm, written_head}
-use Rattle.term_algebra.specs.Signature.{Signature}
-use Rattle.term_algebra.specs.Equation.{Place, Variable, Equation, IsEquationOver}
-use Rattle.term_algebra.specs.Term.{Term}
+use Rattle.lotos_base.specs.Signature.{Signature}
+use Rattle.lotos_base.specs.Equation.{Place, Variable, Equation, IsEquationOver}
+use Rattle.lotos_base.specs.Term.{Term}
 use Rattle.syntax_trees.specs.TreeViews.{equation_of, variables_of}
 use Rattle.syntax_trees.specs.WrittenEquation.{WrittenEquation}
 use Rattle.syntax_trees.specs.declared.equations.EqText.{EqText}
@@ -16,7 +16,7 @@ use Rattle.syntax_trees.specs.declared.named.VarText.{VarText}
 use Rattle.syntax_trees.specs.WrittenVariable.{WrittenVariable}
 use Rattle.sort_terms.specs.EquationView.{variable_of}
 use Rattle.sort_terms.specs.Reading.{Reads, IsScopeOver}
-use Rattle.sort_terms.specs.ReadingOutcome.{Refusal, answered, ComesTo, IsReading, unknown_in, is_sort_name}
+use Rattle.sort_terms.specs.ReadingOutcome.{ReadingRefusal, answered, ComesTo, IsReading, unknown_in, is_sort_name}
 use Rattle.sort_terms.specs.ScopeView.{variables_in}
 use Rattle.sort_terms.specs.SortedView.{term_in}
 use Rattle.sort_terms.specs.declared.equations.Variable.{Variable as CodeVariable}
@@ -24,7 +24,7 @@ use Rattle.sort_terms.specs.declared.sorted.Sorted.{Sorted}
 use Rattle.type_definitions.specs.Presentation.{Presentation, is_too_large}
 use Rattle.type_definitions.specs.TypeFault.{premised, too_large}
 use Rattle.type_definitions.specs.Declarations.{sort_numbered}
-use Rattle.type_definitions.specs.DeclaredEquations.{AskedEquation, sort_asked, GiveAll, none_asked, next_gives, sort_is_there, asked_of_variables, scope_from, scope_of, IsSide, equation_of_sides, with_equation, with_sides, Gives, HasFault, own_asked, own_is_read, own_has_premisses, one_too_many}
+use Rattle.type_definitions.specs.DeclaredEquations.{AskedEquation, sort_asked, GiveAll, none_asked, next_gives, sort_is_there, asked_of_variables, scope_from, scope_of, IsSide, equation_of_sides, with_equation, with_sides, GivesPresentation, QuestionHasFault, own_asked, own_is_read, own_has_premisses, one_too_many}
 use Rattle.type_equations.proofs.OverLemmas.{sides_over, scopes_numbered}
 use Rattle.type_equations.specs.ScopeFor.{IsScopeFor}
 use Rattle.type_equations.specs.declared.equation_scope.EquationScope.{EquationScope}
@@ -84,7 +84,7 @@ side_reads p asked side t is =
     at : ℕ
     at = sort_numbered p asked.sort
 
-    go : (refusals : List Refusal)
+    go : (refusals : List ReadingRefusal)
         → ComesTo refusals (written_head side).place (IsReading p.signature (scope_of p asked) side (Some at)) (answered is.0)
         → Reads p.signature (scope_of p asked) side t at
     go [] only =
@@ -157,7 +157,7 @@ made_in place variables given left right e are made =
 -- ---- An equation of the type's own.
 
 pub premised_here : (p : Presentation) (type_name : List ℕ) (asked : AskedEquation) (e : EqText) (arrow : CodePlace)
-    → asked.equation ≡ equation_of e → e.arrow ≡ Some arrow → HasFault p type_name (own_asked asked) (premised (text_place_of arrow))
+    → asked.equation ≡ equation_of e → e.arrow ≡ Some arrow → QuestionHasFault p type_name (own_asked asked) (premised (text_place_of arrow))
 premised_here p type_name asked e arrow is there =
     own_has_premisses asked (text_place_of arrow)
     (ap (λ (d : WrittenEquation). d.arrow) is ∙ ap (λ (o : Option CodePlace). option_map text_place_of o) there)
@@ -172,17 +172,17 @@ place_is asked e is = ap (λ (d : WrittenEquation). d.place) is
 
 pub own_given : (p q : Presentation) (asked : AskedEquation) (left right : Term) → asked.equation.arrow ≡ None
     → IsSide p asked asked.equation.left left → IsSide p asked asked.equation.right right → q ≡ with_sides p asked left right
-    → is_too_large q ≡ false → Gives p (own_asked asked) q
+    → is_too_large q ≡ false → GivesPresentation p (own_asked asked) q
 own_given p q asked left right none one other is fits =
-    subst (λ (x : Presentation). Gives p (own_asked asked) x) (sym is)
+    subst (λ (x : Presentation). GivesPresentation p (own_asked asked) x) (sym is)
     (own_is_read asked left right none one other (ap (λ (x : Presentation). is_too_large x) (sym is) ∙ fits))
 
 pub own_too_many : (p q : Presentation) (type_name : List ℕ) (asked : AskedEquation) (left right : Term) (place : Place) (name : List ℕ)
     → asked.equation.arrow ≡ None
     → IsSide p asked asked.equation.left left → IsSide p asked asked.equation.right right → q ≡ with_sides p asked left right
     → is_too_large q ≡ true → asked.equation.place ≡ place → name ≡ type_name
-    → HasFault p type_name (own_asked asked) (too_large place name)
+    → QuestionHasFault p type_name (own_asked asked) (too_large place name)
 own_too_many p q type_name asked left right place name none one other is many at named =
-    subst (λ (n : List ℕ). HasFault p type_name (own_asked asked) (too_large place n)) (sym named)
-    (subst (λ (pl : Place). HasFault p type_name (own_asked asked) (too_large pl type_name)) at
+    subst (λ (n : List ℕ). QuestionHasFault p type_name (own_asked asked) (too_large place n)) (sym named)
+    (subst (λ (pl : Place). QuestionHasFault p type_name (own_asked asked) (too_large pl type_name)) at
     (one_too_many asked left right none one other (ap (λ (x : Presentation). is_too_large x) (sym is) ∙ many)))

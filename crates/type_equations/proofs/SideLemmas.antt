@@ -2,22 +2,22 @@
 use Rattle.std.proofs.Common.{◌≡◌, ℕ, List, [], ◌∷◌, inl, inr, refl, ap, sym, subst}
 use Rattle.std.specs.Prelude.{Option, Some}
 use Rattle.lotos_base.specs.WrittenTerm.{WrittenTerm, written_head}
-use Rattle.term_algebra.specs.Signature.{Signature}
-use Rattle.term_algebra.specs.Equation.{Variable}
-use Rattle.sort_terms.specs.ReadingOutcome.{Refusal, SortedTerm, SortedPair, Outcome, answered, refused, ReadingIs, PairReadingIs, ComesTo, IsReading, unknown_in}
+use Rattle.lotos_base.specs.Signature.{Signature}
+use Rattle.lotos_base.specs.Equation.{Variable}
+use Rattle.sort_terms.specs.ReadingOutcome.{ReadingRefusal, SortedTerm, SortedPair, ReadingOutcome, answered, refused, ReadingIs, PairReadingIs, ComesTo, IsReading, unknown_in}
 use Rattle.type_definitions.specs.TypeFault.{TypeFault}
 use Rattle.type_definitions.specs.Presentation.{Presentation}
 use Rattle.type_definitions.specs.Declarations.{sort_numbered}
 use Rattle.type_definitions.specs.DeclaredEquations.{AskedEquation, scope_of, fault_of, IsSide, IsSideFault, IsFaultOfSides}
 use Rattle.syntax_trees.specs.WrittenEquation.{WrittenEquation}
-use Rattle.term_algebra.specs.Term.{Term}
+use Rattle.lotos_base.specs.Term.{Term}
 use Rattle.sort_terms.specs.RefusalView.{UnlessNoMemory}
 use Rattle.sort_terms.specs.declared.sort_faults.SortFault.{SortFault}
 use Rattle.sort_terms.specs.declared.sort_faults.SortFault.TheVariants as faults
 
 -- the same reading over the signature and scope of the presentation
 pub read_over : (p : Presentation) (asked : AskedEquation) (signature : Signature) (variables : List Variable) (one other : Option ℕ)
-    (side : WrittenTerm) (outcome : Outcome SortedTerm) → p.signature ≡ signature → variables ≡ scope_of p asked → one ≡ other
+    (side : WrittenTerm) (outcome : ReadingOutcome SortedTerm) → p.signature ≡ signature → variables ≡ scope_of p asked → one ≡ other
     → ReadingIs signature variables side one outcome → ReadingIs p.signature (scope_of p asked) side other outcome
 read_over p asked signature variables one other side outcome over scope sort read =
     subst (λ (s : Signature). ReadingIs s (scope_of p asked) side other outcome) (sym over)
@@ -25,7 +25,7 @@ read_over p asked signature variables one other side outcome over scope sort rea
     (subst (λ (o : Option ℕ). ReadingIs signature variables side o outcome) sort read))
 
 pub pair_read_over : (p : Presentation) (asked : AskedEquation) (signature : Signature) (variables : List Variable)
-    (left right : WrittenTerm) (outcome : Outcome SortedPair) → p.signature ≡ signature → variables ≡ scope_of p asked
+    (left right : WrittenTerm) (outcome : ReadingOutcome SortedPair) → p.signature ≡ signature → variables ≡ scope_of p asked
     → PairReadingIs signature variables left right outcome → PairReadingIs p.signature (scope_of p asked) left right outcome
 pair_read_over p asked signature variables left right outcome over scope read =
     subst (λ (s : Signature). PairReadingIs s (scope_of p asked) left right outcome) (sym over)
@@ -36,7 +36,7 @@ pub of_expected_sort : (signature : Signature) (variables : List Variable) (side
     → ReadingIs signature variables side (Some sort) (answered reading) → reading.sort ≡ sort
 of_expected_sort signature variables side sort reading read = go (unknown_in signature variables side) read
   where
-    go : (refusals : List Refusal)
+    go : (refusals : List ReadingRefusal)
         → ComesTo refusals (written_head side).place (IsReading signature variables side (Some sort)) (answered reading)
         → reading.sort ≡ sort
     go [] only = only.is_answer.1
@@ -55,7 +55,7 @@ side_read p asked signature variables sort side reading over scope at read = (
 )
 
 pub side_refused : (p : Presentation) (asked : AskedEquation) (signature : Signature) (variables : List Variable) (sort : ℕ)
-    (side : WrittenTerm) (refusal : Refusal) → p.signature ≡ signature → variables ≡ scope_of p asked → sort ≡ sort_numbered p asked.sort
+    (side : WrittenTerm) (refusal : ReadingRefusal) → p.signature ≡ signature → variables ≡ scope_of p asked → sort ≡ sort_numbered p asked.sort
     → ReadingIs signature variables side (Some sort) (refused refusal) → IsSideFault p asked side (fault_of refusal)
 side_refused p asked signature variables sort side refusal over scope at read = (
   refusal,
@@ -77,7 +77,7 @@ right_fault p asked e left fault is one h =
       subst (λ (d : WrittenEquation). IsSideFault p asked d.right fault) (sym is) h,
     )
 
-pub unless_weaker : (P Q : Refusal → Type 0) (fault : SortFault) → ((r : Refusal) → P r → Q r) → UnlessNoMemory fault P
+pub unless_weaker : (P Q : ReadingRefusal → Type 0) (fault : SortFault) → ((r : ReadingRefusal) → P r → Q r) → UnlessNoMemory fault P
     → UnlessNoMemory fault Q
 unless_weaker P Q (faults.UnknownName place) weaker h = weaker _ h
 unless_weaker P Q (faults.UnknownSort place) weaker h = weaker _ h

@@ -3,7 +3,7 @@ use Rattle.std.proofs.Common.{◌≡◌, ℕ, ◌<◌, ◌≤◌, List, length, 
 use Rattle.std.specs.Prelude.{◌^◌}
 use Rattle.std.proofs.lemmas.Bool.{ltb-true}
 use Rattle.std.proofs.lemmas.List.{length-map}
-use Rattle.term_algebra.specs.Signature.{Signature, Sort, Operation}
+use Rattle.lotos_base.specs.Signature.{Signature, Sort, Operation}
 use Rattle.sort_terms.specs.Operations.{operation_of, signature_listing, sort_of}
 use Rattle.sort_terms.specs.declared.operations.Op.{Op as CodeOp}
 use Rattle.sort_terms.specs.declared.operations.Sort.{Sort as CodeSort}

@@ -2,9 +2,9 @@
 use Rattle.std.proofs.Common.{◌≡◌, ℕ, Bool, true, false, List, [], ◌∷◌, refl, ap, sym, ◌∙◌}
 use Rattle.std.specs.Prelude.{Some, slice_get, ◌&&◌, nat_eq, length, codes}
 use Rattle.std.specs.List.{list_any}
-use Rattle.term_algebra.specs.Names.{folded}
-use Rattle.term_algebra.specs.Signature.{Signature, Sort, Operation, prefix_form}
-use Rattle.term_algebra.specs.Twins.{form_eq}
+use Rattle.lotos_base.specs.Names.{folded}
+use Rattle.lotos_base.specs.Signature.{Signature, Sort, Operation, prefix_form}
+use Rattle.lotos_base.specs.Twins.{form_eq}
 use Rattle.type_definitions.specs.DeclaredEquations.{bool_sort, has_truth}
 use Rattle.sort_terms.specs.Reading.{IsSortNamed}
 use Rattle.sort_terms.specs.ReadingOutcome.{one_name, is_sort_name}

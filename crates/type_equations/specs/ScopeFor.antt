@@ -7,7 +7,7 @@ use Rattle.sort_terms.specs.Reading.{IsScopeOver}
 use Rattle.sort_terms.specs.ScopeView.{variables_in}
 use Rattle.type_definitions.specs.Presentation.{Presentation}
 use Rattle.type_definitions.specs.Declarations.{sort_numbered}
-use Rattle.type_definitions.specs.DeclaredEquations.{Asked, sort_asked, asked_of_variables, scope_from}
+use Rattle.type_definitions.specs.DeclaredEquations.{EquationQuestion, sort_asked, asked_of_variables, scope_from}
 use Rattle.type_equations.specs.declared.equation_scope.EquationScope.{EquationScope}
 
 -- It has these variables, and the sides have the sort of this name.
@@ -18,5 +18,5 @@ pub record IsScopeFor (p : Presentation) (variables : List WrittenVariable) (sor
   pub sort_is : scope.sort ≡ sort_numbered p sort
 
 -- the sorts that are asked for a group: that of its sides, then those of its variables
-abbrev pub sorts_asked : WrittenGroup → List Asked
+abbrev pub sorts_asked : WrittenGroup → List EquationQuestion
 sorts_asked group = sort_asked group.place group.sort ∷ asked_of_variables group.variables

@@ -1,6 +1,6 @@
 -- The variables of a section and the equations of its groups, as they are asked and as the code keeps them.
 use Rattle.std.specs.Prelude.{◌≡◌, ◌++◌, Bool, List, map}
-use Rattle.term_algebra.specs.Signature.{Signature}
+use Rattle.lotos_base.specs.Signature.{Signature}
 use Rattle.syntax_trees.specs.WrittenEquation.{WrittenEquation, WrittenGroup}
 use Rattle.syntax_trees.specs.WrittenVariable.{WrittenVariable}
 use Rattle.sort_terms.specs.EquationView.{variable_of}
@@ -9,7 +9,7 @@ use Rattle.sort_terms.specs.SortedView.{profiled_in, term_in}
 use Rattle.sort_terms.specs.declared.equations.Variable.{Variable}
 use Rattle.sort_terms.specs.declared.sorted.Sorted.{Sorted}
 use Rattle.type_definitions.specs.Presentation.{Presentation}
-use Rattle.type_definitions.specs.DeclaredEquations.{Asked, AskedEquation, GiveAll, IsSide, asked_of_variables, equation_asked, scope_from}
+use Rattle.type_definitions.specs.DeclaredEquations.{EquationQuestion, AskedEquation, GiveAll, IsSide, asked_of_variables, equation_asked, scope_from}
 
 -- The signature is that of the presentation, and these are the variables of the section over it.
 pub record IsSectionFor (p : Presentation) (written : List WrittenVariable) (signature : Signature) (section : List Variable) : Type 0 where
@@ -22,7 +22,7 @@ abbrev pub asked_in : List WrittenVariable → WrittenGroup → WrittenEquation 
 asked_in written group e = record { variables = written ++ group.variables; sort = group.sort; equation = e }
 
 -- the same as a question
-abbrev pub question_in : Bool → List WrittenVariable → WrittenGroup → WrittenEquation → Asked
+abbrev pub question_in : Bool → List WrittenVariable → WrittenGroup → WrittenEquation → EquationQuestion
 question_in is_formal written group e = equation_asked is_formal (asked_in written group e)
 
 -- These are the readings of the sides of an equation, and terms of the signature.

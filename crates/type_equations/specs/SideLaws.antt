@@ -1,9 +1,9 @@
 -- Laws of the equation of two sides that were read in a scope.
 use Rattle.std.specs.Prelude.{◌≡◌, ℕ, List, Some, slice_get}
 use Rattle.lotos_base.specs.WrittenTerm.{WrittenTerm}
-use Rattle.term_algebra.specs.Signature.{Signature}
-use Rattle.term_algebra.specs.Equation.{Place, Variable, IsEquationOver}
-use Rattle.term_algebra.specs.Term.{Term}
+use Rattle.lotos_base.specs.Signature.{Signature}
+use Rattle.lotos_base.specs.Equation.{Place, Variable, IsEquationOver}
+use Rattle.lotos_base.specs.Term.{Term}
 use Rattle.syntax_trees.specs.WrittenVariable.{WrittenVariable}
 use Rattle.sort_terms.specs.Reading.{IsScopeOver, Reads}
 use Rattle.type_definitions.specs.Presentation.{Presentation}

@@ -8,7 +8,7 @@ ghost use Rattle.syntax_trees.specs.TreeViews.{group_of, variables_of};
 ghost use Rattle.syntax_trees.specs.WrittenVariable.{WrittenVariable};
 ghost use Rattle.type_definitions.specs.FaultView.{HoldsOfFault};
 ghost use Rattle.type_definitions.specs.DeclaredEquations.{
-  Asked,
+  EquationQuestion,
   GiveAll,
   HasFirstFault,
   asked_of_variables,

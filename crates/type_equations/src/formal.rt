@@ -11,8 +11,8 @@ ghost use Rattle.type_definitions.specs.FaultView.{HoldsOfFault};
 ghost use Rattle.type_definitions.specs.DeclaredEquations.{
   AskedEquation,
   GiveAll,
-  Gives,
-  HasFault,
+  GivesPresentation,
+  QuestionHasFault,
   HasFirstFault,
   asked_of_group,
   asked_of_section,
@@ -87,9 +87,9 @@ fn check_equation(
     ensures { (p : PlainPresentation) (asked : AskedEquation)
         → p.signature ≡ signature_read reader.now → IsScopeFor p asked.variables asked.sort scope.now
         → IsTruth p truth → asked.equation ≡ equation_of equation.now → MatchResult result
-        (λ _. Gives p (formal_asked asked) p)
+        (λ _. GivesPresentation p (formal_asked asked) p)
         (λ fault. HoldsOfFault fault (λ f. (type_name : List ℕ)
-        → HasFault p type_name (formal_asked asked) f)) }
+        → QuestionHasFault p type_name (formal_asked asked) f)) }
 {
     read_sides(reader, scope, equation)?;
     check_premisses(reader, scope, truth, equation.premisses.as_slice())?;

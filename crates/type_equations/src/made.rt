@@ -5,7 +5,7 @@ ghost use Rattle.sort_terms.specs.EquationView.{equation_of, variable_of};
 ghost use Rattle.sort_terms.specs.ProfiledTerm.{IsOf};
 ghost use Rattle.sort_terms.specs.SortedView.{profiled_in, term_in};
 ghost use Rattle.std.specs.Prelude.{◌≡◌, IfOk, map};
-ghost use Rattle.term_algebra.specs.Signature.{Signature};
+ghost use Rattle.lotos_base.specs.Signature.{Signature};
 ghost use Rattle.type_definitions.specs.DeclaredEquations.{equation_of_sides};
 
 use crate::collecting::collect;

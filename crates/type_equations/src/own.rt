@@ -11,8 +11,8 @@ ghost use Rattle.type_definitions.specs.FaultView.{HoldsOfFault};
 ghost use Rattle.type_definitions.specs.DeclaredEquations.{
   AskedEquation,
   GiveAll,
-  Gives,
-  HasFault,
+  GivesPresentation,
+  QuestionHasFault,
   HasFirstFault,
   asked_of_group,
   asked_of_section,
@@ -117,9 +117,9 @@ fn add_equation(
     ensures given { (asked : AskedEquation)
         → IsScopeFor (presentation_of presentation.old) asked.variables asked.sort scope.now
         → asked.equation ≡ equation_of equation.now → MatchResult result
-        (λ _. Gives (presentation_of presentation.old) (own_asked asked)
+        (λ _. GivesPresentation (presentation_of presentation.old) (own_asked asked)
         (presentation_of presentation.new))
-        (λ fault. HoldsOfFault fault (HasFault (presentation_of presentation.old)
+        (λ fault. HoldsOfFault fault (QuestionHasFault (presentation_of presentation.old)
         (spelling type_name.now) (own_asked asked))) }
     ensures sound { OnOk result (IsSound presentation.new) }
     ensures within { OnOk result (IsWithinLimits presentation.new) }

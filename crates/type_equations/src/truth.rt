@@ -7,8 +7,8 @@ ghost use Rattle.sort_terms.specs.ReaderView.{signature_read};
 ghost use Rattle.sort_terms.specs.ReadingOutcome.{one_name};
 ghost use Rattle.std.specs.List.{list_any};
 ghost use Rattle.std.specs.Prelude.{◌≡◌, ◌&&◌, IfOk, length, map, nat_eq};
-ghost use Rattle.term_algebra.specs.Signature.{Operation, prefix_form};
-ghost use Rattle.term_algebra.specs.Twins.{form_eq};
+ghost use Rattle.lotos_base.specs.Signature.{Operation, prefix_form};
+ghost use Rattle.lotos_base.specs.Twins.{form_eq};
 ghost use Rattle.type_definitions.specs.Presentation.{Presentation as PlainPresentation};
 
 use lotos_base::{Form, Name, NoMemory};

@@ -1,11 +1,11 @@
 -- Types that get their presentations one after another, and the faults of all of them.
 use Rattle.std.proofs.Common.{◌≡◌, ℕ, List, [], ◌∷◌, ◌++◌, inl, inr, ap, sym, ◌∙◌, subst}
 use Rattle.std.specs.Prelude.{Some}
-use Rattle.type_mentions.specs.DeclaredTypes.{DeclaredType}
-use Rattle.type_mentions.specs.MentionFaults.{AreInOrder}
-use Rattle.type_mentions.specs.NameFaultView.{IsNameFault}
-use Rattle.type_mentions.specs.declared.name_faults.TypeNameFault.{TypeNameFault}
-use Rattle.type_mentions.specs.declared.name_faults.TypeNameFault.TheVariants as names
+use Rattle.type_definitions.specs.DeclaredTypes.{DeclaredType}
+use Rattle.type_definitions.specs.MentionFaults.{AreInOrder}
+use Rattle.type_definitions.specs.NameFaultView.{IsNameFault}
+use Rattle.type_definitions.specs.declared.name_faults.TypeNameFault.{TypeNameFault}
+use Rattle.type_definitions.specs.declared.name_faults.TypeNameFault.TheVariants as names
 use Rattle.type_definitions.specs.TypeFault.{TypeFault as PlainTypeFault}
 use Rattle.type_definitions.specs.Presentation.{Presentation}
 use Rattle.type_definitions.specs.Union.{Mentioned, union_of, union_fault}
@@ -20,7 +20,7 @@ use Rattle.type_unions.specs.UnionMade.{IsUnited, IsUnionFault}
 use Rattle.type_unions.specs.PresentedView.{presented_in}
 use Rattle.type_unions.specs.declared.presented.PresentedTypes.{PresentedTypes}
 use Rattle.sort_terms.specs.declared.equations.Flat.{Flat}
-use Rattle.type_flatten.specs.FlatView.{AreNamesFine, IsFlat, IsRefused, IsFirstFault, IsPresentedNext, AreRefusedBehind, AreDataOf, AreUnited, AreNotUnited, AreDataOfTypes, IsFaultOfTypes, AreTypesRefused}
+use Rattle.type_flatten.specs.FlatView.{AreNamesFine, IsFlat, IsRefused, IsFirstTypeFault, IsPresentedNext, AreRefusedBehind, AreDataOf, AreUnited, AreNotUnited, AreDataOfTypes, IsFaultOfTypes, AreTypesRefused}
 
 -- ---- One after another.
 
@@ -62,7 +62,7 @@ presented_next start done t due rest all after way is next =
     one_more_type start done (presented_in after) t due rest all next.presentation way is next.presented next.grown
 
 pub refused_next : (start done : List Mentioned) (t : DeclaredType) (due rest all : List DeclaredType) (fault : TypeFault)
-    → IsOnTheWay start done due all → due ≡ t ∷ rest → IsFirstFault done t.name t.body fault → AreRefusedBehind start all fault
+    → IsOnTheWay start done due all → due ≡ t ∷ rest → IsFirstTypeFault done t.name t.body fault → AreRefusedBehind start all fault
 refused_next start done t due rest all fault way is refused = record {
   found = holds_weaker (λ (f : PlainTypeFault). IsFaultOfType done t.name t.body f)
       (λ (f : PlainTypeFault). HasFaultyType start all f) fault

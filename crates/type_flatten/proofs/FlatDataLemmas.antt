@@ -1,7 +1,7 @@
 -- The data of a presentation in code.
 use Rattle.std.proofs.Common.{◌≡◌, List, map, ap, sym, ◌∙◌, subst}
-use Rattle.term_algebra.specs.Signature.{Signature}
-use Rattle.term_algebra.specs.Equation.{Data, IsWellFormedData}
+use Rattle.lotos_base.specs.Signature.{Signature}
+use Rattle.lotos_base.specs.Equation.{Data, IsWellFormedData}
 use Rattle.sort_terms.specs.EquationView.{equation_of, data_of as data_in}
 use Rattle.sort_terms.specs.SignatureView.{signature_of}
 use Rattle.sort_terms.specs.declared.equations.Equation.{Equation as CodeEquation}

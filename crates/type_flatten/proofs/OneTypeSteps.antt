@@ -13,7 +13,7 @@ use Rattle.type_definitions.specs.ActualisationFaults.{actualising_fault}
 use Rattle.type_definitions.specs.Declarations.{declaration_fault}
 use Rattle.type_definitions.specs.Renaming.{renaming_fault}
 use Rattle.type_definitions.specs.Flattened.{presentation_named, mentions_with, IsPresentation, IsFaultOfType}
-use Rattle.type_mentions.specs.TypeView.{no_sections}
+use Rattle.type_definitions.specs.TypeView.{no_sections}
 use Rattle.type_definitions.proofs.HoldsLemmas.{holds_weaker}
 use Rattle.type_definitions.specs.FaultView.{HoldsOfFault, IsFaultFound}
 use Rattle.type_definitions.specs.declared.type_faults.TypeFault.{TypeFault as CodeFault}
@@ -24,7 +24,7 @@ use Rattle.type_unions.specs.UnionMade.{IsUnited, IsUnionFault}
 use Rattle.type_declarations.specs.DeclarationMade.{IsDeclarationMade, IsDeclarationFault}
 use Rattle.type_renaming.specs.Renamed.{IsRenamed, IsRenamingFault}
 use Rattle.type_actualisation.specs.Actualised.{IsActualised}
-use Rattle.type_flatten.specs.FlatView.{IsPresented, IsFirstFault}
+use Rattle.type_flatten.specs.FlatView.{IsPresented, IsFirstTypeFault}
 use Rattle.type_flatten.proofs.OneTypeLemmas.{AreImported, AreDeclared, IsFormalBase, put_together, extension_made, imports_faulty, declarations_faulty, equations_faulty, renaming_made, renaming_faulty, base_not_formal, actuals_faulty, actualisation_made, actualisation_faulty}
 
 -- ---- Extension.
@@ -38,7 +38,7 @@ declared_by : (name : List ℕ) (union : Presentation) (sections : WrittenSectio
 declared_by name union sections p made = record { fine = made.none; made = made.made }
 
 -- want of memory is no fault of the type
-pub wanting : (done : List Mentioned) (name : List ℕ) (body : WrittenTypeBody) → IsFirstFault done name body NoMemory
+pub wanting : (done : List Mentioned) (name : List ℕ) (body : WrittenTypeBody) → IsFirstTypeFault done name body NoMemory
 wanting done name body = record { found = tt }
 
 -- a mention of libraries has nothing
@@ -53,7 +53,7 @@ library_presented done name body p is none sound within = record {
 
 pub nothing_mentioned : (done : List Mentioned) (name : List ℕ) (imports : List PlacedName) (sections : WrittenSections)
     (ms : List Mentioned) (fault : CodeFault) → ms ≡ mentions_with done imports → IsUnionFault ms fault
-    → IsFirstFault done name (extends imports sections) fault
+    → IsFirstTypeFault done name (extends imports sections) fault
 nothing_mentioned done name imports sections ms fault these refused = record {
   found = holds_weaker (λ (f : TypeFault). union_fault ms ≡ Some f)
       (λ (f : TypeFault). IsFaultOfType done name (extends imports sections) f) fault
@@ -62,7 +62,7 @@ nothing_mentioned done name imports sections ms fault these refused = record {
 
 pub not_declared : (done : List Mentioned) (name : List ℕ) (imports : List PlacedName) (sections : WrittenSections)
     (ms : List Mentioned) (union : CodePresentation) (fault : CodeFault) → ms ≡ mentions_with done imports → IsUnited ms union
-    → IsDeclarationFault name (presentation_of union) sections fault → IsFirstFault done name (extends imports sections) fault
+    → IsDeclarationFault name (presentation_of union) sections fault → IsFirstTypeFault done name (extends imports sections) fault
 not_declared done name imports sections ms union fault these united refused = record {
   found = holds_weaker (λ (f : TypeFault). declaration_fault name (presentation_of union) sections ≡ Some f)
       (λ (f : TypeFault). IsFaultOfType done name (extends imports sections) f) fault
@@ -76,7 +76,7 @@ pub no_equations : (done : List Mentioned) (name : List ℕ) (imports : List Pla
     (ms : List Mentioned) (union declared : CodePresentation) (fault : CodeFault) → ms ≡ mentions_with done imports
     → IsUnited ms union → IsDeclarationMade name (presentation_of union) sections declared
     → HoldsOfFault fault (HasFirstFault name (presentation_of declared) (asked_of sections))
-    → IsFirstFault done name (extends imports sections) fault
+    → IsFirstTypeFault done name (extends imports sections) fault
 no_equations done name imports sections ms union declared fault these united made holds = record {
   found = holds_weaker (HasFirstFault name (presentation_of declared) (asked_of sections))
       (λ (f : TypeFault). IsFaultOfType done name (extends imports sections) f) fault
@@ -118,7 +118,7 @@ renamed_by done name at pairs base p is renamed = record {
 
 pub not_renamed : (done : List Mentioned) (name : List ℕ) (at : PlacedName) (pairs : WrittenPairs) (base : Presentation)
     (fault : CodeFault) → base ≡ presentation_named done at.name → IsRenamingFault base name pairs fault
-    → IsFirstFault done name (renames at pairs) fault
+    → IsFirstTypeFault done name (renames at pairs) fault
 not_renamed done name at pairs base fault is refused = record {
   found = holds_weaker (λ (f : TypeFault). renaming_fault base name pairs ≡ Some f)
       (λ (f : TypeFault). IsFaultOfType done name (renames at pairs) f) fault
@@ -134,7 +134,7 @@ formal_base done at base is formal = record { is = is; formal = formal }
 pub nothing_to_actualise : (done : List Mentioned) (name : List ℕ) (at : PlacedName) (names : List PlacedName)
     (pairs : WrittenPairs) (base : Presentation) (fault : CodeFault) → base ≡ presentation_named done at.name
     → is_formal base ≡ false → HoldsOfFault fault (λ (f : TypeFault). f ≡ not_formal at.place at.name)
-    → IsFirstFault done name (actualises at names pairs) fault
+    → IsFirstTypeFault done name (actualises at names pairs) fault
 nothing_to_actualise done name at names pairs base fault is plain holds = record {
   found = holds_weaker (λ (f : TypeFault). f ≡ not_formal at.place at.name)
       (λ (f : TypeFault). IsFaultOfType done name (actualises at names pairs) f) fault
@@ -144,7 +144,7 @@ nothing_to_actualise done name at names pairs base fault is plain holds = record
 pub no_actuals : (done : List Mentioned) (name : List ℕ) (at : PlacedName) (names : List PlacedName) (pairs : WrittenPairs)
     (base : Presentation) (ms : List Mentioned) (fault : CodeFault) → base ≡ presentation_named done at.name
     → is_formal base ≡ true → ms ≡ mentions_with done names → IsUnionFault ms fault
-    → IsFirstFault done name (actualises at names pairs) fault
+    → IsFirstTypeFault done name (actualises at names pairs) fault
 no_actuals done name at names pairs base ms fault is formal these refused = record {
   found = holds_weaker (λ (f : TypeFault). union_fault ms ≡ Some f)
       (λ (f : TypeFault). IsFaultOfType done name (actualises at names pairs) f) fault
@@ -169,7 +169,7 @@ pub not_actualised : (done : List Mentioned) (name : List ℕ) (at : PlacedName)
     (base : Presentation) (ms : List Mentioned) (actual : CodePresentation) (fault : CodeFault)
     → base ≡ presentation_named done at.name → is_formal base ≡ true → ms ≡ mentions_with done names → IsUnited ms actual
     → IsFaultFound (actualising_fault (put_together at base (presentation_of actual) name pairs)) fault
-    → IsFirstFault done name (actualises at names pairs) fault
+    → IsFirstTypeFault done name (actualises at names pairs) fault
 not_actualised done name at names pairs base ms actual fault is formal these united refused = record {
   found = holds_weaker (λ (f : TypeFault). actualising_fault (put_together at base (presentation_of actual) name pairs) ≡ Some f)
       (λ (f : TypeFault). IsFaultOfType done name (actualises at names pairs) f) fault

@@ -4,9 +4,9 @@ use Rattle.std.specs.Prelude.{Option, None, Some, slice_get}
 use Rattle.std.specs.Option.{option_map, option_to_list}
 use Rattle.std.proofs.lemmas.List.{append-nil, map-append}
 use Rattle.std.proofs.lemmas.Option.{slice_get-map}
-use Rattle.type_mentions.specs.DeclaredTypes.{DeclaredType}
-use Rattle.type_mentions.specs.TypeView.{declared_type_of, declared_types_of}
-use Rattle.type_mentions.specs.declared.type_texts.TypeText.{TypeText}
+use Rattle.type_definitions.specs.DeclaredTypes.{DeclaredType}
+use Rattle.type_definitions.specs.TypeView.{declared_type_of, declared_types_of}
+use Rattle.type_definitions.specs.declared.type_texts.TypeText.{TypeText}
 use Rattle.type_definitions.specs.Flattened.{types_at}
 use Rattle.type_presentations.proofs.MarkLemmas.{number_next}
 

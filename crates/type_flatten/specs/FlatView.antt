@@ -2,13 +2,13 @@
 use Rattle.std.specs.Prelude.{◌≡◌, ◌⊎◌, ℕ, List, [], ◌∷◌, ◌++◌, None, Some}
 use Rattle.lotos_base.specs.Name.{spelling}
 use Rattle.lotos_base.specs.WrittenView.{text_place_of}
-use Rattle.term_algebra.specs.Equation.{IsWellFormedData}
+use Rattle.lotos_base.specs.Equation.{IsWellFormedData}
 use Rattle.syntax_trees.specs.WrittenItem.{WrittenTypeBody}
 use Rattle.sort_terms.specs.EquationView.{data_of as data_in, HasSidesOf}
 use Rattle.sort_terms.specs.declared.equations.Flat.{Flat}
-use Rattle.type_mentions.specs.DeclaredTypes.{DeclaredType, mention_graph}
-use Rattle.type_mentions.specs.MentionFaults.{IsMentionFault, double_type, unknown_type, type_cycle, AreDeclaredOnce, AreAllKnown}
-use Rattle.type_mentions.specs.TypeGraph.{IsAcyclic}
+use Rattle.type_definitions.specs.DeclaredTypes.{DeclaredType, mention_graph}
+use Rattle.type_definitions.specs.MentionFaults.{IsMentionFault, double_type, unknown_type, type_cycle, AreDeclaredOnce, AreAllKnown}
+use Rattle.type_definitions.specs.TypeGraph.{IsAcyclic}
 use Rattle.type_definitions.specs.TypeFault.{TypeFault as PlainTypeFault}
 use Rattle.type_definitions.specs.Presentation.{Presentation as PlainPresentation}
 use Rattle.type_definitions.specs.Union.{Mentioned, union_of, union_fault}
@@ -30,7 +30,7 @@ pub record IsPresented (done : List Mentioned) (name : List ℕ) (body : Written
   pub within : IsWithinLimits p
 
 -- The fault is the first one of the type.
-pub record IsFirstFault (done : List Mentioned) (name : List ℕ) (body : WrittenTypeBody) (fault : TypeFault) : Type 0 where
+pub record IsFirstTypeFault (done : List Mentioned) (name : List ℕ) (body : WrittenTypeBody) (fault : TypeFault) : Type 0 where
   pub found : HoldsOfFault fault (λ (f : PlainTypeFault). IsFaultOfType done name body f)
 
 -- ---- All types in their order, behind those that have their presentations already.

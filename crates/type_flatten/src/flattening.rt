@@ -7,7 +7,7 @@ ghost use Rattle.type_flatten.specs.FlatView.{
   AreRefusedBehind,
   AreTypesRefused,
   AreUnited,
-  IsFirstFault,
+  IsFirstTypeFault,
   IsFlat,
   IsPresentedNext,
   IsRefused,
@@ -16,10 +16,10 @@ ghost use Rattle.type_unions.specs.PresentedView.{AreSoundTypes, presented_in};
 ghost use Rattle.std.specs.Prelude.{◌≡◌, ◌∷◌, ◌++◌, [], IfOk, MatchResult, OnOk, map};
 ghost use Rattle.syntax_trees.specs.TreeViews.{item_of};
 ghost use Rattle.type_definitions.specs.Flattened.{types_at};
-ghost use Rattle.type_mentions.specs.DeclaredTypes.{types_of};
-ghost use Rattle.type_mentions.specs.MentionFaults.{AreInOrder};
-ghost use Rattle.type_mentions.specs.TypeNamesView.{types_in};
-ghost use Rattle.type_mentions.specs.TypeView.{declared_type_of, declared_types_of};
+ghost use Rattle.type_definitions.specs.DeclaredTypes.{types_of};
+ghost use Rattle.type_definitions.specs.MentionFaults.{AreInOrder};
+ghost use Rattle.type_definitions.specs.TypeNamesView.{types_in};
+ghost use Rattle.type_definitions.specs.TypeView.{declared_type_of, declared_types_of};
 
 use crate::flat_data::data_of;
 use crate::one_type::presentation_of_type;
@@ -27,8 +27,7 @@ use lotos_base::NoMemory;
 use sort_terms::Flat;
 use std::alloc::Global;
 use syntax_trees::ItemText;
-use type_definitions::TypeFault;
-use type_mentions::{TypeNames, TypeOrder, TypeText, order_types};
+use type_definitions::{TypeFault, TypeNames, TypeOrder, TypeText, order_types};
 use type_unions::{PresentedTypes, union_of_mentions};
 
 /// The data of all types among the items in which nothing is formal: their union, in the order of
@@ -150,7 +149,7 @@ fn present<'a>(
     requires { AreSoundTypes types.old }
     ensures { MatchResult result
         (λ _. IsPresentedNext (presented_in types.old) (declared_type_of text.now) types.new)
-        (λ fault. IsFirstFault (presented_in types.old) (declared_type_of text.now).name
+        (λ fault. IsFirstTypeFault (presented_in types.old) (declared_type_of text.now).name
         (declared_type_of text.now).body fault) }
 {
     let presentation = presentation_of_type(alloc, types, text.name, text.body)?;

@@ -1,6 +1,6 @@
 //! The presentation of one type, after those that it mentions.
 
-ghost use Rattle.type_flatten.specs.FlatView.{IsFirstFault, IsPresented};
+ghost use Rattle.type_flatten.specs.FlatView.{IsFirstTypeFault, IsPresented};
 ghost use Rattle.lotos_base.specs.Name.{spelling};
 ghost use Rattle.lotos_base.specs.WrittenView.{placed_name_of, text_place_of};
 ghost use Rattle.type_unions.specs.PresentedView.{AreSoundTypes, presented_in};
@@ -10,7 +10,7 @@ ghost use Rattle.syntax_trees.specs.WrittenItem.{actualises, extends, renames};
 ghost use Rattle.type_declarations.specs.SectionView.{sections_of};
 ghost use Rattle.type_definitions.specs.FaultView.{HoldsOfFault};
 ghost use Rattle.type_definitions.specs.TypeFault.{not_formal as nothing_formal};
-ghost use Rattle.type_mentions.specs.TypeView.{type_body_of};
+ghost use Rattle.type_definitions.specs.TypeView.{type_body_of};
 
 use lotos_base::Name;
 use std::alloc::Global;
@@ -35,7 +35,7 @@ pub fn presentation_of_type(
     ensures { MatchResult result
         (λ p. IsPresented (presented_in types.now) (spelling type_name.now)
         (type_body_of body.now) p)
-        (λ fault. IsFirstFault (presented_in types.now) (spelling type_name.now)
+        (λ fault. IsFirstTypeFault (presented_in types.now) (spelling type_name.now)
         (type_body_of body.now) fault) }
 {
     match body {
@@ -91,7 +91,7 @@ fn extension(
     ensures { MatchResult result
         (λ p. IsPresented (presented_in types.now) (spelling type_name.now)
         (extends (placed_names_of imports.now) (sections_of sections.now)) p)
-        (λ fault. IsFirstFault (presented_in types.now) (spelling type_name.now)
+        (λ fault. IsFirstTypeFault (presented_in types.now) (spelling type_name.now)
         (extends (placed_names_of imports.now) (sections_of sections.now)) fault) }
 {
     let mentions = types.mentions(alloc, imports)?;
@@ -114,7 +114,7 @@ fn renaming(
     ensures { MatchResult result
         (λ p. IsPresented (presented_in types.now) (spelling type_name.now)
         (renames (placed_name_of base.now) (pairs_of sort_pairs.now op_pairs.now)) p)
-        (λ fault. IsFirstFault (presented_in types.now) (spelling type_name.now)
+        (λ fault. IsFirstTypeFault (presented_in types.now) (spelling type_name.now)
         (renames (placed_name_of base.now) (pairs_of sort_pairs.now op_pairs.now)) fault) }
 {
     let presentation = types.named(alloc, &base.1)?;
@@ -142,7 +142,7 @@ fn actualisation(
         (λ p. IsPresented (presented_in types.now) (spelling type_name.now)
         (actualises (placed_name_of mentioned.now.base.now)
         (placed_names_of mentioned.now.actuals.now) (pairs_of sort_pairs.now op_pairs.now)) p)
-        (λ fault. IsFirstFault (presented_in types.now) (spelling type_name.now)
+        (λ fault. IsFirstTypeFault (presented_in types.now) (spelling type_name.now)
         (actualises (placed_name_of mentioned.now.base.now)
         (placed_names_of mentioned.now.actuals.now) (pairs_of sort_pairs.now op_pairs.now))
         fault) }

@@ -3,8 +3,10 @@ use Rattle.std.proofs.Common.{◌≡◌, ℕ, Bool, true, false, List, [], ◌�
 use Rattle.std.specs.Prelude.{None, ◌||◌, ◌&&◌, not, if◌then◌else◌}
 use Rattle.std.specs.List.{list_any}
 use Rattle.std.proofs.lemmas.List.Folds.{list_any-append}
-use Rattle.term_algebra.specs.Equation.{Place}
-use Rattle.term_algebra.specs.Signature.{Sort, Operation}
+use Rattle.std.proofs.lemmas.Bool.{or_right, or_left, false_from_ne_true, both_ways}
+use Rattle.list_laws.proofs.Tests.{list_any-weaker}
+use Rattle.lotos_base.specs.Equation.{Place}
+use Rattle.lotos_base.specs.Signature.{Sort, Operation}
 use Rattle.sort_terms.specs.ReadingOutcome.{one_name}
 use Rattle.sort_terms.specs.WellFormedTest.{all_differ, are_one_sort, are_one_operation}
 use Rattle.type_definitions.specs.TypeFault.{TypeFault, double_sort, double_operation, fault_if}
@@ -22,36 +24,10 @@ use Rattle.type_laws.proofs.UnionsFine.{neither, test_fails}
 
 -- ---- Tests over lists.
 
-or_right : (a b : Bool) → b ≡ true → (a || b) ≡ true
-or_right true b h = refl
-or_right false b h = h
-
-or_left : (a b : Bool) → a ≡ true → (a || b) ≡ true
-or_left true b h = refl
-or_left false b h = let e : false ≡ true = h in cc
-
-any_weaker : {A : Type 0} (test other : A → Bool) → ((x : A) → test x ≡ true → other x ≡ true) → (xs : List A)
-    → list_any test xs ≡ true → list_any other xs ≡ true
-any_weaker test other weaker [] h = let e : false ≡ true = h in cc
-any_weaker {A = A} test other weaker (x ∷ xs) h = go (test x) refl (any_weaker test other weaker xs) h
-  where
-    go : (b : Bool) → test x ≡ b → (list_any test xs ≡ true → list_any other xs ≡ true) → (b || list_any test xs) ≡ true
-        → (other x || list_any other xs) ≡ true
-    go true is rest h = or_left (other x) (list_any other xs) (weaker x is)
-    go false is rest h = or_right (other x) (list_any other xs) (rest h)
-
 any_mapped : {A B : Type 0} (test : B → Bool) (f : A → B) (xs : List A)
     → list_any test (map f xs) ≡ list_any (λ (x : A). test (f x)) xs
 any_mapped test f [] = refl
 any_mapped test f (x ∷ xs) = ap (λ (b : Bool). test (f x) || b) (any_mapped test f xs)
-
-is_false : (b : Bool) → (b ≡ true → ⊥) → b ≡ false
-is_false true h = absurd (h refl)
-is_false false h = refl
-
-true_false : (b : Bool) → b ≡ true → b ≡ false → ⊥
-true_false true one other = let e : true ≡ false = other in cc
-true_false false one other = let e : false ≡ true = one in cc
 
 -- a test that holds somewhere, and another one nowhere: there is a member for which only the first holds
 one_alone : {A : Type 0} (test other : A → Bool) (xs : List A) → list_any test xs ≡ true → list_any other xs ≡ false
@@ -87,12 +63,11 @@ no_one : {A : Type 0} (one same : A → A → Bool) (clash : Coming A → Coming
     → (kept : List A) (earlier : List (Coming A)) (x : Coming A) → AreAmong kept earlier → list_any (clash x) earlier ≡ false
     → list_any (same x.image) kept ≡ false → list_any (one x.image) kept ≡ false
 no_one {A = A} one same clash apart kept earlier x among none new =
-    is_false (list_any (one x.image) kept)
+    false_from_ne_true (list_any (one x.image) kept)
     (λ h.
-    true_false (list_any (clash x) earlier)
-    (any_weaker (λ (c : Coming A). one x.image c.image && not (same x.image c.image)) (clash x) (λ c both. apart x c both) earlier
-    (among (λ (y : A). one x.image y && not (same x.image y)) (one_alone (one x.image) (same x.image) kept h new)))
-    none)
+    both_ways (list_any (clash x) earlier) none
+    (list_any-weaker (λ (c : Coming A). one x.image c.image && not (same x.image c.image)) (clash x) (λ c both. apart x c both) earlier
+    (among (λ (y : A). one x.image y && not (same x.image y)) (one_alone (one x.image) (same x.image) kept h new))))
 
 still_among : {A : Type 0} (kept : List A) (earlier : List (Coming A)) (x : Coming A) → AreAmong kept earlier
     → AreAmong kept (earlier ++ x ∷ [])

@@ -2,10 +2,11 @@
 use Rattle.std.proofs.Common.{◌≡◌, ℕ, true, List, ◌⊎◌, map, ap, sym, ◌∙◌}
 use Rattle.std.specs.Prelude.{Option, Some, slice_get, ◌||◌, nat_eq}
 use Rattle.std.specs.Option.{option_map}
-use Rattle.std.proofs.lemmas.Bool.{eqb-true}
+use Rattle.std.proofs.lemmas.Bool.{eqb-true, or_cases, or_left, or_right}
 use Rattle.std.proofs.lemmas.Option.{slice_get-map}
-use Rattle.term_algebra.specs.Equation.{Equation}
-use Rattle.type_mentions.proofs.NumberLists.{or_cases, or_left, or_right, among_at, at_among}
+use Rattle.list_laws.proofs.Members.{at_map}
+use Rattle.lotos_base.specs.Equation.{Equation}
+use Rattle.type_definitions.proofs.NumberLists.{among_at, at_among}
 use Rattle.type_definitions.specs.Images.{operation_image, equation_image}
 use Rattle.type_definitions.specs.Presentation.{Presentation, is_marked, with_new, is_same_equation, first_position}
 use Rattle.type_definitions.specs.Union.{joined, joined_sort, joined_operation, joined_equations}
@@ -69,19 +70,15 @@ first_stays p q = record {
 
 -- ---- Lying in.
 
--- the image of a member is one of the images
-image_at : {A B : Type 0} (f : A → B) (xs : List A) (i : ℕ) (x : A) → slice_get xs i ≡ Some x → slice_get (map f xs) i ≡ Some (f x)
-image_at {A = A} {B = B} f xs i x found = slice_get-map f xs i ∙ ap (λ (o : Option A). option_map f o) found
-
 pub second_lies : (p q : Presentation) → LiesIn (joined_sort p q) (joined_operation p q) q (joined p q)
 second_lies p q = record {
   sorts = λ i s found. unions.sorts_come p q i s found;
   operations = λ i o found.
       unions.operations_come p q i (operation_image (joined_sort p q) o)
-      (image_at (operation_image (joined_sort p q)) q.signature.operations i o found);
+      (at_map (operation_image (joined_sort p q)) q.signature.operations i o found);
   equations = λ i e found.
       let image : Equation → Equation = equation_image (joined_sort p q) (joined_operation p q) in
-      let at = first_appearances.equations.comes p.equations (coming_equations p q) (image e) (i, image_at image q.equations i e found) in
+      let at = first_appearances.equations.comes p.equations (coming_equations p q) (image e) (i, at_map image q.equations i e found) in
       (at.0, first_position (is_same_equation (image e)) (joined_equations p q), at.1, at.2);
   formal_sorts = λ n h. marks_come (joined_sort p q) p.formal_sorts q.formal_sorts n h;
   formal_operations = λ n h. marks_come (joined_operation p q) p.formal_operations q.formal_operations n h;

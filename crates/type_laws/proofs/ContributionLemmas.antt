@@ -4,8 +4,9 @@ use Rattle.std.specs.Prelude.{Some, slice_get, if◌then◌else◌}
 use Rattle.std.specs.List.{list_any}
 use Rattle.std.proofs.lemmas.List.{append-nil}
 use Rattle.std.proofs.lemmas.Option.{none-some, same_Some, slice_get_within}
-use Rattle.term_algebra.specs.Signature.{Signature, Sort, Operation, IsSort, IsOperation, IsWellFormedSignature}
-use Rattle.sort_terms.proofs.UnknownLemmas.{member_any}
+use Rattle.list_laws.proofs.Members.{at_end, at_front, map_same}
+use Rattle.list_laws.proofs.Tests.{list_any-at}
+use Rattle.lotos_base.specs.Signature.{Signature, Sort, Operation, IsSort, IsOperation, IsWellFormedSignature}
 use Rattle.type_definitions.specs.Images.{operation_image}
 use Rattle.type_definitions.specs.Presentation.{Presentation, nothing, with_new, is_same_sort, is_same_operation}
 use Rattle.type_definitions.specs.Union.{Mentioned, union_of, joined_sort, joined_sorts, joined_operations, coming_operations}
@@ -57,21 +58,12 @@ abbrev AreApart : {A : Type 0} → (A → A → Bool) → List A → Type 0
 AreApart {A} same xs =
     (i j : ℕ) (x y : A) → slice_get xs i ≡ Some x → slice_get xs j ≡ Some y → same x y ≡ true → i ≡ j
 
-at_end : {A : Type 0} (kept : List A) (z : A) (xs : List A) → slice_get (kept ++ z ∷ xs) (length kept) ≡ Some z
-at_end [] z xs = refl
-at_end (k ∷ ks) z xs = at_end ks z xs
-
-in_front : {A : Type 0} (xs ys : List A) (i : ℕ) (x : A) → slice_get xs i ≡ Some x → slice_get (xs ++ ys) i ≡ Some x
-in_front [] ys i x found = absurd (none-some x found)
-in_front (z ∷ xs) ys zero x found = found
-in_front (z ∷ xs) ys (suc i) x found = in_front xs ys i x found
-
 none_before : {A : Type 0} (same : A → A → Bool) (kept : List A) (z : A) (xs : List A) (b : Bool) → AreApart same (kept ++ z ∷ xs)
     → list_any (same z) kept ≡ b → b ≡ false
 none_before same kept z xs false apart h = refl
 none_before same kept z xs true apart h =
-    let at = member_any (same z) kept h in
-    let e : length kept ≡ at.0 = apart (length kept) at.0 z at.1 (at_end kept z xs) (in_front kept (z ∷ xs) at.0 at.1 at.2) at.3 in
+    let at = list_any-at (same z) kept h in
+    let e : length kept ≡ at.0 = apart (length kept) at.0 z at.1 (at_end kept z xs) (at_front kept (z ∷ xs) at.0 at.1 at.2) at.3 in
     let within : at.0 < length kept = slice_get_within kept at.0 at.1 at.2 in absurd (omega (arith, e, within))
 
 all_new : {A : Type 0} (same : A → A → Bool) (kept xs : List A) → AreApart same (kept ++ xs) → with_new same kept xs ≡ kept ++ xs
@@ -83,11 +75,6 @@ all_new {A = A} same kept (z ∷ xs) apart =
     ∙ all_new same (kept ++ z ∷ []) xs (subst (λ (ys : List A). AreApart same ys) (sym joint) apart) ∙ joint
 
 -- ---- One alone.
-
-same_map : {A : Type 0} (f : A → A) (xs : List A) → ((i : ℕ) (x : A) → slice_get xs i ≡ Some x → f x ≡ x) → map f xs ≡ xs
-same_map f [] each = refl
-same_map {A = A} f (x ∷ xs) each =
-    ap (λ (y : A). y ∷ map f xs) (each 0 x refl) ∙ ap (λ (ys : List A). x ∷ ys) (same_map f xs (λ i. each (suc i)))
 
 sorts_alone : (q : Presentation) → IsWellFormedSignature q.signature → joined_sorts nothing q ≡ q.signature.sorts
 sorts_alone q fine =
@@ -110,14 +97,14 @@ operation_stays : (q : Presentation) → IsWellFormedSignature q.signature → (
 operation_stays q fine f o found =
     let to : ℕ → ℕ = joined_sort nothing q in
     let arguments : map to o.arguments ≡ o.arguments =
-    same_map to o.arguments (λ i s there. number_stays q fine s (fine.arguments f i s o found there)) in
+    map_same to o.arguments (λ i s there. number_stays q fine s (fine.arguments f i s o found there)) in
     ap (λ (xs : List ℕ). over o xs (to o.result)) arguments
     ∙ ap (λ (r : ℕ). over o o.arguments r) (number_stays q fine o.result (fine.results f o found))
 
 operations_alone : (q : Presentation) → IsWellFormedSignature q.signature → joined_operations nothing q ≡ q.signature.operations
 operations_alone q fine =
     let images : coming_operations nothing q ≡ q.signature.operations =
-    same_map (operation_image (joined_sort nothing q)) q.signature.operations (operation_stays q fine) in
+    map_same (operation_image (joined_sort nothing q)) q.signature.operations (operation_stays q fine) in
     ap (λ (os : List Operation). with_new is_same_operation [] os) images
     ∙ all_new is_same_operation [] q.signature.operations (λ f g o p at there h.
     let alike = same_operation o p h in fine.profiles f g o p at there alike.name alike.form alike.arguments alike.result)

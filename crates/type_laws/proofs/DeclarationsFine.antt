@@ -2,7 +2,7 @@
 use Rattle.std.proofs.Common.{◌≡◌, ℕ, Bool, true, false, List, ◌++◌, ◌∷◌, [], length, refl}
 use Rattle.std.specs.Prelude.{None, not, fold}
 use Rattle.lotos_base.specs.WrittenTerm.{PlacedName}
-use Rattle.term_algebra.specs.Signature.{Sort}
+use Rattle.lotos_base.specs.Signature.{Sort}
 use Rattle.syntax_trees.specs.WrittenItem.{WrittenOperation, WrittenSections}
 use Rattle.type_definitions.specs.TypeFault.{no_reading, fault_if, first_fault, fault_along}
 use Rattle.type_definitions.specs.Presentation.{Presentation}

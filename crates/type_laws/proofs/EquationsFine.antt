@@ -2,17 +2,18 @@
 use Rattle.std.proofs.Common.{◌≡◌, ℕ, Bool, true, false, List, [], ◌∷◌, ◌++◌, map, refl, ap, ◌∙◌, subst}
 use Rattle.std.specs.Prelude.{Some}
 use Rattle.std.specs.List.{flat_map}
+use Rattle.type_equations.proofs.GivenLemmas.{gives_same, give_all_same}
 use Rattle.lotos_base.specs.WrittenTerm.{WrittenTerm, written_head}
-use Rattle.term_algebra.specs.Signature.{Signature}
-use Rattle.term_algebra.specs.Term.{Term}
+use Rattle.lotos_base.specs.Signature.{Signature}
+use Rattle.lotos_base.specs.Term.{Term}
 use Rattle.syntax_trees.specs.WrittenVariable.{WrittenVariable}
 use Rattle.syntax_trees.specs.WrittenEquation.{WrittenEquation, WrittenGroup, WrittenEquations}
 use Rattle.syntax_trees.specs.WrittenItem.{WrittenSections}
 use Rattle.sort_terms.specs.Reading.{Reads}
-use Rattle.sort_terms.specs.ReadingOutcome.{Refusal, answered, ComesTo, IsReading, unknown_in, is_sort_name}
+use Rattle.sort_terms.specs.ReadingOutcome.{ReadingRefusal, answered, ComesTo, IsReading, unknown_in, is_sort_name}
 use Rattle.type_definitions.specs.Presentation.{Presentation}
 use Rattle.type_definitions.specs.Declarations.{sort_numbered}
-use Rattle.type_definitions.specs.DeclaredEquations.{Asked, AskedEquation, sort_asked, formal_asked, own_asked, equation_asked, asked_of_variables, asked_of_group, asked_of_section, Gives, sort_is_there, formal_is_read, own_is_read, GiveAll, none_asked, next_gives, scope_of, IsSide, equation_of_sides}
+use Rattle.type_definitions.specs.DeclaredEquations.{EquationQuestion, AskedEquation, sort_asked, formal_asked, own_asked, equation_asked, asked_of_variables, asked_of_group, asked_of_section, GivesPresentation, sort_is_there, formal_is_read, own_is_read, GiveAll, none_asked, next_gives, scope_of, IsSide, equation_of_sides}
 use Rattle.type_definitions.specs.Extension.{asked_of}
 use Rattle.type_equations.proofs.OverLemmas.{sides_over, scopes_numbered}
 use Rattle.type_equations.proofs.AskedLemmas.{sorts_there, give_both}
@@ -21,7 +22,7 @@ use Rattle.type_laws.specs.FlattenedData.{IsFine}
 
 -- ---- One after another.
 
-split : (p r : Presentation) (xs ys : List Asked) → GiveAll p (xs ++ ys) r → (q : Presentation) × GiveAll p xs q × GiveAll q ys r
+split : (p r : Presentation) (xs ys : List EquationQuestion) → GiveAll p (xs ++ ys) r → (q : Presentation) × GiveAll p xs q × GiveAll q ys r
 split p r [] ys given = (p, none_asked p, given)
 split p r (a ∷ xs) ys (next_gives _ s _ _ _ one rest) =
     let parts = split s r xs ys rest in (parts.0, next_gives p s parts.0 a xs one parts.1, parts.2)
@@ -35,16 +36,6 @@ variables_given : (p q : Presentation) (vs : List WrittenVariable) → GiveAll p
     → GiveAll p (asked_of_variables vs) p
 variables_given p q vs given =
     subst (λ (x : Presentation). GiveAll p (asked_of_variables vs) x) (variables_same p q vs given) given
-
--- the signature stays
-gives_same : (p q : Presentation) (a : Asked) → Gives p a q → q.signature ≡ p.signature
-gives_same p q (sort_asked place name) (sort_is_there _ _ _) = refl
-gives_same p q (formal_asked asked) (formal_is_read _ _ _ _ _ _) = refl
-gives_same p q (own_asked asked) (own_is_read _ _ _ _ _ _ _) = refl
-
-give_all_same : (p q : Presentation) (asked : List Asked) → GiveAll p asked q → q.signature ≡ p.signature
-give_all_same p q [] (none_asked _) = refl
-give_all_same p q (a ∷ asked) (next_gives _ s _ _ _ one rest) = give_all_same s q asked rest ∙ gives_same p s a one
 
 -- and so sorts that are there stay there
 variables_stay : (p q : Presentation) (vs : List WrittenVariable) → q.signature ≡ p.signature → GiveAll p (asked_of_variables vs) p
@@ -64,7 +55,7 @@ side_reads p asked side t is = go (unknown_in p.signature (scope_of p asked) sid
     at : ℕ
     at = sort_numbered p asked.sort
 
-    go : (refusals : List Refusal)
+    go : (refusals : List ReadingRefusal)
         → ComesTo refusals (written_head side).place (IsReading p.signature (scope_of p asked) side (Some at)) (answered is.0)
         → Reads p.signature (scope_of p asked) side t at
     go [] only =
@@ -73,18 +64,18 @@ side_reads p asked side t is = go (unknown_in p.signature (scope_of p asked) sid
     go (first ∷ rest) none = absurd none
 
 own_fine : (p q : Presentation) (asked : AskedEquation) → IsFine p → GiveAll p (asked_of_variables asked.variables) p
-    → Gives p (own_asked asked) q → IsFine q
+    → GivesPresentation p (own_asked asked) q → IsFine q
 own_fine p q asked fine there (own_is_read _ left right _ one other _) =
     data_with_equation p.signature p.equations (equation_of_sides asked.equation.place (scope_of p asked) left right) fine
     (sides_over p.signature (scope_of p asked) asked.equation.place asked.equation.left asked.equation.right left right
     (sort_numbered p asked.sort) (sorts_there p 0 asked.variables there) (scopes_numbered p asked.variables)
     (side_reads p asked asked.equation.left left one) (side_reads p asked asked.equation.right right other))
 
-formal_fine : (p q : Presentation) (asked : AskedEquation) → IsFine p → Gives p (formal_asked asked) q → IsFine q
+formal_fine : (p q : Presentation) (asked : AskedEquation) → IsFine p → GivesPresentation p (formal_asked asked) q → IsFine q
 formal_fine p q asked fine (formal_is_read _ _ _ _ _ _) = fine
 
 equation_fine : (p q : Presentation) (is_formal : Bool) (asked : AskedEquation) → IsFine p
-    → GiveAll p (asked_of_variables asked.variables) p → Gives p (equation_asked is_formal asked) q → IsFine q
+    → GiveAll p (asked_of_variables asked.variables) p → GivesPresentation p (equation_asked is_formal asked) q → IsFine q
 equation_fine p q true asked fine there given = formal_fine p q asked fine given
 equation_fine p q false asked fine there given = own_fine p q asked fine there given
 
@@ -101,7 +92,7 @@ equations_fine p q is_formal vs sort (e ∷ es) fine there (next_gives _ s _ _ _
     equations_fine s q is_formal vs sort es (equation_fine p s is_formal (asked_in vs sort e) fine there one)
     (variables_stay p s vs (gives_same p s (equation_asked is_formal (asked_in vs sort e)) one) there) rest
 
-abbrev group_equations : Bool → List WrittenVariable → WrittenGroup → List Asked
+abbrev group_equations : Bool → List WrittenVariable → WrittenGroup → List EquationQuestion
 group_equations is_formal vs group =
     map (λ (e : WrittenEquation). equation_asked is_formal (asked_in (vs ++ group.variables) group.sort e)) group.equations
 

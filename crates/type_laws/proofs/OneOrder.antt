@@ -1,17 +1,15 @@
 -- A graph of mentions has one order of flattening.
-use Rattle.std.proofs.Common.{refl, ap, sym, ◌∙◌, ◌≡◌, subst, ℕ, List, [], ◌∷◌, ◌++◌, Bool, true, false}
-use Rattle.type_mentions.specs.TypeGraph.{is_among}
-use Rattle.type_mentions.specs.FlatteningOrder.{ComesTo, flattened_already, flattened_now, ComesToEach, none_left, next_come_to, IsFlatteningOrder}
-
-not_two : (b : Bool) → b ≡ true → b ≡ false → ⊥
-not_two b told untold = let f : true ≡ false = sym told ∙ untold in absurd (cc f)
+use Rattle.std.proofs.Common.{refl, ap, sym, ◌≡◌, subst, ℕ, List, [], ◌∷◌, ◌++◌}
+use Rattle.std.proofs.lemmas.Bool.{both_ways}
+use Rattle.type_definitions.specs.TypeGraph.{is_among}
+use Rattle.type_definitions.specs.FlatteningOrder.{ComesTo, flattened_already, flattened_now, ComesToEach, none_left, next_come_to, IsFlatteningOrder}
 
 mutual
   comes_once : {graph : List (List ℕ)} {done one other : List ℕ} {i : ℕ} → ComesTo graph done i one → ComesTo graph done i other
       → one ≡ other
   comes_once (flattened_already done i told) (flattened_already _ _ also) = refl
-  comes_once (flattened_already done i told) (flattened_now _ more _ untold each) = absurd (not_two (is_among done i) told untold)
-  comes_once (flattened_now done more i untold each) (flattened_already _ _ told) = absurd (not_two (is_among done i) told untold)
+  comes_once (flattened_already done i told) (flattened_now _ more _ untold each) = absurd (both_ways (is_among done i) untold told)
+  comes_once (flattened_now done more i untold each) (flattened_already _ _ told) = absurd (both_ways (is_among done i) untold told)
   comes_once (flattened_now done more i untold each) (flattened_now _ other _ also too) =
       ap (λ (ns : List ℕ). ns ++ i ∷ []) (each_once each too)
 

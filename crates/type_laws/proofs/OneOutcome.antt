@@ -1,10 +1,11 @@
 -- Types have one presentation each, or the first of them with a fault has one.
-use Rattle.std.proofs.Common.{refl, ap, sym, ◌∙◌, ◌≡◌, inl, inr, subst, ℕ, List, [], ◌∷◌, ◌++◌, Option, None, Some}
-use Rattle.std.proofs.lemmas.Option.{none-some, same_Some}
-use Rattle.term_algebra.specs.Equation.{Data}
+use Rattle.std.proofs.Common.{refl, ap, sym, ◌∙◌, ◌≡◌, inl, inr, subst, ℕ, List, [], ◌∷◌, ◌++◌, Some}
+use Rattle.std.proofs.lemmas.Option.{same_Some}
+use Rattle.list_laws.proofs.Options.{none_and_some}
+use Rattle.lotos_base.specs.Equation.{Data}
 use Rattle.syntax_trees.specs.WrittenItem.{WrittenTypeBody, extends, renames, actualises}
-use Rattle.type_mentions.specs.DeclaredTypes.{DeclaredType, mention_graph}
-use Rattle.type_mentions.specs.FlatteningOrder.{IsFlatteningOrder}
+use Rattle.type_definitions.specs.DeclaredTypes.{DeclaredType, mention_graph}
+use Rattle.type_definitions.specs.FlatteningOrder.{IsFlatteningOrder}
 use Rattle.type_definitions.specs.TypeFault.{TypeFault}
 use Rattle.type_definitions.specs.Presentation.{Presentation}
 use Rattle.type_definitions.specs.Union.{Mentioned, union_of, union_fault}
@@ -15,9 +16,6 @@ use Rattle.type_definitions.specs.Flattened.{presentation_named, mention_of, men
 use Rattle.type_laws.specs.FlatteningOutcomes.{EquationsAreDecided, FlatteningIsDecided}
 use Rattle.type_laws.proofs.OneOrder.{order_once}
 use Rattle.type_laws.proofs.OneReading.{equations_are_decided}
-
-none_and_some : {A : Type 0} (o : Option A) (x : A) → o ≡ None → o ≡ Some x → ⊥
-none_and_some o x none some = none-some x (sym none ∙ some)
 
 module _ (equations : EquationsAreDecided) where
   -- ---- One type

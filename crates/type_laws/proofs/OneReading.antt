@@ -1,50 +1,46 @@
 -- Equations that are read come to one thing.
-use Rattle.std.proofs.Common.{refl, ap, sym, ◌∙◌, ◌≡◌, inl, inr, subst, ℕ, List, [], ◌∷◌, Bool, true, false, Option, None, Some}
-use Rattle.std.proofs.lemmas.Option.{none-some, same_Some}
+use Rattle.std.proofs.Common.{refl, ap, sym, ◌∙◌, ◌≡◌, inl, inr, subst, ℕ, List, [], ◌∷◌, true, false, Option, None, Some}
+use Rattle.std.proofs.lemmas.Option.{same_Some}
+use Rattle.std.proofs.lemmas.Bool.{both_ways}
+use Rattle.list_laws.proofs.Options.{none_and_some}
 use Rattle.lotos_base.specs.WrittenTerm.{WrittenTerm}
-use Rattle.term_algebra.specs.Equation.{Place}
-use Rattle.term_algebra.specs.Term.{Term}
+use Rattle.lotos_base.specs.Equation.{Place}
+use Rattle.lotos_base.specs.Term.{Term}
 use Rattle.syntax_trees.specs.WrittenEquation.{WrittenPremiss}
-use Rattle.sort_terms.specs.ReadingOutcome.{Refusal, Outcome, answered, refused, SortedTerm, SortedPair, ReadingIs, PairReadingIs}
+use Rattle.sort_terms.specs.ReadingOutcome.{ReadingRefusal, ReadingOutcome, answered, refused, SortedTerm, SortedPair, ReadingIs, PairReadingIs}
 use Rattle.sort_terms.proofs.ReadsLemmas.{comes_once}
 use Rattle.type_definitions.specs.TypeFault.{TypeFault, premised}
 use Rattle.type_definitions.specs.Presentation.{Presentation, is_too_large}
 use Rattle.type_definitions.specs.Declarations.{sort_numbered}
-use Rattle.type_definitions.specs.DeclaredEquations.{AskedEquation, Asked, scope_of, fault_of, bool_sort, IsSide, IsSideFault, has_truth, IsReadPremiss, IsPremissFault, AreReadPremisses, IsFirstPremissFault, with_sides, Gives, sort_is_there, formal_is_read, own_is_read, IsFaultOfSides, HasFault, sort_is_unknown, formal_side, formal_premiss, own_has_premisses, own_side, one_too_many, GiveAll, none_asked, next_gives, HasFirstFault, at_once, further_on}
+use Rattle.type_definitions.specs.DeclaredEquations.{AskedEquation, EquationQuestion, scope_of, fault_of, bool_sort, IsSide, IsSideFault, has_truth, IsReadPremiss, IsPremissFault, AreReadPremisses, IsFirstPremissFault, with_sides, GivesPresentation, sort_is_there, formal_is_read, own_is_read, IsFaultOfSides, QuestionHasFault, sort_is_unknown, formal_side, formal_premiss, own_has_premisses, own_side, one_too_many, GiveAll, none_asked, next_gives, HasFirstFault, at_once, further_on}
 use Rattle.type_laws.specs.FlatteningOutcomes.{EquationsAreDecided}
-
-not_both_ways : (b : Bool) → b ≡ true → b ≡ false → ⊥
-not_both_ways b told untold = let f : true ≡ false = sym told ∙ untold in absurd (cc f)
-
-none_and_some : {A : Type 0} (o : Option A) (x : A) → o ≡ None → o ≡ Some x → ⊥
-none_and_some o x none some = none-some x (sym none ∙ some)
 
 -- ---- A reading
 
-abbrev answer_in : {A : Type 0} → A → Outcome A → A
+abbrev answer_in : {A : Type 0} → A → ReadingOutcome A → A
 answer_in other (answered x) = x
 answer_in other (refused refusal) = other
 
-abbrev refusal_in : {A : Type 0} → Refusal → Outcome A → Refusal
+abbrev refusal_in : {A : Type 0} → ReadingRefusal → ReadingOutcome A → ReadingRefusal
 refusal_in other (answered x) = other
 refusal_in other (refused refusal) = refusal
 
-abbrev IsAnswered : {A : Type 0} → Outcome A → Type 0
+abbrev IsAnswered : {A : Type 0} → ReadingOutcome A → Type 0
 IsAnswered (answered x) = Unit {0}
 IsAnswered (refused refusal) = ⊥
 
-not_answered_and_refused : {A : Type 0} (x : A) (refusal : Refusal) → answered x ≡ refused refusal → ⊥
-not_answered_and_refused {A} x refusal same = subst (λ (o : Outcome A). IsAnswered o) same tt
+not_answered_and_refused : {A : Type 0} (x : A) (refusal : ReadingRefusal) → answered x ≡ refused refusal → ⊥
+not_answered_and_refused {A} x refusal same = subst (λ (o : ReadingOutcome A). IsAnswered o) same tt
 
-refusals_once : {A : Type 0} (one other : Refusal) → ◌≡◌ {A = Outcome A} (refused one) (refused other) → fault_of one ≡ fault_of other
-refusals_once {A} one other same = ap (λ (o : Outcome A). fault_of (refusal_in one o)) same
+refusals_once : {A : Type 0} (one other : ReadingRefusal) → ◌≡◌ {A = ReadingOutcome A} (refused one) (refused other) → fault_of one ≡ fault_of other
+refusals_once {A} one other same = ap (λ (o : ReadingOutcome A). fault_of (refusal_in one o)) same
 
 module _ (p : Presentation) (asked : AskedEquation) where
-  read_once : (w : WrittenTerm) (expected : Option ℕ) (one other : Outcome SortedTerm)
+  read_once : (w : WrittenTerm) (expected : Option ℕ) (one other : ReadingOutcome SortedTerm)
       → ReadingIs p.signature (scope_of p asked) w expected one → ReadingIs p.signature (scope_of p asked) w expected other → one ≡ other
   read_once w expected one other is also = comes_once _ _ _ one other is also
 
-  pair_read_once : (v w : WrittenTerm) (one other : Outcome SortedPair) → PairReadingIs p.signature (scope_of p asked) v w one
+  pair_read_once : (v w : WrittenTerm) (one other : ReadingOutcome SortedPair) → PairReadingIs p.signature (scope_of p asked) v w one
       → PairReadingIs p.signature (scope_of p asked) v w other → one ≡ other
   pair_read_once v w one other is also = comes_once _ _ _ one other is also
 
@@ -53,7 +49,7 @@ module _ (p : Presentation) (asked : AskedEquation) where
   side_once : (w : WrittenTerm) (t u : Term) → IsSide p asked w t → IsSide p asked w u → t ≡ u
   side_once w t u is also =
       sym is.2
-      ∙ ap (λ (o : Outcome SortedTerm). (answer_in is.0 o).term) (read_once w (Some (sort_numbered p asked.sort)) (answered is.0) (answered also.0) is.1 also.1)
+      ∙ ap (λ (o : ReadingOutcome SortedTerm). (answer_in is.0 o).term) (read_once w (Some (sort_numbered p asked.sort)) (answered is.0) (answered also.0) is.1 also.1)
       ∙ also.2
 
   not_side : (w : WrittenTerm) (t : Term) (fault : TypeFault) → IsSide p asked w t → IsSideFault p asked w fault → ⊥
@@ -84,7 +80,7 @@ module _ (p : Presentation) (asked : AskedEquation) where
       → IsPremissFault p asked left right fault → ⊥
   not_premiss left (Some right) fault is not =
       not_answered_and_refused is.0 not.0 (pair_read_once left right (answered is.0) (refused not.0) is.1 not.1)
-  not_premiss left None fault is (inl not) = not_both_ways (has_truth p) is.0 not.0
+  not_premiss left None fault is (inl not) = both_ways (has_truth p) not.0 is.0
   not_premiss left None fault is (inr not) =
       not_answered_and_refused is.1.0 not.1.0 (read_once left (Some (bool_sort p)) (answered is.1.0) (refused not.1.0) is.1.1 not.1.1)
 
@@ -93,8 +89,8 @@ module _ (p : Presentation) (asked : AskedEquation) where
   premiss_fault_once left (Some right) fault other is also =
       sym is.2 ∙ refusals_once is.0 also.0 (pair_read_once left right (refused is.0) (refused also.0) is.1 also.1) ∙ also.2
   premiss_fault_once left None fault other (inl is) (inl also) = is.1 ∙ sym also.1
-  premiss_fault_once left None fault other (inl is) (inr also) = absurd (not_both_ways (has_truth p) also.0 is.0)
-  premiss_fault_once left None fault other (inr is) (inl also) = absurd (not_both_ways (has_truth p) is.0 also.0)
+  premiss_fault_once left None fault other (inl is) (inr also) = absurd (both_ways (has_truth p) is.0 also.0)
+  premiss_fault_once left None fault other (inr is) (inl also) = absurd (both_ways (has_truth p) also.0 is.0)
   premiss_fault_once left None fault other (inr is) (inr also) =
       sym is.1.2 ∙ refusals_once is.1.0 also.1.0 (read_once left (Some (bool_sort p)) (refused is.1.0) (refused also.1.0) is.1.1 also.1.1)
       ∙ also.1.2
@@ -126,19 +122,19 @@ module _ (p : Presentation) (asked : AskedEquation) where
       → IsSide p asked asked.equation.right right → IsSide p asked asked.equation.left one → IsSide p asked asked.equation.right two
       → is_too_large (with_sides p asked left right) ≡ false → is_too_large (with_sides p asked one two) ≡ true → ⊥
   small_and_large left right one two is also is_one is_two small large =
-      not_both_ways (is_too_large (with_sides p asked one two)) large
-      (ap (λ (q : Presentation). is_too_large q) (sym (sides_once left right one two is also is_one is_two)) ∙ small)
+      both_ways (is_too_large (with_sides p asked one two))
+      (ap (λ (q : Presentation). is_too_large q) (sym (sides_once left right one two is also is_one is_two)) ∙ small) large
 
 -- ---- A question
 
-gives_once : {p q r : Presentation} {a : Asked} → Gives p a q → Gives p a r → q ≡ r
+gives_once : {p q r : Presentation} {a : EquationQuestion} → GivesPresentation p a q → GivesPresentation p a r → q ≡ r
 gives_once (sort_is_there place name there) (sort_is_there _ _ also) = refl
 gives_once (formal_is_read asked left right is also are) (formal_is_read _ _ _ _ _ _) = refl
 gives_once {p = p} (own_is_read asked left right none is also small) (own_is_read _ one two _ is_one is_two _) =
     sides_once p asked left right one two is also is_one is_two
 
-not_faulty : {p q : Presentation} {type_name : List ℕ} {a : Asked} {fault : TypeFault} → Gives p a q → HasFault p type_name a fault → ⊥
-not_faulty (sort_is_there place name there) (sort_is_unknown _ _ not) = not_both_ways _ there not
+not_faulty : {p q : Presentation} {type_name : List ℕ} {a : EquationQuestion} {fault : TypeFault} → GivesPresentation p a q → QuestionHasFault p type_name a fault → ⊥
+not_faulty (sort_is_there place name there) (sort_is_unknown _ _ not) = both_ways _ not there
 not_faulty {p = p} (formal_is_read asked left right is also are) (formal_side _ fault not) = not_sides p asked left right fault is also not
 not_faulty {p = p} (formal_is_read asked left right is also are) (formal_premiss _ one two fault is_one is_two not) =
     not_premisses p asked asked.equation.premisses fault are not
@@ -148,8 +144,8 @@ not_faulty {p = p} (own_is_read asked left right none is also small) (own_side _
 not_faulty {p = p} (own_is_read asked left right none is also small) (one_too_many _ one two _ is_one is_two large) =
     small_and_large p asked left right one two is also is_one is_two small large
 
-fault_once : {p : Presentation} {type_name : List ℕ} {a : Asked} {fault other : TypeFault} → HasFault p type_name a fault
-    → HasFault p type_name a other → fault ≡ other
+fault_once : {p : Presentation} {type_name : List ℕ} {a : EquationQuestion} {fault other : TypeFault} → QuestionHasFault p type_name a fault
+    → QuestionHasFault p type_name a other → fault ≡ other
 fault_once (sort_is_unknown place name not) (sort_is_unknown _ _ also) = refl
 fault_once {p = p} (formal_side asked f is) (formal_side _ g also) = sides_fault_once p asked f g is also
 fault_once {p = p} (formal_side asked f is) (formal_premiss _ left right g one two also) =
@@ -175,19 +171,19 @@ fault_once (one_too_many asked left right none one two large) (one_too_many _ _ 
 
 -- ---- All questions
 
-all_give_once : {p q r : Presentation} {asked : List Asked} → GiveAll p asked q → GiveAll p asked r → q ≡ r
+all_give_once : {p q r : Presentation} {asked : List EquationQuestion} → GiveAll p asked q → GiveAll p asked r → q ≡ r
 all_give_once (none_asked p) (none_asked _) = refl
 all_give_once {r = last} (next_gives p q r a asked first rest) (next_gives _ other _ _ _ also more) =
     all_give_once rest (subst (λ (s : Presentation). GiveAll s asked last) (gives_once also first) more)
 
-none_faulty : {type_name : List ℕ} {p q : Presentation} {asked : List Asked} {fault : TypeFault} → GiveAll p asked q
+none_faulty : {type_name : List ℕ} {p q : Presentation} {asked : List EquationQuestion} {fault : TypeFault} → GiveAll p asked q
     → HasFirstFault type_name p asked fault → ⊥
 none_faulty (none_asked p) bad = elim bad [ ]
 none_faulty (next_gives p q r a asked first rest) (at_once _ _ _ fault bad) = not_faulty first bad
 none_faulty {type_name = name} (next_gives p q r a asked first rest) (further_on _ other _ _ fault also bad) =
     none_faulty rest (subst (λ (s : Presentation). HasFirstFault name s asked fault) (gives_once also first) bad)
 
-first_fault_once : {type_name : List ℕ} {p : Presentation} {asked : List Asked} {fault other : TypeFault}
+first_fault_once : {type_name : List ℕ} {p : Presentation} {asked : List EquationQuestion} {fault other : TypeFault}
     → HasFirstFault type_name p asked fault → HasFirstFault type_name p asked other → fault ≡ other
 first_fault_once (at_once p a asked f bad) (at_once _ _ _ g also) = fault_once bad also
 first_fault_once (at_once p a asked f bad) (further_on _ q _ _ g is later) = absurd (not_faulty is bad)

@@ -2,20 +2,21 @@
 use Rattle.std.proofs.Common.{◌≡◌, ℕ, zero, suc, ◌<◌, ◌≤◌, Bool, true, false, List, [], ◌∷◌, ◌++◌, inl, inr, map, length, append_assoc, refl, ap, sym, ◌∙◌, subst, arith}
 use Rattle.std.specs.Prelude.{Option, None, Some, slice_get, if◌then◌else◌}
 use Rattle.std.specs.Option.{option_map}
-use Rattle.std.proofs.lemmas.Bool.{cases_lt, eq-eqb}
+use Rattle.std.proofs.lemmas.Bool.{cases_lt, eq-eqb, and_from}
 use Rattle.std.proofs.lemmas.List.{append-nil, length-append, length-map, map-id}
 use Rattle.std.proofs.lemmas.Option.{none-some, same_Some, slice_get_within, slice_get-map, get_or_from_slice_get}
 use Rattle.std.proofs.lemmas.Slice.Eq.{bytes_eq-Decides}
 use Rattle.std.specs.Str.{bytes_eq}
 use Rattle.std.specs.Prelude.{◌&&◌, nat_eq}
-use Rattle.term_algebra.specs.Names.{folded}
-use Rattle.term_algebra.specs.Signature.{Sort, Operation, IsSort, IsOperation, IsWellFormedSignature}
-use Rattle.term_algebra.specs.Twins.{form_eq}
-use Rattle.term_algebra.specs.Equation.{Place, Equation, IsEquationOver, IsWellFormedData}
+use Rattle.list_laws.proofs.Members.{at_front, at_end}
+use Rattle.lotos_base.specs.Names.{folded}
+use Rattle.lotos_base.specs.Signature.{Sort, Operation, IsSort, IsOperation, IsWellFormedSignature}
+use Rattle.lotos_base.specs.Twins.{form_eq}
+use Rattle.lotos_base.specs.Equation.{Place, Equation, IsEquationOver, IsWellFormedData}
 use Rattle.syntax_trees.specs.WrittenItem.{WrittenPair, WrittenPairs}
 use Rattle.sort_terms.specs.ReadingOutcome.{one_name}
 use Rattle.sort_terms.specs.WellFormedTest.{are_one_sort, are_one_operation}
-use Rattle.sort_terms.proofs.NodeLemmas.{eq_forms, both_true}
+use Rattle.sort_terms.proofs.NodeLemmas.{eq_forms}
 use Rattle.type_definitions.specs.Images.{equation_image}
 use Rattle.type_definitions.specs.ProfiledImage.{profile_in}
 use Rattle.type_definitions.specs.ImageLaws.{IsSignatureMap}
@@ -73,15 +74,6 @@ stands_in_front [] ys i x within found = absurd (omega (arith, within))
 stands_in_front (z ∷ xs) ys zero x within found = found
 stands_in_front (z ∷ xs) ys (suc i) x within found = stands_in_front xs ys i x (omega (arith, within)) found
 
-in_front : {A : Type 0} (xs ys : List A) (i : ℕ) (x : A) → slice_get xs i ≡ Some x → slice_get (xs ++ ys) i ≡ Some x
-in_front [] ys i x found = absurd (none-some x found)
-in_front (z ∷ xs) ys zero x found = found
-in_front (z ∷ xs) ys (suc i) x found = in_front xs ys i x found
-
-at_end : {A : Type 0} (kept : List A) (z : A) (xs : List A) → slice_get (kept ++ z ∷ xs) (length kept) ≡ Some z
-at_end [] z xs = refl
-at_end (k ∷ ks) z xs = at_end ks z xs
-
 none_clash : {A : Type 0} (same : A → A → Bool) (pair_of : A → Option WrittenPair) (kind : Place → List ℕ → TypeFault)
     (earlier xs : List A) → clash_among same pair_of kind earlier xs ≡ None → AreApartUnpaired same pair_of (earlier ++ xs)
     → (i j : ℕ) (x y : A) → slice_get (earlier ++ xs) i ≡ Some x → slice_get (earlier ++ xs) j ≡ Some y → i < j
@@ -107,7 +99,7 @@ none_clash {A = A} same pair_of kind earlier (z ∷ zs) h apart i j x y at there
           (λ k w found like none other.
           let within : k < length earlier = slice_get_within earlier k w found in
           let e : k ≡ length earlier =
-          apart k (length earlier) w z (in_front earlier (z ∷ zs) k w found) (at_end earlier z zs) like other none in
+          apart k (length earlier) w z (at_front earlier (z ∷ zs) k w found) (at_end earlier z zs) like other none in
           absurd (omega (arith, within, e)))
           i x (stands_in_front earlier (z ∷ zs) i x (omega (arith, below, here)) at)
           (ap (λ (w : A). same x w) this ∙ alike))
@@ -171,9 +163,9 @@ sorts_apart base name pairs fine none i j s t at there alike =
 
 alike_operations : (o p : Operation) → AreAlike o p → are_one_operation o p ≡ true
 alike_operations o p h =
-    both_true (one_name o.name p.name && form_eq o.form p.form) (bytes_eq o.arguments p.arguments && nat_eq o.result p.result)
-    (both_true (one_name o.name p.name) (form_eq o.form p.form) (alike_names o.name p.name h.name) (eq_forms o.form p.form h.form))
-    (both_true (bytes_eq o.arguments p.arguments) (nat_eq o.result p.result) ((bytes_eq-Decides o.arguments p.arguments).1 h.arguments)
+    and_from (one_name o.name p.name && form_eq o.form p.form) (bytes_eq o.arguments p.arguments && nat_eq o.result p.result)
+    (and_from (one_name o.name p.name) (form_eq o.form p.form) (alike_names o.name p.name h.name) (eq_forms o.form p.form h.form))
+    (and_from (bytes_eq o.arguments p.arguments) (nat_eq o.result p.result) ((bytes_eq-Decides o.arguments p.arguments).1 h.arguments)
     (eq-eqb o.result p.result h.result))
 
 other_way : (o p : Operation) → are_one_operation o p ≡ true → are_one_operation p o ≡ true

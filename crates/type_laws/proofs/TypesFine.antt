@@ -3,10 +3,10 @@ use Rattle.std.proofs.Common.{◌≡◌, ℕ, suc, Bool, true, false, List, [], 
 use Rattle.std.specs.Prelude.{None, not, if◌then◌else◌}
 use Rattle.std.proofs.lemmas.Option.{none-some}
 use Rattle.lotos_base.specs.WrittenTerm.{PlacedName}
-use Rattle.term_algebra.specs.Equation.{Data, IsWellFormedData}
+use Rattle.lotos_base.specs.Equation.{Data, IsWellFormedData}
 use Rattle.syntax_trees.specs.WrittenItem.{WrittenTypeBody, WrittenPairs, WrittenSections, extends, renames, actualises}
 use Rattle.sort_terms.specs.ReadingOutcome.{one_name}
-use Rattle.type_mentions.specs.DeclaredTypes.{DeclaredType}
+use Rattle.type_definitions.specs.DeclaredTypes.{DeclaredType}
 use Rattle.type_definitions.specs.TypeFault.{not_formal, fault_if, first_fault}
 use Rattle.type_definitions.specs.Presentation.{Presentation}
 use Rattle.type_definitions.specs.Union.{Mentioned, union_of, union_fault}
@@ -18,7 +18,7 @@ use Rattle.type_definitions.specs.ActualisationFaults.{actualising_of, actualisi
 use Rattle.type_definitions.specs.Flattened.{presentation_named, mention_of, mentions_with, IsPresentation, ArePresented, all_presented, next_presented, declared_with, without_formals, types_at, IsFlattening}
 use Rattle.type_presentations.proofs.GrowthLemmas.{front_or_last}
 use Rattle.type_presentations.proofs.SignatureLemmas.{nothing_well_formed}
-use Rattle.type_unions.proofs.UnionSignatures.{image_in}
+use Rattle.type_actualisation.proofs.HandedOn.{image_in}
 use Rattle.type_laws.proofs.RenamingLemmas.{renamings}
 use Rattle.type_laws.proofs.ContributionLemmas.{contributions}
 use Rattle.type_laws.specs.FlattenedData.{IsFine, AreFine, FlattenedDataAreWellFormed}

@@ -2,7 +2,7 @@
 use Rattle.std.proofs.Common.{◌≡◌, true, List, [], ◌∷◌, ◌++◌, ◌⊎◌, inl, inr, map, fold, append_assoc, refl, ap, sym, ◌∙◌, subst}
 use Rattle.std.proofs.lemmas.Option.{none-some}
 use Rattle.std.proofs.lemmas.List.Sums.{fold-append}
-use Rattle.type_mentions.proofs.NumberLists.{among_none}
+use Rattle.type_definitions.proofs.NumberLists.{among_none}
 use Rattle.type_definitions.specs.Presentation.{Presentation, nothing, is_marked}
 use Rattle.type_definitions.specs.Union.{Mentioned, with_mentioned, union_of, joined, joined_sort, joined_operation, coming_operations}
 use Rattle.type_definitions.specs.UnionLaws.{IsIn}

@@ -2,13 +2,13 @@
 use Rattle.std.proofs.Common.{◌≡◌, ℕ, suc, Bool, true, false, List, [], ◌∷◌, refl, sym}
 use Rattle.std.specs.Prelude.{Option, None, Some, fold}
 use Rattle.std.proofs.lemmas.Option.{none-some}
-use Rattle.term_algebra.specs.Equation.{Place}
+use Rattle.std.proofs.lemmas.Bool.{not-false}
+use Rattle.lotos_base.specs.Equation.{Place}
 use Rattle.type_definitions.specs.TypeFault.{TypeFault, double_sort, double_operation, too_large, fault_if, first_fault, fault_along}
 use Rattle.type_definitions.specs.Presentation.{Presentation, nothing, has_sort_clash, has_operation_clash, is_too_large}
 use Rattle.type_definitions.specs.Union.{Mentioned, with_mentioned, mention_fault, union_of, union_fault, presentation_fault}
 use Rattle.type_presentations.proofs.SignatureLemmas.{nothing_well_formed}
-use Rattle.type_unions.proofs.UnionData.{union_data}
-use Rattle.type_unions.proofs.UnionLemmas.{without_clash}
+use Rattle.type_actualisation.proofs.HandedOn.{union_data}
 use Rattle.type_laws.specs.FlattenedData.{IsFine, AreFine}
 
 -- ---- No fault.
@@ -48,7 +48,7 @@ one_joined : (p : Presentation) (m : Mentioned) → IsFine p → IsFine m.presen
     → IsFine (with_mentioned p m)
 one_joined p m fine other none =
     let apart = nothing_clashes m.at.place m.at.name (with_mentioned p m) none in
-    union_data p m.presentation fine other (without_clash _ apart.0) (without_clash _ apart.1)
+    union_data p m.presentation fine other (not-false _ apart.0) (not-false _ apart.1)
 
 all_joined : (p : Presentation) (ms : List Mentioned) → IsFine p → AreFine ms
     → fault_along mention_fault with_mentioned p ms ≡ None → IsFine (fold with_mentioned p ms)

@@ -1,7 +1,7 @@
 -- How one presentation lies in another one: with the numbers that it has, or under maps of the numbers of its sorts and operations.
 use Rattle.std.specs.Prelude.{◌≡◌, ℕ, true, Some, slice_get}
-use Rattle.term_algebra.specs.Signature.{Signature, Sort, Operation, IsSort, IsOperation}
-use Rattle.term_algebra.specs.Equation.{Equation}
+use Rattle.lotos_base.specs.Signature.{Signature, Sort, Operation, IsSort, IsOperation}
+use Rattle.lotos_base.specs.Equation.{Equation}
 use Rattle.type_definitions.specs.Images.{operation_image, equation_image}
 use Rattle.type_definitions.specs.Presentation.{Presentation, is_same_sort, is_same_operation, is_same_equation, is_marked}
 

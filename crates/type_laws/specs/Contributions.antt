@@ -1,6 +1,6 @@
 -- What a type without formal marks contributes to the flattened data: its presentation, and nothing else.
 use Rattle.std.specs.Prelude.{◌≡◌, false, List, [], ◌∷◌}
-use Rattle.term_algebra.specs.Signature.{IsWellFormedSignature}
+use Rattle.lotos_base.specs.Signature.{IsWellFormedSignature}
 use Rattle.type_definitions.specs.Union.{Mentioned, union_of}
 use Rattle.type_definitions.specs.UnionLaws.{IsIn}
 use Rattle.type_definitions.specs.Actualisation.{is_formal}

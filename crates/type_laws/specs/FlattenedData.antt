@@ -1,8 +1,8 @@
 -- Laws of flattening: unions, presentations of types and flattened data are well formed where no fault was found.
 use Rattle.std.specs.Prelude.{◌≡◌, ℕ, List, None}
-use Rattle.term_algebra.specs.Equation.{Data, IsWellFormedData}
+use Rattle.lotos_base.specs.Equation.{Data, IsWellFormedData}
 use Rattle.syntax_trees.specs.WrittenItem.{WrittenTypeBody}
-use Rattle.type_mentions.specs.DeclaredTypes.{DeclaredType}
+use Rattle.type_definitions.specs.DeclaredTypes.{DeclaredType}
 use Rattle.type_definitions.specs.Presentation.{Presentation}
 use Rattle.type_definitions.specs.Union.{Mentioned, union_of, union_fault}
 use Rattle.type_definitions.specs.UnionLaws.{IsIn}

@@ -1,22 +1,22 @@
 -- What flattening comes to is one thing: the data of types, or their first fault.
 use Rattle.std.specs.Prelude.{◌≡◌, ℕ, List}
-use Rattle.term_algebra.specs.Equation.{Data}
-use Rattle.type_mentions.specs.DeclaredTypes.{DeclaredType}
+use Rattle.lotos_base.specs.Equation.{Data}
+use Rattle.type_definitions.specs.DeclaredTypes.{DeclaredType}
 use Rattle.type_definitions.specs.TypeFault.{TypeFault}
 use Rattle.type_definitions.specs.Presentation.{Presentation}
-use Rattle.type_definitions.specs.DeclaredEquations.{Asked, GiveAll, HasFirstFault}
+use Rattle.type_definitions.specs.DeclaredEquations.{EquationQuestion, GiveAll, HasFirstFault}
 use Rattle.type_definitions.specs.Flattened.{IsFlattening, IsFlatteningFault}
 
 -- what the equations of a type come to is one thing, whatever they are read over: they give one presentation, or the first
 -- of them with a fault has one
-pub record AreEquationsDecided (type_name : List ℕ) (p : Presentation) (asked : List Asked) : Type 0 where
+pub record AreEquationsDecided (type_name : List ℕ) (p : Presentation) (asked : List EquationQuestion) : Type 0 where
   pub one_presentation : (q r : Presentation) → GiveAll p asked q → GiveAll p asked r → q ≡ r
   pub not_both : (q : Presentation) (fault : TypeFault) → GiveAll p asked q → HasFirstFault type_name p asked fault → ⊥
   pub one_fault : (fault other : TypeFault) → HasFirstFault type_name p asked fault → HasFirstFault type_name p asked other
       → fault ≡ other
 
 abbrev pub EquationsAreDecided : Type 0
-EquationsAreDecided = (type_name : List ℕ) (p : Presentation) (asked : List Asked) → AreEquationsDecided type_name p asked
+EquationsAreDecided = (type_name : List ℕ) (p : Presentation) (asked : List EquationQuestion) → AreEquationsDecided type_name p asked
 
 -- and so is what flattening comes to
 pub record IsFlatteningDecided (types : List DeclaredType) : Type 0 where

@@ -1,8 +1,8 @@
 -- Laws of renamings: the presentation is the image of its base, under a map of sorts and one of operations that keep different
 -- ones different.
 use Rattle.std.specs.Prelude.{◌≡◌, ℕ, true, List, None, Some, map, slice_get}
-use Rattle.term_algebra.specs.Signature.{Sort, Operation, IsOperation, IsWellFormedSignature}
-use Rattle.term_algebra.specs.Equation.{IsWellFormedData}
+use Rattle.lotos_base.specs.Signature.{Sort, Operation, IsOperation, IsWellFormedSignature}
+use Rattle.lotos_base.specs.Equation.{IsWellFormedData}
 use Rattle.syntax_trees.specs.WrittenItem.{WrittenPairs}
 use Rattle.sort_terms.specs.WellFormedTest.{are_one_sort, are_one_operation}
 use Rattle.type_definitions.specs.Images.{equation_image}

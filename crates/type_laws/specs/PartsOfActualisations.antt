@@ -1,8 +1,8 @@
 -- Laws of actualisations: the presentation has that of the actual types, and the image of what is not formal in the base; nothing
 -- else is there.
 use Rattle.std.specs.Prelude.{◌≡◌, ◌⊎◌, ℕ, true, false, Some, map, slice_get}
-use Rattle.term_algebra.specs.Signature.{Sort, Operation}
-use Rattle.term_algebra.specs.Equation.{Equation}
+use Rattle.lotos_base.specs.Signature.{Sort, Operation}
+use Rattle.lotos_base.specs.Equation.{Equation}
 use Rattle.type_definitions.specs.Images.{equation_image}
 use Rattle.type_definitions.specs.Presentation.{is_same_sort, is_same_operation, is_same_equation, is_marked}
 use Rattle.type_definitions.specs.UnionLaws.{IsIn}

@@ -1,8 +1,8 @@
 -- Laws of the union of what is mentioned: it has each presentation, under one to one maps, keeps first appearances, and has
 -- nothing else.
 use Rattle.std.specs.Prelude.{◌≡◌, ℕ, true, List, ◌∷◌, ◌++◌, map}
-use Rattle.term_algebra.specs.Signature.{Sort, Operation, IsWellFormedSignature}
-use Rattle.term_algebra.specs.Equation.{Equation}
+use Rattle.lotos_base.specs.Signature.{Sort, Operation, IsWellFormedSignature}
+use Rattle.lotos_base.specs.Equation.{Equation}
 use Rattle.type_definitions.specs.Images.{equation_image}
 use Rattle.type_definitions.specs.Presentation.{Presentation, is_marked}
 use Rattle.type_definitions.specs.Union.{Mentioned, union_of, joined_sort, joined_operation, coming_operations}

@@ -6,7 +6,7 @@ use Rattle.std.specs.Option.{option_map, option_copied}
 use Rattle.std.proofs.lemmas.Bool.{ltb-true, ltb-false}
 use Rattle.std.proofs.lemmas.Option.{slice_get-map, slice_get_past, slice_get-get_or}
 use Rattle.std.proofs.Math.Dec.{ltb}
-use Rattle.term_algebra.specs.Signature.{Signature}
+use Rattle.lotos_base.specs.Signature.{Signature}
 use Rattle.syntax_trees.specs.WrittenItem.{WrittenPair}
 use Rattle.syntax_trees.specs.TreeViews.{pair_of}
 use Rattle.syntax_trees.specs.declared.items.PairText.{PairText}

@@ -1,6 +1,6 @@
 -- The names of formal sorts, and the pairs whose old name is none of them.
 use Rattle.std.specs.Prelude.{ℕ, List, [], ◌∷◌, map, if◌then◌else◌}
-use Rattle.term_algebra.specs.Signature.{Sort}
+use Rattle.lotos_base.specs.Signature.{Sort}
 use Rattle.syntax_trees.specs.WrittenItem.{WrittenPair}
 use Rattle.type_definitions.specs.Presentation.{Presentation}
 use Rattle.type_definitions.specs.Actualisation.{formal_sorts_of, is_formal_sort}

@@ -1,6 +1,6 @@
 -- The names in pairs, and the names of what a signature has.
 use Rattle.std.specs.Prelude.{ℕ, List, map}
-use Rattle.term_algebra.specs.Signature.{Signature, Sort, Operation}
+use Rattle.lotos_base.specs.Signature.{Signature, Sort, Operation}
 use Rattle.syntax_trees.specs.WrittenItem.{WrittenPair}
 
 -- the old names

@@ -6,7 +6,7 @@ ghost use Rattle.sort_terms.specs.ReadingOutcome.{is_sort_name};
 ghost use Rattle.std.specs.Prelude.{◌≡◌, true, List, None, MatchResult};
 ghost use Rattle.syntax_trees.specs.TreeViews.{pair_of};
 ghost use Rattle.syntax_trees.specs.WrittenItem.{WrittenPair};
-ghost use Rattle.term_algebra.specs.Signature.{Signature};
+ghost use Rattle.lotos_base.specs.Signature.{Signature};
 ghost use Rattle.type_definitions.specs.FaultView.{IsFaultFound};
 ghost use Rattle.type_definitions.specs.Renaming.{operation_pair_fault, sort_pair_fault};
 ghost use Rattle.type_pairs.specs.PairNames.{

@@ -3,7 +3,7 @@
 ghost use Rattle.type_presentations.specs.NamesView.{HasNames};
 ghost use Rattle.std.specs.Prelude.{◌≡◌, [], None, MatchResult, map};
 ghost use Rattle.syntax_trees.specs.TreeViews.{pair_of};
-ghost use Rattle.term_algebra.specs.Signature.{Signature};
+ghost use Rattle.lotos_base.specs.Signature.{Signature};
 ghost use Rattle.type_definitions.specs.FaultView.{IsFaultFound};
 ghost use Rattle.type_definitions.specs.Renaming.{sort_pairs_fault};
 ghost use Rattle.type_pairs.specs.PairIndexView.{pairs_in};

@@ -1,14 +1,14 @@
 -- One member that comes to a list that is found by its keys.
-use Rattle.std.proofs.Common.{◌≡◌, ℕ, ◌+◌, ◌<◌, ◌≤◌, Bool, true, false, List, [], ◌∷◌, ◌++◌, map, length, refl, ap, sym, ◌∙◌, arith}
-use Rattle.std.specs.Prelude.{◌||◌, ◌&&◌, ◌↔◌, not, if◌then◌else◌}
+use Rattle.std.proofs.Common.{◌≡◌, ℕ, ◌≤◌, Bool, true, false, List, [], ◌∷◌, ◌++◌, map, length, refl, ap, sym, ◌∙◌, arith}
+use Rattle.std.specs.Prelude.{◌&&◌, ◌↔◌, not, if◌then◌else◌}
 use Rattle.std.specs.List.{list_any}
 use Rattle.std.specs.Str.{bytes_eq}
 use Rattle.std.proofs.lemmas.List.{map-append}
-use Rattle.term_algebra.specs.Signature.{Sort, Operation}
+use Rattle.lotos_base.specs.Signature.{Sort, Operation}
 use Rattle.sort_terms.specs.WellFormedTest.{all_differ, are_one_sort, are_one_operation}
 use Rattle.type_definitions.specs.Presentation.{with_new, first_position, is_same_sort, is_same_operation}
 use Rattle.type_presentations.specs.Keys.{name_key, sort_key, profile_key, operation_key}
-use Rattle.type_presentations.proofs.KeyLemmas.{keys_tell}
+use Rattle.type_presentations.specs.KeyLaws.{keys_tell}
 use Rattle.type_presentations.proofs.KeptLemmas.{first_within, first_of_added, then_one, differ_and_one}
 use Rattle.type_presentations.proofs.KeyedLemmas.{any_by_key, first_by_key, added_by_key, itself_by_key, mutual_by_key, any_kept}
 

@@ -3,10 +3,10 @@ use Rattle.std.proofs.Common.{◌≡◌, ℕ, List, [], ◌∷◌, ◌⊎◌, in
 use Rattle.std.specs.Prelude.{Option, None, Some, slice_get}
 use Rattle.std.specs.Option.{option_map}
 use Rattle.std.proofs.lemmas.Option.{none-some, same_Some, slice_get-map, slice_get-get_or}
-use Rattle.term_algebra.specs.Signature.{Signature, Operation, IsSort, IsOperation}
-use Rattle.term_algebra.specs.Term.{Term, Terms, variable, node, no_terms, term_then}
-use Rattle.term_algebra.specs.Sorting.{HasSort, HaveSorts, Occurs, OccursAmong}
-use Rattle.term_algebra.specs.Equation.{Variable, Equation, IsDeclared, IsEquationOver}
+use Rattle.lotos_base.specs.Signature.{Signature, Operation, IsSort, IsOperation}
+use Rattle.lotos_base.specs.Term.{Term, Terms, variable, node, no_terms, term_then}
+use Rattle.lotos_base.specs.Sorting.{HasSort, HaveSorts, Occurs, OccursAmong}
+use Rattle.lotos_base.specs.Equation.{Variable, Equation, IsDeclared, IsEquationOver}
 use Rattle.type_definitions.specs.Images.{term_image, terms_image, variable_image, equation_image}
 use Rattle.type_definitions.specs.ProfiledImage.{profile_in}
 use Rattle.type_definitions.specs.ImageLaws.{IsSignatureMap}

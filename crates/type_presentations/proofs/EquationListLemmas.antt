@@ -6,8 +6,8 @@ use Rattle.std.specs.Str.{bytes_eq}
 use Rattle.std.proofs.lemmas.List.{map-append}
 use Rattle.std.proofs.lemmas.Option.{none-some, same_Some}
 use Rattle.std.proofs.lemmas.Slice.Eq.{bytes_eq-Decides}
-use Rattle.term_algebra.specs.Signature.{Signature}
-use Rattle.term_algebra.specs.Equation.{Equation}
+use Rattle.lotos_base.specs.Signature.{Signature}
+use Rattle.lotos_base.specs.Equation.{Equation}
 use Rattle.sort_terms.specs.EquationView.{equation_of}
 use Rattle.sort_terms.specs.declared.equations.Equation.{Equation as CodeEquation}
 use Rattle.type_definitions.specs.Presentation.{with_new, is_same_equation}
@@ -67,3 +67,6 @@ pub element_at : {A : Type 0} (xs : List A) (i : ℕ) (x : A) → i < length xs 
 element_at [] i x within is = absurd (omega arith)
 element_at {A = A} (y ∷ ys) zero x within is = ap (λ (z : A). Some z) (sym is)
 element_at (y ∷ ys) (suc i) x within is = element_at ys i x (omega arith) is
+
+pub element_of : {A : Type 0} (xs ys : List A) (i : ℕ) (x : A) → xs ≡ ys → i < length xs → x ≡ get_or xs i x → slice_get ys i ≡ Some x
+element_of {A = A} xs ys i x same within is = ap (λ (zs : List A). slice_get zs i) (sym same) ∙ element_at xs i x within is

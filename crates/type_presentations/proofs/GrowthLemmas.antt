@@ -5,10 +5,10 @@ use Rattle.std.specs.List.{list_all, list_any}
 use Rattle.std.proofs.lemmas.Bool.{eq-eqb, eqb-true, and_parts}
 use Rattle.std.proofs.lemmas.List.{length-append}
 use Rattle.std.proofs.lemmas.Option.{none-some, same_Some}
-use Rattle.term_algebra.specs.Signature.{Signature, Sort, Operation, IsOperation, IsWellFormedSignature}
-use Rattle.term_algebra.specs.Term.{Term, Terms, variable, node, no_terms, term_then}
-use Rattle.term_algebra.specs.Sorting.{HasSort, HaveSorts}
-use Rattle.term_algebra.specs.Equation.{Equation, Data, IsEquationOver, IsWellFormedData}
+use Rattle.lotos_base.specs.Signature.{Signature, Sort, Operation, IsOperation, IsWellFormedSignature}
+use Rattle.lotos_base.specs.Term.{Term, Terms, variable, node, no_terms, term_then}
+use Rattle.lotos_base.specs.Sorting.{HasSort, HaveSorts}
+use Rattle.lotos_base.specs.Equation.{Equation, Data, IsEquationOver, IsWellFormedData}
 use Rattle.sort_terms.specs.ProfiledTerm.{ProfiledTerm, ProfiledTerms, profiled_variable, profiled_node, no_profiled_terms, profiled_term_then, IsOf, AreOf}
 use Rattle.sort_terms.specs.WellFormedTest.{has_known_sorts, are_one_sort, are_one_operation, all_differ, is_well_formed}
 use Rattle.sort_terms.proofs.WellFormedLemmas.{well_formed_test, test_well_formed}

@@ -1,7 +1,7 @@
 -- Members that come to a list one after another.
 use Rattle.std.proofs.Common.{◌≡◌, ℕ, zero, suc, ◌+◌, ◌<◌, ◌≤◌, Bool, true, false, List, [], ◌∷◌, ◌++◌, map, length, drop, get_or, append_assoc, subst, refl, ap, sym, ◌∙◌, arith}
-use Rattle.std.specs.Prelude.{Option, Some, None, slice_get, slice_index, ◌||◌, ◌&&◌, not, if◌then◌else◌}
-use Rattle.std.proofs.lemmas.List.{append-nil}
+use Rattle.std.specs.Prelude.{Option, Some, None, slice_get, slice_index, ◌||◌, ◌&&◌, not}
+use Rattle.std.proofs.lemmas.List.{append-nil, length-map}
 use Rattle.sort_terms.specs.WellFormedTest.{all_differ}
 use Rattle.type_definitions.specs.Presentation.{with_new, first_position}
 use Rattle.type_presentations.proofs.KeptLemmas.{drop_next, at_number, numbers_along, numbers_stay, one_more}
@@ -91,3 +91,10 @@ due_next {A = A} xs i x f g within is = ap (λ (ys : List A). map g (map f ys)) 
 
 pub none_due : {A B C : Type 0} (xs : List A) (i : ℕ) (f : A → B) (g : B → C) → length xs ≤ i → map g (map f (drop i xs)) ≡ []
 none_due {A = A} xs i f g past = ap (λ (ys : List A). map g (map f ys)) (nothing_due xs i past)
+
+-- what the same members come to
+pub as_many_images : {A B : Type 0} (f : A → B) (xs ys : List A) → xs ≡ ys → length xs ≡ length (map f ys)
+as_many_images {A = A} f xs ys same = ap (λ (zs : List A). length zs) same ∙ sym (length-map ys f)
+
+pub same_images : {A B C : Type 0} (f : A → B) (g : B → C) (xs ys : List A) → xs ≡ ys → map g (map f xs) ≡ map g (map f ys)
+same_images {A = A} f g xs ys same = ap (λ (zs : List A). map g (map f zs)) same

@@ -3,7 +3,6 @@ pub mod MarkedLemmas
 pub mod SizeLemmas
 pub mod EquationImageLemmas
 pub mod SignatureLemmas
-pub mod KeyLemmas
 pub mod KeptLemmas
 pub mod KeyedLemmas
 pub mod KeySetLemmas
@@ -11,6 +10,6 @@ pub mod OnceLemmas
 pub mod AddedLemmas
 pub mod JoinedLemmas
 pub mod GrowthLemmas
-pub mod EquationKeyLemmas
 pub mod EquationListLemmas
 pub mod NameLemmas
+pub mod EquationKeyLemmas

@@ -5,8 +5,8 @@ use Rattle.std.specs.List.{list_all}
 use Rattle.std.proofs.lemmas.Bool.{lt-ltb, and_parts}
 use Rattle.std.proofs.lemmas.List.{map-id}
 use Rattle.std.proofs.lemmas.Option.{none-some, slice_get_within, get_or_from_slice_get}
-use Rattle.term_algebra.specs.Signature.{Signature, Sort, Operation, IsSort, IsOperation, IsWellFormedSignature}
-use Rattle.term_algebra.specs.Equation.{Equation, IsEquationOver, IsWellFormedData}
+use Rattle.lotos_base.specs.Signature.{Signature, Sort, Operation, IsSort, IsOperation, IsWellFormedSignature}
+use Rattle.lotos_base.specs.Equation.{Equation, IsEquationOver, IsWellFormedData}
 use Rattle.sort_terms.specs.EquationView.{equation_of}
 use Rattle.sort_terms.specs.ProfiledTerm.{ProfiledTerm, ProfiledTerms, profiled_variable, profiled_node, no_profiled_terms, profiled_term_then, IsOf, AreOf}
 use Rattle.sort_terms.specs.WellFormedTest.{all_below, has_known_sorts, all_differ, are_one_sort, are_one_operation}

@@ -1,7 +1,7 @@
 -- Keys of equations: lists of numbers that are equal exactly where two equations stand at one place and have the same sides.
 use Rattle.std.specs.Prelude.{◌≡◌, ◌↔◌, ℕ, true, List, [], ◌∷◌, ◌++◌}
-use Rattle.term_algebra.specs.Term.{Term, Terms, variable, node, no_terms, term_then}
-use Rattle.term_algebra.specs.Equation.{Equation}
+use Rattle.lotos_base.specs.Term.{Term, Terms, variable, node, no_terms, term_then}
+use Rattle.lotos_base.specs.Equation.{Equation}
 use Rattle.type_definitions.specs.Presentation.{is_same_equation}
 
 abbrev mutual

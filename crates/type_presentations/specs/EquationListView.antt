@@ -1,8 +1,8 @@
 -- The equations of a list of equations, that its keys are theirs, and what the terms of their sides carry.
 use Rattle.std.specs.Prelude.{◌≡◌, ℕ, List, [], Some, map, slice_get}
 use Rattle.std.specs.Str.{bytes_eq}
-use Rattle.term_algebra.specs.Signature.{Signature, Operation}
-use Rattle.term_algebra.specs.Equation.{Equation}
+use Rattle.lotos_base.specs.Signature.{Signature, Operation}
+use Rattle.lotos_base.specs.Equation.{Equation}
 use Rattle.sort_terms.specs.EquationView.{equation_of}
 use Rattle.sort_terms.specs.ProfiledTerm.{IsOf}
 use Rattle.sort_terms.specs.SortedView.{profiled_in}

@@ -1,7 +1,7 @@
 -- What becomes of an equation that is well formed over one signature under maps to another one.
 use Rattle.std.specs.Prelude.{◌≡◌, ℕ}
-use Rattle.term_algebra.specs.Signature.{Signature}
-use Rattle.term_algebra.specs.Equation.{Equation, IsEquationOver}
+use Rattle.lotos_base.specs.Signature.{Signature}
+use Rattle.lotos_base.specs.Equation.{Equation, IsEquationOver}
 use Rattle.type_definitions.specs.Images.{equation_image}
 use Rattle.type_definitions.specs.ImageLaws.{IsSignatureMap}
 

@@ -1,8 +1,8 @@
 -- Keys of sorts and operations: lists of numbers that are equal exactly where two sorts or operations are, or have one name,
 -- or one name, form and profile.
 use Rattle.std.specs.Prelude.{◌≡◌, ◌↔◌, ℕ, true, List, ◌∷◌, ◌++◌, length}
-use Rattle.term_algebra.specs.Names.{folded}
-use Rattle.term_algebra.specs.Signature.{Sort, Operation, Form, prefix_form, infix_form}
+use Rattle.lotos_base.specs.Names.{folded}
+use Rattle.lotos_base.specs.Signature.{Sort, Operation, Form, prefix_form, infix_form}
 use Rattle.sort_terms.specs.WellFormedTest.{are_one_sort, are_one_operation}
 use Rattle.type_definitions.specs.Presentation.{is_same_sort, is_same_operation}
 

@@ -2,7 +2,9 @@ pub mod MarksView
 pub mod PresentationView
 pub mod ImagesOfEquations
 pub mod Keys
+pub mod KeyLaws
 pub mod KeyView
+pub mod MemberListView
 pub mod SortListView
 pub mod OperationListView
 pub mod Growth

@@ -1,18 +1,21 @@
 -- The operations of a list of operations, and that its keys are theirs.
-use Rattle.std.specs.Prelude.{◌≡◌, List, [], map}
-use Rattle.std.specs.Str.{bytes_eq}
-use Rattle.term_algebra.specs.Signature.{Operation}
+use Rattle.std.specs.Prelude.{List}
+use Rattle.std.specs.declared.alloc.Global.{Global}
+use Rattle.std.specs.declared.rc.Rc.{Rc}
+use Rattle.lotos_base.specs.Signature.{Operation}
 use Rattle.sort_terms.specs.Operations.{operation_of}
-use Rattle.type_definitions.specs.Presentation.{with_new}
+use Rattle.sort_terms.specs.declared.operations.Op.{Op}
 use Rattle.type_presentations.specs.Keys.{operation_key, profile_key}
-use Rattle.type_presentations.specs.KeyView.{keys_in}
-use Rattle.type_presentations.specs.declared.operation_list.OperationList.{OperationList}
+use Rattle.type_presentations.specs.MemberListView.{HasKeys, members_by}
+use Rattle.type_presentations.specs.declared.member_list.MemberList.{MemberList}
+
+abbrev pub OperationList : Type 0
+OperationList = MemberList (Rc Op Global)
 
 -- the operations in the order of their numbers
 abbrev pub operations_in : OperationList → List Operation
-operations_in list = map (λ op. operation_of op.value) list.ops.items
+operations_in list = members_by (λ op. operation_of op.value) list
 
 -- The keys are those of the operations, and the profiles those of the operations, each once.
-pub record HasOperationKeys (list : OperationList) : Type 0 where
-  pub keys : keys_in list.keys ≡ map operation_key (operations_in list)
-  pub profiles : keys_in list.profiles ≡ with_new bytes_eq [] (map profile_key (operations_in list))
+abbrev pub HasOperationKeys : OperationList → Type 0
+HasOperationKeys list = HasKeys (λ op. operation_of op.value) operation_key profile_key list

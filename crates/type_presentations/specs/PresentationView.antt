@@ -1,6 +1,6 @@
 -- The presentation that a presentation of the code stands for, and what is so of each.
 use Rattle.std.specs.Prelude.{◌≡◌, false}
-use Rattle.term_algebra.specs.Equation.{IsWellFormedData}
+use Rattle.lotos_base.specs.Equation.{IsWellFormedData}
 use Rattle.type_definitions.specs.Presentation.{Presentation as PlainPresentation, is_too_large}
 use Rattle.type_definitions.specs.Flattened.{data_of}
 use Rattle.type_presentations.specs.SortListView.{HasSortKeys, sorts_in}

@@ -1,18 +1,19 @@
 -- The sorts of a list of sorts, and that its keys are theirs.
-use Rattle.std.specs.Prelude.{◌≡◌, List, [], map}
-use Rattle.std.specs.Str.{bytes_eq}
-use Rattle.term_algebra.specs.Signature.{Sort}
+use Rattle.std.specs.Prelude.{List}
+use Rattle.lotos_base.specs.Signature.{Sort}
 use Rattle.sort_terms.specs.Operations.{sort_of}
-use Rattle.type_definitions.specs.Presentation.{with_new}
+use Rattle.sort_terms.specs.declared.operations.Sort.{Sort as CodeSort}
 use Rattle.type_presentations.specs.Keys.{name_key, sort_key}
-use Rattle.type_presentations.specs.KeyView.{keys_in}
-use Rattle.type_presentations.specs.declared.sort_list.SortList.{SortList}
+use Rattle.type_presentations.specs.MemberListView.{HasKeys, members_by}
+use Rattle.type_presentations.specs.declared.member_list.MemberList.{MemberList}
+
+abbrev pub SortList : Type 0
+SortList = MemberList CodeSort
 
 -- the sorts in the order of their numbers
 abbrev pub sorts_in : SortList → List Sort
-sorts_in list = map sort_of list.sorts.items
+sorts_in list = members_by sort_of list
 
 -- The keys are those of the sorts, and the names those of the sorts, each once.
-pub record HasSortKeys (list : SortList) : Type 0 where
-  pub keys : keys_in list.keys ≡ map sort_key (sorts_in list)
-  pub names : keys_in list.names ≡ with_new bytes_eq [] (map name_key (sorts_in list))
+abbrev pub HasSortKeys : SortList → Type 0
+HasSortKeys list = HasKeys sort_of sort_key name_key list

@@ -1,19 +1,18 @@
 //! Equations, each once.
 
 ghost use Rattle.sort_terms.specs.EquationView.{equation_of};
-ghost use Rattle.sort_terms.specs.Operations.{operation_of};
 ghost use Rattle.std.specs.Prelude.{◌≡◌, ◌∷◌, ◌++◌, [], OnOk, map};
-ghost use Rattle.term_algebra.specs.Signature.{Signature};
+ghost use Rattle.lotos_base.specs.Signature.{Signature};
 ghost use Rattle.type_definitions.specs.Presentation.{is_same_equation, with_new};
 ghost use Rattle.type_definitions.specs.Images.{equation_image};
 ghost use Rattle.type_definitions.specs.ProfiledImage.{number_in};
+ghost use Rattle.type_presentations.specs.OperationListView.{operations_in};
 
-use crate::KeySet;
 use crate::equation_keys::equation_key;
+use crate::{KeySet, OperationList};
 use lotos_base::NoMemory;
-use sort_terms::{Equation, Op};
+use sort_terms::Equation;
 use std::alloc::Global;
-use std::rc::Rc;
 use type_definitions::image_of_equation;
 
 /// Equations, each once, in the order in which they came, with their keys.
@@ -92,32 +91,33 @@ impl EquationList {
         Ok(())
     }
 
-    /// Adds the equations that come, one by one, with the new number of each sort and operation
-    /// and with the profiles of the new operations.
+    /// Adds the equations of the other list, one by one, with the new number of each sort and
+    /// operation and with the profiles of the new operations.
     pub fn join(
         &mut self,
         alloc: Global,
-        coming: &[Equation],
+        other: &EquationList,
         sorts: &[u32],
         ops: &[u32],
-        profiles: &[Rc<Op>],
+        profiles: &OperationList,
     ) -> Result<(), NoMemory>
         requires keyed { HasEquationKeys self.old }
         requires keeps { AllKeepProfiles (number_in sorts.now) (number_in ops.now)
-            (map (λ p. operation_of p.value) profiles.now) coming.now }
+            (operations_in profiles.now) other.now.equations.items }
         ensures keyed { OnOk result (HasEquationKeys self.new) }
         ensures equations { OnOk result (equations_in self.new
             ≡ with_new is_same_equation (equations_in self.old)
             (map (equation_image (number_in sorts.now) (number_in ops.now))
-            (map equation_of coming.now))) }
+            (equations_in other.now))) }
         ensures sides { OnOk result ((signature : Signature)
             → HaveSidesOf signature self.old.equations.items
             → ImagesAreOf (number_in sorts.now) (number_in ops.now)
-            (map (λ p. operation_of p.value) profiles.now) signature coming.now
+            (operations_in profiles.now) signature other.now.equations.items
             → HaveSidesOf signature self.new.equations.items) }
     {
-        for equation in coming {
-            let image = image_of_equation(alloc, equation, sorts, ops, profiles)?;
+        let shared = profiles.ops();
+        for equation in other.equations.as_slice() {
+            let image = image_of_equation(alloc, equation, sorts, ops, shared)?;
             self.add(alloc, image)?;
         }
         Ok(())

@@ -4,7 +4,7 @@ ghost use Rattle.sort_terms.specs.EquationView.{equation_of};
 ghost use Rattle.sort_terms.specs.ProfiledTerm.{IsOf};
 ghost use Rattle.sort_terms.specs.SortedView.{profiled_in};
 ghost use Rattle.std.specs.Prelude.{◌≡◌, OnOk};
-ghost use Rattle.term_algebra.specs.Equation.{IsEquationOver};
+ghost use Rattle.lotos_base.specs.Equation.{IsEquationOver};
 ghost use Rattle.type_definitions.specs.DeclaredEquations.{with_equation};
 ghost use Rattle.type_presentations.specs.PresentationView.{IsSound, presentation_of};
 

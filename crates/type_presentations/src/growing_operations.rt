@@ -15,6 +15,7 @@ use crate::Presentation;
 use lotos_base::NoMemory;
 use sort_terms::Op;
 use std::alloc::Global;
+use std::rc::Rc;
 
 /// Puts an operation over the sorts of the presentation at the end, and answers whether there was
 /// one of its name, form and profile. Where there was one, the presentation is not to be used.
@@ -30,7 +31,7 @@ pub fn grow_by_op(alloc: Global, presentation: &mut Presentation, op: Op) -> Res
         × IsSound presentation.new) }
 {
     let before = presentation.ops.ops().len();
-    let added = presentation.ops.add(alloc, op)?;
+    let added = presentation.ops.add(alloc, Rc::new(alloc, op)?)?;
     let after = presentation.ops.ops().len();
     Ok(added.clashes || after == before)
 }

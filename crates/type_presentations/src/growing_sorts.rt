@@ -31,7 +31,7 @@ pub fn grow_by_sort(
         × IsSound presentation.new) }
 {
     let before = presentation.sorts.sorts().len();
-    let added = presentation.sorts.add(alloc, sort)?;
+    let added = presentation.sorts.add(alloc, sort.copy(alloc)?)?;
     let after = presentation.sorts.sorts().len();
     Ok(added.clashes || after == before)
 }

@@ -4,37 +4,14 @@ ghost use Rattle.lotos_base.specs.Name.{folded, spelling};
 ghost use Rattle.lotos_base.specs.WrittenView.{form_of};
 ghost use Rattle.type_presentations.specs.Keys.{
   form_number as number_of_form,
-  name_key as key_of_name,
-  operation_key as key_of_operation,
   profile_key as key_of_profile,
-  sort_key as key_of_sort,
 };
-ghost use Rattle.sort_terms.specs.Operations.{operation_of, sort_of};
+ghost use Rattle.sort_terms.specs.Operations.{operation_of};
 ghost use Rattle.std.specs.Prelude.{◌≡◌, ◌∷◌, ◌++◌, IfOk, OnOk, length};
 
 use lotos_base::{Form, Name, NoMemory};
-use sort_terms::{Op, Sort};
+use sort_terms::Op;
 use std::alloc::Global;
-
-/// The key of a sort by its name.
-pub fn name_key(alloc: Global, sort: &Sort) -> Result<Vec<usize>, NoMemory>
-    ensures { IfOk result (λ key. key.items ≡ key_of_name (sort_of sort.now)) }
-{
-    let mut key = Vec::new(alloc);
-    push_name(&mut key, &sort.name)?;
-    Ok(key)
-}
-
-/// The key of a sort by its name and origin.
-pub fn sort_key(alloc: Global, sort: &Sort) -> Result<Vec<usize>, NoMemory>
-    ensures { IfOk result (λ key. key.items ≡ key_of_sort (sort_of sort.now)) }
-{
-    let mut key = Vec::new(alloc);
-    key.push(sort.name.spelled().len())?;
-    push_name(&mut key, &sort.name)?;
-    push_name(&mut key, &sort.origin)?;
-    Ok(key)
-}
 
 /// The key of an operation by its name, form and profile.
 pub fn profile_key(alloc: Global, op: &Op) -> Result<Vec<usize>, NoMemory>
@@ -46,20 +23,8 @@ pub fn profile_key(alloc: Global, op: &Op) -> Result<Vec<usize>, NoMemory>
     Ok(key)
 }
 
-/// The key of an operation by its name, form, profile and origin.
-pub fn operation_key(alloc: Global, op: &Op) -> Result<Vec<usize>, NoMemory>
-    ensures { IfOk result (λ key. key.items ≡ key_of_operation (operation_of op.now)) }
-{
-    let mut key = Vec::new(alloc);
-    key.push(op.name.spelled().len())?;
-    push_profile(&mut key, op)?;
-    push_name(&mut key, &op.name)?;
-    push_name(&mut key, &op.origin)?;
-    Ok(key)
-}
-
 // Adds the form, the result and the arguments with their number.
-fn push_profile(key: &mut Vec<usize>, op: &Op) -> Result<(), NoMemory>
+pub(crate) fn push_profile(key: &mut Vec<usize>, op: &Op) -> Result<(), NoMemory>
     ensures { OnOk result (key.new.items ≡ key.old.items
         ++ number_of_form (form_of op.now.form) ∷ op.now.result ∷ length op.now.arguments.items
         ∷ op.now.arguments.items) }
@@ -82,7 +47,7 @@ fn push_numbers(key: &mut Vec<usize>, numbers: &[u32]) -> Result<(), NoMemory>
 }
 
 // Adds the small letters of the name.
-fn push_name(key: &mut Vec<usize>, name: &Name) -> Result<(), NoMemory>
+pub(crate) fn push_name(key: &mut Vec<usize>, name: &Name) -> Result<(), NoMemory>
     ensures { OnOk result (key.new.items ≡ key.old.items ++ folded (spelling name.now)) }
 {
     let spelled = name.spelled();

@@ -15,10 +15,10 @@ pub mod key_set;
 pub mod keys;
 pub mod marking;
 pub mod marks;
+pub mod member_list;
+pub mod members;
 pub mod names;
-pub mod operation_list;
 pub mod presentations;
-pub mod sort_list;
 
 pub use equation_keys::equation_key;
 pub use equation_list::EquationList;
@@ -28,13 +28,13 @@ pub use growing_operations::grow_by_op;
 pub use growing_sorts::grow_by_sort;
 pub use key_laws::keys_tell;
 pub use key_set::KeySet;
-pub use keys::{name_key, operation_key, profile_key, sort_key};
+pub use keys::profile_key;
 pub use marking::{mark_op, mark_sort};
 pub use marks::Marks;
+pub use member_list::{MemberList, OperationList, SortList};
+pub use members::Keyed;
 pub use names::NamePositions;
-pub use operation_list::OperationList;
 pub use presentations::Presentation;
-pub use sort_list::SortList;
 
 /// Under maps from one signature to another the image of a well-formed equation of the one is a
 /// well-formed equation of the other; where the numbers stay, it is the same.

@@ -71,14 +71,14 @@ impl Marks {
         Ok(())
     }
 
-    /// Marks the new number of each number that comes.
-    pub fn join(&mut self, coming: &[u32], numbers: &[u32]) -> Result<(), NoMemory>
+    /// Marks the new number of each number that the other ones mark.
+    pub fn join(&mut self, other: &Marks, numbers: &[u32]) -> Result<(), NoMemory>
         requires known { IsKnown self.old }
         ensures known { OnOk result (IsKnown self.new) }
-        ensures marks { OnOk result (marks_in self.new
-            ≡ with_new nat_eq (marks_in self.old) (map (number_in numbers.now) coming.now)) }
+        ensures marks { OnOk result (marks_in self.new ≡ with_new nat_eq (marks_in self.old)
+            (map (number_in numbers.now) (marks_in other.now))) }
     {
-        for number in coming {
+        for number in other.numbers.as_slice() {
             self.add(number_at(numbers, *number))?;
         }
         Ok(())

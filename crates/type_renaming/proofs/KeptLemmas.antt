@@ -5,10 +5,10 @@ use Rattle.std.specs.Option.{option_map}
 use Rattle.std.proofs.lemmas.Bool.{ltb-true, ltb-false}
 use Rattle.std.proofs.lemmas.List.{get_or_append_left, get_or_push, length-map, append-nil}
 use Rattle.std.proofs.lemmas.Option.{slice_get_within, slice_get_read, slice_get-map, get_or_from_slice_get}
-use Rattle.term_algebra.specs.Signature.{Signature, Operation, IsWellFormedSignature}
-use Rattle.term_algebra.specs.Term.{Term, Terms, variable, node, no_terms, term_then}
-use Rattle.term_algebra.specs.Sorting.{HasSort, HaveSorts}
-use Rattle.term_algebra.specs.Equation.{Variable, Equation, IsEquationOver}
+use Rattle.lotos_base.specs.Signature.{Signature, Operation, IsWellFormedSignature}
+use Rattle.lotos_base.specs.Term.{Term, Terms, variable, node, no_terms, term_then}
+use Rattle.lotos_base.specs.Sorting.{HasSort, HaveSorts}
+use Rattle.lotos_base.specs.Equation.{Variable, Equation, IsEquationOver}
 use Rattle.type_definitions.specs.Images.{term_image, terms_image, variable_image, equation_image}
 use Rattle.type_definitions.specs.ProfiledImage.{number_in, profile_in}
 use Rattle.type_definitions.specs.ImageLaws.{IsSignatureMap}

@@ -8,7 +8,7 @@ use Rattle.std.proofs.lemmas.List.{length-map, length-take}
 use Rattle.std.proofs.lemmas.Option.{slice_get-map}
 use Rattle.std.specs.declared.rc.Rc.{Rc}
 use Rattle.std.specs.declared.alloc.Global.{Global}
-use Rattle.term_algebra.specs.Signature.{Signature, Sort, Operation, IsWellFormedSignature}
+use Rattle.lotos_base.specs.Signature.{Signature, Sort, Operation, IsWellFormedSignature}
 use Rattle.syntax_trees.specs.WrittenItem.{WrittenPair, WrittenPairs}
 use Rattle.sort_terms.specs.Operations.{operation_of}
 use Rattle.sort_terms.specs.declared.operations.Op.{Op}

@@ -2,7 +2,7 @@
 use Rattle.std.proofs.Common.{◌≡◌, ℕ, List, [], ◌++◌, map, length, ap, sym, ◌∙◌}
 use Rattle.std.specs.Prelude.{Option, Some, None, false}
 use Rattle.std.proofs.lemmas.List.{length-map}
-use Rattle.term_algebra.specs.Signature.{Sort, Operation}
+use Rattle.lotos_base.specs.Signature.{Sort, Operation}
 use Rattle.syntax_trees.specs.WrittenItem.{WrittenPair, WrittenPairs}
 use Rattle.type_definitions.specs.TypeFault.{TypeFault, first_fault}
 use Rattle.type_definitions.specs.Presentation.{Presentation, is_too_large}

@@ -1,7 +1,7 @@
 -- Presentations that are made part by part.
 use Rattle.std.specs.Prelude.{◌≡◌, ℕ, List, [], length, ◌++◌}
-use Rattle.term_algebra.specs.Signature.{Signature, Sort, Operation, IsOperation}
-use Rattle.term_algebra.specs.Equation.{Equation}
+use Rattle.lotos_base.specs.Signature.{Signature, Sort, Operation, IsOperation}
+use Rattle.lotos_base.specs.Equation.{Equation}
 use Rattle.type_definitions.specs.Presentation.{Presentation}
 
 -- sorts, and nothing else

@@ -1,6 +1,6 @@
 -- Lists of new numbers under which sorts and operations keep their numbers.
 use Rattle.std.specs.Prelude.{◌≡◌, ◌<◌, ℕ, List, length}
-use Rattle.term_algebra.specs.Signature.{Signature}
+use Rattle.lotos_base.specs.Signature.{Signature}
 use Rattle.type_definitions.specs.ProfiledImage.{number_in}
 
 -- Each sort and each operation of the signature keeps its number.

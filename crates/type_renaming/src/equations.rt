@@ -11,7 +11,7 @@ ghost use Rattle.std.specs.Prelude.{
   IfOk,
   OnOk,
 };
-ghost use Rattle.term_algebra.specs.Equation.{IsEquationOver};
+ghost use Rattle.lotos_base.specs.Equation.{IsEquationOver};
 ghost use Rattle.type_definitions.specs.DeclaredEquations.{with_equation};
 ghost use Rattle.type_definitions.specs.ProfiledImage.{number_in};
 ghost use Rattle.type_presentations.specs.MarksView.{IsKnown, marks_in};

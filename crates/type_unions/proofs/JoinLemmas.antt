@@ -2,8 +2,8 @@
 use Rattle.std.proofs.Common.{◌≡◌, ℕ, Bool, List, map, ap, sym, ◌∙◌, subst}
 use Rattle.std.proofs.Math.Path.{fun_ext}
 use Rattle.std.specs.Prelude.{◌&&◌, not, slice_get}
-use Rattle.term_algebra.specs.Signature.{Sort, Operation, IsWellFormedSignature}
-use Rattle.term_algebra.specs.Equation.{IsWellFormedData}
+use Rattle.lotos_base.specs.Signature.{Sort, Operation, IsWellFormedSignature}
+use Rattle.lotos_base.specs.Equation.{IsWellFormedData}
 use Rattle.sort_terms.specs.WellFormedTest.{all_differ, are_one_sort, are_one_operation}
 use Rattle.type_definitions.specs.Images.{operation_image}
 use Rattle.type_definitions.specs.ProfiledImage.{number_in}

@@ -1,8 +1,8 @@
 -- What is known of two presentations that are joined step by step, and what follows for the whole.
-use Rattle.std.proofs.Common.{◌≡◌, ℕ, Bool, true, false, List, map, ap, sym, ◌∙◌}
+use Rattle.std.proofs.Common.{◌≡◌, ℕ, Bool, true, false, List, [], ◌∷◌, map, refl, ap, sym, ◌∙◌}
 use Rattle.std.specs.Prelude.{Some, ◌&&◌, not, nat_eq, slice_get}
-use Rattle.term_algebra.specs.Signature.{Signature, Sort, Operation, IsWellFormedSignature}
-use Rattle.term_algebra.specs.Equation.{IsWellFormedData}
+use Rattle.lotos_base.specs.Signature.{Signature, Sort, Operation, IsWellFormedSignature}
+use Rattle.lotos_base.specs.Equation.{IsWellFormedData}
 use Rattle.sort_terms.specs.WellFormedTest.{all_differ, are_one_sort, are_one_operation}
 use Rattle.sort_terms.specs.declared.equations.Equation.{Equation as CodeEquation}
 use Rattle.type_definitions.specs.Images.{operation_image, equation_image}
@@ -49,6 +49,36 @@ pub record RestCame (p q : Presentation) (sorts operations : List ℕ) (new : Pr
   pub formal_sorts : new.formal_sorts ≡ with_new nat_eq p.formal_sorts (map (number_in sorts) q.formal_sorts)
   pub formal_operations : new.formal_operations
       ≡ with_new nat_eq p.formal_operations (map (number_in operations) q.formal_operations)
+
+-- sorts stay as they are, whatever the numbers
+themselves : (ss : List Sort) → map (λ s. s) ss ≡ ss
+themselves [] = refl
+themselves (s ∷ ss) = ap (λ (ts : List Sort). s ∷ ts) (themselves ss)
+
+-- the numbers that are taken are those that came
+pub sorts_came : (p q : Presentation) (taken numbers : List ℕ) (new : List Sort) (clash : Bool) → taken ≡ numbers
+    → new ≡ with_new is_same_sort p.signature.sorts (map (λ s. s) q.signature.sorts)
+    → ((n : ℕ) → number_in numbers n ≡ sort_in new (slice_get (map (λ s. s) q.signature.sorts) n))
+    → all_differ are_one_sort new ≡ (not clash && all_differ are_one_sort p.signature.sorts) → SortsCame p q taken new clash
+sorts_came p q taken numbers new clash are these numbered told = record {
+  these = these ∙ ap (λ (ss : List Sort). with_new is_same_sort p.signature.sorts ss) (themselves q.signature.sorts);
+  numbered = λ n.
+      ap (λ (ns : List ℕ). number_in ns n) are ∙ numbered n
+      ∙ ap (λ (ss : List Sort). sort_in new (slice_get ss n)) (themselves q.signature.sorts);
+  told = told;
+}
+
+pub operations_came : (p q : Presentation) (sorts taken numbers : List ℕ) (new : List Operation) (clash : Bool) → taken ≡ numbers
+    → new ≡ with_new is_same_operation p.signature.operations (map (operation_image (number_in sorts)) q.signature.operations)
+    → ((n : ℕ) → number_in numbers n
+    ≡ operation_in new (slice_get (map (operation_image (number_in sorts)) q.signature.operations) n))
+    → all_differ are_one_operation new ≡ (not clash && all_differ are_one_operation p.signature.operations)
+    → OperationsCame p q sorts taken new clash
+operations_came p q sorts taken numbers new clash are these numbered told = record {
+  these = these;
+  numbered = λ n. ap (λ (ns : List ℕ). number_in ns n) are ∙ numbered n;
+  told = told;
+}
 
 -- ---- Sorts and operations.
 

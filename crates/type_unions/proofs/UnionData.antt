@@ -1,8 +1,8 @@
 -- The data of a union are well formed, and its equations carry its profiles.
 use Rattle.std.proofs.Common.{◌≡◌, ℕ, true, List, inl, inr, map, sym, subst}
 use Rattle.std.proofs.Math.Path.{fun_ext}
-use Rattle.term_algebra.specs.Signature.{Operation}
-use Rattle.term_algebra.specs.Equation.{Equation, IsEquationOver, IsWellFormedData}
+use Rattle.lotos_base.specs.Signature.{Operation}
+use Rattle.lotos_base.specs.Equation.{Equation, IsEquationOver, IsWellFormedData}
 use Rattle.sort_terms.specs.SortedView.{profiled_in}
 use Rattle.sort_terms.specs.WellFormedTest.{all_differ, are_one_sort, are_one_operation}
 use Rattle.sort_terms.specs.declared.equations.Equation.{Equation as CodeEquation}

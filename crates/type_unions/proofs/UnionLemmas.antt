@@ -2,8 +2,8 @@
 use Rattle.std.proofs.Common.{◌≡◌, ℕ, ◌+◌, ◌^◌, ◌≤◌, Bool, true, false, List, map, refl, ap, ◌∙◌, arith}
 use Rattle.std.proofs.Math.Path.{fun_ext}
 use Rattle.std.specs.Prelude.{Option, Some, None, ◌&&◌, not, nat_eq}
-use Rattle.term_algebra.specs.Equation.{Equation}
-use Rattle.term_algebra.specs.Signature.{Sort, Operation}
+use Rattle.lotos_base.specs.Equation.{Equation}
+use Rattle.lotos_base.specs.Signature.{Sort, Operation}
 use Rattle.sort_terms.specs.WellFormedTest.{all_differ, are_one_sort, are_one_operation}
 use Rattle.type_definitions.specs.Images.{operation_image, equation_image}
 use Rattle.type_definitions.specs.ProfiledImage.{number_in}

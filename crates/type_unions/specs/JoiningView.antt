@@ -2,8 +2,8 @@
 use Rattle.std.specs.Prelude.{◌≡◌, false}
 use Rattle.type_definitions.specs.Presentation.{Presentation as PlainPresentation, has_sort_clash, has_operation_clash}
 use Rattle.type_definitions.specs.Union.{joined}
-use Rattle.type_presentations.specs.declared.sort_list.SortList.{SortList}
-use Rattle.type_presentations.specs.declared.operation_list.OperationList.{OperationList}
+use Rattle.type_presentations.specs.SortListView.{SortList}
+use Rattle.type_presentations.specs.OperationListView.{OperationList}
 use Rattle.type_presentations.specs.declared.equation_list.EquationList.{EquationList}
 use Rattle.type_presentations.specs.declared.marks.Marks.{Marks}
 use Rattle.type_presentations.specs.declared.presentations.Presentation.{Presentation}

@@ -3,7 +3,7 @@ use Rattle.std.specs.Prelude.{◌≡◌, ℕ, List, Option, None, Some, map, sli
 use Rattle.type_definitions.specs.Presentation.{Presentation as PlainPresentation, nothing}
 use Rattle.type_definitions.specs.Union.{Mentioned}
 use Rattle.type_definitions.specs.Flattened.{declared_with}
-use Rattle.type_mentions.specs.TypeView.{declared_type_of}
+use Rattle.type_definitions.specs.TypeView.{declared_type_of}
 use Rattle.type_presentations.specs.NamesView.{HasNames}
 use Rattle.type_presentations.specs.PresentationView.{presentation_of, IsSound, IsWithinLimits}
 use Rattle.type_presentations.specs.declared.presentations.Presentation.{Presentation}

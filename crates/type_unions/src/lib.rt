@@ -5,7 +5,6 @@
 pub mod clashes;
 pub mod faults;
 pub mod mentions;
-pub mod parts;
 pub mod presented;
 pub mod unions;
 

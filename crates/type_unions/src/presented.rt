@@ -15,14 +15,14 @@ ghost use Rattle.type_definitions.specs.Flattened.{
   presentation_named,
   without_formals,
 };
-ghost use Rattle.type_mentions.specs.TypeView.{declared_type_of};
+ghost use Rattle.type_definitions.specs.TypeView.{declared_type_of};
 ghost use Rattle.type_presentations.specs.PresentationView.{presentation_of};
 
 use crate::Mention;
 use lotos_base::{Name, NoMemory};
 use std::alloc::Global;
 use syntax_trees::Named;
-use type_mentions::TypeText;
+use type_definitions::TypeText;
 use type_presentations::{NamePositions, Presentation};
 
 /// A type with its presentation.

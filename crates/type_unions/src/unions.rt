@@ -13,9 +13,6 @@ ghost use Rattle.type_presentations.specs.PresentationView.{
 use crate::clashes::Clashes;
 use crate::faults::{double_operation, double_sort, too_large};
 use crate::mentions::Mention;
-use crate::parts::{
-    join_equations, join_formal_ops, join_formal_sorts, join_operations, join_sorts,
-};
 use lotos_base::NoMemory;
 use std::alloc::Global;
 use type_definitions::TypeFault;
@@ -77,18 +74,13 @@ fn put_together(
         (presentation_of other.now)
         (in_one sorts.new ops.new equations.new formal_sorts.new formal_ops.new) clashes) }
 {
-    let joined_sorts = join_sorts(alloc, sorts, &other.sorts)?;
-    let joined_ops = join_operations(alloc, ops, &other.ops, &joined_sorts)?;
-    join_equations(
-        alloc,
-        equations,
-        &other.equations,
-        &joined_sorts,
-        &joined_ops,
-        ops,
-    )?;
-    join_formal_sorts(formal_sorts, &other.formal_sorts, &joined_sorts)?;
-    join_formal_ops(formal_ops, &other.formal_ops, &joined_ops)?;
+    let joined_sorts = sorts.join(alloc, &other.sorts, &[])?;
+    let sort_numbers = joined_sorts.numbers.as_slice();
+    let joined_ops = ops.join(alloc, &other.ops, sort_numbers)?;
+    let op_numbers = joined_ops.numbers.as_slice();
+    equations.join(alloc, &other.equations, sort_numbers, op_numbers, ops)?;
+    formal_sorts.join(&other.formal_sorts, sort_numbers)?;
+    formal_ops.join(&other.formal_ops, op_numbers)?;
     Ok(Clashes {
         sorts: joined_sorts.clash,
         ops: joined_ops.clash,

@@ -1,11 +1,11 @@
 -- Facts on the sample data that no test computes: a sort without terms, and terms that are not equal.
 use Rattle.std.proofs.Common.{◌≡◌, ℕ, zero, suc, List, [], ◌∷◌, Option, refl, ap, sym, subst, arith}
 use Rattle.std.specs.Option.{option_map_or}
-use Rattle.term_algebra.specs.Signature.{Operation, IsOperation}
-use Rattle.term_algebra.specs.Term.{Term, variable, node, no_terms, term_then}
-use Rattle.term_algebra.specs.Sorting.{HasSort, IsGroundOf}
-use Rattle.term_algebra.specs.Equality.{Equal}
-use Rattle.term_algebra.proofs.CanonLemmas.{canon_tells}
+use Rattle.lotos_base.specs.Signature.{Operation, IsOperation}
+use Rattle.lotos_base.specs.Term.{Term, variable, node, no_terms, term_then}
+use Rattle.lotos_base.specs.Sorting.{HasSort, IsGroundOf}
+use Rattle.lotos_base.specs.Equality.{Equal}
+use Rattle.lotos_base.proofs.CanonLemmas.{canon_tells}
 use Rattle.behaviour_semantics.specs.Rule.{AreValues}
 use Rattle.behaviour_semantics.specs.Solving.{Entry}
 use Rattle.behaviour_semantics.specs.Menu.{IsEntry}

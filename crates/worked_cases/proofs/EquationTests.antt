@@ -1,8 +1,8 @@
 -- A test that equations are well formed over a signature.
 use Rattle.std.proofs.Common.{◌≡◌, ℕ, zero, suc, List, [], ◌∷◌, nat_eq, slice_get, Bool, true, false, ◌&&◌, if◌then◌else◌, Some, refl, ap, ◌∙◌, subst, eqb-true}
 use Rattle.std.specs.Cmp.{first_so, second_so}
-use Rattle.term_algebra.specs.Signature.{Signature, IsSort}
-use Rattle.term_algebra.specs.Equation.{Variable, Equation, IsEquationOver}
+use Rattle.lotos_base.specs.Signature.{Signature, IsSort}
+use Rattle.lotos_base.specs.Equation.{Variable, Equation, IsEquationOver}
 use Rattle.behaviour_semantics.specs.Behaviour.{numbers_of}
 use Rattle.behaviour_semantics.specs.WellFormed.{sort_in, Every, AreBinders, IsTermIn}
 use Rattle.behaviour_semantics.proofs.OptionLemmas.{some_value}

@@ -1,9 +1,9 @@
 -- The exact menu of a small behaviour over data with two constants.
 use Rattle.std.proofs.Common.{◌≡◌, ℕ, List, [], ◌∷◌, slice_get, Some, refl, ap, arith}
-use Rattle.term_algebra.specs.Signature.{Sort, Operation, IsSort, IsWellFormedSignature}
-use Rattle.term_algebra.specs.Term.{Term}
-use Rattle.term_algebra.proofs.CanonLemmas.{identity_canon}
-use Rattle.term_algebra.proofs.ExampleHelpers.{each_member, one_named}
+use Rattle.lotos_base.specs.Signature.{Sort, Operation, IsSort, IsWellFormedSignature}
+use Rattle.lotos_base.specs.Term.{Term}
+use Rattle.lotos_base.proofs.CanonLemmas.{identity_canon}
+use Rattle.lotos_base.proofs.ExampleHelpers.{each_member, one_named}
 use Rattle.behaviour_semantics.specs.Behaviour.{Behaviour, stop}
 use Rattle.behaviour_semantics.specs.Derives.{Derives}
 use Rattle.behaviour_semantics.specs.Label.{gate_event}

@@ -3,17 +3,12 @@ use Rattle.std.proofs.Common.{◌≡◌, ◌<◌, ℕ, zero, suc, List, [], ◌�
 use Rattle.std.specs.Prelude.{Some, None, ◌⊎◌, ◌&&◌, if◌then◌else◌, slice_get, nat_lt}
 use Rattle.std.proofs.lemmas.Option.{same_Some}
 use Rattle.std.proofs.lemmas.Bool.Decides.{Decides-eqb, Decides-and}
-use Rattle.std.proofs.lemmas.Bool.{ltb-true}
-use Rattle.term_algebra.specs.Term.{Term, variable, node, Terms, no_terms, term_then}
-use Rattle.term_algebra.specs.Sorting.{Occurs, OccursAmong}
-use Rattle.term_algebra.specs.Canon.{KeepsApart}
+use Rattle.std.proofs.lemmas.Bool.{ltb-true, and_parts}
+use Rattle.list_laws.proofs.Numbers.{smaller}
+use Rattle.lotos_base.specs.Term.{Term, variable, node, Terms, no_terms, term_then}
+use Rattle.lotos_base.specs.Sorting.{Occurs, OccursAmong}
+use Rattle.lotos_base.specs.Canon.{KeepsApart}
 use Rattle.rewriting_theory.specs.Numbering.{variable_numbers, IsByAppearance, IsNumbered}
-
--- both tests of a conjunction
-pub both : (a b : Bool) → (a && b) ≡ true → (a ≡ true) × (b ≡ true)
-both true true e = (refl, refl)
-both true false e = cc
-both false b e = cc
 
 abbrev mutual
   -- whether each variable of the term passes
@@ -34,9 +29,9 @@ mutual
       → test n s ≡ true
   variable_passes_among test no_terms e n s o = absurd o
   variable_passes_among test (term_then t ts) e n s (inl o) =
-      variable_passes test t (both (each_variable test t) (each_variable_among test ts) e).0 n s o
+      variable_passes test t (and_parts (each_variable test t) (each_variable_among test ts) e).0 n s o
   variable_passes_among test (term_then t ts) e n s (inr o) =
-      variable_passes_among test ts (both (each_variable test t) (each_variable_among test ts) e).1 n s o
+      variable_passes_among test ts (and_parts (each_variable test t) (each_variable_among test ts) e).1 n s o
 
 -- ---- Renamings that keep apart
 
@@ -77,9 +72,6 @@ later : (next n i m : ℕ) (ns : List ℕ) → StandsBefore next ns i m → Stan
 later next n i m ns (inl less) = inl less
 later next n i m ns (inr (j, less, e)) = inr (suc j, omega (arith, less), e)
 
-smaller : (n m next : ℕ) → n ≡ next → m < suc next → (n ≡ m → ⊥) → m < next
-smaller n m next same less differ = grind (arith, same, less, differ)
-
 later_new : (next n i m : ℕ) (ns : List ℕ) → n ≡ next → StandsBefore (suc next) ns i m → StandsBefore next (n ∷ ns) (suc i) m
 later_new next n i m ns same (inr (j, less, e)) = inr (suc j, omega (arith, less), e)
 later_new next n i m ns same (inl less) = go (nat_eq n m) refl
@@ -106,10 +98,10 @@ goes_on_so (k ∷ ns) next e i n m is less = go (nat_lt k next) refl e i is (goe
     go true small h (suc i) is old new = later next k i m ns (old h i n m is less)
     go false large h zero is old new =
         let same : k ≡ n = same_Some k n is in
-        let next_one : k ≡ next = (Decides-eqb k next).0 (both (nat_eq k next) (goes_on (suc next) ns) h).0 in
+        let next_one : k ≡ next = (Decides-eqb k next).0 (and_parts (nat_eq k next) (goes_on (suc next) ns) h).0 in
         inl (omega (arith, same, next_one, less))
     go false large h (suc i) is old new =
-        let parts = both (nat_eq k next) (goes_on (suc next) ns) h in
+        let parts = and_parts (nat_eq k next) (goes_on (suc next) ns) h in
         later_new next k i m ns ((Decides-eqb k next).0 parts.0) (new parts.1 i n m is less)
 
 by_appearance_so : (ns : List ℕ) → goes_on 0 ns ≡ true → IsByAppearance ns
@@ -128,7 +120,7 @@ is_numbered t = goes_on 0 (variable_numbers t) && each_variable (λ n r. each_va
 
 pub is_numbered_so : (t : Term) → is_numbered t ≡ true → IsNumbered t
 is_numbered_so t e =
-    let parts = both (goes_on 0 (variable_numbers t)) (each_variable (λ n r. each_variable (λ m s. sort_test n r m s) t) t) e in
+    let parts = and_parts (goes_on 0 (variable_numbers t)) (each_variable (λ n r. each_variable (λ m s. sort_test n r m s) t) t) e in
     record {
       by_appearance = by_appearance_so (variable_numbers t) parts.0;
       one_sort = λ n r s o p.

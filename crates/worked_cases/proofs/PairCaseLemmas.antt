@@ -2,9 +2,10 @@
 use Rattle.std.proofs.Common.{◌≡◌, ℕ, zero, suc, List, [], ◌∷◌, Bool, true, false, refl, subst}
 use Rattle.std.specs.Prelude.{Option, Some, None, ◌&&◌, slice_get}
 use Rattle.std.proofs.lemmas.Option.{same_Some}
-use Rattle.term_algebra.specs.Term.{Term}
-use Rattle.term_algebra.specs.Tests.{term_eq}
-use Rattle.term_algebra.proofs.TestLemmas.{Decides-term_eq}
+use Rattle.std.proofs.lemmas.Bool.{and_parts}
+use Rattle.lotos_base.specs.Term.{Term}
+use Rattle.lotos_base.specs.Tests.{term_eq}
+use Rattle.lotos_base.proofs.TestLemmas.{Decides-term_eq}
 use Rattle.rewriting_theory.specs.Rule.{Rule, AreWellFormedRules}
 use Rattle.rewriting_theory.specs.Rewriting.{AreConfluent}
 use Rattle.rewriting_theory.specs.ChosenForm.{Chosen}
@@ -27,7 +28,6 @@ use Rattle.termination_theory.proofs.OrientationLemmas.{oriented_well_formed}
 use Rattle.termination_theory.proofs.TerminationLemmas.{rewriting_ends}
 use Rattle.worked_cases.specs.Samples.{var, two_results, one_rule, twice, meets, never_both, from_the_right}
 use Rattle.worked_cases.specs.PairCases.{two_results_pairs, TwoResultCases, sums_pairs, SumCases, copies_pairs, CopyCases, OneRuleCases, twice_pairs, TwiceCases, meets_pairs, MeetCases, ApartCases, RightStatusCases}
-use Rattle.worked_cases.proofs.NumberingTests.{both}
 use Rattle.worked_cases.proofs.PairTests.{pairs_within, pairs_found}
 
 -- the computed pairs are the critical pairs
@@ -48,13 +48,14 @@ all_greater_so p rules e = λ rule at. go rules e rule at.0 at.1
         → IsGreater p rule.left rule.right
     go [] h rule number at = let none : None ≡ Some rule = at in cc
     go (one ∷ rules) h rule zero at =
-        let first = is p one.left one.right (both (is_greater p one.left one.right) (all_greater p rules) h).0 in
+        let first = is p one.left one.right (and_parts (is_greater p one.left one.right) (all_greater p rules) h).0 in
         subst (λ (r : Rule). IsGreater p r.left r.right) (same_Some one rule at) first
-    go (one ∷ rules) h rule (suc number) at = go rules (both (is_greater p one.left one.right) (all_greater p rules) h).1 rule number at
+    go (one ∷ rules) h rule (suc number) at = go rules
+        (and_parts (is_greater p one.left one.right) (all_greater p rules) h).1 rule number at
 
 -- ---- Which pairs join
 
--- whether both sides of each pair have one chosen form, found within so many rounds
+-- whether and_parts sides of each pair have one chosen form, found within so many rounds
 abbrev one_form : Option Term → Option Term → Bool
 one_form None other = false
 one_form (Some t) None = false
@@ -82,7 +83,7 @@ all_join_so : (n : ℕ) (rules : List Rule) → AreWellFormedRules rules → (pa
     → NoneUnjoined rules pairs
 all_join_so n rules well [] e = none_unjoined_nothing rules
 all_join_so n rules well (pair ∷ pairs) e =
-    let parts = both (one_form (chosen_within n rules pair.left) (chosen_within n rules pair.right)) (all_join n rules pairs) e in
+    let parts = and_parts (one_form (chosen_within n rules pair.left) (chosen_within n rules pair.right)) (all_join n rules pairs) e in
     none_unjoined_then pair pairs (λ t u. one_form_so n rules pair t u well parts.0) (all_join_so n rules well pairs parts.1)
 
 -- rules that are oriented and whose pairs join are confluent

@@ -4,9 +4,10 @@ use Rattle.std.specs.Prelude.{Option, Some, None, not, ◌&&◌, if◌then◌els
 use Rattle.std.specs.Option.{option_map, option_and_then}
 use Rattle.std.proofs.lemmas.Option.{same_Some}
 use Rattle.std.proofs.lemmas.Bool.Decides.{Decides-eqb}
-use Rattle.term_algebra.specs.Term.{Term, variable, node, Terms, no_terms, term_then}
-use Rattle.term_algebra.specs.Path.{subterm, put_at}
-use Rattle.term_algebra.specs.Substitution.{Substitution, substituted, renaming}
+use Rattle.std.proofs.lemmas.Bool.{and_parts}
+use Rattle.lotos_base.specs.Term.{Term, variable, node, Terms, no_terms, term_then}
+use Rattle.lotos_base.specs.Path.{subterm, put_at}
+use Rattle.lotos_base.specs.Substitution.{Substitution, substituted, renaming}
 use Rattle.rewriting_theory.specs.Rule.{Rule, IsNode}
 use Rattle.rewriting_theory.specs.Unification.{OccursInEither}
 use Rattle.rewriting_theory.specs.CriticalPair.{OverlapPlace, Overlaps, CriticalPair, IsCriticalPair}
@@ -18,7 +19,7 @@ use Rattle.rewriting_theory.proofs.PairLemmas.{past, past_keeps, past_apart}
 use Rattle.rewriting_theory.proofs.UnifyLemmas.{IsSolution, solution_general}
 use Rattle.rewriting_theory.proofs.RenumberLemmas.{renamed_critical}
 use Rattle.worked_cases.proofs.UnifyTests.{Unified, Means, unify_within, unify_means}
-use Rattle.worked_cases.proofs.NumberingTests.{both, keeps_apart, keeps_apart_so, is_numbered, is_numbered_so}
+use Rattle.worked_cases.proofs.NumberingTests.{keeps_apart, keeps_apart_so, is_numbered, is_numbered_so}
 
 -- ---- Numbers by first appearance
 
@@ -161,7 +162,7 @@ allowed_node place (node f ts) e = tt
 
 allowed_root : (place : PairPlace) (part : Term) → is_allowed place part ≡ true → place.first ≡ place.second → ¬ (place.path ≡ [])
 allowed_root place part e same root = go (nat_eq place.first place.second) ((Decides-eqb place.first place.second).1 same) place.path root
-    (both (is_node part) (not (nat_eq place.first place.second && is_root place.path)) e).1
+    (and_parts (is_node part) (not (nat_eq place.first place.second && is_root place.path)) e).1
   where
     go : (b : Bool) → b ≡ true → (path : List ℕ) → path ≡ [] → not (b && is_root path) ≡ true → ⊥
     go true is [] root h = cc
@@ -208,7 +209,7 @@ numbered_found rules place raw pair is at e =
         (substituted (renaming (by_appearance raw.peak)) raw.peak)) ≡ b
         → (if b then Some (renamed_pair (by_appearance raw.peak) raw) else None) ≡ Some pair → IsPairOf rules place pair
     go true test h =
-        let tests = both (keeps_apart (by_appearance raw.peak) raw.peak)
+        let tests = and_parts (keeps_apart (by_appearance raw.peak) raw.peak)
         (is_numbered (substituted (renaming (by_appearance raw.peak)) raw.peak)) test in
         subst (λ (p : CriticalPair). IsPairOf rules place p) (same_Some (renamed_pair (by_appearance raw.peak) raw) pair h)
         (record {

@@ -2,18 +2,18 @@
 use Rattle.std.proofs.Common.{◌≡◌, ℕ, zero, suc, List, [], ◌∷◌, refl, ap, sym, ◌∙◌, subst, inl, inr}
 use Rattle.std.specs.Prelude.{Some}
 use Rattle.std.proofs.lemmas.Option.{same_Some}
-use Rattle.term_algebra.specs.Term.{Term, variable, node, Terms, no_terms, term_then}
-use Rattle.term_algebra.specs.Sorting.{HasSort, HaveSorts, IsGroundOf, Occurs, OccursAmong}
-use Rattle.term_algebra.specs.Path.{with_argument, put_at}
-use Rattle.term_algebra.specs.Substitution.{Substitution, substituted, all_substituted, renaming, IsGrounding}
-use Rattle.term_algebra.specs.Equation.{Equation, IsEquation, IsGroundInstance}
-use Rattle.term_algebra.specs.Equality.{Equal, AllEqual, same_term}
-use Rattle.term_algebra.specs.EqualityLaws.{IsCongruence}
-use Rattle.term_algebra.specs.Canon.{IsCanon}
-use Rattle.term_algebra.proofs.ExampleHelpers.{each_member}
-use Rattle.term_algebra.proofs.PathLemmas.{put_below}
-use Rattle.term_algebra.proofs.SubstitutionLemmas.{substituted_sort, instance_ground}
-use Rattle.term_algebra.proofs.EqualityLemmas.{equal_then, equal_under, equal_related}
+use Rattle.lotos_base.specs.Term.{Term, variable, node, Terms, no_terms, term_then}
+use Rattle.lotos_base.specs.Sorting.{HasSort, HaveSorts, IsGroundOf, Occurs, OccursAmong}
+use Rattle.lotos_base.specs.Path.{with_argument, put_at}
+use Rattle.lotos_base.specs.Substitution.{Substitution, substituted, all_substituted, renaming, IsGrounding}
+use Rattle.lotos_base.specs.Equation.{Equation, IsEquation, IsGroundInstance}
+use Rattle.lotos_base.specs.Equality.{Equal, AllEqual, same_term}
+use Rattle.lotos_base.specs.EqualityLaws.{IsCongruence}
+use Rattle.lotos_base.specs.Canon.{IsCanon}
+use Rattle.lotos_base.proofs.ExampleHelpers.{each_member}
+use Rattle.lotos_base.proofs.PathLemmas.{put_below}
+use Rattle.lotos_base.proofs.SubstitutionLemmas.{substituted_sort, instance_ground}
+use Rattle.lotos_base.proofs.EqualityLemmas.{equal_then, equal_under, equal_related}
 use Rattle.worked_cases.specs.BehaviourSamples.{sample_signature, sample_data, sum_of, is_less, applied, sample_canon, sample_canons}
 use Rattle.worked_cases.proofs.SampleOperations.{canon_sum, canon_less, settled_sum, settled_less, occurring_sum, occurring_less, renamed_sum, renamed_less, sorted_sum, sorted_less, plus_arguments, less_arguments, IsNumber, instance_sum, instance_less}
 

@@ -2,14 +2,14 @@
 use Rattle.std.proofs.Common.{◌≡◌, ℕ, zero, suc, [], ◌∷◌, codes, refl, ap, ap₂, sym, ◌∙◌, subst, inl, inr}
 use Rattle.std.specs.Prelude.{Some, slice_get}
 use Rattle.std.proofs.lemmas.Option.{same_Some}
-use Rattle.term_algebra.specs.Signature.{Operation, IsOperation, prefix_form, infix_form}
-use Rattle.term_algebra.specs.Term.{Term, node, Terms, no_terms, term_then}
-use Rattle.term_algebra.specs.Sorting.{HasSort, HaveSorts, IsGroundOf, Occurs}
-use Rattle.term_algebra.specs.Substitution.{Substitution, substituted, renaming, binding}
-use Rattle.term_algebra.specs.Equation.{Equation}
-use Rattle.term_algebra.specs.Equality.{Equal, same_term}
-use Rattle.term_algebra.proofs.ExampleHelpers.{Grounds, grounding}
-use Rattle.term_algebra.proofs.EqualityLemmas.{equal_then, equal_back, equal_under, equal_instance}
+use Rattle.lotos_base.specs.Signature.{Operation, IsOperation, prefix_form, infix_form}
+use Rattle.lotos_base.specs.Term.{Term, node, Terms, no_terms, term_then}
+use Rattle.lotos_base.specs.Sorting.{HasSort, HaveSorts, IsGroundOf, Occurs}
+use Rattle.lotos_base.specs.Substitution.{Substitution, substituted, renaming, binding}
+use Rattle.lotos_base.specs.Equation.{Equation}
+use Rattle.lotos_base.specs.Equality.{Equal, same_term}
+use Rattle.lotos_base.proofs.ExampleHelpers.{Grounds, grounding}
+use Rattle.lotos_base.proofs.EqualityLemmas.{equal_then, equal_back, equal_under, equal_instance}
 use Rattle.worked_cases.specs.BehaviourSamples.{operation_of, sample_signature, sample_data, nought, succ, truth, falsehood, less, plus, sum_with_nought, sum_with_succ, below_nought, nought_below_succ, succ_below_succ, sum_of, is_less, sample_canon}
 
 -- Induction on a sum: its left side, a successor, or the operation on the arguments.

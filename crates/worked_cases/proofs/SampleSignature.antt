@@ -1,8 +1,8 @@
 -- The sample signature is well formed: its sorts and operations have different names.
 use Rattle.std.proofs.Common.{◌≡◌, ℕ, List, [], ◌∷◌, refl, arith}
 use Rattle.std.specs.Prelude.{Some, slice_get}
-use Rattle.term_algebra.specs.Signature.{Sort, Operation, IsSort, IsWellFormedSignature}
-use Rattle.term_algebra.proofs.ExampleHelpers.{each_member, one_named}
+use Rattle.lotos_base.specs.Signature.{Sort, Operation, IsSort, IsWellFormedSignature}
+use Rattle.lotos_base.proofs.ExampleHelpers.{each_member, one_named}
 use Rattle.worked_cases.specs.BehaviourSamples.{sample_signature}
 
 bool_in : IsSort sample_signature 0

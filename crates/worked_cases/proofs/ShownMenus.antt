@@ -1,7 +1,7 @@
 -- What shows a case: lists and tests that compute.
 use Rattle.std.proofs.Common.{◌≡◌, inl, inr, ℕ, List, [], ◌∷◌, map, true, Option, None, Some, refl, ap, subst}
 use Rattle.std.specs.List.{cons_option}
-use Rattle.term_algebra.specs.Term.{Term}
+use Rattle.lotos_base.specs.Term.{Term}
 use Rattle.behaviour_semantics.specs.Behaviour.{Behaviour, Test, Process}
 use Rattle.behaviour_semantics.specs.Label.{Label}
 use Rattle.behaviour_semantics.specs.Shape.{Shape, Derivation}

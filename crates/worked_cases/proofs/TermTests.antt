@@ -3,15 +3,15 @@
 use Rattle.std.proofs.Common.{◌≡◌, ℕ, List, [], ◌∷◌, length, nat_eq, nat_lt, slice_get, Bool, true, false, ◌&&◌, Option, None, Some, unwrap_or, refl, ap, ◌∙◌, subst, inl, inr, eqb-true}
 use Rattle.std.specs.Cmp.{first_so, second_so}
 use Rattle.std.proofs.lemmas.Bool.{ltb-true}
-use Rattle.term_algebra.specs.Signature.{Signature, Operation, IsOperation}
-use Rattle.term_algebra.specs.Term.{Term, variable, node, Terms, no_terms, term_then}
-use Rattle.term_algebra.specs.Sorting.{sort_of, HasSort, HaveSorts, IsGroundOf, Occurs, OccursAmong}
-use Rattle.term_algebra.specs.Equation.{Data, Variable}
-use Rattle.term_algebra.specs.Tests.{term_eq}
-use Rattle.term_algebra.specs.Canon.{IsCanon}
-use Rattle.term_algebra.proofs.SubstitutionLemmas.{no_variable_ground}
-use Rattle.term_algebra.proofs.TestLemmas.{Decides-term_eq}
-use Rattle.term_algebra.proofs.CanonLemmas.{canon_tells}
+use Rattle.lotos_base.specs.Signature.{Signature, Operation, IsOperation}
+use Rattle.lotos_base.specs.Term.{Term, variable, node, Terms, no_terms, term_then}
+use Rattle.lotos_base.specs.Sorting.{sort_of, HasSort, HaveSorts, IsGroundOf, Occurs, OccursAmong}
+use Rattle.lotos_base.specs.Equation.{Data, Variable}
+use Rattle.lotos_base.specs.Tests.{term_eq}
+use Rattle.lotos_base.specs.Canon.{IsCanon}
+use Rattle.lotos_base.proofs.SubstitutionLemmas.{no_variable_ground}
+use Rattle.lotos_base.proofs.TestLemmas.{Decides-term_eq}
+use Rattle.lotos_base.proofs.CanonLemmas.{canon_tells}
 use Rattle.behaviour_semantics.specs.Behaviour.{Test}
 use Rattle.behaviour_semantics.specs.Rule.{is_same_sort, AreValues, AllHold}
 use Rattle.behaviour_semantics.specs.WellFormed.{sort_in, IsTermIn}

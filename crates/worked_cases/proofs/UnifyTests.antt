@@ -2,11 +2,11 @@
 use Rattle.std.proofs.Common.{◌≡◌, ℕ, zero, suc, Bool, true, false, nat_eq, refl, sym, ◌∙◌}
 use Rattle.std.specs.Prelude.{Option, Some, None, if◌then◌else◌}
 use Rattle.std.proofs.lemmas.Bool.Decides.{Decides-eqb}
-use Rattle.term_algebra.specs.Term.{Term, variable, node, Terms, no_terms, term_then}
-use Rattle.term_algebra.specs.Sorting.{Occurs}
-use Rattle.term_algebra.specs.Tests.{term_eq, occurs}
-use Rattle.term_algebra.specs.Substitution.{Substitution, substituted, all_substituted, followed_by}
-use Rattle.term_algebra.proofs.TestLemmas.{Decides-term_eq, Decides-occurs}
+use Rattle.lotos_base.specs.Term.{Term, variable, node, Terms, no_terms, term_then}
+use Rattle.lotos_base.specs.Sorting.{Occurs}
+use Rattle.lotos_base.specs.Tests.{term_eq, occurs}
+use Rattle.lotos_base.specs.Substitution.{Substitution, substituted, all_substituted, followed_by}
+use Rattle.lotos_base.proofs.TestLemmas.{Decides-term_eq, Decides-occurs}
 use Rattle.rewriting_theory.proofs.StepLemmas.{updated}
 use Rattle.rewriting_theory.proofs.UnifyLemmas.{IsSolution, AreSolution, absorbed_instances, solution_same, solution_none, solution_variable, no_occurring_unifier, solution_back, solution_node, solution_then}
 

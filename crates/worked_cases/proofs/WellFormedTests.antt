@@ -1,10 +1,10 @@
 -- A test that a behaviour, and a specification, is closed and well formed. It computes, so that a worked case needs no
 -- proof of its own.
 use Rattle.std.proofs.Common.{◌≡◌, ◌≢◌, ◌<◌, ℕ, zero, suc, List, [], ◌∷◌, ◌++◌, length, nat_eq, nat_lt, slice_get, Bool, true, false, ◌&&◌, not, if◌then◌else◌, Option, None, Some, refl, ap, sym, ◌∙◌, subst}
-use Rattle.term_algebra.specs.Signature.{Signature, IsSort}
-use Rattle.term_algebra.specs.Term.{Term}
-use Rattle.term_algebra.specs.Equation.{Variable}
-use Rattle.term_algebra.specs.Substitution.{is_listed}
+use Rattle.lotos_base.specs.Signature.{Signature, IsSort}
+use Rattle.lotos_base.specs.Term.{Term}
+use Rattle.lotos_base.specs.Equation.{Variable}
+use Rattle.lotos_base.specs.Substitution.{is_listed}
 use Rattle.behaviour_semantics.specs.Behaviour.{Behaviour, stop, exit_with, action, inner_action, guard, choice, parallel, hide, enable, disable, let_be, choose_value, choose_gate, par_gate, call, relabel, Test, Offer, give, ask, ExitValue, exit_value, any_of, SynchronisationSet, no_gates, all_gates, at_gates, Process, Specification, Relabelling, asked_variables, numbers_of, let_variables, let_terms}
 use Rattle.behaviour_semantics.specs.Label.{formals_of}
 use Rattle.behaviour_semantics.specs.WellFormed.{Every, AreDistinct, IsTestIn, AreTermsIn, AreBinders, IsTestOption, IsOffer, IsExitValue, AreGates, IsSynchronisationSet, IsCall, IsRelabelling, IsBehaviour, IsFunctionality, IsDefinition, IsSpecification}
@@ -14,6 +14,7 @@ use Rattle.behaviour_semantics.proofs.OptionLemmas.{some_value}
 use Rattle.std.specs.Cmp.{first_so, second_so}
 use Rattle.std.proofs.Common.{eqb-true}
 use Rattle.std.proofs.lemmas.Bool.{ltb-true}
+use Rattle.list_laws.proofs.Truth.{not_both}
 use Rattle.worked_cases.proofs.TermTests.{term_passes, term_in, head_sort}
 
 abbrev every_passes : {X : Type 0} → (X → Bool) → List X → Bool
@@ -44,17 +45,15 @@ listed_at (m ∷ numbers) zero n at = same_listed (nat_eq m n) (is_listed number
     reflexive k = grind (arith, nat_tests)
 listed_at (m ∷ numbers) (suc j) n at = rest_listed (nat_eq m n) (is_listed numbers n) (listed_at numbers j n at)
 
-not_listed : (b : Bool) → not b ≡ true → b ≡ true → ⊥
-not_listed true e h = absurd (cc e)
-not_listed false e h = absurd (cc h)
-
 are_distinct : (numbers : List ℕ) → distinct_pass numbers ≡ true → AreDistinct numbers
 are_distinct [] e i j n at at' = absurd (cc at)
 are_distinct (m ∷ numbers) e zero zero n at at' = refl
 are_distinct (m ∷ numbers) e zero (suc j) n at at' =
-    absurd (not_listed (is_listed numbers m) (first_so (not (is_listed numbers m)) _ e) (subst (λ (k : ℕ). is_listed numbers k ≡ true) (sym (some_value at)) (listed_at numbers j n at')))
+    absurd (not_both (is_listed numbers m) (first_so (not (is_listed numbers m)) _ e)
+    (subst (λ (k : ℕ). is_listed numbers k ≡ true) (sym (some_value at)) (listed_at numbers j n at')))
 are_distinct (m ∷ numbers) e (suc i) zero n at at' =
-    absurd (not_listed (is_listed numbers m) (first_so (not (is_listed numbers m)) _ e) (subst (λ (k : ℕ). is_listed numbers k ≡ true) (sym (some_value at')) (listed_at numbers i n at)))
+    absurd (not_both (is_listed numbers m) (first_so (not (is_listed numbers m)) _ e)
+    (subst (λ (k : ℕ). is_listed numbers k ≡ true) (sym (some_value at')) (listed_at numbers i n at)))
 are_distinct (m ∷ numbers) e (suc i) (suc j) n at at' = ap suc (are_distinct numbers (second_so (not (is_listed numbers m)) _ e) i j n at at')
 
 module _ (signature : Signature) (names : ℕ) (processes : List Process) where

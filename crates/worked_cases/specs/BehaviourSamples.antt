@@ -1,9 +1,9 @@
 -- Small data and small words for the worked cases: numbers with `lt` and `+` and their usual equations, the canonical
 -- forms of these data, a sort without terms, and gates.
 use Rattle.std.specs.Prelude.{ℕ, zero, suc, List, [], ◌∷◌, codes, None}
-use Rattle.term_algebra.specs.Signature.{Signature, Form, prefix_form, infix_form, Operation}
-use Rattle.term_algebra.specs.Term.{Term, variable, node, Terms, no_terms, term_then}
-use Rattle.term_algebra.specs.Equation.{Data, Equation, Variable}
+use Rattle.lotos_base.specs.Signature.{Signature, Form, prefix_form, infix_form, Operation}
+use Rattle.lotos_base.specs.Term.{Term, variable, node, Terms, no_terms, term_then}
+use Rattle.lotos_base.specs.Equation.{Data, Equation, Variable}
 use Rattle.behaviour_semantics.specs.Behaviour.{Behaviour, action, Offer, Test}
 
 -- The sorts: Bool, Nat, and one without terms.

@@ -1,6 +1,6 @@
 -- Worked cases on drafts that are no drafts of shapes: entries read as drafts, and joins of them.
 use Rattle.std.specs.Prelude.{◌≡◌, List, [], ◌∷◌, None, Some}
-use Rattle.term_algebra.specs.Term.{Term, variable}
+use Rattle.lotos_base.specs.Term.{Term, variable}
 use Rattle.behaviour_semantics.specs.Behaviour.{Test}
 use Rattle.behaviour_semantics.specs.Label.{gate_event, inner_event}
 use Rattle.behaviour_semantics.specs.Shape.{act, both_sides}

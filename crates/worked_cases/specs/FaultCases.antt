@@ -1,7 +1,7 @@
 -- Worked cases on faults of derivations: what is wrong at one node, which node comes first, values that do not match, and
 -- what is asked of labels.
 use Rattle.std.specs.Prelude.{◌≡◌, ℕ, List, [], ◌∷◌, codes, Option, None, Some}
-use Rattle.term_algebra.specs.Term.{Term}
+use Rattle.lotos_base.specs.Term.{Term}
 use Rattle.behaviour_semantics.specs.Behaviour.{Behaviour, stop, exit_with, action, guard, choice, parallel, hide, enable, disable, relabel, let_be, choose_value, choose_gate, call, give, ask, exit_value, Process, no_gates, all_gates, at_gates}
 use Rattle.behaviour_semantics.specs.Shape.{Shape, act, quit, guarded, left_side, right_side, both_sides, hidden, enabled, passed, let_bound, with_value, at_gate, called, relabelled}
 use Rattle.behaviour_semantics.specs.Fault.{Wrong, not_fitting, bad_value, unmet, Fault, fault_of}

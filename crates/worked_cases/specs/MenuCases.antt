@@ -1,8 +1,8 @@
 -- A worked case on exact menus, over data with one sort, two constants and no equations.
 use Rattle.std.specs.Prelude.{List, [], ◌∷◌, codes, None}
-use Rattle.term_algebra.specs.Signature.{prefix_form}
-use Rattle.term_algebra.specs.Term.{Term, variable, node, no_terms}
-use Rattle.term_algebra.specs.Equation.{Data}
+use Rattle.lotos_base.specs.Signature.{prefix_form}
+use Rattle.lotos_base.specs.Term.{Term, variable, node, no_terms}
+use Rattle.lotos_base.specs.Equation.{Data}
 use Rattle.behaviour_semantics.specs.Behaviour.{Behaviour, stop, action, choice, give, ask, Specification}
 use Rattle.behaviour_semantics.specs.Label.{gate_event}
 use Rattle.behaviour_semantics.specs.Rule.{as_given}

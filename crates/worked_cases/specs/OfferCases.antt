@@ -1,6 +1,6 @@
 -- Worked cases on offers, tests and values: equal labels, predicates, matches, choices of values, and conditions.
 use Rattle.std.specs.Prelude.{◌≡◌, List, [], ◌∷◌, codes, Some}
-use Rattle.term_algebra.specs.Term.{Term, variable}
+use Rattle.lotos_base.specs.Term.{Term, variable}
 use Rattle.behaviour_semantics.specs.Behaviour.{Behaviour, stop, exit_with, action, guard, choice, parallel, enable, let_be, choose_value, give, ask, exit_value, at_gates}
 use Rattle.behaviour_semantics.specs.Label.{Label, inner_event, gate_event}
 use Rattle.behaviour_semantics.specs.Shape.{Shape, act, quit, guarded, left_side, right_side, both_sides, enabled, let_bound, with_value}

@@ -1,6 +1,6 @@
 -- Worked cases of critical pairs: which there are, their peaks, and whether the rules are confluent.
 use Rattle.std.specs.Prelude.{List, [], ◌∷◌}
-use Rattle.term_algebra.specs.Term.{variable}
+use Rattle.lotos_base.specs.Term.{variable}
 use Rattle.rewriting_theory.specs.Rewriting.{AreConfluent}
 use Rattle.rewriting_theory.specs.ChosenForm.{Chosen}
 use Rattle.rewriting_theory.specs.CriticalPair.{CriticalPair}

@@ -1,7 +1,7 @@
 -- What the sample data and their canonical forms satisfy.
 use Rattle.std.specs.Prelude.{◌≡◌}
-use Rattle.term_algebra.specs.Equation.{IsWellFormedData}
-use Rattle.term_algebra.specs.Canon.{IsCanon}
+use Rattle.lotos_base.specs.Equation.{IsWellFormedData}
+use Rattle.lotos_base.specs.Canon.{IsCanon}
 use Rattle.worked_cases.specs.BehaviourSamples.{sample_data, sample_canon, nought, succ, one, two, truth, falsehood, less, plus, nat}
 
 -- The sample data are well formed, and the canonical forms are a canon of them. `2 + 1`, `1 lt 2` and

@@ -1,6 +1,6 @@
 -- Small sets of rules for the worked cases, beside those of the cases of orientation.
 use Rattle.std.specs.Prelude.{ℕ, List, [], ◌∷◌}
-use Rattle.term_algebra.specs.Term.{Term, variable}
+use Rattle.lotos_base.specs.Term.{Term, variable}
 use Rattle.rewriting_theory.specs.Rule.{Rule}
 use Rattle.rewriting_theory.specs.CriticalPair.{CriticalPair}
 use Rattle.termination_theory.specs.OrientationCases.{constant, on_one, on_two}

@@ -1,13 +1,13 @@
 -- What a case says of a behaviour over the sample data: which shapes fit, the draft and the entry of each, the exact
 -- menu, and derivations.
 use Rattle.std.specs.Prelude.{◌≡◌, ℕ, List, [], ◌∷◌, map, filter_map, codes, Option, None, Some}
-use Rattle.term_algebra.specs.Term.{Term}
+use Rattle.lotos_base.specs.Term.{Term}
 use Rattle.behaviour_semantics.specs.Behaviour.{Behaviour, stop, Test, Process, Specification}
 use Rattle.behaviour_semantics.specs.Label.{Label}
 use Rattle.behaviour_semantics.specs.Shape.{Shape}
 use Rattle.behaviour_semantics.specs.Move.{Move, move_of}
 use Rattle.behaviour_semantics.specs.Rule.{as_given}
-use Rattle.behaviour_semantics.specs.Derives.{Derives, Keeps, leaves_in}
+use Rattle.behaviour_semantics.specs.Derives.{Derives, DerivesCanonically, leaves_in}
 use Rattle.behaviour_semantics.specs.Draft.{Draft, draft_of, Fits}
 use Rattle.behaviour_semantics.specs.Solving.{Entry, SolvesTo}
 use Rattle.behaviour_semantics.specs.Menu.{Exact}
@@ -76,7 +76,7 @@ Steps processes b shape leaves label target = Derives sample_data processes b (r
 
 -- The same with bound values and the values of the label in canonical form.
 abbrev pub KeptSteps : List Process → Behaviour → Shape → List Term → Label → Behaviour → Type 0
-KeptSteps processes b shape leaves label target = Keeps sample_data sample_canon processes b (record { shape = shape; leaves = leaves }) label target
+KeptSteps processes b shape leaves label target = DerivesCanonically sample_data sample_canon processes b (record { shape = shape; leaves = leaves }) label target
 
 -- The move of a shape with these leaves, values as they are given. What it asks need not hold.
 abbrev pub sample_move : List Process → Behaviour → Shape → List Term → Option Move

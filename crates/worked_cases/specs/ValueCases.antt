@@ -1,7 +1,7 @@
 -- Worked cases on values: leaves in order, parameters, a `let` with two variables, values in canonical form, and alike
 -- behaviours.
 use Rattle.std.specs.Prelude.{[], ◌∷◌, codes, None}
-use Rattle.term_algebra.specs.Term.{Term, variable}
+use Rattle.lotos_base.specs.Term.{Term, variable}
 use Rattle.behaviour_semantics.specs.Behaviour.{Behaviour, stop, exit_with, inner_action, choice, hide, enable, let_be, choose_value, call, relabel, give, ask, exit_value, any_of, Process}
 use Rattle.behaviour_semantics.specs.Label.{Label, inner_event, gate_event, exit_event}
 use Rattle.behaviour_semantics.specs.Shape.{act, quit, inner_step, hidden, enabled, let_bound, with_value, called, relabelled}

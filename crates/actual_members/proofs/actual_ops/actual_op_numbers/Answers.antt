@@ -3,7 +3,7 @@ use Rattle.std.specs.Prelude.{◌^◌}
 use Rattle.std.proofs.lemmas.Result.{err_from_is_err_and}
 use Rattle.sort_terms.specs.Operations.{operation_of}
 use Rattle.sort_terms.specs.WellFormedTest.{all_differ, are_one_operation}
-use Rattle.term_algebra.specs.Signature.{Operation}
+use Rattle.lotos_base.specs.Signature.{Operation}
 use Rattle.type_presentations.specs.OperationListView.{operations_in}
 use Rattle.type_definitions.proofs.HoldsLemmas.{holds_weaker}
 use Rattle.type_definitions.proofs.WalkLemmas.{next_of, none_of}

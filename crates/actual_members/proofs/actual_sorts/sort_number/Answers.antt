@@ -1,7 +1,7 @@
 use Rattle.std.proofs.Common.{◌<◌, sym, arith}
 use Rattle.std.specs.Prelude.{◌^◌}
 use Rattle.lotos_base.specs.Name.{spelling}
-use Rattle.term_algebra.specs.Signature.{Sort}
+use Rattle.lotos_base.specs.Signature.{Sort}
 use Rattle.type_presentations.proofs.NameLemmas.{named_of}
 use Rattle.type_pairs.specs.PairNames.{names_of_sorts}
 use Rattle.actual_members.proofs.SortActuals.{position_few}

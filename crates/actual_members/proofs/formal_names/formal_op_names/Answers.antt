@@ -1,7 +1,7 @@
 use Rattle.std.proofs.Common.{◌≡◌, ◌<◌, List, length, map, refl, ap, ◌∙◌, subst, arith}
 use Rattle.std.specs.Prelude.{◌^◌}
 use Rattle.lotos_base.specs.Name.{spelling}
-use Rattle.term_algebra.specs.Signature.{Operation}
+use Rattle.lotos_base.specs.Signature.{Operation}
 use Rattle.sort_terms.specs.Operations.{operation_of}
 use Rattle.type_presentations.proofs.NameLemmas.{whole}
 use Rattle.type_presentations.specs.NamesView.{HasNames}

@@ -1,7 +1,7 @@
 use Rattle.std.proofs.Common.{◌≡◌, ◌<◌, List, length, map, refl, ap, ◌∙◌, subst, arith}
 use Rattle.std.specs.Prelude.{◌^◌}
 use Rattle.lotos_base.specs.Name.{spelling}
-use Rattle.term_algebra.specs.Signature.{Sort}
+use Rattle.lotos_base.specs.Signature.{Sort}
 use Rattle.sort_terms.specs.Operations.{sort_of}
 use Rattle.sort_terms.specs.declared.operations.Sort.{Sort as CodeSort}
 use Rattle.type_presentations.proofs.NameLemmas.{whole}

@@ -16,20 +16,20 @@ pub note-requires : goal.note-requires
 note-requires c =
     number_within (are_one_member sort_kind) sorts_are_lawful.itself (sorts_in c.args.list.now) (sorts_in c.add.new.self)
     (sort_of c.in_ok-image.image)
-    (makers_in c.args.came.now.makers) c.in_ok-added.added.number c.requires.makers c.in_ok-added.ensures.sorts
+    (makers_in c.args.came.now.makers) c.in_ok-added.added.number c.requires.makers c.in_ok-added.ensures.members
     c.in_ok-added.ensures.number
 
 pub returns-clause-few : goal.returns-clause-few
 returns-clause-few c =
     longer (are_one_member sort_kind) (sorts_in c.args.list.now) (sorts_in c.add.new.self)
-    (sort_of c.in_ok-image.image) c.in_ok-added.ensures.sorts
+    (sort_of c.in_ok-image.image) c.in_ok-added.ensures.members
 
 pub returns-clause-makers : goal.returns-clause-makers
 returns-clause-makers c =
     let maker = place_of_pair (option_map (λ p. pair_of p.now) c.in_ok-pair.pair) in
     as_many (are_one_member sort_kind) sorts_are_lawful.itself (sorts_in c.args.list.now) (sorts_in c.add.new.self)
     (sort_of c.in_ok-image.image)
-    (makers_in c.args.came.now.makers) (makers_in c.note.new.self.makers) maker c.requires.makers c.in_ok-added.ensures.sorts
+    (makers_in c.args.came.now.makers) (makers_in c.note.new.self.makers) maker c.requires.makers c.in_ok-added.ensures.members
     (c.in_ok-note.ensures.makers
     ∙ ap (λ (n : ℕ). noted (makers_in c.args.came.now.makers) n maker) c.in_ok-added.ensures.number)
 
@@ -42,6 +42,6 @@ returns-clause-came c = λ a of.
     c.in_ok-image.ensures
     (has_image sort_kind (placed_name_of c.args.source.now.mention.now)
     (record { image = sort_of c.in_ok-image.image; pair = pair }) old new c.in_ok-added.added.number c.in_ok-added.added.clashes
-    c.is_past_limit-is_too_many.result c.in_ok-added.ensures.sorts c.in_ok-added.ensures.number c.in_ok-note.ensures.numbers
+    c.is_past_limit-is_too_many.result c.in_ok-added.ensures.members c.in_ok-added.ensures.number c.in_ok-note.ensures.numbers
     c.in_ok-note.ensures.makers c.in_ok-added.ensures.clashes c.in_ok-note.ensures.clash c.is_past_limit-is_too_many.ensures
     c.in_ok-note.ensures.too_many)

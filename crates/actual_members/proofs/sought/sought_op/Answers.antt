@@ -1,7 +1,7 @@
 use Rattle.std.proofs.Common.{List, ℕ, ap, ◌∙◌}
 use Rattle.lotos_base.specs.Name.{spelling}
 use Rattle.sort_terms.specs.Operations.{operation_of}
-use Rattle.term_algebra.specs.Signature.{Operation}
+use Rattle.lotos_base.specs.Signature.{Operation}
 use Rattle.type_definitions.specs.Images.{operation_image}
 use Rattle.type_definitions.specs.ProfiledImage.{number_in}
 use Rattle.actual_members.proofs.sought.sought_op.Goals as goal

@@ -1,6 +1,6 @@
 use Rattle.std.proofs.Common.{◌≡◌, ◌++◌, map}
 use Rattle.lotos_base.specs.WrittenView.{placed_name_of}
-use Rattle.lotos_sentences.specs.Behaviours.{gate_choices_among}
+use Rattle.lotos_rows.specs.Behaviours.{gate_choices_among}
 use Rattle.syntax_trees.specs.TreeViews.{gate_choice_of}
 use Rattle.ll_engine.specs.Run.{from_last}
 use Rattle.behaviour_building.proofs.declarations.add_gate_choices.Given as goal

@@ -1,6 +1,6 @@
 use Rattle.std.proofs.Common.{◌≡◌, map}
 use Rattle.lotos_base.specs.WrittenView.{placed_name_of}
-use Rattle.lotos_sentences.specs.Names.{variables_of_sort}
+use Rattle.lotos_rows.specs.Names.{variables_of_sort}
 use Rattle.syntax_trees.specs.TreeViews.{offer_of}
 use Rattle.syntax_trees.specs.WrittenBehaviour.{offer_variable}
 use Rattle.ll_engine.specs.Run.{from_last}

@@ -1,6 +1,6 @@
 use Rattle.std.proofs.Common.{◌+◌, List, ◌++◌, [], ◌∷◌, inl, inr, map, option_map, ap, sym, ◌∙◌, subst}
 use Rattle.std.proofs.lemmas.Result.{IfOk-weaker}
-use Rattle.term_algebra.specs.Substitution.{Substitution, binding}
+use Rattle.lotos_base.specs.Substitution.{Substitution, binding}
 use Rattle.behaviour_semantics.specs.Behaviour.{action, asked_variables, choice, choose_gate, choose_value, disable, enable, exit_with, guard, hide, inner_action, let_be, let_variables, numbers_of, par_gate, parallel}
 use Rattle.behaviour_semantics.specs.Replacement.{test_with, with_values}
 use Rattle.sort_terms.specs.ProfiledTerm.{ProfiledTerm}

@@ -1,5 +1,5 @@
 use Rattle.std.proofs.Common.{◌≡◌, ◌++◌, map, drop}
-use Rattle.term_algebra.specs.Substitution.{binding}
+use Rattle.lotos_base.specs.Substitution.{binding}
 use Rattle.term_match.specs.ProfiledInstance.{profiled_binding}
 use Rattle.term_match.specs.SubstView.{profiled_pairs}
 use Rattle.behaviour_tree.specs.BehaviourTerms.{let_profile}

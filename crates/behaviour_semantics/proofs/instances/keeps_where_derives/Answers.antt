@@ -1,14 +1,14 @@
 use Rattle.std.proofs.Common.{◌≤◌, ℕ, [], arith}
-use Rattle.term_algebra.specs.Term.{Term}
-use Rattle.term_algebra.specs.Equation.{Data}
+use Rattle.lotos_base.specs.Term.{Term}
+use Rattle.lotos_base.specs.Equation.{Data}
 use Rattle.behaviour_semantics.specs.Behaviour.{Behaviour, Specification}
 use Rattle.behaviour_semantics.specs.Label.{Label}
 use Rattle.behaviour_semantics.specs.Rule.{as_given}
 use Rattle.behaviour_semantics.specs.Shape.{Derivation}
-use Rattle.behaviour_semantics.specs.Derives.{Derives, Keeps, GivesMove, leaves_in}
+use Rattle.behaviour_semantics.specs.Derives.{Derives, DerivesCanonically, GivesMove, leaves_in}
 use Rattle.behaviour_semantics.specs.Draft.{above, above_processes, first_apart}
 use Rattle.behaviour_semantics.specs.WellFormed.{AreOver}
-use Rattle.behaviour_semantics.specs.InstanceLaws.{Kept, Derived}
+use Rattle.behaviour_semantics.specs.InstanceLaws.{CanonicalForDerived, DerivedForCanonical}
 use Rattle.behaviour_semantics.proofs.RelatedTerms.{IsRepresenting, canon_represents, given_represents}
 use Rattle.behaviour_semantics.proofs.SameBehaviours.{low_nothing, same_beside, turned_beside}
 use Rattle.behaviour_semantics.proofs.InstanceLemmas.{plain, turned_labels}
@@ -28,7 +28,7 @@ other_represent data_ canon represent other specification b over f g d label tar
     (same_beside data_ base (plain represent (leaves_in d.leaves)) (plain other (leaves_in d.leaves)) _ specification.processes [] b
     (low_nothing data_ base) le_b over.closed) label target moves
 
-kept : (data_ : Data) (canon : Term → Term) (specification : Specification) (b : Behaviour) → AreOver data_ canon specification b → (d : Derivation) (label : Label) (target : Behaviour) → Derives data_ specification.processes b d label target → Kept data_ canon specification.processes b d label target
+kept : (data_ : Data) (canon : Term → Term) (specification : Specification) (b : Behaviour) → AreOver data_ canon specification b → (d : Derivation) (label : Label) (target : Behaviour) → Derives data_ specification.processes b d label target → CanonicalForDerived data_ canon specification.processes b d label target
 kept data_ canon specification b over d label target derives =
     let base : ℕ = first_apart specification.processes b in
     let a : Another data_ base as_given canon specification.processes b d label target =
@@ -42,7 +42,7 @@ kept data_ canon specification b over d label target derives =
       targets = alike_behaviours data_ base canon as_given (leaves_in d.leaves) (leaves_in d.leaves) (turned_beside data_ base a.targets);
     }
 
-derived : (data_ : Data) (canon : Term → Term) (specification : Specification) (b : Behaviour) → AreOver data_ canon specification b → (d : Derivation) (label : Label) (target : Behaviour) → Keeps data_ canon specification.processes b d label target → Derived data_ canon specification.processes b d label target
+derived : (data_ : Data) (canon : Term → Term) (specification : Specification) (b : Behaviour) → AreOver data_ canon specification b → (d : Derivation) (label : Label) (target : Behaviour) → DerivesCanonically data_ canon specification.processes b d label target → DerivedForCanonical data_ canon specification.processes b d label target
 derived data_ canon specification b over d label target keeps =
     let base : ℕ = first_apart specification.processes b in
     let a : Another data_ base canon as_given specification.processes b d label target =

@@ -1,11 +1,11 @@
 use Rattle.std.proofs.Common.{ℕ, List}
-use Rattle.term_algebra.specs.Term.{Term}
-use Rattle.term_algebra.specs.Equation.{Data}
+use Rattle.list_laws.proofs.Options.{mapped}
+use Rattle.lotos_base.specs.Term.{Term}
+use Rattle.lotos_base.specs.Equation.{Data}
 use Rattle.behaviour_semantics.specs.Behaviour.{Behaviour, Process}
 use Rattle.behaviour_semantics.specs.Shape.{Shape}
 use Rattle.behaviour_semantics.specs.Move.{Setting, move_of}
 use Rattle.behaviour_semantics.specs.Draft.{Fits, first_apart, leaves_from, draft_by}
-use Rattle.behaviour_semantics.proofs.OptionLemmas.{mapped}
 use Rattle.behaviour_semantics.proofs.ComparableLemmas.{Ordered, comparable}
 use Rattle.behaviour_semantics.proofs.order.fitting_shapes_are_ordered.Goals as goal
 

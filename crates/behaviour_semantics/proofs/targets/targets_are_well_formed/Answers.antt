@@ -1,7 +1,7 @@
 use Rattle.std.proofs.Common.{List}
-use Rattle.term_algebra.specs.Term.{Term}
-use Rattle.term_algebra.specs.Equation.{Data}
-use Rattle.term_algebra.proofs.CanonLemmas.{canon_ground}
+use Rattle.lotos_base.specs.Term.{Term}
+use Rattle.lotos_base.specs.Equation.{Data}
+use Rattle.lotos_base.proofs.CanonLemmas.{canon_ground}
 use Rattle.behaviour_semantics.specs.Behaviour.{Behaviour, Specification}
 use Rattle.behaviour_semantics.specs.Rule.{as_given}
 use Rattle.behaviour_semantics.specs.Shape.{Derivation}

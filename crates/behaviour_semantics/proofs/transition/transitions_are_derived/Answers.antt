@@ -1,5 +1,5 @@
 use Rattle.std.proofs.Common.{List}
-use Rattle.term_algebra.specs.Equation.{Data}
+use Rattle.lotos_base.specs.Equation.{Data}
 use Rattle.behaviour_semantics.specs.Behaviour.{Behaviour, Process}
 use Rattle.behaviour_semantics.specs.Label.{Label}
 use Rattle.behaviour_semantics.specs.Shape.{Derivation}

@@ -26,6 +26,7 @@ returns g c = (
       c.requires.at_start
       (subst (λ (f : Flat). AreWalkValues (signature_of f.signature) (values_of c.in_ok-values.values)) c.flat.ensures
       c.in_ok-values.ensures.read)
-      c.in_ok-walk.ensures.leads c.in_ok-walk.ensures.same_spec c.in_ok-walk.ensures.same_data c.in_ok-walk.ensures.same_canon
+      c.in_ok-walk.ensures.leads c.in_ok-walk.ensures.same_spec c.in_ok-walk.ensures.same_known.same_data
+      c.in_ok-walk.ensures.same_known.same_canon
       c.in_ok-walk.ensures.on_walk_after,
 )

@@ -1,5 +1,6 @@
 use Rattle.std.proofs.Common.{◌≡◌}
 use Rattle.session_log.specs.CourseView.{basis_over}
+use Rattle.event_offers.specs.Keeping.{KeepsData}
 use Rattle.demo_walks.specs.DemoWalk.{GoesThrough, rounds_steps}
 use Rattle.demo_walks.specs.WalkView.{IsOnWalk, reached, values_of}
 use Rattle.demo_walks.proofs.walking.rounds.Given as goal
@@ -11,6 +12,5 @@ invariant-loop-turn g l = record {
       (rounds_steps (values_of l.values) l.cells l.turn) (reached l.fn.session) (reached l.session);
   on_walk : IsOnWalk g.M.MenuMaker.suits (g.D.Deciding.known_data l.fn.data) (g.D.Deciding.canon l.fn.data) l.session l.tally;
   same_spec : l.session.spec ≡ l.fn.session.spec;
-  same_data : g.D.Deciding.known_data l.data ≡ g.D.Deciding.known_data l.fn.data;
-  same_canon : g.D.Deciding.canon l.data ≡ g.D.Deciding.canon l.fn.data;
+  same_known : KeepsData g.D.Deciding.known_data g.D.Deciding.canon l.fn.data l.data;
 }

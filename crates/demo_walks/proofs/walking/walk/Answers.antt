@@ -1,20 +1,20 @@
-use Rattle.std.proofs.Common.{List, Some, sym, subst}
+use Rattle.std.proofs.Common.{List, Some, subst}
 use Rattle.std.proofs.lemmas.Result.{on_ok_weaker}
-use Rattle.term_algebra.specs.Equation.{Data}
-use Rattle.term_algebra.specs.Term.{Term}
+use Rattle.lotos_base.specs.Equation.{Data}
+use Rattle.lotos_base.specs.Term.{Term}
 use Rattle.behaviour_tree.specs.BehaviourView.{terms_of}
 use Rattle.sort_terms.specs.declared.sorted.Sorted.{Sorted}
 use Rattle.session_log.specs.CourseView.{basis_over}
+use Rattle.event_offers.proofs.KeepingLemmas.{held_before, holds_after}
 use Rattle.demo_walks.specs.DemoWalk.{Goes, rounds_steps, store_step}
 use Rattle.demo_walks.specs.WalkView.{IsOnWalk, reached, values_of}
-use Rattle.demo_walks.proofs.WalkLemmas.{goes_once, over_same, over_same_spec}
+use Rattle.demo_walks.proofs.WalkLemmas.{goes_once, over_same_spec}
 use Rattle.demo_walks.proofs.walking.walk.Goals as goal
 
 pub step-requires-clause-on_walk : goal.step-requires-clause-on_walk
 step-requires-clause-on_walk g c =
-    over_same (g.D.Deciding.known_data c.rounds.new.data) _ (g.D.Deciding.canon c.rounds.new.data) _
-    (λ (d : Data) (k : Term → Term). IsOnWalk g.M.MenuMaker.suits d k c.rounds.new.session c.rounds.new.tally)
-    (sym c.in_ok-rounds.ensures.same_data) (sym c.in_ok-rounds.ensures.same_canon) c.in_ok-rounds.ensures.on_walk_after
+    holds_after (λ (d : Data) (k : Term → Term). IsOnWalk g.M.MenuMaker.suits d k c.rounds.new.session c.rounds.new.tally)
+    c.in_ok-rounds.ensures.same_known c.in_ok-rounds.ensures.on_walk_after
 
 pub returns-clause-leads : goal.returns-clause-leads
 returns-clause-leads g c =
@@ -28,12 +28,12 @@ returns-clause-leads g c =
     (subst (λ (given : List Sorted). Goes (basis_over known canon spec) (record { number = 1; values = Some (terms_of given) })
     (reached c.rounds.new.session) (reached c.step.new.session)) c.new.ensures.items
     (over_same_spec known _ canon _ spec _ (λ basis. Goes basis (record { number = 1; values = Some (terms_of c.new.result.items) })
-    (reached c.rounds.new.session) (reached c.step.new.session)) c.in_ok-rounds.ensures.same_data c.in_ok-rounds.ensures.same_canon
+    (reached c.rounds.new.session) (reached c.step.new.session)) c.in_ok-rounds.ensures.same_known.same_data
+    c.in_ok-rounds.ensures.same_known.same_canon
     c.in_ok-rounds.ensures.same_spec goes))) c.step.ensures.goes
 
 pub returns-clause-on_walk_after : goal.returns-clause-on_walk_after
 returns-clause-on_walk_after g c =
     on_ok_weaker c.step.result (λ on.
-    over_same (g.D.Deciding.known_data c.args.data.now) _ (g.D.Deciding.canon c.args.data.now) _
-    (λ (d : Data) (k : Term → Term). IsOnWalk g.M.MenuMaker.suits d k c.step.new.session c.step.new.tally)
-    c.in_ok-rounds.ensures.same_data c.in_ok-rounds.ensures.same_canon on) c.step.ensures.on_walk_after
+    held_before (λ (d : Data) (k : Term → Term). IsOnWalk g.M.MenuMaker.suits d k c.step.new.session c.step.new.tally)
+    c.in_ok-rounds.ensures.same_known on) c.step.ensures.on_walk_after

@@ -1,5 +1,5 @@
 use Rattle.std.proofs.Common.{◌≡◌, drop}
-use Rattle.term_algebra.specs.Substitution.{is_listed}
+use Rattle.lotos_base.specs.Substitution.{is_listed}
 use Rattle.draft_parts.proofs.rules.contains.Given as goal
 
 abbrev pub invariant-loop-listed : goal.invariant-loop-listed

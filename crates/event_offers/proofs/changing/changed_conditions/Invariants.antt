@@ -1,6 +1,7 @@
 use Rattle.std.proofs.Common.{◌≡◌, ◌++◌, drop, map}
 use Rattle.behaviour_semantics.specs.Solving.{differing, test_in}
 use Rattle.event_offers.specs.Changing.{AreReadyPairs, changed_by}
+use Rattle.event_offers.specs.Keeping.{KeepsData}
 use Rattle.event_offers.specs.OfferView.{condition_profiles, conditions_of}
 use Rattle.event_offers.specs.Offers.{AreConditionsOf}
 use Rattle.event_offers.proofs.changing.changed_conditions.Given as goal
@@ -14,5 +15,4 @@ invariant-loop-condition g l =
     × AreConditionsOf (g.D.Deciding.known_data l.fn.decider).signature (condition_profiles l.made.items)
     × AreReadyPairs (g.D.Deciding.known_data l.fn.decider).signature (g.D.Deciding.canon l.fn.decider) l.put (condition_profiles (drop
     l.condition-index l.condition-items))
-    × (g.D.Deciding.known_data l.decider ≡ g.D.Deciding.known_data l.fn.decider)
-    × (g.D.Deciding.canon l.decider ≡ g.D.Deciding.canon l.fn.decider)
+    × KeepsData g.D.Deciding.known_data g.D.Deciding.canon l.fn.decider l.decider

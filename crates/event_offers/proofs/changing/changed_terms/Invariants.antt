@@ -3,6 +3,7 @@ use Rattle.behaviour_tree.specs.BehaviourTerms.{profiles_of}
 use Rattle.behaviour_tree.specs.BehaviourView.{terms_of}
 use Rattle.behaviour_tree.specs.Over.{AreTermsOf}
 use Rattle.event_offers.specs.Changing.{AreReady, changed_by}
+use Rattle.event_offers.specs.Keeping.{KeepsData}
 use Rattle.event_offers.proofs.changing.changed_terms.Given as goal
 
 abbrev pub invariant-loop-term : goal.invariant-loop-term
@@ -12,5 +13,4 @@ invariant-loop-term g l =
     × AreTermsOf (g.D.Deciding.known_data l.fn.decider).signature (profiles_of l.made.items)
     × AreReady (g.D.Deciding.known_data l.fn.decider).signature (g.D.Deciding.canon l.fn.decider) l.put (profiles_of (drop l.term-index
     l.term-items))
-    × (g.D.Deciding.known_data l.decider ≡ g.D.Deciding.known_data l.fn.decider)
-    × (g.D.Deciding.canon l.decider ≡ g.D.Deciding.canon l.fn.decider)
+    × KeepsData g.D.Deciding.known_data g.D.Deciding.canon l.fn.decider l.decider

@@ -1,7 +1,7 @@
 use Rattle.std.proofs.Common.{sym, subst, ap, ◌∙◌, ◌≡◌, ℕ, Result}
 use Rattle.std.proofs.Math.Path.{fun_ext}
 use Rattle.std.proofs.lemmas.Result.{IfOk-weaker}
-use Rattle.term_algebra.specs.Substitution.{substituted}
+use Rattle.lotos_base.specs.Substitution.{substituted}
 use Rattle.sort_terms.specs.ProfiledTerm.{IsOf}
 use Rattle.sort_terms.specs.SortedView.{profiled_in, term_in}
 use Rattle.event_offers.proofs.ValueLemmas.{one_put_of, one_suits, one_bare}

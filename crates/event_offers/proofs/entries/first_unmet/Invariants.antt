@@ -3,6 +3,7 @@ use Rattle.behaviour_semantics.specs.Derives.{leaves_in}
 use Rattle.behaviour_semantics.specs.WellFormed.{Every}
 use Rattle.behaviour_tree.specs.BehaviourView.{terms_of}
 use Rattle.event_offers.specs.Instances.{IsValuedPair, unmet_among}
+use Rattle.event_offers.specs.Keeping.{KeepsData}
 use Rattle.event_offers.specs.OfferView.{condition_profiles, conditions_of}
 use Rattle.event_offers.proofs.entries.first_unmet.Given as goal
 
@@ -13,5 +14,4 @@ invariant-loop-condition g l =
     ≡ unmet_among (g.D.Deciding.canon l.fn.decider) (leaves_in (terms_of l.values)) (conditions_of l.condition-items))
     × Every (IsValuedPair (g.D.Deciding.known_data l.fn.decider).signature l.values) (condition_profiles (drop l.condition-index
     l.condition-items))
-    × (g.D.Deciding.known_data l.decider ≡ g.D.Deciding.known_data l.fn.decider)
-    × (g.D.Deciding.canon l.decider ≡ g.D.Deciding.canon l.fn.decider)
+    × KeepsData g.D.Deciding.known_data g.D.Deciding.canon l.fn.decider l.decider

@@ -1,5 +1,5 @@
 use Rattle.std.proofs.Common.{◌≡◌, drop}
-use Rattle.term_algebra.specs.Tests.{occurs_among}
+use Rattle.lotos_base.specs.Tests.{occurs_among}
 use Rattle.sort_terms.specs.TermView.{terms_of}
 use Rattle.event_offers.proofs.occurrences.+occurrence.Given as goal
 

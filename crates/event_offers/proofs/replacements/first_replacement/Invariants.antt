@@ -1,5 +1,5 @@
 use Rattle.std.proofs.Common.{◌≡◌, drop}
-use Rattle.term_algebra.specs.Signature.{Signature}
+use Rattle.lotos_base.specs.Signature.{Signature}
 use Rattle.behaviour_semantics.specs.Solving.{first_replacement}
 use Rattle.event_offers.specs.OfferView.{condition_profiles, conditions_of}
 use Rattle.event_offers.specs.Offers.{AreConditionsOf}

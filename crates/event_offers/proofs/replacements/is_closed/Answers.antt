@@ -1,5 +1,5 @@
 use Rattle.std.proofs.Common.{ap, ◌∙◌, Bool, false, ◌&&◌}
-use Rattle.term_algebra.specs.Tests.{is_ground}
+use Rattle.lotos_base.specs.Tests.{is_ground}
 use Rattle.sort_terms.specs.SortedView.{term_in}
 use Rattle.event_offers.proofs.GroundLemmas.{ground_told}
 use Rattle.event_offers.proofs.replacements.is_closed.Goals as goal

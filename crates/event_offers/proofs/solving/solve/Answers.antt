@@ -1,12 +1,13 @@
-use Rattle.std.proofs.Common.{◌≡◌, ap, ◌∙◌, sym, ℕ, Some, None, Option}
-use Rattle.term_algebra.specs.Term.{Term}
+use Rattle.std.proofs.Common.{ap, ◌∙◌, sym, Some, None}
+use Rattle.lotos_base.specs.Equation.{Data}
+use Rattle.lotos_base.specs.Term.{Term}
 use Rattle.behaviour_semantics.specs.Solving.{tidied}
-use Rattle.sort_terms.specs.declared.sorted.Sorted.{Sorted}
-use Rattle.event_offers.specs.Changing.{changed_by}
+use Rattle.event_offers.specs.Changing.{AreReady, AreReadyPairs, changed_by}
 use Rattle.event_offers.specs.OfferView.{condition_profiles, label_profiles, plain_draft, plain_entry}
 use Rattle.behaviour_tree.specs.BehaviourTerms.{profiles_of}
 use Rattle.event_offers.proofs.FindingLemmas.{gives_of, gives_none, found_is_of}
-use Rattle.event_offers.proofs.SolvingWay.{reached_nothing, reached_entry, reached_next, fewer_next, ordered_entry, nothing_meets, values_ready, leaves_ready, conditions_ready, ready_moved, ready_pairs_moved, has_terms_moved}
+use Rattle.event_offers.proofs.KeepingLemmas.{holds_after, keeps_both}
+use Rattle.event_offers.proofs.SolvingWay.{reached_nothing, reached_entry, reached_next, fewer_next, ordered_entry, nothing_meets, values_ready, leaves_ready, conditions_ready, has_terms_moved}
 use Rattle.event_offers.proofs.solving.solve.Goals as goal
 
 pub returns-then-has_closed-clause-solved : goal.returns-then-has_closed-clause-solved
@@ -47,10 +48,8 @@ returns-in-None-clause-over g c = record {
 
 pub stepped-requires-clause-values : goal.stepped-requires-clause-values
 stepped-requires-clause-values g c =
-    ready_moved (g.D.Deciding.known_data c.args.decider.now) (g.D.Deciding.known_data c.solving.decider)
-    (g.D.Deciding.canon c.args.decider.now) (g.D.Deciding.canon c.solving.decider) (Some c.in-Some.found) (label_profiles
-    c.solving.now.label)
-    c.solving.invariant.1 c.solving.invariant.2
+    holds_after (λ (d : Data) (k : Term → Term). AreReady d.signature k (Some c.in-Some.found) (label_profiles c.solving.now.label))
+    c.solving.invariant.1
     (values_ready (g.D.Deciding.known_data c.args.decider.now) (g.D.Deciding.canon c.args.decider.now) (g.met.D.Deciding.is_canon
     c.args.decider.now)
     (plain_draft c.args.draft) c.solving.now c.solving.invariant.0 c.in-Some.found
@@ -60,10 +59,8 @@ stepped-requires-clause-values g c =
 
 pub stepped-requires-clause-leaves : goal.stepped-requires-clause-leaves
 stepped-requires-clause-leaves g c =
-    ready_moved (g.D.Deciding.known_data c.args.decider.now) (g.D.Deciding.known_data c.solving.decider)
-    (g.D.Deciding.canon c.args.decider.now) (g.D.Deciding.canon c.solving.decider) (Some c.in-Some.found) (profiles_of
-    c.solving.now.leaves.items)
-    c.solving.invariant.1 c.solving.invariant.2
+    holds_after (λ (d : Data) (k : Term → Term). AreReady d.signature k (Some c.in-Some.found) (profiles_of c.solving.now.leaves.items))
+    c.solving.invariant.1
     (leaves_ready (g.D.Deciding.known_data c.args.decider.now) (g.D.Deciding.canon c.args.decider.now) (g.met.D.Deciding.is_canon
     c.args.decider.now)
     (plain_draft c.args.draft) c.solving.now c.solving.invariant.0 c.in-Some.found
@@ -73,10 +70,8 @@ stepped-requires-clause-leaves g c =
 
 pub stepped-requires-clause-conditions : goal.stepped-requires-clause-conditions
 stepped-requires-clause-conditions g c =
-    ready_pairs_moved (g.D.Deciding.known_data c.args.decider.now) (g.D.Deciding.known_data c.solving.decider)
-    (g.D.Deciding.canon c.args.decider.now) (g.D.Deciding.canon c.solving.decider) (Some c.in-Some.found) (condition_profiles
-    c.solving.now.conditions.items)
-    c.solving.invariant.1 c.solving.invariant.2
+    holds_after (λ (d : Data) (k : Term → Term). AreReadyPairs d.signature k (Some c.in-Some.found)
+    (condition_profiles c.solving.now.conditions.items)) c.solving.invariant.1
     (conditions_ready (g.D.Deciding.known_data c.args.decider.now) (g.D.Deciding.canon c.args.decider.now) (g.met.D.Deciding.is_canon
     c.args.decider.now)
     (plain_draft c.args.draft) c.solving.now c.solving.invariant.0 c.in-Some.found
@@ -94,7 +89,7 @@ solving-smaller g c =
     (g.D.Deciding.known_data c.args.decider.now).signature c.in-Some.is c.in_ok-given.ensures.is_of c.solving.invariant.0.terms.conditions)
     c.in_ok-now-in-Some.now
     (c.in_ok-now-in-Some.ensures.same ∙ ap (λ (canon : Term → Term). tidied (changed_by canon (Some c.in-Some.found)) (plain_draft
-    c.solving.now)) c.solving.invariant.2)
+    c.solving.now)) c.solving.invariant.1.same_canon)
 
 pub solving-preserved : goal.solving-preserved
 solving-preserved g c = (
@@ -107,11 +102,10 @@ solving-preserved g c = (
       c.solving.invariant.0.terms.conditions)
       c.in_ok-now-in-Some.now
       (c.in_ok-now-in-Some.ensures.same ∙ ap (λ (canon : Term → Term). tidied (changed_by canon (Some c.in-Some.found)) (plain_draft
-      c.solving.now)) c.solving.invariant.2)
+      c.solving.now)) c.solving.invariant.1.same_canon)
       (sym c.if-has_closed.ensures)
       (has_terms_moved (g.D.Deciding.known_data c.args.decider.now) (g.D.Deciding.known_data c.solving.decider) c.in_ok-now-in-Some.now
-      c.solving.invariant.1
+      c.solving.invariant.1.same_data
       c.in_ok-now-in-Some.ensures.values c.in_ok-now-in-Some.ensures.leaves c.in_ok-now-in-Some.ensures.conditions),
-  c.in_ok-now-in-Some.ensures.same_data ∙ c.solving.invariant.1,
-  c.in_ok-now-in-Some.ensures.same_canon ∙ c.solving.invariant.2,
+  keeps_both c.solving.invariant.1 c.in_ok-now-in-Some.ensures.same_known,
 )

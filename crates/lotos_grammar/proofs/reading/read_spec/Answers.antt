@@ -1,7 +1,7 @@
 use Rattle.std.proofs.Common.{subst, sym}
 use Rattle.lotos_rows.specs.declared.starts.TheConstants as starts
 use Rattle.lotos_rows.specs.Rows.{grammar_from}
-use Rattle.lotos_sentences.specs.Starts.{IsSpecification}
+use Rattle.lotos_rows.specs.Starts.{IsWrittenSpecification}
 use Rattle.sentence_trees.proofs.AllGiven.{rows_have}
 use Rattle.syntax_trees.specs.Depth.{nodes_of_specification}
 use Rattle.lotos_grammar.proofs.Readings.{too_deep}
@@ -11,12 +11,12 @@ pub returns-in-Some : goal.returns-in-Some
 returns-in-Some c =
     let tokens = c.in_ok-tokens.field-0.tokens.items in
     let fault =
-    too_deep (IsSpecification c.args.text.now) nodes_of_specification c.args.number c.args.text.now (grammar_from starts.SPEC) tokens
+    too_deep (IsWrittenSpecification c.args.text.now) nodes_of_specification c.args.number c.args.text.now (grammar_from starts.SPEC) tokens
     c.in_ok-tokens.field-0.rows.items c.in_ok-deep.deep c.in-Some.place
     (rows_have.specification c.args.text.now tokens)
     c.in_ok-tokens.ensures.derived.cut_into c.in_ok-tokens.ensures.derived.derivation
     (λ tree is.
     c.in_ok-deep.ensures c.args.text.now tree
-    (subst (λ it. IsSpecification c.args.text.now it tree) (sym c.deref.ensures.value) is))
+    (subst (λ it. IsWrittenSpecification c.args.text.now it tree) (sym c.deref.ensures.value) is))
     c.in-Some.is in
     (c.in_ok-within_limit.ensures.short, fault)

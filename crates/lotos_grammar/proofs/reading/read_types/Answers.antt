@@ -1,7 +1,7 @@
 use Rattle.std.proofs.Common.{subst, sym}
 use Rattle.lotos_rows.specs.declared.starts.TheConstants as starts
 use Rattle.lotos_rows.specs.Rows.{grammar_from}
-use Rattle.lotos_sentences.specs.Starts.{AreItems}
+use Rattle.lotos_rows.specs.Starts.{AreItems}
 use Rattle.sentence_trees.proofs.AllGiven.{rows_have}
 use Rattle.sentence_trees.specs.Reading.{nodes_of_items}
 use Rattle.lotos_grammar.proofs.Readings.{too_deep}

@@ -10,8 +10,8 @@ open-requires c = record {
 pub returns : goal.returns
 returns c = λ acceptance holds.
     begins_so acceptance c.args.accepted c.open.new.data c.in_ok-session.session holds (record {
-      same_data = c.in_ok-session.ensures.same_data;
-      same_canon = c.in_ok-session.ensures.same_canon;
+      same_data = c.in_ok-session.ensures.same_known.same_data;
+      same_canon = c.in_ok-session.ensures.same_known.same_canon;
       lawful = c.in_ok-session.ensures.lawful;
       spec = c.in_ok-session.ensures.begins.0;
       state = c.in_ok-session.ensures.begins.2;

@@ -1,5 +1,5 @@
 use Rattle.std.proofs.Common.{inr, Some, codes, refl, ap, ◌∙◌}
-use Rattle.lotos_grammar.specs.ShelfUse.{shelf_state}
+use Rattle.spec_acceptance.specs.HandedOn.{shelf_state}
 use Rattle.lotos_base.specs.MemShelf.{calls_of, texts_of}
 use Rattle.lotos_top.specs.Run.{demo_asked}
 use Rattle.lotos_top.specs.TextShelf.{one_text}

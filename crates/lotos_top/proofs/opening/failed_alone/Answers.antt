@@ -3,7 +3,7 @@ use Rattle.std.proofs.lemmas.Result.{IfOk-weaker}
 use Rattle.spec_acceptance.specs.Acceptance.{IsAccepted}
 use Rattle.printed_texts.specs.ReportLines.{unread_text}
 use Rattle.refusal_lines.specs.RefusalText.{refusal_text}
-use Rattle.start_values.specs.RefusalView.{refused_of}
+use Rattle.refusal_lines.specs.HandedOn.{refused_of}
 use Rattle.spec_acceptance.specs.AcceptedView.{asked_for}
 use Rattle.spec_acceptance.specs.Doing.{Failed}
 use Rattle.spec_acceptance.specs.declared.not_accepted.NotAccepted.{NotAccepted}

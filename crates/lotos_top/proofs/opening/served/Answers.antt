@@ -1,8 +1,8 @@
 use Rattle.std.proofs.Common.{inl, ℕ, List, Bor, option_map, refl}
 use Rattle.spec_acceptance.specs.Acceptance.{IsAccepted}
-use Rattle.lotos_grammar.specs.ShelfUse.{shelf_state}
+use Rattle.spec_acceptance.specs.HandedOn.{shelf_state}
 use Rattle.spec_acceptance.specs.AcceptedView.{asked_for}
-use Rattle.start_values.specs.WordLimits.{words_of}
+use Rattle.refusal_lines.specs.HandedOn.{words_of}
 use Rattle.lotos_top.specs.Words.{session}
 use Rattle.lotos_top.proofs.OpeningLemmas.{served_opened, opened_texts, failed_texts}
 use Rattle.lotos_top.proofs.opening.served.Goals as goal

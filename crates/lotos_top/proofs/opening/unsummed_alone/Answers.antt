@@ -2,7 +2,7 @@ use Rattle.std.proofs.Common.{List, ℕ, subst, ap, ◌∙◌}
 use Rattle.std.proofs.lemmas.Result.{IfOk-weaker}
 use Rattle.spec_acceptance.specs.Acceptance.{IsAccepted}
 use Rattle.printed_texts.specs.ReportLines.{unread_text}
-use Rattle.start_values.specs.RefusalView.{refused_of}
+use Rattle.refusal_lines.specs.HandedOn.{refused_of}
 use Rattle.spec_acceptance.specs.Doing.{Failed}
 use Rattle.spec_acceptance.specs.declared.not_accepted.NotAccepted.{NotAccepted}
 use Rattle.lotos_top.specs.Outcome.{word_or_none}

@@ -1,8 +1,8 @@
 use Rattle.std.proofs.Common.{subst, ◌∙◌}
-use Rattle.lotos_grammar.specs.ShelfUse.{shelf_state}
-use Rattle.lotos_top.specs.Prepared.{IsReady}
+use Rattle.spec_acceptance.specs.HandedOn.{shelf_state}
+use Rattle.lotos_top.specs.Prepared.{AreWordsReady}
 use Rattle.lotos_top.specs.Run.{streams}
-use Rattle.start_values.specs.WordLimits.{words_of}
+use Rattle.refusal_lines.specs.HandedOn.{words_of}
 use Rattle.lotos_top.specs.Words.{command_line}
 use Rattle.lotos_top.specs.declared.opening.Ready.{Ready}
 use Rattle.lotos_top.proofs.ReadyLemmas.{ran_alone, ran_served, ran_stopped, untouched_at}
@@ -12,7 +12,7 @@ use Rattle.lotos_top.proofs.running.run.Goals as goal
 
 pub returns-in-Ok-Alone-clause-ran : goal.returns-in-Ok-Alone-clause-ran
 returns-in-Ok-Alone-clause-ran g c =
-    let last = subst (λ (ready : Ready). IsReady (command_line (words_of c.args.words.now))
+    let last = subst (λ (ready : Ready). AreWordsReady (command_line (words_of c.args.words.now))
     (shelf_state (g.F.Shelf.texts c.args.shelf.now) (g.F.Shelf.faults c.args.shelf.now) (g.F.Shelf.calls c.args.shelf.now))
     (shelf_state (g.F.Shelf.texts c.prepare.new.shelf) (g.F.Shelf.faults c.prepare.new.shelf) (g.F.Shelf.calls c.prepare.new.shelf)) ready)
     c.in-Ok-Alone.field-0-is c.in-Ok-Alone.ensures.ready in
@@ -37,7 +37,7 @@ returns-in-Ok-Alone-clause-complete g c =
 
 pub returns-in-Ok-clause-ran : goal.returns-in-Ok-clause-ran
 returns-in-Ok-clause-ran g c =
-    let served = subst (λ (ready : Ready). IsReady (command_line (words_of c.args.words.now))
+    let served = subst (λ (ready : Ready). AreWordsReady (command_line (words_of c.args.words.now))
     (shelf_state (g.F.Shelf.texts c.args.shelf.now) (g.F.Shelf.faults c.args.shelf.now) (g.F.Shelf.calls c.args.shelf.now))
     (shelf_state (g.F.Shelf.texts c.prepare.new.shelf) (g.F.Shelf.faults c.prepare.new.shelf) (g.F.Shelf.calls c.prepare.new.shelf)) ready)
     c.in-Ok-Session.field-0-is c.in-Ok-Session.ensures.ready in

@@ -1,6 +1,6 @@
 use Rattle.std.proofs.Common.{refl}
 use Rattle.history_lines.specs.LinesView.{standing_of}
-use Rattle.lotos_grammar.specs.ShelfUse.{shelf_state}
+use Rattle.spec_acceptance.specs.HandedOn.{shelf_state}
 use Rattle.lotos_top.specs.Prepared.{beginning_of}
 use Rattle.lotos_top.proofs.ServingLemmas.{serves_whole}
 use Rattle.lotos_top.proofs.running.serve_behind.Goals as goal

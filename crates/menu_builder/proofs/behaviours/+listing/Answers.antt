@@ -1,7 +1,7 @@
 use Rattle.std.proofs.Common.{rules, refl, List, [], ℕ, ◌<◌, ◌++◌, map, filter_map, Some, ap, sym, ◌∙◌, subst}
 use Rattle.std.proofs.lemmas.Result.{IfOk-weaker}
-use Rattle.term_algebra.specs.Equation.{Data}
-use Rattle.term_algebra.specs.Term.{Term}
+use Rattle.lotos_base.specs.Equation.{Data}
+use Rattle.lotos_base.specs.Term.{Term}
 use Rattle.behaviour_semantics.specs.Behaviour.{choice, choose_gate, choose_value, disable, guard, hide, let_be, parallel}
 use Rattle.behaviour_semantics.specs.Draft as plain
 use Rattle.sort_terms.specs.EquationView.{variable_of}
@@ -18,10 +18,11 @@ use Rattle.draft_parts.specs.DraftRules.{hidden_draft, valued_draft}
 use Rattle.draft_parts.specs.Lists.{plain_drafts}
 use Rattle.draft_parts.specs.Made.{AreThese}
 use Rattle.draft_parts.proofs.MadeLemmas.{by_rule}
-use Rattle.menu_builder.specs.Placed.{AreListed, IsPlaced, basis_of}
+use Rattle.event_offers.proofs.KeepingLemmas.{held_before, holds_after}
+use Rattle.menu_builder.specs.Placed.{AreDraftsPlaced, IsPlaced, basis_of}
 use Rattle.menu_builder.proofs.ArmLemmas.{call_arm_less, call_placed, every_at, leaf_of, left_of, let_placed, odd_below_above, odd_below_even, other_relabels, par_arm_less, par_call_less, par_listed_form, par_part_placed, par_placed_form, part_less, placed_arm, same_less, value_placed, value_sort}
 use Rattle.menu_builder.proofs.WholeLemmas.{both_less, both_listed, both_placed, enable_read, whole_less, whole_listed, whole_placed}
-use Rattle.menu_builder.proofs.CallLemmas.{action_has_tests, action_offers, action_pairs, action_test, call_count, call_found, call_ready, call_within, exit_ready, guard_left, guard_right, let_ready, listed_form, on_same, part_placed, placed_form}
+use Rattle.menu_builder.proofs.CallLemmas.{action_has_tests, action_offers, action_pairs, action_test, call_count, call_found, call_ready, call_within, exit_ready, guard_left, guard_right, let_ready, listed_form, part_placed, placed_form}
 use Rattle.menu_builder.proofs.EffortLemmas.{call_less, effort, left_less, right_less}
 use Rattle.menu_builder.proofs.ListedLemmas.{action_listed, call_listed, choice_listed, disable_listed, enable_listed, exit_listed, gates_listed, guard_listed, hide_listed, inner_listed, let_listed, par_call_listed, par_listed, par_stop_listed, parallel_listed, stop_listed, value_listed}
 use Rattle.menu_builder.proofs.PlaceLemmas.{choice_left, choice_right, disable_left, disable_right, enable_part, gate_part, guard_part, hide_part, parallel_left, parallel_right}
@@ -34,14 +35,6 @@ behaviour_moves-returns-in-Stop-clause-listed g t c =
     c.new.result.items (stop_listed (basis_of (g.D.Deciding.known_data c.args.decider.now) (g.D.Deciding.canon
     c.args.decider.now) c.args.spec.now) c.args.first (profiled_pairs c.args.environment.now.items) [] c.new.result.items
     c.new.ensures.items)
-
-pub behaviour_moves-returns-in-Stop-clause-same_canon : goal.behaviour_moves-returns-in-Stop-clause-same_canon
-behaviour_moves-returns-in-Stop-clause-same_canon g t c =
-    refl
-
-pub behaviour_moves-returns-in-Stop-clause-same_data : goal.behaviour_moves-returns-in-Stop-clause-same_data
-behaviour_moves-returns-in-Stop-clause-same_data g t c =
-    refl
 
 pub behaviour_moves-exit_moves-requires : goal.behaviour_moves-exit_moves-requires
 behaviour_moves-exit_moves-requires g t c =
@@ -58,14 +51,6 @@ behaviour_moves-returns-in-Exit-clause-listed g t c =
     (exit_listed (basis_of (g.D.Deciding.known_data c.args.decider.now) (g.D.Deciding.canon c.args.decider.now)
     c.args.spec.now) c.args.first (profiled_pairs c.args.environment.now.items) c.in-Exit.results.items _ made.items e))
     c.exit_moves.ensures.these
-
-pub behaviour_moves-returns-in-Exit-clause-same_canon : goal.behaviour_moves-returns-in-Exit-clause-same_canon
-behaviour_moves-returns-in-Exit-clause-same_canon g t c =
-    c.exit_moves.ensures.same_canon
-
-pub behaviour_moves-returns-in-Exit-clause-same_data : goal.behaviour_moves-returns-in-Exit-clause-same_data
-behaviour_moves-returns-in-Exit-clause-same_data g t c =
-    c.exit_moves.ensures.same_data
 
 pub behaviour_moves-action_moves-requires-clause-offers : goal.behaviour_moves-action_moves-requires-clause-offers
 behaviour_moves-action_moves-requires-clause-offers g t c =
@@ -102,14 +87,6 @@ behaviour_moves-returns-in-Action-clause-listed g t c =
     c.in-Action.is c.requires.placed)))))
     c.action_moves.ensures.these
 
-pub behaviour_moves-returns-in-Action-clause-same_canon : goal.behaviour_moves-returns-in-Action-clause-same_canon
-behaviour_moves-returns-in-Action-clause-same_canon g t c =
-    c.action_moves.ensures.same_canon
-
-pub behaviour_moves-returns-in-Action-clause-same_data : goal.behaviour_moves-returns-in-Action-clause-same_data
-behaviour_moves-returns-in-Action-clause-same_data g t c =
-    c.action_moves.ensures.same_data
-
 pub behaviour_moves-returns-in-Inner-clause-listed : goal.behaviour_moves-returns-in-Inner-clause-listed
 behaviour_moves-returns-in-Inner-clause-listed g t c =
     IfOk-weaker c.inner_moves.result _ _ (λ made e. listed_form (basis_of (g.D.Deciding.known_data c.args.decider.now)
@@ -119,14 +96,6 @@ behaviour_moves-returns-in-Inner-clause-listed g t c =
     c.args.spec.now) c.args.first (profiled_pairs c.args.environment.now.items) _ _ made.items (e (g.D.Deciding.known_data
     c.args.decider.now).signature)))
     c.inner_moves.ensures
-
-pub behaviour_moves-returns-in-Inner-clause-same_canon : goal.behaviour_moves-returns-in-Inner-clause-same_canon
-behaviour_moves-returns-in-Inner-clause-same_canon g t c =
-    refl
-
-pub behaviour_moves-returns-in-Inner-clause-same_data : goal.behaviour_moves-returns-in-Inner-clause-same_data
-behaviour_moves-returns-in-Inner-clause-same_data g t c =
-    refl
 
 pub behaviour_moves-guard_moves-requires : goal.behaviour_moves-guard_moves-requires
 behaviour_moves-guard_moves-requires g t c κs within = (
@@ -157,14 +126,6 @@ behaviour_moves-returns-in-Guard-clause-listed g t c =
     c.in-Guard.test ++ profiles_in x) c.in-Guard.part.value c.deref.result.now c.deref.ensures (ap behaviour_of c.in-Guard.is)
     (ap profiles_in c.in-Guard.is) made.items e)
     c.guard_moves.ensures.listed
-
-pub behaviour_moves-returns-in-Guard-clause-same_canon : goal.behaviour_moves-returns-in-Guard-clause-same_canon
-behaviour_moves-returns-in-Guard-clause-same_canon g t c =
-    c.guard_moves.ensures.same_canon
-
-pub behaviour_moves-returns-in-Guard-clause-same_data : goal.behaviour_moves-returns-in-Guard-clause-same_data
-behaviour_moves-returns-in-Guard-clause-same_data g t c =
-    c.guard_moves.ensures.same_data
 
 pub behaviour_moves-choice_moves-requires : goal.behaviour_moves-choice_moves-requires
 behaviour_moves-choice_moves-requires g t c κs within = (
@@ -198,14 +159,6 @@ behaviour_moves-returns-in-Choice-clause-listed g t c =
     c.deref-in-Choice-2.ensures (ap behaviour_of c.in-Choice.is) (ap profiles_in c.in-Choice.is) made.items e)
     c.choice_moves.ensures.listed
 
-pub behaviour_moves-returns-in-Choice-clause-same_canon : goal.behaviour_moves-returns-in-Choice-clause-same_canon
-behaviour_moves-returns-in-Choice-clause-same_canon g t c =
-    c.choice_moves.ensures.same_canon
-
-pub behaviour_moves-returns-in-Choice-clause-same_data : goal.behaviour_moves-returns-in-Choice-clause-same_data
-behaviour_moves-returns-in-Choice-clause-same_data g t c =
-    c.choice_moves.ensures.same_data
-
 pub behaviour_moves-parallel_moves-requires : goal.behaviour_moves-parallel_moves-requires
 behaviour_moves-parallel_moves-requires g t c κs within = (
   left_of _ _ _ (both_less (rank_in c.args.ranks.now) (specification_of c.args.spec.now).processes c.args.behaviour.now (λ
@@ -238,14 +191,6 @@ behaviour_moves-returns-in-Parallel-clause-listed g t c =
     c.in-Parallel.is) made.items e)
     c.parallel_moves.ensures.listed
 
-pub behaviour_moves-returns-in-Parallel-clause-same_canon : goal.behaviour_moves-returns-in-Parallel-clause-same_canon
-behaviour_moves-returns-in-Parallel-clause-same_canon g t c =
-    c.parallel_moves.ensures.same_canon
-
-pub behaviour_moves-returns-in-Parallel-clause-same_data : goal.behaviour_moves-returns-in-Parallel-clause-same_data
-behaviour_moves-returns-in-Parallel-clause-same_data g t c =
-    c.parallel_moves.ensures.same_data
-
 pub behaviour_moves-hide_moves-requires : goal.behaviour_moves-hide_moves-requires
 behaviour_moves-hide_moves-requires g t c κs within = (
   left_of _ _ _ (whole_less (rank_in c.args.ranks.now) (specification_of c.args.spec.now).processes c.args.behaviour.now (λ
@@ -275,14 +220,6 @@ behaviour_moves-returns-in-Hide-clause-listed g t c =
     c.in-Hide.part.value c.deref-in-Hide.result.now c.deref-in-Hide.ensures (ap behaviour_of c.in-Hide.is) (ap profiles_in
     c.in-Hide.is) made.items e)
     c.hide_moves.ensures.listed
-
-pub behaviour_moves-returns-in-Hide-clause-same_canon : goal.behaviour_moves-returns-in-Hide-clause-same_canon
-behaviour_moves-returns-in-Hide-clause-same_canon g t c =
-    c.hide_moves.ensures.same_canon
-
-pub behaviour_moves-returns-in-Hide-clause-same_data : goal.behaviour_moves-returns-in-Hide-clause-same_data
-behaviour_moves-returns-in-Hide-clause-same_data g t c =
-    c.hide_moves.ensures.same_data
 
 pub behaviour_moves-enable_moves-requires : goal.behaviour_moves-enable_moves-requires
 behaviour_moves-enable_moves-requires g t c κs within = (
@@ -316,14 +253,6 @@ behaviour_moves-returns-in-Enable-clause-listed g t c =
     c.deref-in-Enable.result.now c.deref-in-Enable.ensures (variables_of c.in-Enable.variables.items) made.items e _ _))
     c.enable_moves.ensures.listed
 
-pub behaviour_moves-returns-in-Enable-clause-same_canon : goal.behaviour_moves-returns-in-Enable-clause-same_canon
-behaviour_moves-returns-in-Enable-clause-same_canon g t c =
-    c.enable_moves.ensures.same_canon
-
-pub behaviour_moves-returns-in-Enable-clause-same_data : goal.behaviour_moves-returns-in-Enable-clause-same_data
-behaviour_moves-returns-in-Enable-clause-same_data g t c =
-    c.enable_moves.ensures.same_data
-
 pub behaviour_moves-disable_moves-requires : goal.behaviour_moves-disable_moves-requires
 behaviour_moves-disable_moves-requires g t c κs within = (
   left_of _ _ _ (both_less (rank_in c.args.ranks.now) (specification_of c.args.spec.now).processes c.args.behaviour.now (λ
@@ -356,14 +285,6 @@ behaviour_moves-returns-in-Disable-clause-listed g t c =
     c.deref-in-Disable-2.ensures (ap behaviour_of c.in-Disable.is) (ap profiles_in c.in-Disable.is) made.items e)
     c.disable_moves.ensures.listed
 
-pub behaviour_moves-returns-in-Disable-clause-same_canon : goal.behaviour_moves-returns-in-Disable-clause-same_canon
-behaviour_moves-returns-in-Disable-clause-same_canon g t c =
-    c.disable_moves.ensures.same_canon
-
-pub behaviour_moves-returns-in-Disable-clause-same_data : goal.behaviour_moves-returns-in-Disable-clause-same_data
-behaviour_moves-returns-in-Disable-clause-same_data g t c =
-    c.disable_moves.ensures.same_data
-
 pub behaviour_moves-let_moves-requires : goal.behaviour_moves-let_moves-requires
 behaviour_moves-let_moves-requires g t c κs within = (
   left_of _ _ _ (whole_less (rank_in c.args.ranks.now) (specification_of c.args.spec.now).processes c.args.behaviour.now (λ
@@ -393,14 +314,6 @@ behaviour_moves-returns-in-Let-clause-listed g t c =
     let_profile c.in-Let.bindings.items ++ profiles_in x) c.in-Let.part.value c.deref-in-Let.result.now c.deref-in-Let.ensures
     (ap behaviour_of c.in-Let.is) (ap profiles_in c.in-Let.is) made.items e)
     c.let_moves.ensures.listed
-
-pub behaviour_moves-returns-in-Let-clause-same_canon : goal.behaviour_moves-returns-in-Let-clause-same_canon
-behaviour_moves-returns-in-Let-clause-same_canon g t c =
-    c.let_moves.ensures.same_canon
-
-pub behaviour_moves-returns-in-Let-clause-same_data : goal.behaviour_moves-returns-in-Let-clause-same_data
-behaviour_moves-returns-in-Let-clause-same_data g t c =
-    c.let_moves.ensures.same_data
 
 pub behaviour_moves-value_moves-requires : goal.behaviour_moves-value_moves-requires
 behaviour_moves-value_moves-requires g t c κs within = (
@@ -432,14 +345,6 @@ behaviour_moves-returns-in-ChooseValue-clause-listed g t c =
     behaviour_of c.in-ChooseValue.is) (ap profiles_in c.in-ChooseValue.is) made.items e)
     c.value_moves.ensures.listed
 
-pub behaviour_moves-returns-in-ChooseValue-clause-same_canon : goal.behaviour_moves-returns-in-ChooseValue-clause-same_canon
-behaviour_moves-returns-in-ChooseValue-clause-same_canon g t c =
-    c.value_moves.ensures.same_canon
-
-pub behaviour_moves-returns-in-ChooseValue-clause-same_data : goal.behaviour_moves-returns-in-ChooseValue-clause-same_data
-behaviour_moves-returns-in-ChooseValue-clause-same_data g t c =
-    c.value_moves.ensures.same_data
-
 pub behaviour_moves-gate_moves-requires : goal.behaviour_moves-gate_moves-requires
 behaviour_moves-gate_moves-requires g t c κs within = (
   left_of _ _ _ (whole_less (rank_in c.args.ranks.now) (specification_of c.args.spec.now).processes c.args.behaviour.now (λ
@@ -470,14 +375,6 @@ behaviour_moves-returns-in-ChooseGate-clause-listed g t c =
     Beh). profiles_in x) c.in-ChooseGate.part.value c.deref-in-ChooseGate.result.now c.deref-in-ChooseGate.ensures (ap
     behaviour_of c.in-ChooseGate.is) (ap profiles_in c.in-ChooseGate.is) made.items e)
     c.gate_moves.ensures.listed
-
-pub behaviour_moves-returns-in-ChooseGate-clause-same_canon : goal.behaviour_moves-returns-in-ChooseGate-clause-same_canon
-behaviour_moves-returns-in-ChooseGate-clause-same_canon g t c =
-    c.gate_moves.ensures.same_canon
-
-pub behaviour_moves-returns-in-ChooseGate-clause-same_data : goal.behaviour_moves-returns-in-ChooseGate-clause-same_data
-behaviour_moves-returns-in-ChooseGate-clause-same_data g t c =
-    c.gate_moves.ensures.same_data
 
 pub behaviour_moves-par_moves-requires : goal.behaviour_moves-par_moves-requires
 behaviour_moves-par_moves-requires g t c κs within = (
@@ -512,14 +409,6 @@ behaviour_moves-returns-in-ParGate-clause-listed g t c =
     made.items e))
     c.par_moves.ensures.listed
 
-pub behaviour_moves-returns-in-ParGate-clause-same_canon : goal.behaviour_moves-returns-in-ParGate-clause-same_canon
-behaviour_moves-returns-in-ParGate-clause-same_canon g t c =
-    c.par_moves.ensures.same_canon
-
-pub behaviour_moves-returns-in-ParGate-clause-same_data : goal.behaviour_moves-returns-in-ParGate-clause-same_data
-behaviour_moves-returns-in-ParGate-clause-same_data g t c =
-    c.par_moves.ensures.same_data
-
 pub behaviour_moves-call_moves-requires : goal.behaviour_moves-call_moves-requires
 behaviour_moves-call_moves-requires g t c κs within = (
   left_of _ _ _ (call_arm_less (rank_in c.args.ranks.now) (specification_of c.args.spec.now).processes c.args.behaviour.now
@@ -545,14 +434,6 @@ behaviour_moves-returns-in-Call-clause-listed g t c =
     c.args.behaviour.now _ c.in-Call.is made.items e)
     c.call_moves.ensures.listed
 
-pub behaviour_moves-returns-in-Call-clause-same_canon : goal.behaviour_moves-returns-in-Call-clause-same_canon
-behaviour_moves-returns-in-Call-clause-same_canon g t c =
-    c.call_moves.ensures.same_canon
-
-pub behaviour_moves-returns-in-Call-clause-same_data : goal.behaviour_moves-returns-in-Call-clause-same_data
-behaviour_moves-returns-in-Call-clause-same_data g t c =
-    c.call_moves.ensures.same_data
-
 pub guard_moves-behaviour_moves-requires : goal.guard_moves-behaviour_moves-requires
 guard_moves-behaviour_moves-requires g t c κs within = (
   left_of _ _ _ (odd_below_even _ _ (part_less (rank_in c.args.ranks.now) (specification_of c.args.spec.now).processes
@@ -573,22 +454,6 @@ guard_moves-behaviour_moves-requires g t c κs within = (
     ),
   ),
 )
-
-pub guard_moves-returns-in_err-parts-clause-same_canon : goal.guard_moves-returns-in_err-parts-clause-same_canon
-guard_moves-returns-in_err-parts-clause-same_canon g t c =
-    c.behaviour_moves.ensures.same_canon
-
-pub guard_moves-returns-in_err-parts-clause-same_data : goal.guard_moves-returns-in_err-parts-clause-same_data
-guard_moves-returns-in_err-parts-clause-same_data g t c =
-    c.behaviour_moves.ensures.same_data
-
-pub guard_moves-returns-clause-same_canon : goal.guard_moves-returns-clause-same_canon
-guard_moves-returns-clause-same_canon g t c =
-    c.behaviour_moves.ensures.same_canon
-
-pub guard_moves-returns-clause-same_data : goal.guard_moves-returns-clause-same_data
-guard_moves-returns-clause-same_data g t c =
-    c.behaviour_moves.ensures.same_data
 
 pub guard_moves-guarded_drafts-requires-clause-left : goal.guard_moves-guarded_drafts-requires-clause-left
 guard_moves-guarded_drafts-requires-clause-left g t c =
@@ -643,17 +508,13 @@ choice_moves-behaviour_moves-requires-2 g t c κs within = (
   (
     search rules,
     (
-      on_same (λ (d : Data) (k :
-          Term → Term). IsSpecOver d.signature c.args.spec.now) (g.D.Deciding.known_data c.args.decider.now)
-          (g.D.Deciding.known_data c.behaviour_moves.new.decider) (g.D.Deciding.canon c.args.decider.now) (g.D.Deciding.canon
-          c.behaviour_moves.new.decider) c.behaviour_moves.ensures.same_data c.behaviour_moves.ensures.same_canon c.requires.over,
+      holds_after (λ (d : Data) (k :
+          Term → Term). IsSpecOver d.signature c.args.spec.now) c.behaviour_moves.ensures.same_known c.requires.over,
       (
         c.requires.ranks,
-        on_same (λ (d : Data) (k : Term → Term). IsPlaced (basis_of d k c.args.spec.now) c.args.first
+        holds_after (λ (d : Data) (k : Term → Term). IsPlaced (basis_of d k c.args.spec.now) c.args.first
             (behaviour_of c.args.right.now) (profiles_in c.args.right.now) (profiled_pairs c.args.environment.now.items))
-            (g.D.Deciding.known_data c.args.decider.now) (g.D.Deciding.known_data c.behaviour_moves.new.decider) (g.D.Deciding.canon
-            c.args.decider.now) (g.D.Deciding.canon c.behaviour_moves.new.decider) c.behaviour_moves.ensures.same_data
-            c.behaviour_moves.ensures.same_canon (part_placed (basis_of (g.D.Deciding.known_data c.args.decider.now)
+            c.behaviour_moves.ensures.same_known (part_placed (basis_of (g.D.Deciding.known_data c.args.decider.now)
             (g.D.Deciding.canon c.args.decider.now) c.args.spec.now) c.args.first (profiled_pairs c.args.environment.now.items) _ _ _
             _ c.requires.placed (choice_right (basis_of (g.D.Deciding.known_data c.args.decider.now) (g.D.Deciding.canon
             c.args.decider.now) c.args.spec.now) c.requires.placed.at (profiled_pairs c.args.environment.now.items) (behaviour_of
@@ -670,42 +531,14 @@ choice_moves-returns-clause-listed g t c =
     (g.D.Deciding.canon c.args.decider.now) c.args.spec.now) c.args.first (profiled_pairs c.args.environment.now.items)
     (behaviour_of c.args.left.now) (behaviour_of c.args.right.now) (profiles_in c.args.left.now) (profiles_in
     c.args.right.now) c.in_ok-lefts.lefts.items c.in_ok-rights.rights.items made.items c.in_ok-lefts.ensures.listed
-    (on_same (λ (d : Data) (k : Term → Term). AreListed (basis_of d k c.args.spec.now) c.args.first (behaviour_of
+    (held_before (λ (d : Data) (k : Term → Term). AreDraftsPlaced (basis_of d k c.args.spec.now) c.args.first (behaviour_of
     c.args.right.now) (profiles_in c.args.right.now) (profiled_pairs c.args.environment.now.items)
-    c.in_ok-rights.rights.items) (g.D.Deciding.known_data c.behaviour_moves.new.decider) (g.D.Deciding.known_data
-    c.args.decider.now) (g.D.Deciding.canon c.behaviour_moves.new.decider) (g.D.Deciding.canon c.args.decider.now) (sym
-    c.behaviour_moves.ensures.same_data) (sym c.behaviour_moves.ensures.same_canon) c.in_ok-rights.ensures.listed)
-    (e (g.D.Deciding.known_data c.args.decider.now).signature c.in_ok-lefts.ensures.listed.over (on_same (λ (d : Data) (k :
-    Term → Term). AreListed (basis_of d k c.args.spec.now) c.args.first (behaviour_of c.args.right.now) (profiles_in
-    c.args.right.now) (profiled_pairs c.args.environment.now.items) c.in_ok-rights.rights.items) (g.D.Deciding.known_data
-    c.behaviour_moves.new.decider) (g.D.Deciding.known_data c.args.decider.now) (g.D.Deciding.canon
-    c.behaviour_moves.new.decider) (g.D.Deciding.canon c.args.decider.now) (sym c.behaviour_moves.ensures.same_data) (sym
-    c.behaviour_moves.ensures.same_canon) c.in_ok-rights.ensures.listed).over))
+    c.in_ok-rights.rights.items) c.behaviour_moves.ensures.same_known c.in_ok-rights.ensures.listed)
+    (e (g.D.Deciding.known_data c.args.decider.now).signature c.in_ok-lefts.ensures.listed.over (held_before (λ (d : Data) (k :
+    Term → Term). AreDraftsPlaced (basis_of d k c.args.spec.now) c.args.first (behaviour_of c.args.right.now) (profiles_in
+    c.args.right.now) (profiled_pairs c.args.environment.now.items) c.in_ok-rights.rights.items) c.behaviour_moves.ensures.same_known
+    c.in_ok-rights.ensures.listed).over))
     c.either.ensures
-
-pub choice_moves-returns-in_err-lefts-clause-same_canon : goal.choice_moves-returns-in_err-lefts-clause-same_canon
-choice_moves-returns-in_err-lefts-clause-same_canon g t c =
-    c.behaviour_moves.ensures.same_canon
-
-pub choice_moves-returns-in_err-lefts-clause-same_data : goal.choice_moves-returns-in_err-lefts-clause-same_data
-choice_moves-returns-in_err-lefts-clause-same_data g t c =
-    c.behaviour_moves.ensures.same_data
-
-pub choice_moves-returns-in_err-rights-clause-same_canon : goal.choice_moves-returns-in_err-rights-clause-same_canon
-choice_moves-returns-in_err-rights-clause-same_canon g t c =
-    c.behaviour_moves-2.ensures.same_canon ∙ c.behaviour_moves.ensures.same_canon
-
-pub choice_moves-returns-in_err-rights-clause-same_data : goal.choice_moves-returns-in_err-rights-clause-same_data
-choice_moves-returns-in_err-rights-clause-same_data g t c =
-    c.behaviour_moves-2.ensures.same_data ∙ c.behaviour_moves.ensures.same_data
-
-pub choice_moves-returns-clause-same_canon : goal.choice_moves-returns-clause-same_canon
-choice_moves-returns-clause-same_canon g t c =
-    c.behaviour_moves-2.ensures.same_canon ∙ c.behaviour_moves.ensures.same_canon
-
-pub choice_moves-returns-clause-same_data : goal.choice_moves-returns-clause-same_data
-choice_moves-returns-clause-same_data g t c =
-    c.behaviour_moves-2.ensures.same_data ∙ c.behaviour_moves.ensures.same_data
 
 pub parallel_moves-behaviour_moves-requires : goal.parallel_moves-behaviour_moves-requires
 parallel_moves-behaviour_moves-requires g t c κs within = (
@@ -735,17 +568,13 @@ parallel_moves-behaviour_moves-requires-2 g t c κs within = (
   (
     search rules,
     (
-      on_same (λ (d : Data) (k :
-          Term → Term). IsSpecOver d.signature c.args.spec.now) (g.D.Deciding.known_data c.args.decider.now)
-          (g.D.Deciding.known_data c.behaviour_moves.new.decider) (g.D.Deciding.canon c.args.decider.now) (g.D.Deciding.canon
-          c.behaviour_moves.new.decider) c.behaviour_moves.ensures.same_data c.behaviour_moves.ensures.same_canon c.requires.over,
+      holds_after (λ (d : Data) (k :
+          Term → Term). IsSpecOver d.signature c.args.spec.now) c.behaviour_moves.ensures.same_known c.requires.over,
       (
         c.requires.ranks,
-        on_same (λ (d : Data) (k : Term → Term). IsPlaced (basis_of d k c.args.spec.now) c.args.first
+        holds_after (λ (d : Data) (k : Term → Term). IsPlaced (basis_of d k c.args.spec.now) c.args.first
             (behaviour_of c.args.right.now) (profiles_in c.args.right.now) (profiled_pairs c.args.environment.now.items))
-            (g.D.Deciding.known_data c.args.decider.now) (g.D.Deciding.known_data c.behaviour_moves.new.decider) (g.D.Deciding.canon
-            c.args.decider.now) (g.D.Deciding.canon c.behaviour_moves.new.decider) c.behaviour_moves.ensures.same_data
-            c.behaviour_moves.ensures.same_canon (part_placed (basis_of (g.D.Deciding.known_data c.args.decider.now)
+            c.behaviour_moves.ensures.same_known (part_placed (basis_of (g.D.Deciding.known_data c.args.decider.now)
             (g.D.Deciding.canon c.args.decider.now) c.args.spec.now) c.args.first (profiled_pairs c.args.environment.now.items) _ _ _
             _ c.requires.placed (parallel_right (basis_of (g.D.Deciding.known_data c.args.decider.now) (g.D.Deciding.canon
             c.args.decider.now) c.args.spec.now) c.requires.placed.at (profiled_pairs c.args.environment.now.items) (meet_of
@@ -763,42 +592,14 @@ parallel_moves-returns-clause-listed g t c =
     (meet_of c.args.meet.now) (behaviour_of c.args.left.now) (behaviour_of c.args.right.now) (profiles_in c.args.left.now)
     (profiles_in c.args.right.now) c.in_ok-lefts.lefts.items c.in_ok-rights.rights.items made.items
     c.in_ok-lefts.ensures.listed
-    (on_same (λ (d : Data) (k : Term → Term). AreListed (basis_of d k c.args.spec.now) c.args.first (behaviour_of
+    (held_before (λ (d : Data) (k : Term → Term). AreDraftsPlaced (basis_of d k c.args.spec.now) c.args.first (behaviour_of
     c.args.right.now) (profiles_in c.args.right.now) (profiled_pairs c.args.environment.now.items)
-    c.in_ok-rights.rights.items) (g.D.Deciding.known_data c.behaviour_moves.new.decider) (g.D.Deciding.known_data
-    c.args.decider.now) (g.D.Deciding.canon c.behaviour_moves.new.decider) (g.D.Deciding.canon c.args.decider.now) (sym
-    c.behaviour_moves.ensures.same_data) (sym c.behaviour_moves.ensures.same_canon) c.in_ok-rights.ensures.listed)
-    (e (g.D.Deciding.known_data c.args.decider.now).signature c.in_ok-lefts.ensures.listed.over (on_same (λ (d : Data) (k :
-    Term → Term). AreListed (basis_of d k c.args.spec.now) c.args.first (behaviour_of c.args.right.now) (profiles_in
-    c.args.right.now) (profiled_pairs c.args.environment.now.items) c.in_ok-rights.rights.items) (g.D.Deciding.known_data
-    c.behaviour_moves.new.decider) (g.D.Deciding.known_data c.args.decider.now) (g.D.Deciding.canon
-    c.behaviour_moves.new.decider) (g.D.Deciding.canon c.args.decider.now) (sym c.behaviour_moves.ensures.same_data) (sym
-    c.behaviour_moves.ensures.same_canon) c.in_ok-rights.ensures.listed).over))
+    c.in_ok-rights.rights.items) c.behaviour_moves.ensures.same_known c.in_ok-rights.ensures.listed)
+    (e (g.D.Deciding.known_data c.args.decider.now).signature c.in_ok-lefts.ensures.listed.over (held_before (λ (d : Data) (k :
+    Term → Term). AreDraftsPlaced (basis_of d k c.args.spec.now) c.args.first (behaviour_of c.args.right.now) (profiles_in
+    c.args.right.now) (profiled_pairs c.args.environment.now.items) c.in_ok-rights.rights.items) c.behaviour_moves.ensures.same_known
+    c.in_ok-rights.ensures.listed).over))
     c.beside.ensures
-
-pub parallel_moves-returns-in_err-lefts-clause-same_canon : goal.parallel_moves-returns-in_err-lefts-clause-same_canon
-parallel_moves-returns-in_err-lefts-clause-same_canon g t c =
-    c.behaviour_moves.ensures.same_canon
-
-pub parallel_moves-returns-in_err-lefts-clause-same_data : goal.parallel_moves-returns-in_err-lefts-clause-same_data
-parallel_moves-returns-in_err-lefts-clause-same_data g t c =
-    c.behaviour_moves.ensures.same_data
-
-pub parallel_moves-returns-in_err-rights-clause-same_canon : goal.parallel_moves-returns-in_err-rights-clause-same_canon
-parallel_moves-returns-in_err-rights-clause-same_canon g t c =
-    c.behaviour_moves-2.ensures.same_canon ∙ c.behaviour_moves.ensures.same_canon
-
-pub parallel_moves-returns-in_err-rights-clause-same_data : goal.parallel_moves-returns-in_err-rights-clause-same_data
-parallel_moves-returns-in_err-rights-clause-same_data g t c =
-    c.behaviour_moves-2.ensures.same_data ∙ c.behaviour_moves.ensures.same_data
-
-pub parallel_moves-returns-clause-same_canon : goal.parallel_moves-returns-clause-same_canon
-parallel_moves-returns-clause-same_canon g t c =
-    c.behaviour_moves-2.ensures.same_canon ∙ c.behaviour_moves.ensures.same_canon
-
-pub parallel_moves-returns-clause-same_data : goal.parallel_moves-returns-clause-same_data
-parallel_moves-returns-clause-same_data g t c =
-    c.behaviour_moves-2.ensures.same_data ∙ c.behaviour_moves.ensures.same_data
 
 pub disable_moves-behaviour_moves-requires : goal.disable_moves-behaviour_moves-requires
 disable_moves-behaviour_moves-requires g t c κs within = (
@@ -827,17 +628,13 @@ disable_moves-behaviour_moves-requires-2 g t c κs within = (
   (
     search rules,
     (
-      on_same (λ (d : Data) (k :
-          Term → Term). IsSpecOver d.signature c.args.spec.now) (g.D.Deciding.known_data c.args.decider.now)
-          (g.D.Deciding.known_data c.behaviour_moves.new.decider) (g.D.Deciding.canon c.args.decider.now) (g.D.Deciding.canon
-          c.behaviour_moves.new.decider) c.behaviour_moves.ensures.same_data c.behaviour_moves.ensures.same_canon c.requires.over,
+      holds_after (λ (d : Data) (k :
+          Term → Term). IsSpecOver d.signature c.args.spec.now) c.behaviour_moves.ensures.same_known c.requires.over,
       (
         c.requires.ranks,
-        on_same (λ (d : Data) (k : Term → Term). IsPlaced (basis_of d k c.args.spec.now) c.args.first
+        holds_after (λ (d : Data) (k : Term → Term). IsPlaced (basis_of d k c.args.spec.now) c.args.first
             (behaviour_of c.args.right.now) (profiles_in c.args.right.now) (profiled_pairs c.args.environment.now.items))
-            (g.D.Deciding.known_data c.args.decider.now) (g.D.Deciding.known_data c.behaviour_moves.new.decider) (g.D.Deciding.canon
-            c.args.decider.now) (g.D.Deciding.canon c.behaviour_moves.new.decider) c.behaviour_moves.ensures.same_data
-            c.behaviour_moves.ensures.same_canon (part_placed (basis_of (g.D.Deciding.known_data c.args.decider.now)
+            c.behaviour_moves.ensures.same_known (part_placed (basis_of (g.D.Deciding.known_data c.args.decider.now)
             (g.D.Deciding.canon c.args.decider.now) c.args.spec.now) c.args.first (profiled_pairs c.args.environment.now.items) _ _ _
             _ c.requires.placed (disable_right (basis_of (g.D.Deciding.known_data c.args.decider.now) (g.D.Deciding.canon
             c.args.decider.now) c.args.spec.now) c.requires.placed.at (profiled_pairs c.args.environment.now.items) (behaviour_of
@@ -854,42 +651,14 @@ disable_moves-returns-clause-listed g t c =
     (g.D.Deciding.canon c.args.decider.now) c.args.spec.now) c.args.first (profiled_pairs c.args.environment.now.items)
     (behaviour_of c.args.left.now) (behaviour_of c.args.right.now) (profiles_in c.args.left.now) (profiles_in
     c.args.right.now) c.in_ok-lefts.lefts.items c.in_ok-rights.rights.items made.items c.in_ok-lefts.ensures.listed
-    (on_same (λ (d : Data) (k : Term → Term). AreListed (basis_of d k c.args.spec.now) c.args.first (behaviour_of
+    (held_before (λ (d : Data) (k : Term → Term). AreDraftsPlaced (basis_of d k c.args.spec.now) c.args.first (behaviour_of
     c.args.right.now) (profiles_in c.args.right.now) (profiled_pairs c.args.environment.now.items)
-    c.in_ok-rights.rights.items) (g.D.Deciding.known_data c.behaviour_moves.new.decider) (g.D.Deciding.known_data
-    c.args.decider.now) (g.D.Deciding.canon c.behaviour_moves.new.decider) (g.D.Deciding.canon c.args.decider.now) (sym
-    c.behaviour_moves.ensures.same_data) (sym c.behaviour_moves.ensures.same_canon) c.in_ok-rights.ensures.listed)
-    (e (g.D.Deciding.known_data c.args.decider.now).signature c.in_ok-lefts.ensures.listed.over (on_same (λ (d : Data) (k :
-    Term → Term). AreListed (basis_of d k c.args.spec.now) c.args.first (behaviour_of c.args.right.now) (profiles_in
-    c.args.right.now) (profiled_pairs c.args.environment.now.items) c.in_ok-rights.rights.items) (g.D.Deciding.known_data
-    c.behaviour_moves.new.decider) (g.D.Deciding.known_data c.args.decider.now) (g.D.Deciding.canon
-    c.behaviour_moves.new.decider) (g.D.Deciding.canon c.args.decider.now) (sym c.behaviour_moves.ensures.same_data) (sym
-    c.behaviour_moves.ensures.same_canon) c.in_ok-rights.ensures.listed).over))
+    c.in_ok-rights.rights.items) c.behaviour_moves.ensures.same_known c.in_ok-rights.ensures.listed)
+    (e (g.D.Deciding.known_data c.args.decider.now).signature c.in_ok-lefts.ensures.listed.over (held_before (λ (d : Data) (k :
+    Term → Term). AreDraftsPlaced (basis_of d k c.args.spec.now) c.args.first (behaviour_of c.args.right.now) (profiles_in
+    c.args.right.now) (profiled_pairs c.args.environment.now.items) c.in_ok-rights.rights.items) c.behaviour_moves.ensures.same_known
+    c.in_ok-rights.ensures.listed).over))
     c.either.ensures
-
-pub disable_moves-returns-in_err-lefts-clause-same_canon : goal.disable_moves-returns-in_err-lefts-clause-same_canon
-disable_moves-returns-in_err-lefts-clause-same_canon g t c =
-    c.behaviour_moves.ensures.same_canon
-
-pub disable_moves-returns-in_err-lefts-clause-same_data : goal.disable_moves-returns-in_err-lefts-clause-same_data
-disable_moves-returns-in_err-lefts-clause-same_data g t c =
-    c.behaviour_moves.ensures.same_data
-
-pub disable_moves-returns-in_err-rights-clause-same_canon : goal.disable_moves-returns-in_err-rights-clause-same_canon
-disable_moves-returns-in_err-rights-clause-same_canon g t c =
-    c.behaviour_moves-2.ensures.same_canon ∙ c.behaviour_moves.ensures.same_canon
-
-pub disable_moves-returns-in_err-rights-clause-same_data : goal.disable_moves-returns-in_err-rights-clause-same_data
-disable_moves-returns-in_err-rights-clause-same_data g t c =
-    c.behaviour_moves-2.ensures.same_data ∙ c.behaviour_moves.ensures.same_data
-
-pub disable_moves-returns-clause-same_canon : goal.disable_moves-returns-clause-same_canon
-disable_moves-returns-clause-same_canon g t c =
-    c.behaviour_moves-2.ensures.same_canon ∙ c.behaviour_moves.ensures.same_canon
-
-pub disable_moves-returns-clause-same_data : goal.disable_moves-returns-clause-same_data
-disable_moves-returns-clause-same_data g t c =
-    c.behaviour_moves-2.ensures.same_data ∙ c.behaviour_moves.ensures.same_data
 
 pub hide_moves-behaviour_moves-requires : goal.hide_moves-behaviour_moves-requires
 hide_moves-behaviour_moves-requires g t c κs within = (
@@ -911,22 +680,6 @@ hide_moves-behaviour_moves-requires g t c κs within = (
     ),
   ),
 )
-
-pub hide_moves-returns-in_err-parts-clause-same_canon : goal.hide_moves-returns-in_err-parts-clause-same_canon
-hide_moves-returns-in_err-parts-clause-same_canon g t c =
-    c.behaviour_moves.ensures.same_canon
-
-pub hide_moves-returns-in_err-parts-clause-same_data : goal.hide_moves-returns-in_err-parts-clause-same_data
-hide_moves-returns-in_err-parts-clause-same_data g t c =
-    c.behaviour_moves.ensures.same_data
-
-pub hide_moves-returns-clause-same_canon : goal.hide_moves-returns-clause-same_canon
-hide_moves-returns-clause-same_canon g t c =
-    c.behaviour_moves.ensures.same_canon
-
-pub hide_moves-returns-clause-same_data : goal.hide_moves-returns-clause-same_data
-hide_moves-returns-clause-same_data g t c =
-    c.behaviour_moves.ensures.same_data
 
 pub hide_moves-returns-clause-listed : goal.hide_moves-returns-clause-listed
 hide_moves-returns-clause-listed g t c =
@@ -963,22 +716,6 @@ enable_moves-returns-clause-listed g t c =
     (g.D.Deciding.known_data c.args.decider.now).signature tt c.in_ok-parts.ensures.listed.over)))
     c.apply_to_all.ensures
 
-pub enable_moves-returns-in_err-parts-clause-same_canon : goal.enable_moves-returns-in_err-parts-clause-same_canon
-enable_moves-returns-in_err-parts-clause-same_canon g t c =
-    c.behaviour_moves.ensures.same_canon
-
-pub enable_moves-returns-in_err-parts-clause-same_data : goal.enable_moves-returns-in_err-parts-clause-same_data
-enable_moves-returns-in_err-parts-clause-same_data g t c =
-    c.behaviour_moves.ensures.same_data
-
-pub enable_moves-returns-clause-same_canon : goal.enable_moves-returns-clause-same_canon
-enable_moves-returns-clause-same_canon g t c =
-    c.behaviour_moves.ensures.same_canon
-
-pub enable_moves-returns-clause-same_data : goal.enable_moves-returns-clause-same_data
-enable_moves-returns-clause-same_data g t c =
-    c.behaviour_moves.ensures.same_data
-
 pub let_moves-let_environment-requires : goal.let_moves-let_environment-requires
 let_moves-let_environment-requires g t c =
     let_ready (basis_of (g.D.Deciding.known_data c.args.decider.now) (g.D.Deciding.canon c.args.decider.now) c.args.spec.now)
@@ -992,17 +729,13 @@ let_moves-behaviour_moves-requires g t c κs within = (
   (
     search rules,
     (
-      on_same (λ (d : Data) (k : Term → Term). IsSpecOver
-          d.signature c.args.spec.now) (g.D.Deciding.known_data c.args.decider.now) (g.D.Deciding.known_data
-          c.let_environment.new.decider) (g.D.Deciding.canon c.args.decider.now) (g.D.Deciding.canon c.let_environment.new.decider)
-          c.let_environment.ensures.same_data c.let_environment.ensures.same_canon c.requires.over,
+      holds_after (λ (d : Data) (k : Term → Term). IsSpecOver
+          d.signature c.args.spec.now) c.let_environment.ensures.same_known c.requires.over,
       (
         c.requires.ranks,
-        on_same (λ (d
+        holds_after (λ (d
             : Data) (k : Term → Term). IsPlaced (basis_of d k c.args.spec.now) c.args.first (behaviour_of c.args.part.now)
-            (profiles_in c.args.part.now) (profiled_pairs c.in_ok-inner.inner.items)) (g.D.Deciding.known_data c.args.decider.now)
-            (g.D.Deciding.known_data c.let_environment.new.decider) (g.D.Deciding.canon c.args.decider.now) (g.D.Deciding.canon
-            c.let_environment.new.decider) c.let_environment.ensures.same_data c.let_environment.ensures.same_canon (let_placed
+            (profiles_in c.args.part.now) (profiled_pairs c.in_ok-inner.inner.items)) c.let_environment.ensures.same_known (let_placed
             (basis_of (g.D.Deciding.known_data c.args.decider.now) (g.D.Deciding.canon c.args.decider.now) c.args.spec.now)
             c.args.first (profiled_pairs c.args.environment.now.items) c.args.bindings.now.items (behaviour_of c.args.part.now)
             (profiles_in c.args.part.now) (profiled_pairs c.in_ok-inner.inner.items) c.requires.placed c.in_ok-inner.ensures.same
@@ -1018,43 +751,15 @@ let_moves-returns-clause-listed g t c =
     (g.D.Deciding.canon c.args.decider.now) c.args.spec.now) c.args.first (profiled_pairs c.args.environment.now.items)
     c.args.bindings.now.items (behaviour_of c.args.part.now) (profiles_in c.args.part.now) (profiled_pairs
     c.in_ok-inner.inner.items) c.in_ok-parts.parts.items made.items c.in_ok-inner.ensures.same c.in_ok-inner.ensures.is_of
-    (on_same (λ (d : Data) (k : Term → Term). AreListed (basis_of d k c.args.spec.now) c.args.first (behaviour_of
+    (held_before (λ (d : Data) (k : Term → Term). AreDraftsPlaced (basis_of d k c.args.spec.now) c.args.first (behaviour_of
     c.args.part.now) (profiles_in c.args.part.now) (profiled_pairs c.in_ok-inner.inner.items) c.in_ok-parts.parts.items)
-    (g.D.Deciding.known_data c.let_environment.new.decider) (g.D.Deciding.known_data c.args.decider.now) (g.D.Deciding.canon
-    c.let_environment.new.decider) (g.D.Deciding.canon c.args.decider.now) (sym c.let_environment.ensures.same_data) (sym
-    c.let_environment.ensures.same_canon) c.in_ok-parts.ensures.listed)
+    c.let_environment.ensures.same_known c.in_ok-parts.ensures.listed)
     (by_rule (g.D.Deciding.known_data c.args.decider.now).signature _ c.in_ok-parts.parts.items made.items (e
-    (g.D.Deciding.known_data c.args.decider.now).signature tt (on_same (λ (d : Data) (k : Term → Term). AreListed (basis_of d
+    (g.D.Deciding.known_data c.args.decider.now).signature tt (held_before (λ (d : Data) (k : Term → Term). AreDraftsPlaced (basis_of d
     k c.args.spec.now) c.args.first (behaviour_of c.args.part.now) (profiles_in c.args.part.now) (profiled_pairs
-    c.in_ok-inner.inner.items) c.in_ok-parts.parts.items) (g.D.Deciding.known_data c.let_environment.new.decider)
-    (g.D.Deciding.known_data c.args.decider.now) (g.D.Deciding.canon c.let_environment.new.decider) (g.D.Deciding.canon
-    c.args.decider.now) (sym c.let_environment.ensures.same_data) (sym c.let_environment.ensures.same_canon)
+    c.in_ok-inner.inner.items) c.in_ok-parts.parts.items) c.let_environment.ensures.same_known
     c.in_ok-parts.ensures.listed).over)))
     c.apply_to_all.ensures
-
-pub let_moves-returns-in_err-inner-clause-same_canon : goal.let_moves-returns-in_err-inner-clause-same_canon
-let_moves-returns-in_err-inner-clause-same_canon g t c =
-    c.let_environment.ensures.same_canon
-
-pub let_moves-returns-in_err-inner-clause-same_data : goal.let_moves-returns-in_err-inner-clause-same_data
-let_moves-returns-in_err-inner-clause-same_data g t c =
-    c.let_environment.ensures.same_data
-
-pub let_moves-returns-in_err-parts-clause-same_canon : goal.let_moves-returns-in_err-parts-clause-same_canon
-let_moves-returns-in_err-parts-clause-same_canon g t c =
-    c.behaviour_moves.ensures.same_canon ∙ c.let_environment.ensures.same_canon
-
-pub let_moves-returns-in_err-parts-clause-same_data : goal.let_moves-returns-in_err-parts-clause-same_data
-let_moves-returns-in_err-parts-clause-same_data g t c =
-    c.behaviour_moves.ensures.same_data ∙ c.let_environment.ensures.same_data
-
-pub let_moves-returns-clause-same_canon : goal.let_moves-returns-clause-same_canon
-let_moves-returns-clause-same_canon g t c =
-    c.behaviour_moves.ensures.same_canon ∙ c.let_environment.ensures.same_canon
-
-pub let_moves-returns-clause-same_data : goal.let_moves-returns-clause-same_data
-let_moves-returns-clause-same_data g t c =
-    c.behaviour_moves.ensures.same_data ∙ c.let_environment.ensures.same_data
 
 pub value_moves-behaviour_moves-requires : goal.value_moves-behaviour_moves-requires
 value_moves-behaviour_moves-requires g t c κs within = (
@@ -1093,38 +798,6 @@ value_moves-returns-clause-listed g t c =
     (behaviour_of c.args.part.now) (profiles_in c.args.part.now) c.requires.placed)) c.in_ok-parts.ensures.listed.over))))
     c.apply_to_all.ensures
 
-pub value_moves-returns-in_err-inner-clause-same_canon : goal.value_moves-returns-in_err-inner-clause-same_canon
-value_moves-returns-in_err-inner-clause-same_canon g t c =
-    refl
-
-pub value_moves-returns-in_err-inner-clause-same_data : goal.value_moves-returns-in_err-inner-clause-same_data
-value_moves-returns-in_err-inner-clause-same_data g t c =
-    refl
-
-pub value_moves-returns-in_err-next-clause-same_canon : goal.value_moves-returns-in_err-next-clause-same_canon
-value_moves-returns-in_err-next-clause-same_canon g t c =
-    refl
-
-pub value_moves-returns-in_err-next-clause-same_data : goal.value_moves-returns-in_err-next-clause-same_data
-value_moves-returns-in_err-next-clause-same_data g t c =
-    refl
-
-pub value_moves-returns-in_err-parts-clause-same_canon : goal.value_moves-returns-in_err-parts-clause-same_canon
-value_moves-returns-in_err-parts-clause-same_canon g t c =
-    c.behaviour_moves.ensures.same_canon
-
-pub value_moves-returns-in_err-parts-clause-same_data : goal.value_moves-returns-in_err-parts-clause-same_data
-value_moves-returns-in_err-parts-clause-same_data g t c =
-    c.behaviour_moves.ensures.same_data
-
-pub value_moves-returns-clause-same_canon : goal.value_moves-returns-clause-same_canon
-value_moves-returns-clause-same_canon g t c =
-    c.behaviour_moves.ensures.same_canon
-
-pub value_moves-returns-clause-same_data : goal.value_moves-returns-clause-same_data
-value_moves-returns-clause-same_data g t c =
-    c.behaviour_moves.ensures.same_data
-
 pub gate_moves-behaviour_moves-requires : goal.gate_moves-behaviour_moves-requires
 gate_moves-behaviour_moves-requires g t c κs within = (
   left_of _ _ _ (odd_below_even _ _ (part_less (rank_in c.args.ranks.now) (specification_of c.args.spec.now).processes
@@ -1145,22 +818,6 @@ gate_moves-behaviour_moves-requires g t c κs within = (
     ),
   ),
 )
-
-pub gate_moves-returns-in_err-parts-clause-same_canon : goal.gate_moves-returns-in_err-parts-clause-same_canon
-gate_moves-returns-in_err-parts-clause-same_canon g t c =
-    c.behaviour_moves.ensures.same_canon
-
-pub gate_moves-returns-in_err-parts-clause-same_data : goal.gate_moves-returns-in_err-parts-clause-same_data
-gate_moves-returns-in_err-parts-clause-same_data g t c =
-    c.behaviour_moves.ensures.same_data
-
-pub gate_moves-returns-clause-same_canon : goal.gate_moves-returns-clause-same_canon
-gate_moves-returns-clause-same_canon g t c =
-    c.behaviour_moves.ensures.same_canon
-
-pub gate_moves-returns-clause-same_data : goal.gate_moves-returns-clause-same_data
-gate_moves-returns-clause-same_data g t c =
-    c.behaviour_moves.ensures.same_data
 
 pub gate_moves-returns-clause-listed : goal.gate_moves-returns-clause-listed
 gate_moves-returns-clause-listed g t c =
@@ -1200,17 +857,13 @@ call_moves-behaviour_moves-requires g t c κs within = (
   (
     search rules,
     (
-      on_same (λ (d : Data) (k : Term → Term). IsSpecOver d.signature c.args.spec.now) (g.D.Deciding.known_data
-          c.args.decider.now) (g.D.Deciding.known_data c.call_environment.new.decider) (g.D.Deciding.canon c.args.decider.now)
-          (g.D.Deciding.canon c.call_environment.new.decider) c.call_environment.ensures.same_data
-          c.call_environment.ensures.same_canon c.requires.over,
+      holds_after (λ (d : Data) (k : Term → Term). IsSpecOver d.signature c.args.spec.now) c.call_environment.ensures.same_known
+          c.requires.over,
       (
         c.requires.ranks,
-        on_same (λ (d : Data) (k : Term → Term).
+        holds_after (λ (d : Data) (k : Term → Term).
             IsPlaced (basis_of d k c.args.spec.now) c.args.first (behaviour_of c.index-called.result.now.body) (profiles_in
-            c.index-called.result.now.body) (profiled_pairs c.in_ok-inner.inner.items)) (g.D.Deciding.known_data c.args.decider.now)
-            (g.D.Deciding.known_data c.call_environment.new.decider) (g.D.Deciding.canon c.args.decider.now) (g.D.Deciding.canon
-            c.call_environment.new.decider) c.call_environment.ensures.same_data c.call_environment.ensures.same_canon (call_placed
+            c.index-called.result.now.body) (profiled_pairs c.in_ok-inner.inner.items)) c.call_environment.ensures.same_known (call_placed
             (basis_of (g.D.Deciding.known_data c.args.decider.now) (g.D.Deciding.canon c.args.decider.now) c.args.spec.now)
             c.args.first (profiled_pairs c.args.environment.now.items) c.args.process c.args.gates.now.items (terms_of
             c.args.values.now.items) (process_of c.index-called.result.now) (profiles_of c.args.values.now.items) (profiles_in
@@ -1245,19 +898,14 @@ call_moves-returns-clause-listed g t c =
     c.args.decider.now) c.args.spec.now) c.args.first (profiled_pairs c.args.environment.now.items)
     c.args.spec.now.processes.items refl c.args.process c.args.gates.now.items c.args.values.now.items c.requires.placed)
     c.index-called.ensures c.requires.over.bodies)
-    (c.as_slice.ensures.value ∙ c.in_ok-pairs.ensures) (on_same (λ (d : Data) (k : Term → Term). AreListed (basis_of d k
+    (c.as_slice.ensures.value ∙ c.in_ok-pairs.ensures) (held_before (λ (d : Data) (k : Term → Term). AreDraftsPlaced (basis_of d k
     c.args.spec.now) c.args.first (behaviour_of c.index-called.result.now.body) (profiles_in c.index-called.result.now.body)
-    (profiled_pairs c.in_ok-inner.inner.items) c.in_ok-body.body.items) (g.D.Deciding.known_data
-    c.call_environment.new.decider) (g.D.Deciding.known_data c.args.decider.now) (g.D.Deciding.canon
-    c.call_environment.new.decider) (g.D.Deciding.canon c.args.decider.now) (sym c.call_environment.ensures.same_data) (sym
-    c.call_environment.ensures.same_canon) c.in_ok-body.ensures.listed)
+    (profiled_pairs c.in_ok-inner.inner.items) c.in_ok-body.body.items) c.call_environment.ensures.same_known c.in_ok-body.ensures.listed)
     (by_rule (g.D.Deciding.known_data c.args.decider.now).signature _ c.in_ok-body.body.items made.items (e
-    (g.D.Deciding.known_data c.args.decider.now).signature tt (on_same (λ (d : Data) (k : Term → Term). AreListed (basis_of d
+    (g.D.Deciding.known_data c.args.decider.now).signature tt (held_before (λ (d : Data) (k : Term → Term). AreDraftsPlaced (basis_of d
     k c.args.spec.now) c.args.first (behaviour_of c.index-called.result.now.body) (profiles_in c.index-called.result.now.body)
-    (profiled_pairs c.in_ok-inner.inner.items) c.in_ok-body.body.items) (g.D.Deciding.known_data
-    c.call_environment.new.decider) (g.D.Deciding.known_data c.args.decider.now) (g.D.Deciding.canon
-    c.call_environment.new.decider) (g.D.Deciding.canon c.args.decider.now) (sym c.call_environment.ensures.same_data) (sym
-    c.call_environment.ensures.same_canon) c.in_ok-body.ensures.listed).over)))
+    (profiled_pairs c.in_ok-inner.inner.items) c.in_ok-body.body.items) c.call_environment.ensures.same_known
+    c.in_ok-body.ensures.listed).over)))
     c.apply_to_all.ensures
 
 pub par_moves-returns-in-Stop-clause-listed : goal.par_moves-returns-in-Stop-clause-listed
@@ -1320,18 +968,14 @@ par_moves-behaviour_moves-requires g t c κs within = (
   (
     search rules,
     (
-      on_same (λ (d : Data) (k : Term → Term). IsSpecOver d.signature c.args.spec.now)
-          (g.D.Deciding.known_data c.args.decider.now) (g.D.Deciding.known_data c.call_environment.new.decider) (g.D.Deciding.canon
-          c.args.decider.now) (g.D.Deciding.canon c.call_environment.new.decider) c.call_environment.ensures.same_data
-          c.call_environment.ensures.same_canon c.requires.over,
+      holds_after (λ (d : Data) (k : Term → Term). IsSpecOver d.signature c.args.spec.now) c.call_environment.ensures.same_known
+          c.requires.over,
       (
         c.requires.ranks,
-        on_same (λ (d : Data) (k : Term → Term).
+        holds_after (λ (d : Data) (k : Term → Term).
             IsPlaced (basis_of d k c.args.spec.now) c.args.first (behaviour_of c.index-called.result.now.body) (profiles_in
-            c.index-called.result.now.body) (profiled_pairs c.in_ok-inner-in-Call.inner.items)) (g.D.Deciding.known_data
-            c.args.decider.now) (g.D.Deciding.known_data c.call_environment.new.decider) (g.D.Deciding.canon c.args.decider.now)
-            (g.D.Deciding.canon c.call_environment.new.decider) c.call_environment.ensures.same_data
-            c.call_environment.ensures.same_canon (call_placed (basis_of (g.D.Deciding.known_data c.args.decider.now)
+            c.index-called.result.now.body) (profiled_pairs c.in_ok-inner-in-Call.inner.items)) c.call_environment.ensures.same_known
+            (call_placed (basis_of (g.D.Deciding.known_data c.args.decider.now)
             (g.D.Deciding.canon c.args.decider.now) c.args.spec.now) c.args.first (profiled_pairs c.args.environment.now.items)
             c.in-Call.process c.in-Call.actuals.items (terms_of c.in-Call.values.items) (process_of c.index-called.result.now)
             (profiles_of c.in-Call.values.items) (profiles_in c.index-called.result.now.body) (profiled_pairs
@@ -1391,18 +1035,14 @@ par_moves-returns-in_ok-body-in-Call-clause-listed g t c =
     _ (par_placed_form (basis_of (g.D.Deciding.known_data c.args.decider.now) (g.D.Deciding.canon c.args.decider.now)
     c.args.spec.now) c.args.first (profiled_pairs c.args.environment.now.items) c.args.gate c.args.gates.now.items (meet_of
     c.args.meet.now) c.args.part.now _ c.in-Call.is c.requires.placed))) c.index-called.ensures c.requires.over.bodies)
-    (on_same (λ (d : Data) (k : Term → Term). AreListed (basis_of d k c.args.spec.now) c.args.first (behaviour_of
+    (held_before (λ (d : Data) (k : Term → Term). AreDraftsPlaced (basis_of d k c.args.spec.now) c.args.first (behaviour_of
     c.index-called.result.now.body) (profiles_in c.index-called.result.now.body) (profiled_pairs
-    c.in_ok-inner-in-Call.inner.items) c.in_ok-body-in-Call.body.items) (g.D.Deciding.known_data
-    c.call_environment.new.decider) (g.D.Deciding.known_data c.args.decider.now) (g.D.Deciding.canon
-    c.call_environment.new.decider) (g.D.Deciding.canon c.args.decider.now) (sym c.call_environment.ensures.same_data) (sym
-    c.call_environment.ensures.same_canon) c.in_ok-body-in-Call.ensures.listed) (e (g.D.Deciding.known_data
-    c.args.decider.now).signature (on_same (λ (d : Data) (k : Term → Term). AreListed (basis_of d k c.args.spec.now)
+    c.in_ok-inner-in-Call.inner.items) c.in_ok-body-in-Call.body.items) c.call_environment.ensures.same_known
+    c.in_ok-body-in-Call.ensures.listed) (e (g.D.Deciding.known_data
+    c.args.decider.now).signature (held_before (λ (d : Data) (k : Term → Term). AreDraftsPlaced (basis_of d k c.args.spec.now)
     c.args.first (behaviour_of c.index-called.result.now.body) (profiles_in c.index-called.result.now.body) (profiled_pairs
-    c.in_ok-inner-in-Call.inner.items) c.in_ok-body-in-Call.body.items) (g.D.Deciding.known_data
-    c.call_environment.new.decider) (g.D.Deciding.known_data c.args.decider.now) (g.D.Deciding.canon
-    c.call_environment.new.decider) (g.D.Deciding.canon c.args.decider.now) (sym c.call_environment.ensures.same_data) (sym
-    c.call_environment.ensures.same_canon) c.in_ok-body-in-Call.ensures.listed).over)))
+    c.in_ok-inner-in-Call.inner.items) c.in_ok-body-in-Call.body.items) c.call_environment.ensures.same_known
+    c.in_ok-body-in-Call.ensures.listed).over)))
     c.calls_beside.ensures
 
 pub par_moves-behaviour_moves-requires-in_default : goal.par_moves-behaviour_moves-requires-in_default
@@ -1436,70 +1076,5 @@ par_moves-returns-in_ok-parts-in_default g t c =
           c.in_ok-parts-in_default.ensures.listed
           (e (g.D.Deciding.known_data c.args.decider.now).signature c.in_ok-parts-in_default.ensures.listed.over))
           c.copies_beside.ensures;
-      same_data = c.behaviour_moves-in_default.ensures.same_data;
-      same_canon = c.behaviour_moves-in_default.ensures.same_canon;
+      same_known = c.behaviour_moves-in_default.ensures.same_known;
     }
-
-pub call_moves-returns-in_err-inner-clause-same_canon : goal.call_moves-returns-in_err-inner-clause-same_canon
-call_moves-returns-in_err-inner-clause-same_canon g t c =
-    c.call_environment.ensures.same_canon
-
-pub call_moves-returns-in_err-inner-clause-same_data : goal.call_moves-returns-in_err-inner-clause-same_data
-call_moves-returns-in_err-inner-clause-same_data g t c =
-    c.call_environment.ensures.same_data
-
-pub call_moves-returns-in_err-body-clause-same_canon : goal.call_moves-returns-in_err-body-clause-same_canon
-call_moves-returns-in_err-body-clause-same_canon g t c =
-    c.behaviour_moves.ensures.same_canon ∙ c.call_environment.ensures.same_canon
-
-pub call_moves-returns-in_err-body-clause-same_data : goal.call_moves-returns-in_err-body-clause-same_data
-call_moves-returns-in_err-body-clause-same_data g t c =
-    c.behaviour_moves.ensures.same_data ∙ c.call_environment.ensures.same_data
-
-pub call_moves-returns-in_err-pairs-clause-same_canon : goal.call_moves-returns-in_err-pairs-clause-same_canon
-call_moves-returns-in_err-pairs-clause-same_canon g t c =
-    c.behaviour_moves.ensures.same_canon ∙ c.call_environment.ensures.same_canon
-
-pub call_moves-returns-in_err-pairs-clause-same_data : goal.call_moves-returns-in_err-pairs-clause-same_data
-call_moves-returns-in_err-pairs-clause-same_data g t c =
-    c.behaviour_moves.ensures.same_data ∙ c.call_environment.ensures.same_data
-
-pub call_moves-returns-clause-same_canon : goal.call_moves-returns-clause-same_canon
-call_moves-returns-clause-same_canon g t c =
-    c.behaviour_moves.ensures.same_canon ∙ c.call_environment.ensures.same_canon
-
-pub call_moves-returns-clause-same_data : goal.call_moves-returns-clause-same_data
-call_moves-returns-clause-same_data g t c =
-    c.behaviour_moves.ensures.same_data ∙ c.call_environment.ensures.same_data
-
-pub par_moves-returns-in-Stop-clause-same_canon : goal.par_moves-returns-in-Stop-clause-same_canon
-par_moves-returns-in-Stop-clause-same_canon g t c =
-    refl
-
-pub par_moves-returns-in-Stop-clause-same_data : goal.par_moves-returns-in-Stop-clause-same_data
-par_moves-returns-in-Stop-clause-same_data g t c =
-    refl
-
-pub par_moves-returns-in_err-inner-in-Call-clause-same_canon : goal.par_moves-returns-in_err-inner-in-Call-clause-same_canon
-par_moves-returns-in_err-inner-in-Call-clause-same_canon g t c =
-    c.call_environment.ensures.same_canon
-
-pub par_moves-returns-in_err-inner-in-Call-clause-same_data : goal.par_moves-returns-in_err-inner-in-Call-clause-same_data
-par_moves-returns-in_err-inner-in-Call-clause-same_data g t c =
-    c.call_environment.ensures.same_data
-
-pub par_moves-returns-in_err-body-in-Call-clause-same_canon : goal.par_moves-returns-in_err-body-in-Call-clause-same_canon
-par_moves-returns-in_err-body-in-Call-clause-same_canon g t c =
-    c.behaviour_moves.ensures.same_canon ∙ c.call_environment.ensures.same_canon
-
-pub par_moves-returns-in_err-body-in-Call-clause-same_data : goal.par_moves-returns-in_err-body-in-Call-clause-same_data
-par_moves-returns-in_err-body-in-Call-clause-same_data g t c =
-    c.behaviour_moves.ensures.same_data ∙ c.call_environment.ensures.same_data
-
-pub par_moves-returns-in_ok-body-in-Call-clause-same_canon : goal.par_moves-returns-in_ok-body-in-Call-clause-same_canon
-par_moves-returns-in_ok-body-in-Call-clause-same_canon g t c =
-    c.behaviour_moves.ensures.same_canon ∙ c.call_environment.ensures.same_canon
-
-pub par_moves-returns-in_ok-body-in-Call-clause-same_data : goal.par_moves-returns-in_ok-body-in-Call-clause-same_data
-par_moves-returns-in_ok-body-in-Call-clause-same_data g t c =
-    c.behaviour_moves.ensures.same_data ∙ c.call_environment.ensures.same_data

@@ -1,7 +1,7 @@
 use Rattle.std.proofs.Common.{◌≡◌, ℕ, List, map, arith, ap, sym, ◌∙◌, subst}
-use Rattle.term_algebra.specs.Equation.{Data}
-use Rattle.term_algebra.specs.Substitution.{binding, substituted}
-use Rattle.term_algebra.specs.Term.{Term}
+use Rattle.lotos_base.specs.Equation.{Data}
+use Rattle.lotos_base.specs.Substitution.{binding, substituted}
+use Rattle.lotos_base.specs.Term.{Term}
 use Rattle.sort_terms.specs.ProfiledTerm.{IsOf}
 use Rattle.sort_terms.specs.SortedView.{profiled_in, term_in}
 use Rattle.sort_terms.specs.declared.equations.Variable.{Variable}
@@ -10,17 +10,18 @@ use Rattle.term_match.specs.ProfiledInstance.{bare_pairs}
 use Rattle.term_match.specs.SubstView.{profiled_pairs}
 use Rattle.behaviour_semantics.specs.Behaviour.{let_variables, let_terms}
 use Rattle.behaviour_tree.specs.BehaviourView.{let_of}
-use Rattle.draft_parts.specs.Environments.{IsReady}
+use Rattle.draft_parts.specs.Environments.{IsReadyForPairs}
 use Rattle.draft_parts.specs.BelowLaws.{binder_pairs}
 use Rattle.draft_parts.proofs.PairLemmas.{pairs_bare}
+use Rattle.event_offers.proofs.KeepingLemmas.{keeps_both}
 use Rattle.menu_builder.proofs.BinderLemmas.{every_turn, let_turn, let_done, more_of}
 use Rattle.menu_builder.proofs.binders.bound_values.Goals as goal
 
 pub canonical-requires : goal.canonical-requires
 canonical-requires g c =
-    subst (λ (d : Data). IsReady d.signature (profiled_pairs c.args.environment.now.items) (profiled_in c.binding-item.result.1))
-    (sym c.loop-binding.invariant.same_data)
-    (every_turn (λ (b : Variable × Sorted). IsReady (g.D.Deciding.known_data c.args.decider.now).signature
+    subst (λ (d : Data). IsReadyForPairs d.signature (profiled_pairs c.args.environment.now.items) (profiled_in c.binding-item.result.1))
+    (sym c.loop-binding.invariant.same_known.same_data)
+    (every_turn (λ (b : Variable × Sorted). IsReadyForPairs (g.D.Deciding.known_data c.args.decider.now).signature
     (profiled_pairs c.args.environment.now.items) (profiled_in b.1)) c.deref-binding-items.result.now c.loop-binding.binding-index
     c.binding-item.result c.loop-binding-test.true c.binding-item.is c.loop-binding.invariant.left).0
 
@@ -31,20 +32,19 @@ loop-binding-preserved g c = record {
       c.in_ok-value.value _ c.loop-binding-test.true c.binding-item.is c.in_ok-push.ensures.items
       (subst (λ (canon : Term → Term). term_in c.in_ok-value.value
       ≡ canon (substituted (binding (bare_pairs (profiled_pairs c.args.environment.now.items))) (term_in c.binding-item.result.1)))
-      c.loop-binding.invariant.same_canon
+      c.loop-binding.invariant.same_known.same_canon
       (subst (λ (ps : List (ℕ × Term)). term_in c.in_ok-value.value
       ≡ g.D.Deciding.canon c.loop-binding.decider (substituted (binding ps) (term_in c.binding-item.result.1)))
       (sym (pairs_bare c.args.environment.now.items)) c.in_ok-value.ensures.same))
       c.loop-binding.invariant.same;
   is_of = more_of (g.D.Deciding.known_data c.args.decider.now).signature c.loop-binding.pairs.items c.push.new.self.items _
       c.in_ok-value.value c.in_ok-push.ensures.items c.loop-binding.invariant.is_of
-      (subst (λ (d : Data). IsOf d.signature (profiled_in c.in_ok-value.value)) c.loop-binding.invariant.same_data
+      (subst (λ (d : Data). IsOf d.signature (profiled_in c.in_ok-value.value)) c.loop-binding.invariant.same_known.same_data
       c.in_ok-value.ensures.is_of);
-  left = (every_turn (λ (b : Variable × Sorted). IsReady (g.D.Deciding.known_data c.args.decider.now).signature
+  left = (every_turn (λ (b : Variable × Sorted). IsReadyForPairs (g.D.Deciding.known_data c.args.decider.now).signature
       (profiled_pairs c.args.environment.now.items) (profiled_in b.1)) c.deref-binding-items.result.now c.loop-binding.binding-index
       c.binding-item.result c.loop-binding-test.true c.binding-item.is c.loop-binding.invariant.left).1;
-  same_data = c.canonical.ensures.same_data ∙ c.loop-binding.invariant.same_data;
-  same_canon = c.canonical.ensures.same_canon ∙ c.loop-binding.invariant.same_canon;
+  same_known = keeps_both c.loop-binding.invariant.same_known c.canonical.ensures.same_known;
 }
 
 pub returns-clause-same : goal.returns-clause-same

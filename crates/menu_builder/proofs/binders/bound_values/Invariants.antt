@@ -6,6 +6,7 @@ use Rattle.behaviour_tree.specs.BehaviourView.{let_of}
 use Rattle.behaviour_tree.specs.StateView.{environment_of}
 use Rattle.draft_parts.specs.Environments.{ArePairsOf}
 use Rattle.draft_parts.specs.BelowLaws.{binder_pairs}
+use Rattle.event_offers.specs.Keeping.{KeepsData}
 use Rattle.menu_builder.specs.Bound.{AreBindingsReady}
 use Rattle.menu_builder.proofs.binders.bound_values.Given as goal
 
@@ -19,6 +20,5 @@ invariant-loop-binding g l = record {
   is_of : ArePairsOf (g.D.Deciding.known_data l.fn.decider).signature (profiled_pairs l.pairs.items);
   left : AreBindingsReady (g.D.Deciding.known_data l.fn.decider).signature (profiled_pairs l.environment.items)
       (drop l.binding-index l.binding-items);
-  same_data : g.D.Deciding.known_data l.decider ≡ g.D.Deciding.known_data l.fn.decider;
-  same_canon : g.D.Deciding.canon l.decider ≡ g.D.Deciding.canon l.fn.decider;
+  same_known : KeepsData g.D.Deciding.known_data g.D.Deciding.canon l.fn.decider l.decider;
 }

@@ -1,14 +1,15 @@
 use Rattle.std.proofs.Common.{◌≡◌, ◌<◌, ◌≤◌, ℕ, List, length, arith, sym, ◌∙◌, subst}
-use Rattle.term_algebra.specs.Equation.{Data}
-use Rattle.term_algebra.specs.Substitution.{binding, substituted}
-use Rattle.term_algebra.specs.Term.{Term}
+use Rattle.lotos_base.specs.Equation.{Data}
+use Rattle.lotos_base.specs.Substitution.{binding, substituted}
+use Rattle.lotos_base.specs.Term.{Term}
 use Rattle.sort_terms.specs.ProfiledTerm.{IsOf}
 use Rattle.sort_terms.specs.SortedView.{profiled_in, term_in}
 use Rattle.sort_terms.specs.declared.sorted.Sorted.{Sorted}
 use Rattle.term_match.specs.ProfiledInstance.{bare_pairs}
 use Rattle.term_match.specs.SubstView.{profiled_pairs}
-use Rattle.draft_parts.specs.Environments.{IsReady}
+use Rattle.draft_parts.specs.Environments.{IsReadyForPairs}
 use Rattle.draft_parts.proofs.PairLemmas.{pairs_bare}
+use Rattle.event_offers.proofs.KeepingLemmas.{keeps_both}
 use Rattle.menu_builder.proofs.BinderLemmas.{every_turn, call_turn, call_done, more_of}
 use Rattle.menu_builder.proofs.binders.call_environment.Goals as goal
 
@@ -24,20 +25,19 @@ loop-i-preserved g c =
           c.in_ok-push.ensures.items
           (subst (λ (canon : Term → Term). term_in c.in_ok-value.value
           ≡ canon (substituted (binding (bare_pairs (profiled_pairs c.args.environment.now.items))) (term_in c.index.result.now)))
-          c.loop-i.invariant.same_canon
+          c.loop-i.invariant.same_known.same_canon
           (subst (λ (ps : List (ℕ × Term)). term_in c.in_ok-value.value
           ≡ g.D.Deciding.canon c.loop-i.decider (substituted (binding ps) (term_in c.index.result.now)))
           (sym (pairs_bare c.args.environment.now.items)) c.in_ok-value.ensures.same))
           c.loop-i.invariant.same;
       is_of = more_of (g.D.Deciding.known_data c.args.decider.now).signature c.loop-i.pairs.items c.push.new.self.items _
           c.in_ok-value.value c.in_ok-push.ensures.items c.loop-i.invariant.is_of
-          (subst (λ (d : Data). IsOf d.signature (profiled_in c.in_ok-value.value)) c.loop-i.invariant.same_data
+          (subst (λ (d : Data). IsOf d.signature (profiled_in c.in_ok-value.value)) c.loop-i.invariant.same_known.same_data
           c.in_ok-value.ensures.is_of);
-      left = (every_turn (λ (t : Sorted). IsReady (g.D.Deciding.known_data c.args.decider.now).signature
+      left = (every_turn (λ (t : Sorted). IsReadyForPairs (g.D.Deciding.known_data c.args.decider.now).signature
           (profiled_pairs c.args.environment.now.items) (profiled_in t)) c.args.values.now.items c.loop-i.i c.index.result.now inside
           c.index.ensures c.loop-i.invariant.left).1;
-      same_data = c.canonical.ensures.same_data ∙ c.loop-i.invariant.same_data;
-      same_canon = c.canonical.ensures.same_canon ∙ c.loop-i.invariant.same_canon;
+      same_known = keeps_both c.loop-i.invariant.same_known c.canonical.ensures.same_known;
     }
 
 pub returns-clause-same : goal.returns-clause-same

@@ -5,6 +5,7 @@ use Rattle.behaviour_tree.specs.BehaviourView.{terms_of, variables_of}
 use Rattle.behaviour_tree.specs.StateView.{environment_of}
 use Rattle.draft_parts.specs.Environments.{ArePairsOf}
 use Rattle.draft_parts.specs.BelowLaws.{binder_pairs}
+use Rattle.event_offers.specs.Keeping.{KeepsData}
 use Rattle.menu_builder.specs.Bound.{AreValuesReady}
 use Rattle.menu_builder.proofs.binders.call_environment.Given as goal
 
@@ -17,6 +18,5 @@ invariant-loop-i g l = record {
       (bare_pairs (profiled_pairs l.environment.items));
   is_of : ArePairsOf (g.D.Deciding.known_data l.fn.decider).signature (profiled_pairs l.pairs.items);
   left : AreValuesReady (g.D.Deciding.known_data l.fn.decider).signature (profiled_pairs l.environment.items) (drop l.i l.values.items);
-  same_data : g.D.Deciding.known_data l.decider ≡ g.D.Deciding.known_data l.fn.decider;
-  same_canon : g.D.Deciding.canon l.decider ≡ g.D.Deciding.canon l.fn.decider;
+  same_known : KeepsData g.D.Deciding.known_data g.D.Deciding.canon l.fn.decider l.decider;
 }

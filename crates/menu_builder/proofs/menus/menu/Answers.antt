@@ -1,8 +1,8 @@
 use Rattle.std.proofs.Common.{ap, sym, subst, map}
 use Rattle.std.specs.Prelude.{Vec}
 use Rattle.std.specs.declared.alloc.Global.{Global}
-use Rattle.term_algebra.specs.Equation.{Data}
-use Rattle.term_algebra.specs.Term.{Term}
+use Rattle.lotos_base.specs.Equation.{Data}
+use Rattle.lotos_base.specs.Term.{Term}
 use Rattle.behaviour_semantics.specs.DraftOrder.{IsInOrder}
 use Rattle.behaviour_semantics.specs.Listing.{AllSolveTo}
 use Rattle.behaviour_semantics.specs.WellFormed.{Every}
@@ -25,7 +25,7 @@ node_moves-requires-clause-node g c =
 
 pub solved-requires-clause-terms : goal.solved-requires-clause-terms
 solved-requires-clause-terms g c =
-    subst (λ (d : Data). Every (HasTermsOf d.signature) c.in_ok-drafts.drafts.items) (sym c.node_moves.ensures.same_data)
+    subst (λ (d : Data). Every (HasTermsOf d.signature) c.in_ok-drafts.drafts.items) (sym c.node_moves.ensures.same_known.same_data)
     c.in_ok-drafts.ensures.listed.over
 
 pub solved-requires-clause-order : goal.solved-requires-clause-order
@@ -35,7 +35,7 @@ solved-requires-clause-order g c =
     let spec = c.args.spec.now in
     let state = c.args.state.now in
     subst (λ (d : Data). Every (IsInOrder d.signature) (lowered_drafts c.in_ok-base.base (plain_drafts c.in_ok-drafts.drafts.items)))
-    (sym c.node_moves.ensures.same_data)
+    (sym c.node_moves.ensures.same_known.same_data)
     (drafts_in_order known canon spec state c.node-node.result.now c.node-node.ensures c.in_ok-base.base c.in_ok-drafts.drafts.items
     (open_drafts known canon spec state c.node-node.result.now c.node-node.ensures c.in_ok-base.base c.in_ok-drafts.drafts.items
     (node_over known canon spec state c.node-node.result.now c.node-node.ensures c.in_ok-least.least c.in_ok-base.base c.requires.signature
@@ -57,12 +57,12 @@ returns-clause-exact g c =
     c.in_ok-base.ensures.least c.in_ok-base.ensures.above)
     (guarded_by spec c.args.ranks.now c.requires.ranks) c.in_ok-drafts.ensures.listed)
     (subst (λ (k : Term → Term). AllSolveTo k (lowered_drafts c.in_ok-base.base (plain_drafts c.in_ok-drafts.drafts.items))
-    (map plain_entry c.in_ok-entries.entries.items)) c.node_moves.ensures.same_canon c.in_ok-entries.ensures.solved)
+    (map plain_entry c.in_ok-entries.entries.items)) c.node_moves.ensures.same_known.same_canon c.in_ok-entries.ensures.solved)
     (ap (λ (v : Vec Entry Global). v.items) c.of.ensures)
 
 pub returns-clause-over : goal.returns-clause-over
 returns-clause-over g c =
     subst (λ (v : Vec Entry Global). Every (IsEntryOver (g.D.Deciding.known_data c.args.decider.now).signature) v.items)
     (sym c.of.ensures)
-    (subst (λ (d : Data). Every (IsEntryOver d.signature) c.in_ok-entries.entries.items) c.node_moves.ensures.same_data
+    (subst (λ (d : Data). Every (IsEntryOver d.signature) c.in_ok-entries.entries.items) c.node_moves.ensures.same_known.same_data
     c.in_ok-entries.ensures.over)

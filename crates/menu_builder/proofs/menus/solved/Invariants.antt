@@ -1,4 +1,5 @@
-use Rattle.std.proofs.Common.{◌≡◌, length}
+use Rattle.std.proofs.Common.{length}
+use Rattle.event_offers.specs.Keeping.{KeepsData}
 use Rattle.menu_builder.proofs.SolvedLemmas.{AreHalfSolved}
 use Rattle.menu_builder.proofs.menus.solved.Given as goal
 
@@ -6,8 +7,7 @@ abbrev pub invariant-loop-draft : goal.invariant-loop-draft
 invariant-loop-draft g l = record {
   half : AreHalfSolved (g.D.Deciding.known_data l.fn.decider).signature (g.D.Deciding.canon l.fn.decider) l.base l.fn.drafts.items
       l.rest.items l.entries.items;
-  same_data : g.D.Deciding.known_data l.decider ≡ g.D.Deciding.known_data l.fn.decider;
-  same_canon : g.D.Deciding.canon l.decider ≡ g.D.Deciding.canon l.fn.decider;
+  same_known : KeepsData g.D.Deciding.known_data g.D.Deciding.canon l.fn.decider l.decider;
 }
 
 abbrev pub decreases-loop-draft : goal.decreases-loop-draft

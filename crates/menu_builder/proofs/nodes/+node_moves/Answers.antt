@@ -1,7 +1,7 @@
 use Rattle.std.proofs.Common.{rules, refl, List, [], ℕ, filter_map, Some, sym, subst}
 use Rattle.std.proofs.lemmas.Result.{IfOk-weaker}
-use Rattle.term_algebra.specs.Equation.{Data}
-use Rattle.term_algebra.specs.Term.{Term}
+use Rattle.lotos_base.specs.Equation.{Data}
+use Rattle.lotos_base.specs.Term.{Term}
 use Rattle.behaviour_semantics.specs.Behaviour.{Relabelling, call}
 use Rattle.behaviour_semantics.specs.Draft as plain
 use Rattle.behaviour_semantics.specs.Shape.{relabelled}
@@ -17,10 +17,11 @@ use Rattle.draft_parts.specs.Lists.{plain_drafts}
 use Rattle.draft_parts.specs.HasDrafts.{all_relabelled}
 use Rattle.draft_parts.specs.Made.{AreThese}
 use Rattle.draft_parts.proofs.MadeLemmas.{by_rule}
+use Rattle.event_offers.proofs.KeepingLemmas.{held_before, holds_after}
 use Rattle.menu_builder.specs.NodeNumbers.{above_node}
-use Rattle.menu_builder.specs.Placed.{AreListed, IsPlaced, basis_of}
+use Rattle.menu_builder.specs.Placed.{AreDraftsPlaced, IsPlaced, basis_of}
 use Rattle.menu_builder.proofs.ArmLemmas.{left_of, listed_read}
-use Rattle.menu_builder.proofs.CallLemmas.{on_same, placed_form}
+use Rattle.menu_builder.proofs.CallLemmas.{placed_form}
 use Rattle.menu_builder.specs.Nodes.{IsListedNode, IsNodeOver}
 use Rattle.menu_builder.proofs.NodeLemmas.{call_listed, call_stands, disable_listed, enable_listed, first_terms, hide_listed, left_most, left_sized, listed_as, node_less, node_size, over_form, parallel_listed, part_listed, part_over, part_sized, part_stands, placed_at, relabel_listed, right_most, right_sized, same_most, second_terms, stop_listed}
 use Rattle.menu_builder.proofs.nodes.+node_moves.Goals as goal
@@ -115,7 +116,7 @@ returns-in-Call-clause-listed g t c =
     c.args.first c.args.node.now _ c.in-Call.is c.requires.node).terms (over_form (basis_of (g.D.Deciding.known_data
     c.args.decider.now) (g.D.Deciding.canon c.args.decider.now) c.args.spec.now) c.args.first c.args.node.now _ c.in-Call.is
     c.requires.node).apart)
-    (subst (λ (ps : List (ℕ × Sorted)). AreListed (basis_of (g.D.Deciding.known_data c.args.decider.now) (g.D.Deciding.canon
+    (subst (λ (ps : List (ℕ × Sorted)). AreDraftsPlaced (basis_of (g.D.Deciding.known_data c.args.decider.now) (g.D.Deciding.canon
     c.args.decider.now) c.args.spec.now) c.args.first (call c.in-Call.process c.in-Call.gates.items (terms_of
     c.in-Call.values.items)) (profiles_of c.in-Call.values.items) (profiled_pairs ps) made.items)
     c.new-none.ensures.items e)))
@@ -159,16 +160,12 @@ node_moves-requires-in-Parallel g t c κs within = (
   (
     search rules,
     (
-      on_same (λ (d : Data) (k : Term → Term). IsSpecOver d.signature c.args.spec.now)
-          (g.D.Deciding.known_data c.args.decider.now) (g.D.Deciding.known_data c.node_moves.new.decider) (g.D.Deciding.canon
-          c.args.decider.now) (g.D.Deciding.canon c.node_moves.new.decider) c.node_moves.ensures.same_data
-          c.node_moves.ensures.same_canon c.requires.over,
+      holds_after (λ (d : Data) (k : Term → Term). IsSpecOver d.signature c.args.spec.now) c.node_moves.ensures.same_known c.requires.over,
       (
         c.requires.ranks,
-        on_same (λ (d : Data) (k : Term → Term). IsNodeOver
-            (basis_of d k c.args.spec.now) c.args.first c.deref-in-Parallel-2.result.now) (g.D.Deciding.known_data c.args.decider.now)
-            (g.D.Deciding.known_data c.node_moves.new.decider) (g.D.Deciding.canon c.args.decider.now) (g.D.Deciding.canon
-            c.node_moves.new.decider) c.node_moves.ensures.same_data c.node_moves.ensures.same_canon (over_form (basis_of
+        holds_after (λ (d : Data) (k : Term → Term). IsNodeOver
+            (basis_of d k c.args.spec.now) c.args.first c.deref-in-Parallel-2.result.now) c.node_moves.ensures.same_known (over_form
+            (basis_of
             (g.D.Deciding.known_data c.args.decider.now) (g.D.Deciding.canon c.args.decider.now) c.args.spec.now) c.args.first
             c.in-Parallel.right.value c.deref-in-Parallel-2.result.now (sym c.deref-in-Parallel-2.ensures) (part_over (basis_of
             (g.D.Deciding.known_data c.args.decider.now) (g.D.Deciding.canon c.args.decider.now) c.args.spec.now) c.args.first _
@@ -210,16 +207,12 @@ returns-in_ok-rights-in-Parallel-clause-listed g t c =
     (c.in_ok-lefts-in-Parallel.ensures.listed))
     (subst (λ (n : Node). IsListedNode (basis_of (g.D.Deciding.known_data c.args.decider.now) (g.D.Deciding.canon
     c.args.decider.now) c.args.spec.now) c.args.first n c.in_ok-rights-in-Parallel.rights.items) c.deref-in-Parallel-2.ensures
-    ((on_same (λ (d : Data) (k : Term → Term). IsListedNode (basis_of d k c.args.spec.now) c.args.first
-    c.deref-in-Parallel-2.result.now c.in_ok-rights-in-Parallel.rights.items) (g.D.Deciding.known_data
-    c.node_moves.new.decider) (g.D.Deciding.known_data c.args.decider.now) (g.D.Deciding.canon c.node_moves.new.decider)
-    (g.D.Deciding.canon c.args.decider.now) (sym c.node_moves.ensures.same_data) (sym c.node_moves.ensures.same_canon)
+    ((held_before (λ (d : Data) (k : Term → Term). IsListedNode (basis_of d k c.args.spec.now) c.args.first
+    c.deref-in-Parallel-2.result.now c.in_ok-rights-in-Parallel.rights.items) c.node_moves.ensures.same_known
     c.in_ok-rights-in-Parallel.ensures.listed))) (e (g.D.Deciding.known_data c.args.decider.now).signature
-    c.in_ok-lefts-in-Parallel.ensures.listed.over (on_same (λ (d : Data) (k : Term → Term). IsListedNode (basis_of d k
-    c.args.spec.now) c.args.first c.deref-in-Parallel-2.result.now c.in_ok-rights-in-Parallel.rights.items)
-    (g.D.Deciding.known_data c.node_moves.new.decider) (g.D.Deciding.known_data c.args.decider.now) (g.D.Deciding.canon
-    c.node_moves.new.decider) (g.D.Deciding.canon c.args.decider.now) (sym c.node_moves.ensures.same_data) (sym
-    c.node_moves.ensures.same_canon) c.in_ok-rights-in-Parallel.ensures.listed).over)))
+    c.in_ok-lefts-in-Parallel.ensures.listed.over (held_before (λ (d : Data) (k : Term → Term). IsListedNode (basis_of d k
+    c.args.spec.now) c.args.first c.deref-in-Parallel-2.result.now c.in_ok-rights-in-Parallel.rights.items) c.node_moves.ensures.same_known
+    c.in_ok-rights-in-Parallel.ensures.listed).over)))
     c.beside.ensures
 
 pub node_moves-requires-in-Disable : goal.node_moves-requires-in-Disable
@@ -260,16 +253,12 @@ node_moves-requires-in-Disable-2 g t c κs within = (
   (
     search rules,
     (
-      on_same (λ (d : Data) (k : Term → Term). IsSpecOver d.signature c.args.spec.now)
-          (g.D.Deciding.known_data c.args.decider.now) (g.D.Deciding.known_data c.node_moves-in-Disable.new.decider)
-          (g.D.Deciding.canon c.args.decider.now) (g.D.Deciding.canon c.node_moves-in-Disable.new.decider)
-          c.node_moves-in-Disable.ensures.same_data c.node_moves-in-Disable.ensures.same_canon c.requires.over,
+      holds_after (λ (d : Data) (k : Term → Term). IsSpecOver d.signature c.args.spec.now) c.node_moves-in-Disable.ensures.same_known
+          c.requires.over,
       (
         c.requires.ranks,
-        on_same (λ (d : Data) (k : Term → Term). IsNodeOver (basis_of d k c.args.spec.now) c.args.first
-            c.deref-in-Disable-2.result.now) (g.D.Deciding.known_data c.args.decider.now) (g.D.Deciding.known_data
-            c.node_moves-in-Disable.new.decider) (g.D.Deciding.canon c.args.decider.now) (g.D.Deciding.canon
-            c.node_moves-in-Disable.new.decider) c.node_moves-in-Disable.ensures.same_data c.node_moves-in-Disable.ensures.same_canon
+        holds_after (λ (d : Data) (k : Term → Term). IsNodeOver (basis_of d k c.args.spec.now) c.args.first
+            c.deref-in-Disable-2.result.now) c.node_moves-in-Disable.ensures.same_known
             (over_form (basis_of (g.D.Deciding.known_data c.args.decider.now) (g.D.Deciding.canon c.args.decider.now) c.args.spec.now)
             c.args.first c.in-Disable.right.value c.deref-in-Disable-2.result.now (sym c.deref-in-Disable-2.ensures) (part_over
             (basis_of (g.D.Deciding.known_data c.args.decider.now) (g.D.Deciding.canon c.args.decider.now) c.args.spec.now)
@@ -299,17 +288,12 @@ returns-in_ok-rights-in-Disable-clause-listed g t c =
     c.in_ok-lefts-in-Disable.lefts.items) c.deref-in-Disable.ensures (c.in_ok-lefts-in-Disable.ensures.listed))
     (subst (λ (n : Node). IsListedNode (basis_of (g.D.Deciding.known_data c.args.decider.now) (g.D.Deciding.canon
     c.args.decider.now) c.args.spec.now) c.args.first n c.in_ok-rights-in-Disable.rights.items) c.deref-in-Disable-2.ensures
-    ((on_same (λ (d : Data) (k : Term → Term). IsListedNode (basis_of d k c.args.spec.now) c.args.first
-    c.deref-in-Disable-2.result.now c.in_ok-rights-in-Disable.rights.items) (g.D.Deciding.known_data
-    c.node_moves-in-Disable.new.decider) (g.D.Deciding.known_data c.args.decider.now) (g.D.Deciding.canon
-    c.node_moves-in-Disable.new.decider) (g.D.Deciding.canon c.args.decider.now) (sym
-    c.node_moves-in-Disable.ensures.same_data) (sym c.node_moves-in-Disable.ensures.same_canon)
+    ((held_before (λ (d : Data) (k : Term → Term). IsListedNode (basis_of d k c.args.spec.now) c.args.first
+    c.deref-in-Disable-2.result.now c.in_ok-rights-in-Disable.rights.items) c.node_moves-in-Disable.ensures.same_known
     c.in_ok-rights-in-Disable.ensures.listed))) (e (g.D.Deciding.known_data c.args.decider.now).signature
-    c.in_ok-lefts-in-Disable.ensures.listed.over (on_same (λ (d : Data) (k : Term → Term). IsListedNode (basis_of d k
+    c.in_ok-lefts-in-Disable.ensures.listed.over (held_before (λ (d : Data) (k : Term → Term). IsListedNode (basis_of d k
     c.args.spec.now) c.args.first c.deref-in-Disable-2.result.now c.in_ok-rights-in-Disable.rights.items)
-    (g.D.Deciding.known_data c.node_moves-in-Disable.new.decider) (g.D.Deciding.known_data c.args.decider.now)
-    (g.D.Deciding.canon c.node_moves-in-Disable.new.decider) (g.D.Deciding.canon c.args.decider.now) (sym
-    c.node_moves-in-Disable.ensures.same_data) (sym c.node_moves-in-Disable.ensures.same_canon)
+    c.node_moves-in-Disable.ensures.same_known
     c.in_ok-rights-in-Disable.ensures.listed).over)))
     c.either.ensures
 

@@ -1,7 +1,7 @@
 use Rattle.std.proofs.Common.{◌≡◌, ◌<◌, List, length, refl, ap, ◌∙◌, arith}
 use Rattle.sort_terms.specs.TermView.{term_of, terms_of}
 use Rattle.sort_terms.specs.declared.terms.Term.{Term}
-use Rattle.term_algebra.specs.Term.{node}
+use Rattle.lotos_base.specs.Term.{node}
 use Rattle.path_order.specs.Comparison.{all_compared, each_compared, parts_in}
 use Rattle.path_order.specs.ComparedView.{tables_behind}
 use Rattle.path_order.specs.PrecedenceView.{precedence_of}

@@ -1,6 +1,6 @@
 use Rattle.std.proofs.Common.{◌≡◌, take}
 use Rattle.sort_terms.specs.TermView.{term_of, terms_of}
-use Rattle.term_algebra.specs.Term.{node}
+use Rattle.lotos_base.specs.Term.{node}
 use Rattle.path_order.specs.ComparedView.{all_tables, tables_behind}
 use Rattle.path_order.specs.Comparison.{IsToldOf, all_compared}
 use Rattle.path_order.specs.PrecedenceView.{precedence_of}

@@ -1,7 +1,7 @@
 use Rattle.std.proofs.Common.{◌≡◌, List, length, take, ap, ◌∙◌, arith}
 use Rattle.sort_terms.specs.TermView.{term_of, terms_of}
 use Rattle.sort_terms.specs.declared.terms.Term.{Term}
-use Rattle.term_algebra.specs.Term.{variable}
+use Rattle.lotos_base.specs.Term.{variable}
 use Rattle.path_order.specs.Comparison.{all_compared}
 use Rattle.path_order.specs.PrecedenceView.{precedence_of}
 use Rattle.path_order.proofs.CodeLemmas.{tables_more, variable_node, term_of-Node, take_whole}

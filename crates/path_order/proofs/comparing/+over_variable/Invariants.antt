@@ -1,6 +1,6 @@
 use Rattle.std.proofs.Common.{◌≡◌, take}
 use Rattle.sort_terms.specs.TermView.{terms_of}
-use Rattle.term_algebra.specs.Term.{variable}
+use Rattle.lotos_base.specs.Term.{variable}
 use Rattle.path_order.specs.ComparedView.{all_tables}
 use Rattle.path_order.specs.Comparison.{all_compared}
 use Rattle.path_order.specs.PrecedenceView.{precedence_of}

@@ -4,7 +4,7 @@ use Rattle.std.proofs.lemmas.Option.{slice_get-map, slice_get-get_or}
 use Rattle.std.proofs.lemmas.Result.{IfOk-weaker}
 use Rattle.behaviour_semantics.specs.Behaviour as plain
 use Rattle.behaviour_semantics.specs.Behaviour.{Behaviour}
-use Rattle.plain_moves.specs.Listed.{IsListed, IsListedByForm, process_of}
+use Rattle.plain_moves.specs.Listed.{IsPlainListing, IsListedByForm, process_of}
 use Rattle.plain_moves.specs.MoveView.{list_of}
 use Rattle.plain_moves.specs.View.{without_values, meet_of}
 use Rattle.plain_moves.specs.declared.behaviour.PlainBehaviour.{PlainBehaviour}

@@ -1,5 +1,5 @@
 use Rattle.std.proofs.Common.{◌≡◌, ℕ, map, drop}
-use Rattle.term_algebra.specs.Signature.{Signature}
+use Rattle.lotos_base.specs.Signature.{Signature}
 use Rattle.behaviour_semantics.specs.Listing.{both_below, one_behind}
 use Rattle.plain_moves.specs.MoveView.{list_of, shaped_of}
 use Rattle.plain_moves.specs.View.{meet_of}

@@ -1,5 +1,5 @@
 use Rattle.std.proofs.Common.{◌≡◌, drop}
-use Rattle.term_algebra.specs.Substitution.{is_listed}
+use Rattle.lotos_base.specs.Substitution.{is_listed}
 use Rattle.behaviour_semantics.specs.Label as labels
 use Rattle.plain_moves.proofs.relabelling.has_formal.Given as goal
 

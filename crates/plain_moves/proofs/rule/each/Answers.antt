@@ -1,5 +1,5 @@
 use Rattle.std.proofs.Common.{map, ap, ◌∙◌, Vec, Global}
-use Rattle.term_algebra.specs.Signature.{Signature}
+use Rattle.lotos_base.specs.Signature.{Signature}
 use Rattle.plain_moves.specs.MoveView.{shaped_of}
 use Rattle.plain_moves.specs.Taken.{taken_of}
 use Rattle.plain_moves.specs.declared.rule.PlainMove.{PlainMove}

@@ -1,6 +1,6 @@
 use Rattle.std.proofs.Common.{◌≡◌, map, take}
 use Rattle.std.specs.Prelude.{filter_map}
-use Rattle.term_algebra.specs.Signature.{Signature}
+use Rattle.lotos_base.specs.Signature.{Signature}
 use Rattle.plain_moves.specs.MoveView.{shaped_of}
 use Rattle.plain_moves.specs.Taken.{taken_of}
 use Rattle.plain_moves.proofs.rule.each.Given as goal

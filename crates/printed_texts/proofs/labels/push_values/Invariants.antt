@@ -1,5 +1,5 @@
 use Rattle.std.proofs.Common.{◌≡◌, ◌++◌, drop}
-use Rattle.behaviour_tree.specs.BehaviourView.{terms_of}
+use Rattle.event_offers.specs.HandedOn.{terms_of}
 use Rattle.sort_terms.specs.SignatureView.{signature_of}
 use Rattle.printed_texts.specs.MenuText.{values_text}
 use Rattle.printed_texts.proofs.labels.push_values.Given as goal

@@ -1,7 +1,7 @@
 use Rattle.std.proofs.Common.{◌≡◌, map, drop}
 use Rattle.std.specs.List.{list_any}
 use Rattle.sort_terms.specs.Operations.{operation_of}
-use Rattle.term_algebra.specs.Twins.{are_twins}
+use Rattle.lotos_base.specs.Twins.{are_twins}
 use Rattle.printed_texts.proofs.operations.is_overloaded.Given as goal
 
 -- the operations so far are no twins

@@ -1,7 +1,7 @@
 use Rattle.std.proofs.Common.{◌≡◌, ◌++◌, ◌||◌, List, length, Bool, not, ℕ, ap, sym, ◌∙◌, arith}
 use Rattle.lotos_base.specs.Name.{spelling}
 use Rattle.std.proofs.lemmas.Result.{on_ok_weaker}
-use Rattle.term_algebra.specs.Twins.{has_twin}
+use Rattle.lotos_base.specs.Twins.{has_twin}
 use Rattle.sort_terms.specs.Operations.{operation_of}
 use Rattle.sort_terms.specs.SignatureView.{signature_of}
 use Rattle.sort_terms.specs.declared.terms.Term.{Term}

@@ -1,6 +1,6 @@
 use Rattle.std.proofs.Common.{List, ◌++◌, map, option_map, Bool, refl, codes, ap, sym, ◌∙◌}
 use Rattle.std.proofs.lemmas.Result.{on_ok_weaker}
-use Rattle.term_algebra.specs.Equation.{Variable}
+use Rattle.lotos_base.specs.Equation.{Variable}
 use Rattle.sort_terms.specs.declared.equations.Variable as kept
 use Rattle.behaviour_tree.specs.BehaviourView.{behaviour_of, exit_value_of, let_of, offer_of, terms_of, test_of, variables_of}
 use Rattle.behaviour_tree.specs.declared.behaviours.Beh.{Beh}

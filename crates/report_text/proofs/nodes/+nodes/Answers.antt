@@ -1,6 +1,6 @@
 use Rattle.std.proofs.Common.{◌++◌, [], Bool, refl, ap, sym, ◌∙◌, subst}
 use Rattle.std.proofs.lemmas.Result.{on_ok_weaker}
-use Rattle.term_algebra.specs.Substitution.{binding, without}
+use Rattle.lotos_base.specs.Substitution.{binding, without}
 use Rattle.behaviour_semantics.specs.Replacement.{with_values}
 use Rattle.behaviour_semantics.specs.Behaviour.{numbers_of}
 use Rattle.behaviour_tree.specs.BehaviourView.{behaviour_of, variables_of}

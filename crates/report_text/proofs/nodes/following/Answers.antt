@@ -1,6 +1,6 @@
 use Rattle.std.proofs.Common.{ℕ, ap, ◌∙◌}
 use Rattle.std.proofs.lemmas.Result.{IfOk-weaker}
-use Rattle.term_algebra.specs.Substitution.{Substitution}
+use Rattle.lotos_base.specs.Substitution.{Substitution}
 use Rattle.behaviour_semantics.specs.Behaviour.{numbers_of}
 use Rattle.behaviour_semantics.specs.Replacement.{with_values}
 use Rattle.behaviour_tree.specs.BehaviourView.{behaviour_of, variables_of}

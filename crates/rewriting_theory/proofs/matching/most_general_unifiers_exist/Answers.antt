@@ -1,10 +1,10 @@
 -- By recursion on the size of the given common instance.
 use Rattle.std.proofs.Common.{◌≡◌, inl, inr, ◌∙◌}
 use Rattle.std.specs.Prelude.{◌⊎◌}
-use Rattle.term_algebra.specs.Term.{Term}
+use Rattle.lotos_base.specs.Term.{Term}
 use Rattle.rewriting_theory.specs.Unification.{IsUnifier, IsMostGeneral}
-use Rattle.term_algebra.specs.Substitution.{Substitution, substituted, followed_by, renaming}
-use Rattle.term_algebra.proofs.SubstitutionLemmas.{substituted_twice}
+use Rattle.lotos_base.specs.Substitution.{Substitution, substituted, followed_by, renaming}
+use Rattle.lotos_base.proofs.SubstitutionLemmas.{substituted_twice}
 use Rattle.rewriting_theory.proofs.UnifyLemmas.{IsSolution, solution_general, unifier_exists, general_elsewhere}
 use Rattle.rewriting_theory.proofs.DecideLemmas.{decide_unifier}
 use Rattle.rewriting_theory.proofs.OverlapLemmas.{combined, combination_unifies}

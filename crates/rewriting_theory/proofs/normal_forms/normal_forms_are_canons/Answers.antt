@@ -1,6 +1,6 @@
 -- Where rewriting is confluent, a term reaches one irreducible term.
 use Rattle.rewriting_theory.proofs.NormalLemmas.{normal_form_canon}
-use Rattle.term_algebra.proofs.CanonLemmas.{canon_tells}
+use Rattle.lotos_base.proofs.CanonLemmas.{canon_tells}
 use Rattle.rewriting_theory.proofs.normal_forms.normal_forms_are_canons.Goals as goal
 
 pub returns-clause-canons : goal.returns-clause-canons

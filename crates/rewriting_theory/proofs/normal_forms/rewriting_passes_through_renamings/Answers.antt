@@ -1,6 +1,6 @@
 -- A renaming is undone by a substitution.
 use Rattle.std.proofs.Common.{subst}
-use Rattle.term_algebra.specs.Substitution.{substituted, renaming}
+use Rattle.lotos_base.specs.Substitution.{substituted, renaming}
 use Rattle.rewriting_theory.specs.Rewriting.{Rewrites}
 use Rattle.rewriting_theory.proofs.PlaceLemmas.{step_of_link, link_of_step}
 use Rattle.rewriting_theory.proofs.StepLemmas.{step_substituted}

@@ -1,7 +1,7 @@
 use Rattle.std.proofs.Common.{◌≡◌, ◌∙◌, map, ap, sym, subst}
 use Rattle.std.proofs.lemmas.Option.{none-some}
 use Rattle.std.specs.Prelude.{Some, option_map, option_and_then}
-use Rattle.lotos_sentences.specs.Starts.{AreItems}
+use Rattle.lotos_rows.specs.Starts.{AreItems}
 use Rattle.syntax_trees.specs.TreeViews.{item_of}
 use Rattle.tree_building.specs.MeaningView.{meaning}
 use Rattle.tree_building.specs.Parts.{items_in}

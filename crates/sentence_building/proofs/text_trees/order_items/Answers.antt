@@ -1,7 +1,7 @@
 use Rattle.std.proofs.Common.{◌≡◌, ◌∙◌, map, ap, sym, subst}
 use Rattle.std.proofs.lemmas.Option.{none-some}
 use Rattle.std.specs.Prelude.{Some, option_map, option_and_then}
-use Rattle.lotos_sentences.specs.Starts.{AreOrderItems}
+use Rattle.lotos_rows.specs.Starts.{AreOrderItems}
 use Rattle.lotos_base.specs.WrittenView.{listed_operation_of}
 use Rattle.tree_building.specs.MeaningView.{meaning}
 use Rattle.tree_building.specs.Parts.{order_items_in}

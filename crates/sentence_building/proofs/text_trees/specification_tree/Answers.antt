@@ -1,7 +1,7 @@
 use Rattle.std.proofs.Common.{◌≡◌, ◌∙◌, ap, sym, subst}
 use Rattle.std.proofs.lemmas.Option.{none-some}
 use Rattle.std.specs.Prelude.{Some, option_map, option_and_then}
-use Rattle.lotos_sentences.specs.Starts.{IsSpecification}
+use Rattle.lotos_rows.specs.Starts.{IsWrittenSpecification}
 use Rattle.syntax_trees.specs.TreeViews.{specification_of}
 use Rattle.tree_building.specs.MeaningView.{meaning}
 use Rattle.tree_building.specs.Parts.{specification_in}
@@ -38,4 +38,4 @@ returns c =
     let both : Some (specification_of c.in-Some-built_specification.spec) ≡ Some it.found =
     c.in-Some-built_specification.ensures ∙ ap (option_and_then specification_in) (ap (option_map meaning) (sym c.in-Some.is) ∙ it.means) in
     let same : it.found ≡ specification_of c.in-Some-built_specification.spec = cc in
-    subst (IsSpecification c.args.text.now c.args.tokens.now) same it.is
+    subst (IsWrittenSpecification c.args.text.now c.args.tokens.now) same it.is

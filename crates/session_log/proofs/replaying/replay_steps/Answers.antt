@@ -1,58 +1,53 @@
-use Rattle.std.proofs.Common.{◌≡◌, ◌<◌, ◌+◌, length, sym, ◌∙◌, arith}
-use Rattle.term_algebra.specs.Equation.{Data}
-use Rattle.term_algebra.specs.Term.{Term}
+use Rattle.std.proofs.Common.{◌≡◌, ◌<◌, ◌+◌, length, arith}
+use Rattle.lotos_base.specs.Equation.{Data}
+use Rattle.lotos_base.specs.Term.{Term}
 use Rattle.session_histories.specs.Replay.{LineComesTo, LinesComeTo, goes_on, stops, ReplayRefusal}
 use Rattle.session_histories.specs.TraceLine.{lines_of}
+use Rattle.event_offers.proofs.KeepingLemmas.{held_before, holds_after, keeps_both}
 use Rattle.session_log.specs.CourseView.{basis_over, progress_of}
 use Rattle.session_log.specs.Kept.{AreSuited, IsKeptCourse}
 use Rattle.session_log.specs.RefusalView.{TellsReplay}
 use Rattle.session_log.specs.Replayed.{IsGroundOver}
-use Rattle.session_log.proofs.ReplayLemmas.{line_done, lines_ended, over_same, refused_at}
+use Rattle.session_log.proofs.ReplayLemmas.{line_done, lines_ended, refused_at}
 use Rattle.session_log.proofs.ResultLemmas.{gave_up}
 use Rattle.session_log.proofs.replaying.replay_steps.Goals as goal
 
 pub replay_at-requires-clause-suited : goal.replay_at-requires-clause-suited
 replay_at-requires-clause-suited g c =
-    over_same (g.D.Deciding.known_data c.loop-rest.data) (g.D.Deciding.known_data c.args.data.now) (g.D.Deciding.canon c.loop-rest.data)
-    (g.D.Deciding.canon c.args.data.now) (λ (d : Data) (k : Term → Term). AreSuited g.M.MenuMaker.suits d k c.args.base.now.spec.now
-    c.args.base.now.ranks.now c.loop-rest.maker) (sym c.loop-rest.invariant.same_data) (sym c.loop-rest.invariant.same_canon)
+    holds_after (λ (d : Data) (k : Term → Term). AreSuited g.M.MenuMaker.suits d k c.args.base.now.spec.now
+    c.args.base.now.ranks.now c.loop-rest.maker) c.loop-rest.invariant.same_known
     c.loop-rest.invariant.suited
 
 pub replay_at-requires-clause-over : goal.replay_at-requires-clause-over
 replay_at-requires-clause-over g c =
-    over_same (g.D.Deciding.known_data c.loop-rest.data) (g.D.Deciding.known_data c.args.data.now) (g.D.Deciding.canon c.loop-rest.data)
-    (g.D.Deciding.canon c.args.data.now) (λ (d : Data) (k : Term → Term). IsGroundOver d.signature c.args.base.now)
-    (sym c.loop-rest.invariant.same_data) (sym c.loop-rest.invariant.same_canon) c.requires.over
+    holds_after (λ (d : Data) (k : Term → Term). IsGroundOver d.signature c.args.base.now) c.loop-rest.invariant.same_known c.requires.over
 
 pub replay_at-requires-clause-kept : goal.replay_at-requires-clause-kept
 replay_at-requires-clause-kept g c =
-    over_same (g.D.Deciding.known_data c.loop-rest.data) (g.D.Deciding.known_data c.args.data.now) (g.D.Deciding.canon c.loop-rest.data)
-    (g.D.Deciding.canon c.args.data.now) (λ (d : Data) (k : Term → Term). IsKeptCourse d k c.args.base.now.spec.now c.loop-rest.course)
-    (sym c.loop-rest.invariant.same_data) (sym c.loop-rest.invariant.same_canon) c.loop-rest.invariant.kept
+    holds_after (λ (d : Data) (k : Term → Term). IsKeptCourse d k c.args.base.now.spec.now c.loop-rest.course)
+    c.loop-rest.invariant.same_known c.loop-rest.invariant.kept
 
 pub loop-rest-preserved : goal.loop-rest-preserved
 loop-rest-preserved g c =
     let known = g.D.Deciding.known_data c.args.data.now in
     let canon = g.D.Deciding.canon c.args.data.now in
     let spec = c.args.base.now.spec.now in
-    let same = c.loop-rest.invariant.same_data in
-    let same_canon = c.loop-rest.invariant.same_canon in
+    let same = c.loop-rest.invariant.same_known in
     let some : 0 < length c.loop-rest.rest.now = omega (arith, c.in-len1-up.len_at_least) in
     record {
-      suited = over_same known _ canon _ (λ (d : Data) (k : Term → Term). AreSuited g.M.MenuMaker.suits d k spec
-          c.args.base.now.ranks.now c.replay_at.new.maker) same same_canon c.in_ok-replay_at.ensures.suited_after;
-      kept = over_same known _ canon _ (λ (d : Data) (k : Term → Term). IsKeptCourse d k spec c.replay_at.new.course) same same_canon
+      suited = held_before (λ (d : Data) (k : Term → Term). AreSuited g.M.MenuMaker.suits d k spec
+          c.args.base.now.ranks.now c.replay_at.new.maker) same c.in_ok-replay_at.ensures.suited_after;
+      kept = held_before (λ (d : Data) (k : Term → Term). IsKeptCourse d k spec c.replay_at.new.course) same
           c.in_ok-replay_at.ensures.kept_after;
-      same_data = c.in_ok-replay_at.ensures.same_data ∙ same;
-      same_canon = c.in_ok-replay_at.ensures.same_canon ∙ same_canon;
+      same_known = keeps_both same c.in_ok-replay_at.ensures.same_known;
       counted = omega (arith, c.loop-rest.invariant.counted);
       short = omega (arith, c.loop-rest.invariant.short, c.first_line-cut.ensures.shorter some);
       decides = line_done (basis_over known canon spec) (c.loop-rest.number + 1) (progress_of c.loop-rest.course)
           (progress_of c.replay_at.new.course) c.first_line-cut.result.0.now c.loop-rest.rest.now c.first_line-cut.result.1.now
           (LinesComeTo (basis_over known canon spec) 2 (progress_of c.args.course.now) (lines_of c.args.steps.now))
           c.loop-rest.invariant.decides (c.first_line-cut.ensures.line some)
-          (over_same known _ canon _ (λ (d : Data) (k : Term → Term). LineComesTo (basis_over d k spec) (progress_of c.loop-rest.course)
-          c.first_line-cut.result.0.now (goes_on (progress_of c.replay_at.new.course))) same same_canon
+          (held_before (λ (d : Data) (k : Term → Term). LineComesTo (basis_over d k spec) (progress_of c.loop-rest.course)
+          c.first_line-cut.result.0.now (goes_on (progress_of c.replay_at.new.course))) same
           c.in_ok-replay_at.ensures.answered);
     }
 
@@ -71,16 +66,15 @@ returns-in_err-replay_at-clause-answered g c =
     c.loop-rest.rest.now c.first_line-cut.result.1.now
     (LinesComeTo (basis_over known canon spec) 2 (progress_of c.args.course.now) (lines_of c.args.steps.now))
     c.loop-rest.invariant.decides (c.first_line-cut.ensures.line some) c.in_err-replay_at.field-0.0
-    (over_same known _ canon _ (λ (d : Data) (k : Term → Term). TellsReplay (λ (refusal : ReplayRefusal).
+    (held_before (λ (d : Data) (k : Term → Term). TellsReplay (λ (refusal : ReplayRefusal).
     (refusal.line ≡ c.loop-rest.number + 1) × LineComesTo (basis_over d k spec) (progress_of c.loop-rest.course)
-    c.first_line-cut.result.0.now (stops refusal.why)) c.in_err-replay_at.field-0.0) c.loop-rest.invariant.same_data
-    c.loop-rest.invariant.same_canon c.in_err-replay_at.ensures.answered))
+    c.first_line-cut.result.0.now (stops refusal.why)) c.in_err-replay_at.field-0.0) c.loop-rest.invariant.same_known
+    c.in_err-replay_at.ensures.answered))
 
 pub returns-in_err-replay_at-clause-suited_after : goal.returns-in_err-replay_at-clause-suited_after
 returns-in_err-replay_at-clause-suited_after g c =
-    over_same (g.D.Deciding.known_data c.args.data.now) _ (g.D.Deciding.canon c.args.data.now) _
-    (λ (d : Data) (k : Term → Term). AreSuited g.M.MenuMaker.suits d k c.args.base.now.spec.now c.args.base.now.ranks.now
-    c.replay_at.new.maker) c.loop-rest.invariant.same_data c.loop-rest.invariant.same_canon c.in_err-replay_at.ensures.suited_after
+    held_before (λ (d : Data) (k : Term → Term). AreSuited g.M.MenuMaker.suits d k c.args.base.now.spec.now c.args.base.now.ranks.now
+    c.replay_at.new.maker) c.loop-rest.invariant.same_known c.in_err-replay_at.ensures.suited_after
 
 pub returns-clause-answered : goal.returns-clause-answered
 returns-clause-answered g c =

@@ -1,6 +1,7 @@
-use Rattle.std.proofs.Common.{◌≡◌, ◌≤◌, ◌+◌, length}
+use Rattle.std.proofs.Common.{◌≤◌, ◌+◌, length}
 use Rattle.session_histories.specs.Replay.{LinesComeTo}
 use Rattle.session_histories.specs.TraceLine.{lines_of}
+use Rattle.event_offers.specs.Keeping.{KeepsData}
 use Rattle.session_log.specs.CourseView.{basis_over, progress_of}
 use Rattle.session_log.specs.Kept.{AreSuited, IsKeptCourse}
 use Rattle.session_log.proofs.ReplayLemmas.{Decides}
@@ -12,8 +13,7 @@ invariant-loop-rest g l = record {
   suited : AreSuited g.M.MenuMaker.suits (g.D.Deciding.known_data l.fn.data) (g.D.Deciding.canon l.fn.data) l.base.spec.now
       l.base.ranks.now l.maker;
   kept : IsKeptCourse (g.D.Deciding.known_data l.fn.data) (g.D.Deciding.canon l.fn.data) l.base.spec.now l.course;
-  same_data : g.D.Deciding.known_data l.data ≡ g.D.Deciding.known_data l.fn.data;
-  same_canon : g.D.Deciding.canon l.data ≡ g.D.Deciding.canon l.fn.data;
+  same_known : KeepsData g.D.Deciding.known_data g.D.Deciding.canon l.fn.data l.data;
   counted : 1 ≤ l.number;
   short : l.number + length l.rest ≤ length l.steps + 1;
   decides : Decides (basis_over (g.D.Deciding.known_data l.fn.data) (g.D.Deciding.canon l.fn.data) l.base.spec.now) (l.number + 1)

@@ -1,6 +1,6 @@
 use Rattle.std.proofs.Common.{map}
 use Rattle.lotos_base.specs.WrittenView.{written_term_of}
-use Rattle.term_algebra.specs.Signature.{Signature}
+use Rattle.lotos_base.specs.Signature.{Signature}
 use Rattle.session_log.specs.Replayed.{IsGroundOver}
 use Rattle.session_log.proofs.ReplayLemmas.{AreHalfRead}
 use Rattle.session_log.proofs.replaying.values_at.Given as goal

@@ -1,5 +1,5 @@
 use Rattle.std.proofs.Common.{ℕ, subst}
-use Rattle.term_algebra.specs.Sorting.{HasSort}
+use Rattle.lotos_base.specs.Sorting.{HasSort}
 use Rattle.sort_terms.specs.ProfiledTerm.{bare}
 use Rattle.sort_terms.proofs.ProfiledTermLemmas.{fitting_has_sort, sorted_fits, profiles_determined}
 use Rattle.sort_terms.proofs.laws.terms_with_profiles_are_well_sorted.Goals as goal

@@ -1,5 +1,5 @@
 use Rattle.std.proofs.Common.{List, sym, ◌∙◌, subst}
-use Rattle.term_algebra.specs.Sorting.{AreGround}
+use Rattle.lotos_base.specs.Sorting.{AreGround}
 use Rattle.sort_terms.specs.TermView.{terms_of}
 use Rattle.sort_terms.specs.declared.terms.Term.{Term}
 use Rattle.sort_terms.proofs.TermListLemmas.{ground_more, ground_at}

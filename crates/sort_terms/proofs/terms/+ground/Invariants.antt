@@ -1,6 +1,6 @@
 use Rattle.std.proofs.Common.{take}
 use Rattle.sort_terms.specs.TermView.{terms_of}
-use Rattle.term_algebra.specs.Sorting.{AreGround}
+use Rattle.lotos_base.specs.Sorting.{AreGround}
 use Rattle.sort_terms.proofs.terms.+ground.Given as goal
 
 abbrev pub invariant-are_ground-loop-term : goal.invariant-are_ground-loop-term

@@ -1,6 +1,6 @@
 use Rattle.std.proofs.Common.{inl, inr, refl, ap, subst}
-use Rattle.static_scope.specs.ResolverState.{State}
-use Rattle.static_scope.specs.ResolverView.{state_in}
+use Rattle.behaviour_scopes.specs.ResolverState.{State}
+use Rattle.behaviour_scopes.specs.ResolverView.{state_in}
 use Rattle.behaviour_tree.specs.BehaviourTerms.{profiles_in}
 use Rattle.behaviour_tree.specs.BehaviourView.{behaviour_of}
 use Rattle.behaviour_tree.specs.Over.{AreTermsOf}
@@ -8,7 +8,7 @@ use Rattle.static_scope.specs.HeadingView.{heading_in, written_heading}
 use Rattle.scope_parts.specs.Resolution.{resolved, faulty}
 use Rattle.scope_parts.proofs.AnswerLemmas.{err_is, means_map}
 use Rattle.syntax_trees.specs.TreeViews.{behaviour_of as written_behaviour}
-use Rattle.term_algebra.specs.Signature.{Signature}
+use Rattle.lotos_base.specs.Signature.{Signature}
 use Rattle.static_scope.proofs.PointLemmas.{definition_passed, definition_stands}
 use Rattle.static_scope.proofs.definitions.definition.Goals as goal
 

@@ -1,6 +1,6 @@
 use Rattle.std.proofs.Common.{◌++◌, length, map, ap, ◌∙◌}
-use Rattle.static_scope.specs.ResolverState.{State}
-use Rattle.static_scope.specs.ResolverView.{state_in}
+use Rattle.behaviour_scopes.specs.ResolverState.{State}
+use Rattle.behaviour_scopes.specs.ResolverView.{state_in}
 use Rattle.behaviour_tree.specs.DefinitionView.{functionality_of}
 use Rattle.static_scope.specs.HeadingView.{heading_in, written_heading}
 use Rattle.sort_terms.specs.EquationView.{variable_of}

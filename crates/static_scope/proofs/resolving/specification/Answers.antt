@@ -2,8 +2,8 @@ use Rattle.std.proofs.Common.{◌≡◌, ◌++◌, [], map, refl, ap, sym, ◌�
 use Rattle.lotos_base.specs.Name.{spelling}
 use Rattle.lotos_base.specs.WrittenView.{text_place_of}
 use Rattle.sort_terms.specs.SignatureView.{signature_of}
-use Rattle.term_algebra.specs.Signature.{Signature}
-use Rattle.static_scope.specs.PlacesView.{places_in}
+use Rattle.lotos_base.specs.Signature.{Signature}
+use Rattle.behaviour_scopes.specs.PlacesView.{places_in}
 use Rattle.behaviour_semantics.specs.WellFormed.{Every}
 use Rattle.behaviour_tree.specs.BehaviourTerms.{profiles_in}
 use Rattle.behaviour_tree.specs.BehaviourView.{behaviour_of}
@@ -11,7 +11,7 @@ use Rattle.behaviour_tree.specs.DefinitionView.{process_of}
 use Rattle.behaviour_tree.specs.Over.{AreTermsOf}
 use Rattle.behaviour_tree.specs.declared.behaviours.Beh.{Beh}
 use Rattle.behaviour_tree.specs.declared.definitions.Process.{Process}
-use Rattle.static_scope.specs.ResolverView.{state_in}
+use Rattle.behaviour_scopes.specs.ResolverView.{state_in}
 use Rattle.scope_parts.specs.Resolution.{resolved, faulty}
 use Rattle.scope_parts.specs.Definitions.{DefinitionIs, InnersAre}
 use Rattle.scope_parts.proofs.AnswerLemmas.{err_is, means_map}

@@ -5,7 +5,7 @@ use Rattle.scope_parts.specs.FaultView.{FaultIs}
 use Rattle.scope_parts.specs.Resolution.{faulty}
 use Rattle.scope_parts.specs.Scope.{Callable}
 use Rattle.static_scope.specs.PointsView.{point_in}
-use Rattle.static_scope.specs.Walk.{Task, GoesOn, IsReady, WalkIs, steps_of}
+use Rattle.static_scope.specs.Walk.{Task, WalkGoesOn, AreSizesKnown, WalkIs, steps_of}
 use Rattle.static_scope.specs.WalkView.{made_of, places_of_made, task_of, tasks_in, walk_at}
 use Rattle.static_scope.proofs.WalkLemmas.{end_gone, end_steps}
 use Rattle.static_scope.proofs.WalkSteps.{frame_ended, task_front}
@@ -35,7 +35,7 @@ returns-in-None-clause-less c = end_steps (task_of c.args.frame) (tasks_in c.arg
 
 pub next_declared-requires : goal.next_declared-requires
 next_declared-requires c =
-    subst (λ (t : Task). IsReady c.args.sizes.now.items (walk_at c.args.resolver.now (t ∷ tasks_in c.args.stack.now.items)))
+    subst (λ (t : Task). AreSizesKnown c.args.sizes.now.items (walk_at c.args.resolver.now (t ∷ tasks_in c.args.stack.now.items)))
     (task_front c.args.frame.rest.now c.in-Some.rest.now c.in-Some.first.now (bindings_in c.args.frame.before) c.args.frame.outside
     c.in-Some.ensures.cases.0)
     c.requires
@@ -43,7 +43,7 @@ next_declared-requires c =
 pub returns-in-Some-clause-on : goal.returns-in-Some-clause-on
 returns-in-Some-clause-on c =
     subst
-    (λ (t : Task). IfOk c.next_declared.result (λ made. GoesOn c.args.sizes.now.items
+    (λ (t : Task). IfOk c.next_declared.result (λ made. WalkGoesOn c.args.sizes.now.items
     (walk_at c.args.resolver.now (t ∷ tasks_in c.args.stack.now.items))
     (walk_at c.next_declared.new.resolver (tasks_in c.next_declared.new.stack.items)) (made_of made) (places_of_made made)))
     (sym

@@ -4,7 +4,7 @@ use Rattle.scope_parts.specs.Resolution.{faulty}
 use Rattle.syntax_trees.specs.TreeViews.{inner_of, item_of}
 use Rattle.syntax_trees.specs.WrittenDefinition.{WrittenInner}
 use Rattle.static_scope.specs.PointsView.{point_in}
-use Rattle.static_scope.specs.Walk.{IsReady, WalkIs, in_front}
+use Rattle.static_scope.specs.Walk.{AreSizesKnown, WalkIs, in_front}
 use Rattle.static_scope.specs.WalkView.{task_of, tasks_in, walk_at}
 use Rattle.static_scope.proofs.SeenInner.{seen_definition, seen_item}
 use Rattle.static_scope.proofs.WalkLemmas.{item_gone, item_steps}
@@ -27,7 +27,7 @@ returns-in_ok-push-in-Item-clause-less c =
 pub enter-requires : goal.enter-requires
 enter-requires c =
     subst
-    (λ (x : WrittenInner). IsReady c.args.sizes.now.items
+    (λ (x : WrittenInner). AreSizesKnown c.args.sizes.now.items
     (walk_at c.args.resolver.now (in_front x (task_of c.args.left) ∷ tasks_in c.args.stack.now.items)))
     (seen_definition c.args.first.now c.in-Process.text c.in-Process.is) c.requires
 

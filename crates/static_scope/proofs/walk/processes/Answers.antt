@@ -10,7 +10,7 @@ use Rattle.scope_parts.proofs.AnswerLemmas.{err_is, means_map}
 use Rattle.static_scope.specs.KeptPlaces.{places_of_processes}
 use Rattle.static_scope.specs.PointsView.{point_in}
 use Rattle.static_scope.specs.SizesView.{written_inners}
-use Rattle.static_scope.specs.Walk.{Task, GoesOn, IsReady, steps_of}
+use Rattle.static_scope.specs.Walk.{Task, WalkGoesOn, AreSizesKnown, steps_of}
 use Rattle.static_scope.specs.WalkView.{task_of, tasks_in, walk_at}
 use Rattle.static_scope.proofs.WalkLemmas.{first_task, standing, all_gone, fault_gone, gates_gone, places_gone}
 use Rattle.static_scope.proofs.WalkSteps.{tasks_pushed, listed_every, walk_started, walk_ended, walk_stepped}
@@ -30,7 +30,7 @@ loop-frame-init c = record {
 
 pub go_on-requires : goal.go_on-requires
 go_on-requires c =
-    subst (λ (ts : List Task). IsReady c.args.sizes.now.items (walk_at c.loop-frame.resolver ts))
+    subst (λ (ts : List Task). AreSizesKnown c.args.sizes.now.items (walk_at c.loop-frame.resolver ts))
     (tasks_pushed c.pop.new.self.items c.loop-frame.stack.items c.in-Some.frame c.in-Some.ensures.items)
     c.loop-frame.invariant.on.ready
 
@@ -64,7 +64,7 @@ returns-in_err-definition-clause-read c =
     (task_of c.in-Some.frame ∷ tasks_in c.pop.new.self.items) (written_inners c.args.inner.now) (map process_of c.loop-frame.made.items)
     (places_of_processes c.loop-frame.made.items) f
     (subst
-    (λ (ts : List Task). GoesOn c.args.sizes.now.items
+    (λ (ts : List Task). WalkGoesOn c.args.sizes.now.items
     (standing (point_in c.args.resolver.now) (first_task (written_inners c.args.inner.now) ∷ []))
     (standing (point_in c.loop-frame.resolver) ts) (map process_of c.loop-frame.made.items)
     (places_of_processes c.loop-frame.made.items))

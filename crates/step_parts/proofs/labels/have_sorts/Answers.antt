@@ -6,4 +6,4 @@ use Rattle.step_parts.proofs.labels.have_sorts.Goals as goal
 
 pub returns : goal.returns
 returns c = λ signature h.
-    c.have_told_sorts.ensures ∙ sym (ends_told signature c.args.values.now.items (sorts_of (variables_of c.args.variables.now.items)) h)
+    c.have_sorts.ensures ∙ sym (ends_told signature c.args.values.now.items (sorts_of (variables_of c.args.variables.now.items)) h)

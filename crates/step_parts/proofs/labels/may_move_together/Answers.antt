@@ -5,4 +5,4 @@ use Rattle.step_parts.proofs.labels.may_move_together.Goals as goal
 
 pub returns : goal.returns
 returns c = λ signature h k.
-    c.is_one_event.ensures ∙ sym (together_told signature (meet_of c.args.meet.now) c.args.left.now c.args.right.now h k)
+    c.may_meet.ensures ∙ sym (together_told signature (meet_of c.args.meet.now) c.args.left.now c.args.right.now h k)

@@ -1,5 +1,5 @@
 use Rattle.std.proofs.Common.{[], ap, sym, refl, ◌∙◌}
-use Rattle.term_algebra.specs.Term.{Term}
+use Rattle.lotos_base.specs.Term.{Term}
 use Rattle.behaviour_semantics.specs.Fault.{unmet}
 use Rattle.sort_terms.specs.SortedView.{term_in}
 use Rattle.step_parts.specs.declared.faults.StepFault.TheVariants as step_fault

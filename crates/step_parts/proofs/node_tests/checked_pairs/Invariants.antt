@@ -4,6 +4,7 @@ use Rattle.behaviour_semantics.specs.Rule.{pairwise}
 use Rattle.behaviour_tree.specs.BehaviourTerms.{profiles_of}
 use Rattle.behaviour_tree.specs.BehaviourView.{terms_of}
 use Rattle.behaviour_tree.specs.Over.{AreTermsOf}
+use Rattle.event_offers.specs.Keeping.{KeepsData}
 use Rattle.step_parts.proofs.node_tests.checked_pairs.Given as goal
 
 abbrev pub invariant-loop-i : goal.invariant-loop-i
@@ -12,6 +13,5 @@ invariant-loop-i g l = record {
       ≡ first_unmet (g.D.Deciding.canon l.fn.data) (pairwise (terms_of l.left) (terms_of l.right));
   left : AreTermsOf (g.D.Deciding.known_data l.fn.data).signature (profiles_of (drop l.i l.left));
   right : AreTermsOf (g.D.Deciding.known_data l.fn.data).signature (profiles_of (drop l.i l.right));
-  same_data : g.D.Deciding.known_data l.data ≡ g.D.Deciding.known_data l.fn.data;
-  same_canon : g.D.Deciding.canon l.data ≡ g.D.Deciding.canon l.fn.data;
+  same_known : KeepsData g.D.Deciding.known_data g.D.Deciding.canon l.fn.data l.data;
 }

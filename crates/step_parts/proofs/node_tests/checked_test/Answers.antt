@@ -1,6 +1,6 @@
 use Rattle.std.proofs.Common.{List, Option, [], ◌∷◌, ap, sym, ◌∙◌, subst}
 use Rattle.std.specs.Prelude.{option_map}
-use Rattle.term_algebra.specs.Substitution.{binding}
+use Rattle.lotos_base.specs.Substitution.{binding}
 use Rattle.behaviour_semantics.specs.Behaviour.{Test as PlainTest}
 use Rattle.behaviour_semantics.specs.Fault.{first_unmet}
 use Rattle.behaviour_semantics.specs.Rule.{tests_of}
@@ -9,7 +9,7 @@ use Rattle.behaviour_tree.specs.BehaviourView.{test_of}
 use Rattle.behaviour_tree.specs.Over.{AreTermsOf}
 use Rattle.behaviour_tree.specs.StateView.{environment_of}
 use Rattle.behaviour_tree.specs.declared.behaviours.Test.{Test}
-use Rattle.step_parts.specs.StepFaults.{IsChecked}
+use Rattle.step_parts.specs.StepFaults.{IsStepChecked}
 use Rattle.step_parts.proofs.PlacedLemmas.{placed_of}
 use Rattle.step_parts.proofs.node_tests.checked_test.Goals as goal
 
@@ -34,7 +34,7 @@ returns-in-None-clause-checked g c = λ n e.
 
 pub returns-in_ok-asked-in-Some-clause-checked : goal.returns-in_ok-asked-in-Some-clause-checked
 returns-in_ok-asked-in-Some-clause-checked g c = λ n e.
-    subst (λ (tests : List PlainTest). IsChecked n (first_unmet (g.D.Deciding.canon c.args.data.now) tests) c.checked_pair.result)
+    subst (λ (tests : List PlainTest). IsStepChecked n (first_unmet (g.D.Deciding.canon c.args.data.now) tests) c.checked_pair.result)
     (ap (λ (t : PlainTest). t ∷ []) c.in_ok-asked-in-Some.ensures.same
     ∙ ap (λ (o : Option Test). tests_of (binding (environment_of c.args.pairs.now.items)) (option_map test_of o)) (sym c.in-Some.is))
     (c.checked_pair.ensures.checked n e)

@@ -1,18 +1,20 @@
 use Rattle.std.proofs.Common.{◌≡◌, ◌+◌, ◌++◌, [], ◌∷◌, List, drop, map, ap, sym, ◌∙◌, subst, arith}
-use Rattle.term_algebra.specs.Equation.{Data}
-use Rattle.term_algebra.specs.Term.{Term}
+use Rattle.lotos_base.specs.Equation.{Data}
+use Rattle.lotos_base.specs.Term.{Term}
 use Rattle.behaviour_semantics.specs.Derives.{leaves_in}
 use Rattle.behaviour_tree.specs.BehaviourTerms.{profiles_of}
 use Rattle.behaviour_tree.specs.BehaviourView.{terms_of}
 use Rattle.behaviour_tree.specs.Over.{AreTermsOf}
 use Rattle.behaviour_tree.specs.StateView.{environment_of, pair_profile}
 use Rattle.behaviour_tree.specs.declared.behaviours.Offer.{Offer}
+use Rattle.event_offers.proofs.KeepingLemmas.{keeps_both}
 use Rattle.step_parts.proofs.OfferLemmas.{asked_count, asked_split, numbered_turn, paired_from, rest_is}
 use Rattle.step_parts.proofs.offers.asked_values.Goals as goal
 
 pub push_pair-requires-clause-leaves : goal.push_pair-requires-clause-leaves
 push_pair-requires-clause-leaves g c =
-    subst (λ (d : Data). AreTermsOf d.signature (profiles_of c.args.leaves.now)) (sym c.loop-offer.invariant.same_data) c.requires.leaves
+    subst (λ (d : Data). AreTermsOf d.signature (profiles_of c.args.leaves.now)) (sym c.loop-offer.invariant.same_known.same_data)
+    c.requires.leaves
 
 pub push_pair-requires-clause-enough : goal.push_pair-requires-clause-enough
 push_pair-requires-clause-enough g c =
@@ -31,15 +33,14 @@ loop-offer-preserved g c = record {
       ++ paired_from canon (leaves_in (terms_of c.args.leaves.now)) c.in_ok-next.next rest
       ≡ environment_of c.loop-offer.pairs.items ++ paired_from canon (leaves_in (terms_of c.args.leaves.now)) c.loop-offer.next
       (c.offer-item.result ∷ rest))
-      c.loop-offer.invariant.same_canon c.in_ok-next.ensures.same) c.loop-offer.invariant.same;
+      c.loop-offer.invariant.same_known.same_canon c.in_ok-next.ensures.same) c.loop-offer.invariant.same;
   over = subst (λ (d : Data). AreTermsOf d.signature (map pair_profile c.loop-offer.pairs.items)
-      → AreTermsOf d.signature (map pair_profile c.push_pair.new.pairs.items)) c.loop-offer.invariant.same_data
+      → AreTermsOf d.signature (map pair_profile c.push_pair.new.pairs.items)) c.loop-offer.invariant.same_known.same_data
       c.in_ok-next.ensures.over c.loop-offer.invariant.over;
   enough = let whole : asked_count (drop c.loop-offer.offer-index c.deref-offer-items.result.now) ≡ asked_count (c.offer-item.result ∷ [])
       + asked_count (drop (c.loop-offer.offer-index + 1) c.deref-offer-items.result.now) =
       ap asked_count (rest_is c.deref-offer-items.result.now c.loop-offer.offer-index c.offer-item.result c.loop-offer-test.true
       c.offer-item.is) ∙ asked_split c.offer-item.result (drop (c.loop-offer.offer-index + 1) c.deref-offer-items.result.now) in
       omega (arith, whole, c.in_ok-next.ensures.next, c.loop-offer.invariant.enough);
-  same_data = c.push_pair.ensures.same_data ∙ c.loop-offer.invariant.same_data;
-  same_canon = c.push_pair.ensures.same_canon ∙ c.loop-offer.invariant.same_canon;
+  same_known = keeps_both c.loop-offer.invariant.same_known c.push_pair.ensures.same_known;
 }

@@ -3,6 +3,7 @@ use Rattle.behaviour_semantics.specs.Derives.{leaves_in}
 use Rattle.behaviour_tree.specs.BehaviourView.{terms_of}
 use Rattle.behaviour_tree.specs.Over.{AreTermsOf}
 use Rattle.behaviour_tree.specs.StateView.{environment_of, pair_profile}
+use Rattle.event_offers.specs.Keeping.{KeepsData}
 use Rattle.step_parts.proofs.OfferLemmas.{asked_count, paired_from}
 use Rattle.step_parts.proofs.offers.asked_values.Given as goal
 
@@ -13,6 +14,5 @@ invariant-loop-offer g l = record {
       ≡ paired_from (g.D.Deciding.canon l.fn.data) (leaves_in (terms_of l.leaves)) l.fn.first l.offer-items;
   over : AreTermsOf (g.D.Deciding.known_data l.fn.data).signature (map pair_profile l.pairs.items);
   enough : l.next + asked_count (drop l.offer-index l.offer-items) ≤ length l.leaves;
-  same_data : g.D.Deciding.known_data l.data ≡ g.D.Deciding.known_data l.fn.data;
-  same_canon : g.D.Deciding.canon l.data ≡ g.D.Deciding.canon l.fn.data;
+  same_known : KeepsData g.D.Deciding.known_data g.D.Deciding.canon l.fn.data l.data;
 }

@@ -1,17 +1,18 @@
 use Rattle.std.proofs.Common.{◌≡◌, ◌++◌, ◌∷◌, ℕ, List, drop, map, ap, sym, ◌∙◌, subst, arith}
 use Rattle.std.proofs.lemmas.List.{append-nil, drop_all}
-use Rattle.term_algebra.specs.Equation.{Data}
-use Rattle.term_algebra.specs.Term.{Term}
+use Rattle.lotos_base.specs.Equation.{Data}
+use Rattle.lotos_base.specs.Term.{Term}
 use Rattle.sort_terms.specs.ProfiledTerm.{IsOf}
 use Rattle.sort_terms.specs.SortedView.{profiled_in, term_in}
 use Rattle.behaviour_tree.specs.Over.{AreTermsOf}
 use Rattle.behaviour_tree.specs.StateView.{environment_of, pair_profile}
+use Rattle.event_offers.proofs.KeepingLemmas.{keeps_both}
 use Rattle.step_parts.proofs.OfferLemmas.{call_paired, called_turn, nothing_called, term_turn}
 use Rattle.step_parts.proofs.offers.call_values.Goals as goal
 
 pub push_value-requires : goal.push_value-requires
 push_value-requires g c =
-    subst (λ (d : Data). IsOf d.signature (profiled_in c.index-in-loop-i.result.now)) (sym c.loop-i.invariant.same_data)
+    subst (λ (d : Data). IsOf d.signature (profiled_in c.index-in-loop-i.result.now)) (sym c.loop-i.invariant.same_known.same_data)
     (term_turn c.args.values.now.items c.loop-i.i c.index-in-loop-i.result.now (omega (
       arith,
       c.loop-i-test.true,
@@ -29,10 +30,10 @@ loop-i-preserved g c = record {
       (environment_of c.loop-i.pairs.items) (environment_of c.push_value.new.pairs.items) _
       (λ rest. subst (λ (canon : Term → Term). environment_of c.push_value.new.pairs.items ++ rest
       ≡ environment_of c.loop-i.pairs.items
-      ++ ((c.index.result.now.number, canon (term_in c.index-in-loop-i.result.now)) ∷ rest)) c.loop-i.invariant.same_canon
+      ++ ((c.index.result.now.number, canon (term_in c.index-in-loop-i.result.now)) ∷ rest)) c.loop-i.invariant.same_known.same_canon
       (c.in_ok-push_value.ensures.same rest)) c.loop-i.invariant.same;
   over = subst (λ (d : Data). AreTermsOf d.signature (map pair_profile c.loop-i.pairs.items)
-      → AreTermsOf d.signature (map pair_profile c.push_value.new.pairs.items)) c.loop-i.invariant.same_data
+      → AreTermsOf d.signature (map pair_profile c.push_value.new.pairs.items)) c.loop-i.invariant.same_known.same_data
       c.in_ok-push_value.ensures.over c.loop-i.invariant.over;
   left = (term_turn c.args.values.now.items c.loop-i.i c.index-in-loop-i.result.now (omega (
     arith,
@@ -41,8 +42,7 @@ loop-i-preserved g c = record {
     c.args.values.now.ok.0,
   )) c.index-in-loop-i.ensures profiled_in (g.D.Deciding.known_data c.args.data.now).signature
       c.loop-i.invariant.left).1;
-  same_data = c.push_value.ensures.same_data ∙ c.loop-i.invariant.same_data;
-  same_canon = c.push_value.ensures.same_canon ∙ c.loop-i.invariant.same_canon;
+  same_known = keeps_both c.loop-i.invariant.same_known c.push_value.ensures.same_known;
 }
 
 pub returns-clause-same : goal.returns-clause-same

@@ -2,6 +2,7 @@ use Rattle.std.proofs.Common.{◌≡◌, ◌++◌, drop, map}
 use Rattle.behaviour_tree.specs.BehaviourTerms.{profiles_of}
 use Rattle.behaviour_tree.specs.Over.{AreTermsOf}
 use Rattle.behaviour_tree.specs.StateView.{environment_of, pair_profile}
+use Rattle.event_offers.specs.Keeping.{KeepsData}
 use Rattle.step_parts.proofs.OfferLemmas.{call_paired}
 use Rattle.step_parts.proofs.offers.call_values.Given as goal
 
@@ -12,6 +13,5 @@ invariant-loop-i g l = record {
       ≡ call_paired (g.D.Deciding.canon l.fn.data) l.parameters.items l.values.items;
   over : AreTermsOf (g.D.Deciding.known_data l.fn.data).signature (map pair_profile l.pairs.items);
   left : AreTermsOf (g.D.Deciding.known_data l.fn.data).signature (profiles_of (drop l.i l.values.items));
-  same_data : g.D.Deciding.known_data l.data ≡ g.D.Deciding.known_data l.fn.data;
-  same_canon : g.D.Deciding.canon l.data ≡ g.D.Deciding.canon l.fn.data;
+  same_known : KeepsData g.D.Deciding.known_data g.D.Deciding.canon l.fn.data l.data;
 }

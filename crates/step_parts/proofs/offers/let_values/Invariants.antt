@@ -2,6 +2,7 @@ use Rattle.std.proofs.Common.{◌≡◌, ◌++◌, drop, map}
 use Rattle.behaviour_tree.specs.BehaviourTerms.{let_profile}
 use Rattle.behaviour_tree.specs.Over.{AreTermsOf}
 use Rattle.behaviour_tree.specs.StateView.{environment_of, pair_profile}
+use Rattle.event_offers.specs.Keeping.{KeepsData}
 use Rattle.step_parts.proofs.OfferLemmas.{let_paired}
 use Rattle.step_parts.proofs.offers.let_values.Given as goal
 
@@ -11,6 +12,5 @@ invariant-loop-binding g l = record {
       ≡ let_paired (g.D.Deciding.canon l.fn.data) l.binding-items;
   over : AreTermsOf (g.D.Deciding.known_data l.fn.data).signature (map pair_profile l.pairs.items);
   left : AreTermsOf (g.D.Deciding.known_data l.fn.data).signature (map let_profile (drop l.binding-index l.binding-items));
-  same_data : g.D.Deciding.known_data l.data ≡ g.D.Deciding.known_data l.fn.data;
-  same_canon : g.D.Deciding.canon l.data ≡ g.D.Deciding.canon l.fn.data;
+  same_known : KeepsData g.D.Deciding.known_data g.D.Deciding.canon l.fn.data l.data;
 }

@@ -1,23 +1,25 @@
 use Rattle.std.proofs.Common.{◌≡◌, ◌+◌, ◌++◌, [], ◌∷◌, List, drop, ap, sym, ◌∙◌, subst, arith}
-use Rattle.term_algebra.specs.Equation.{Data}
-use Rattle.term_algebra.specs.Term.{Term}
+use Rattle.lotos_base.specs.Equation.{Data}
+use Rattle.lotos_base.specs.Term.{Term}
 use Rattle.behaviour_semantics.specs.Derives.{leaves_in}
 use Rattle.behaviour_tree.specs.BehaviourTerms.{offer_profiles, profiles_of}
 use Rattle.behaviour_tree.specs.BehaviourView.{terms_of}
 use Rattle.behaviour_tree.specs.Over.{AreTermsOf}
 use Rattle.behaviour_tree.specs.declared.behaviours.Offer.{Offer}
+use Rattle.event_offers.proofs.KeepingLemmas.{keeps_both}
 use Rattle.step_parts.proofs.OfferLemmas.{asked_count, asked_split, numbered_turn, offered_from, rest_is, terms_turn}
 use Rattle.step_parts.proofs.offers.offered.Goals as goal
 
 pub push_offered-requires-clause-term : goal.push_offered-requires-clause-term
 push_offered-requires-clause-term g c =
-    subst (λ (d : Data). AreTermsOf d.signature (offer_profiles c.offer-item.result)) (sym c.loop-offer.invariant.same_data)
+    subst (λ (d : Data). AreTermsOf d.signature (offer_profiles c.offer-item.result)) (sym c.loop-offer.invariant.same_known.same_data)
     (terms_turn c.deref-offer-items.result.now c.loop-offer.offer-index c.offer-item.result c.loop-offer-test.true c.offer-item.is
     offer_profiles (g.D.Deciding.known_data c.args.data.now).signature c.loop-offer.invariant.left).0
 
 pub push_offered-requires-clause-leaves : goal.push_offered-requires-clause-leaves
 push_offered-requires-clause-leaves g c =
-    subst (λ (d : Data). AreTermsOf d.signature (profiles_of c.args.leaves.now)) (sym c.loop-offer.invariant.same_data) c.requires.leaves
+    subst (λ (d : Data). AreTermsOf d.signature (profiles_of c.args.leaves.now)) (sym c.loop-offer.invariant.same_known.same_data)
+    c.requires.leaves
 
 pub push_offered-requires-clause-enough : goal.push_offered-requires-clause-enough
 push_offered-requires-clause-enough g c =
@@ -36,9 +38,9 @@ loop-offer-preserved g c = record {
       ++ offered_from canon (leaves_in (terms_of c.args.leaves.now)) c.in_ok-next.next rest
       ≡ terms_of c.loop-offer.values.items ++ offered_from canon (leaves_in (terms_of c.args.leaves.now)) c.loop-offer.next
       (c.offer-item.result ∷ rest))
-      c.loop-offer.invariant.same_canon c.in_ok-next.ensures.same) c.loop-offer.invariant.same;
+      c.loop-offer.invariant.same_known.same_canon c.in_ok-next.ensures.same) c.loop-offer.invariant.same;
   over = subst (λ (d : Data). AreTermsOf d.signature (profiles_of c.loop-offer.values.items)
-      → AreTermsOf d.signature (profiles_of c.push_offered.new.values.items)) c.loop-offer.invariant.same_data
+      → AreTermsOf d.signature (profiles_of c.push_offered.new.values.items)) c.loop-offer.invariant.same_known.same_data
       c.in_ok-next.ensures.over c.loop-offer.invariant.over;
   left = (terms_turn c.deref-offer-items.result.now c.loop-offer.offer-index c.offer-item.result c.loop-offer-test.true c.offer-item.is
       offer_profiles (g.D.Deciding.known_data c.args.data.now).signature c.loop-offer.invariant.left).1;
@@ -47,6 +49,5 @@ loop-offer-preserved g c = record {
       ap asked_count (rest_is c.deref-offer-items.result.now c.loop-offer.offer-index c.offer-item.result c.loop-offer-test.true
       c.offer-item.is) ∙ asked_split c.offer-item.result (drop (c.loop-offer.offer-index + 1) c.deref-offer-items.result.now) in
       omega (arith, whole, c.in_ok-next.ensures.next, c.loop-offer.invariant.enough);
-  same_data = c.push_offered.ensures.same_data ∙ c.loop-offer.invariant.same_data;
-  same_canon = c.push_offered.ensures.same_canon ∙ c.loop-offer.invariant.same_canon;
+  same_known = keeps_both c.loop-offer.invariant.same_known c.push_offered.ensures.same_known;
 }

@@ -1,5 +1,5 @@
 use Rattle.std.proofs.Common.{ap}
-use Rattle.term_algebra.specs.Term.{Term}
+use Rattle.lotos_base.specs.Term.{Term}
 use Rattle.sort_terms.specs.SortedView.{term_in}
 use Rattle.behaviour_tree.specs.StateView.{pair_of}
 use Rattle.step_parts.proofs.OfferLemmas.{one_more, pairs_more_of}

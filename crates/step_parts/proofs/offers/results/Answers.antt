@@ -1,23 +1,25 @@
 use Rattle.std.proofs.Common.{◌≡◌, ◌+◌, ◌++◌, [], ◌∷◌, List, drop, ap, sym, ◌∙◌, subst, arith}
-use Rattle.term_algebra.specs.Equation.{Data}
-use Rattle.term_algebra.specs.Term.{Term}
+use Rattle.lotos_base.specs.Equation.{Data}
+use Rattle.lotos_base.specs.Term.{Term}
 use Rattle.behaviour_semantics.specs.Derives.{leaves_in}
 use Rattle.behaviour_tree.specs.BehaviourTerms.{exit_profiles, profiles_of}
 use Rattle.behaviour_tree.specs.BehaviourView.{terms_of}
 use Rattle.behaviour_tree.specs.Over.{AreTermsOf}
 use Rattle.behaviour_tree.specs.declared.behaviours.ExitValue.{ExitValue}
+use Rattle.event_offers.proofs.KeepingLemmas.{keeps_both}
 use Rattle.step_parts.proofs.OfferLemmas.{numbered_turn, open_count, open_split, rest_is, results_from, terms_turn}
 use Rattle.step_parts.proofs.offers.results.Goals as goal
 
 pub push_result-requires-clause-term : goal.push_result-requires-clause-term
 push_result-requires-clause-term g c =
-    subst (λ (d : Data). AreTermsOf d.signature (exit_profiles c.value-item.result)) (sym c.loop-value.invariant.same_data)
+    subst (λ (d : Data). AreTermsOf d.signature (exit_profiles c.value-item.result)) (sym c.loop-value.invariant.same_known.same_data)
     (terms_turn c.deref-value-items.result.now c.loop-value.value-index c.value-item.result c.loop-value-test.true c.value-item.is
     exit_profiles (g.D.Deciding.known_data c.args.data.now).signature c.loop-value.invariant.left).0
 
 pub push_result-requires-clause-leaves : goal.push_result-requires-clause-leaves
 push_result-requires-clause-leaves g c =
-    subst (λ (d : Data). AreTermsOf d.signature (profiles_of c.args.leaves.now)) (sym c.loop-value.invariant.same_data) c.requires.leaves
+    subst (λ (d : Data). AreTermsOf d.signature (profiles_of c.args.leaves.now)) (sym c.loop-value.invariant.same_known.same_data)
+    c.requires.leaves
 
 pub push_result-requires-clause-enough : goal.push_result-requires-clause-enough
 push_result-requires-clause-enough g c =
@@ -36,9 +38,9 @@ loop-value-preserved g c = record {
       ++ results_from canon (leaves_in (terms_of c.args.leaves.now)) c.in_ok-next.next rest
       ≡ terms_of c.loop-value.made.items ++ results_from canon (leaves_in (terms_of c.args.leaves.now)) c.loop-value.next
       (c.value-item.result ∷ rest))
-      c.loop-value.invariant.same_canon c.in_ok-next.ensures.same) c.loop-value.invariant.same;
+      c.loop-value.invariant.same_known.same_canon c.in_ok-next.ensures.same) c.loop-value.invariant.same;
   over = subst (λ (d : Data). AreTermsOf d.signature (profiles_of c.loop-value.made.items)
-      → AreTermsOf d.signature (profiles_of c.push_result.new.made.items)) c.loop-value.invariant.same_data
+      → AreTermsOf d.signature (profiles_of c.push_result.new.made.items)) c.loop-value.invariant.same_known.same_data
       c.in_ok-next.ensures.over c.loop-value.invariant.over;
   left = (terms_turn c.deref-value-items.result.now c.loop-value.value-index c.value-item.result c.loop-value-test.true c.value-item.is
       exit_profiles (g.D.Deciding.known_data c.args.data.now).signature c.loop-value.invariant.left).1;
@@ -47,6 +49,5 @@ loop-value-preserved g c = record {
       ap open_count (rest_is c.deref-value-items.result.now c.loop-value.value-index c.value-item.result c.loop-value-test.true
       c.value-item.is) ∙ open_split c.value-item.result (drop (c.loop-value.value-index + 1) c.deref-value-items.result.now) in
       omega (arith, whole, c.in_ok-next.ensures.next, c.loop-value.invariant.enough);
-  same_data = c.push_result.ensures.same_data ∙ c.loop-value.invariant.same_data;
-  same_canon = c.push_result.ensures.same_canon ∙ c.loop-value.invariant.same_canon;
+  same_known = keeps_both c.loop-value.invariant.same_known c.push_result.ensures.same_known;
 }

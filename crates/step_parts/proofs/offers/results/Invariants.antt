@@ -3,6 +3,7 @@ use Rattle.behaviour_semantics.specs.Derives.{leaves_in}
 use Rattle.behaviour_tree.specs.BehaviourTerms.{exit_profiles, joined, profiles_of}
 use Rattle.behaviour_tree.specs.BehaviourView.{terms_of}
 use Rattle.behaviour_tree.specs.Over.{AreTermsOf}
+use Rattle.event_offers.specs.Keeping.{KeepsData}
 use Rattle.step_parts.proofs.OfferLemmas.{open_count, results_from}
 use Rattle.step_parts.proofs.offers.results.Given as goal
 
@@ -14,6 +15,5 @@ invariant-loop-value g l = record {
   over : AreTermsOf (g.D.Deciding.known_data l.fn.data).signature (profiles_of l.made.items);
   left : AreTermsOf (g.D.Deciding.known_data l.fn.data).signature (joined (map exit_profiles (drop l.value-index l.value-items)));
   enough : l.next + open_count (drop l.value-index l.value-items) ≤ length l.leaves;
-  same_data : g.D.Deciding.known_data l.data ≡ g.D.Deciding.known_data l.fn.data;
-  same_canon : g.D.Deciding.canon l.data ≡ g.D.Deciding.canon l.fn.data;
+  same_known : KeepsData g.D.Deciding.known_data g.D.Deciding.canon l.fn.data l.data;
 }

@@ -1,6 +1,6 @@
 use Rattle.std.proofs.Common.{ℕ, List, ap, refl, sym, ◌∙◌, subst}
-use Rattle.term_algebra.specs.Substitution.{binding}
-use Rattle.term_algebra.specs.Term.{Term}
+use Rattle.lotos_base.specs.Substitution.{binding}
+use Rattle.lotos_base.specs.Term.{Term}
 use Rattle.behaviour_semantics.specs.Replacement.{with_values}
 use Rattle.behaviour_tree.specs.BehaviourView.{behaviour_of}
 use Rattle.behaviour_tree.specs.Over.{AreTermsOf}

@@ -1,5 +1,5 @@
 use Rattle.std.proofs.Common.{◌≡◌, drop}
-use Rattle.term_algebra.specs.Substitution.{is_listed}
+use Rattle.lotos_base.specs.Substitution.{is_listed}
 use Rattle.behaviour_semantics.specs.Behaviour.{numbers_of}
 use Rattle.behaviour_tree.specs.BehaviourView.{variables_of}
 use Rattle.step_parts.proofs.targets.binds.Given as goal

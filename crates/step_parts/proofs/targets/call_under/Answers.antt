@@ -1,5 +1,5 @@
 use Rattle.std.proofs.Common.{ℕ, List, map, ap, ◌∙◌}
-use Rattle.term_algebra.specs.Term.{Term}
+use Rattle.lotos_base.specs.Term.{Term}
 use Rattle.behaviour_semantics.specs.Behaviour.{call}
 use Rattle.behaviour_semantics.specs.Label.{gate_under}
 use Rattle.behaviour_tree.specs.BehaviourView.{terms_of}

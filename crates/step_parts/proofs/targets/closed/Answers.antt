@@ -1,6 +1,6 @@
 use Rattle.std.proofs.Common.{◌≡◌, ap, sym, ◌∙◌, subst, arith}
 use Rattle.std.proofs.lemmas.Result.{IfOk-weaker}
-use Rattle.term_algebra.specs.Substitution.{binding}
+use Rattle.lotos_base.specs.Substitution.{binding}
 use Rattle.behaviour_semantics.specs.Replacement.{with_values}
 use Rattle.term_match.specs.SubstView.{profiled_pairs}
 use Rattle.behaviour_tree.specs.BehaviourTerms.{profiles_in}

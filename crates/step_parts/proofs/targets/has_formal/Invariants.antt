@@ -1,6 +1,6 @@
 use Rattle.std.proofs.Common.{◌≡◌, drop}
 use Rattle.behaviour_semantics.specs.Label.{formals_of}
-use Rattle.term_algebra.specs.Substitution.{is_listed}
+use Rattle.lotos_base.specs.Substitution.{is_listed}
 use Rattle.step_parts.proofs.targets.has_formal.Given as goal
 
 abbrev pub invariant-loop-pair : goal.invariant-loop-pair

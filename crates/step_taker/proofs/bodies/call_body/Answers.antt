@@ -1,7 +1,7 @@
 use Rattle.std.proofs.Common.{◌∙◌, ℕ, List, ap}
 use Rattle.std.proofs.lemmas.Result.{IfOk-weaker}
-use Rattle.term_algebra.specs.Term.{Term}
-use Rattle.term_algebra.specs.Substitution.{binding}
+use Rattle.lotos_base.specs.Term.{Term}
+use Rattle.lotos_base.specs.Substitution.{binding}
 use Rattle.behaviour_semantics.specs.Replacement.{with_values}
 use Rattle.behaviour_tree.specs.DefinitionView.{process_of}
 use Rattle.behaviour_instances.proofs.InstanceLemmas.{states_suit}

@@ -1,7 +1,7 @@
 use Rattle.std.proofs.Common.{◌∷◌, ◌∙◌, ℕ, List, [], map, ap, sym, subst}
 use Rattle.std.proofs.lemmas.Result.{IfOk-weaker}
-use Rattle.term_algebra.specs.Term.{Term}
-use Rattle.term_algebra.specs.Substitution.{binding}
+use Rattle.lotos_base.specs.Term.{Term}
+use Rattle.lotos_base.specs.Substitution.{binding}
 use Rattle.behaviour_semantics.specs.Replacement.{with_values, binding_of}
 use Rattle.behaviour_tree.specs.BehaviourView.{behaviour_of, terms_of}
 use Rattle.behaviour_tree.specs.Over.{AreTermsOf}
@@ -15,7 +15,7 @@ use Rattle.step_parts.proofs.LeafLemmas.{leaf_of, leaf_at}
 use Rattle.step_taker.specs.Taken.{ground_of}
 use Rattle.step_taker.proofs.BodyLemmas.{instance_over, leaf_value, value_environment}
 use Rattle.step_taker.proofs.EventLemmas.{leaf_there}
-use Rattle.term_algebra.specs.Sorting.{IsGroundOf}
+use Rattle.lotos_base.specs.Sorting.{IsGroundOf}
 use Rattle.std.proofs.Common.{get_or}
 use Rattle.step_taker.proofs.bodies.value_body.Goals as goal
 

@@ -1,6 +1,6 @@
 use Rattle.std.proofs.Common.{◌∙◌, ap, sym, subst}
 use Rattle.std.proofs.lemmas.Result.{IfOk-weaker}
-use Rattle.term_algebra.specs.Substitution.{binding}
+use Rattle.lotos_base.specs.Substitution.{binding}
 use Rattle.behaviour_semantics.specs.Behaviour.{Behaviour, numbers_of}
 use Rattle.behaviour_semantics.specs.Replacement.{with_values, binding_of}
 use Rattle.behaviour_tree.specs.BehaviourTerms.{profiles_in}
@@ -11,7 +11,7 @@ use Rattle.behaviour_tree.specs.declared.states.Node.{Node}
 use Rattle.step_parts.specs.TargetNodes.{IsAccepting}
 use Rattle.step_parts.proofs.NodeLemmas.{first_terms, second_terms}
 use Rattle.step_taker.proofs.SplitLemmas.{parts_as}
-use Rattle.term_algebra.specs.Substitution.{without}
+use Rattle.lotos_base.specs.Substitution.{without}
 use Rattle.step_taker.proofs.enablings.begun.Goals as goal
 
 pub accepted-requires : goal.accepted-requires

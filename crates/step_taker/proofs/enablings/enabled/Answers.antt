@@ -1,5 +1,5 @@
 use Rattle.std.proofs.Common.{◌∙◌, List, refl, ap, sym, subst}
-use Rattle.term_algebra.specs.Term.{Term}
+use Rattle.lotos_base.specs.Term.{Term}
 use Rattle.behaviour_semantics.specs.Behaviour.{sorts_of}
 use Rattle.behaviour_semantics.specs.Fault.{unless}
 use Rattle.behaviour_semantics.specs.Replacement.{with_values, binding_of}

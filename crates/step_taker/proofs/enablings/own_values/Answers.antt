@@ -4,7 +4,7 @@ use Rattle.behaviour_tree.specs.BehaviourTerms.{profiles_of}
 use Rattle.behaviour_tree.specs.BehaviourView.{terms_of}
 use Rattle.behaviour_tree.specs.MoveView.{label_of}
 use Rattle.behaviour_tree.specs.declared.moves.Label.{Label}
-use Rattle.event_offers.specs.OfferView.{label_profiles}
+use Rattle.step_parts.specs.HandedOn.{label_profiles}
 use Rattle.step_taker.proofs.enablings.own_values.Goals as goal
 
 pub returns-in-Exit-clause-same : goal.returns-in-Exit-clause-same

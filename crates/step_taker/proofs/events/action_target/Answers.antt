@@ -1,8 +1,8 @@
 use Rattle.std.proofs.Common.{◌∙◌, map, ap, sym, subst}
 use Rattle.std.specs.Prelude.{option_map}
-use Rattle.term_algebra.specs.Equation.{Data}
-use Rattle.term_algebra.specs.Term.{Term}
-use Rattle.term_algebra.specs.Substitution.{binding}
+use Rattle.lotos_base.specs.Equation.{Data}
+use Rattle.lotos_base.specs.Term.{Term}
+use Rattle.lotos_base.specs.Substitution.{binding}
 use Rattle.behaviour_semantics.specs.Fault.{first_unmet}
 use Rattle.behaviour_semantics.specs.Replacement.{with_values}
 use Rattle.behaviour_semantics.specs.Rule.{tests_of}
@@ -14,7 +14,7 @@ use Rattle.step_parts.proofs.CheckedLemmas.{checked_err, told_more}
 use Rattle.step_parts.proofs.NodeLemmas.{both_terms}
 use Rattle.step_taker.specs.Taken.{ground_of}
 use Rattle.step_taker.proofs.EventLemmas.{chosen_closed, test_suited}
-use Rattle.term_algebra.specs.Substitution.{Substitution}
+use Rattle.lotos_base.specs.Substitution.{Substitution}
 use Rattle.step_taker.proofs.EventLemmas.{enough_there}
 use Rattle.step_taker.proofs.events.action_target.Goals as goal
 
@@ -28,11 +28,13 @@ asked_values-requires-clause-enough g c =
 
 pub checked_test-requires-clause-terms : goal.checked_test-requires-clause-terms
 checked_test-requires-clause-terms g c =
-    subst (λ (d : Data). AreTermsOf d.signature (option_profiles c.args.test.now)) (sym c.asked_values.ensures.same_data) c.requires.test
+    subst (λ (d : Data). AreTermsOf d.signature (option_profiles c.args.test.now)) (sym c.asked_values.ensures.same_known.same_data)
+    c.requires.test
 
 pub checked_test-requires-clause-values : goal.checked_test-requires-clause-values
 checked_test-requires-clause-values g c =
-    subst (λ (d : Data). AreTermsOf d.signature (map pair_profile c.in_ok-pairs.pairs.items)) (sym c.asked_values.ensures.same_data)
+    subst (λ (d : Data). AreTermsOf d.signature (map pair_profile c.in_ok-pairs.pairs.items)) (sym
+    c.asked_values.ensures.same_known.same_data)
     c.in_ok-pairs.ensures.over
 
 pub checked_test-requires-clause-suited : goal.checked_test-requires-clause-suited
@@ -48,14 +50,14 @@ returns-in_err-checked_test-clause-checked g c =
     checked_err n _ c.from_residual-in_err-checked_test.result c.in_err-checked_test.field-0.0
     c.from_residual-in_err-checked_test.ensures.1
     (told_more n _ _ (λ w is. sym (ap (λ (canon : Term → Term). first_unmet canon (tests_of (binding (environment_of
-    c.in_ok-pairs.pairs.items)) (option_map test_of c.args.test.now))) c.asked_values.ensures.same_canon ∙ ap (λ (values :
+    c.in_ok-pairs.pairs.items)) (option_map test_of c.args.test.now))) c.asked_values.ensures.same_known.same_canon ∙ ap (λ (values :
     Substitution). first_unmet (g.D.Deciding.canon c.args.data.now) (tests_of values (option_map test_of c.args.test.now))) (ap
     binding c.in_ok-pairs.ensures.same)) ∙ is) c.in_err-checked_test.field-0.0 (c.in_err-checked_test.ensures.checked n e))
 
 pub returns-clause-checked : goal.returns-clause-checked
 returns-clause-checked g c =
     λ n e. sym (ap (λ (canon : Term → Term). first_unmet canon (tests_of (binding (environment_of c.in_ok-pairs.pairs.items)) (option_map
-    test_of c.args.test.now))) c.asked_values.ensures.same_canon ∙ ap (λ (values : Substitution). first_unmet (g.D.Deciding.canon
+    test_of c.args.test.now))) c.asked_values.ensures.same_known.same_canon ∙ ap (λ (values : Substitution). first_unmet (g.D.Deciding.canon
     c.args.data.now) (tests_of values (option_map test_of c.args.test.now))) (ap binding c.in_ok-pairs.ensures.same)) ∙
     c.in_ok-checked_test.ensures.checked n e
 

@@ -1,4 +1,4 @@
-use Rattle.std.proofs.Common.{◌+◌, ◌∙◌, ℕ, length, map, refl, ap, sym, subst, Ok}
+use Rattle.std.proofs.Common.{◌+◌, ◌∙◌, ℕ, length, map, ap, sym, subst, Ok}
 use Rattle.behaviour_semantics.specs.Behaviour.{exit_with}
 use Rattle.behaviour_semantics.specs.Fault.{wrong_leaves}
 use Rattle.behaviour_semantics.specs.Label.{exit_event}
@@ -8,6 +8,7 @@ use Rattle.behaviour_tree.specs.Over.{AreTermsOf}
 use Rattle.behaviour_tree.specs.StateView.{node_profiles, stands_for}
 use Rattle.behaviour_tree.specs.declared.states.Node.{Node}
 use Rattle.step_parts.proofs.CheckedLemmas.{told_more}
+use Rattle.step_parts.proofs.HandedOn.{keeps_itself}
 use Rattle.step_taker.specs.Taken.{ground_of, setting_on}
 use Rattle.step_taker.proofs.ThereLemmas.{memory_walked, misfit_there, of_shape, refusal_walked, there_refused, there_walked}
 use Rattle.step_taker.proofs.SplitLemmas.{parts_as}
@@ -25,8 +26,7 @@ returns-in_default g c =
           (unfit_exit (setting_on (ground_of (g.D.Deciding.known_data c.args.data.now) (g.D.Deciding.canon c.args.data.now)
           c.args.walk.now.spec.now)) (terms_of c.args.walk.now.leaves.now) c.args.at.leaf c.args.shape.now (map exit_value_of
           c.args.values.now.items) c.in_default.not-Quit) c.misfit.ensures;
-      same_data = refl;
-      same_canon = refl;
+      same_known = keeps_itself;
     }
 
 pub returns-in_err-sorts-clause-answer : goal.returns-in_err-sorts-clause-answer

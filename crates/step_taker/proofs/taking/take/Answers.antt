@@ -11,7 +11,7 @@ use Rattle.behaviour_tree.specs.declared.states.Node.{Node}
 use Rattle.sort_terms.specs.declared.sorted.Sorted.{Sorted}
 use Rattle.step_parts.specs.StepFaults.{IsWrongTold, UnlessMemory}
 use Rattle.step_taker.specs.Taken.{ground_of}
-use Rattle.step_taker.specs.Walked.{IsFirstFault, IsMoved, IsPassableNode}
+use Rattle.step_taker.specs.Walked.{IsFirstStepFault, IsMoved, IsPassableNode}
 use Rattle.std.specs.Prelude.{if◌then◌else◌}
 use Rattle.step_taker.proofs.MatchLemmas.{match_err}
 use Rattle.step_taker.proofs.taking.take.Goals as goal
@@ -39,7 +39,7 @@ pub returns-in_err-moved-clause-answer : goal.returns-in_err-moved-clause-answer
 returns-in_err-moved-clause-answer g c =
     match_err _ _ c.from_residual.result c.in_err-moved.field-0.0 c.from_residual.ensures.1
     (root_told (ground_of (g.D.Deciding.known_data c.args.data.now) (g.D.Deciding.canon c.args.data.now) c.args.spec.now)
-    c.args.state.now c.args.derivation.now c.in_err-moved.field-0.0 (subst (λ (items : List Sorted). UnlessMemory (IsFirstFault
+    c.args.state.now c.args.derivation.now c.in_err-moved.field-0.0 (subst (λ (items : List Sorted). UnlessMemory (IsFirstStepFault
     (ground_of (g.D.Deciding.known_data c.args.data.now) (g.D.Deciding.canon c.args.data.now) c.args.spec.now) (terms_of items) (root
     (ground_of (g.D.Deciding.known_data c.args.data.now) (g.D.Deciding.canon c.args.data.now) c.args.spec.now) c.args.state.now
     c.args.derivation.now)) c.in_err-moved.field-0.0) c.as_slice.ensures.value (c.in_err-moved.ensures.answer (root (ground_of

@@ -16,6 +16,6 @@ returns c =
     hiding_made ground leaves whole part below c.args.moved m _ refl (record {
       parts = c.in_ok-target.ensures.closed_parts m.parts;
       terms = subst (AreTermsOf ground.data_.signature) (sym c.in_ok-target.ensures.terms) m.terms;
-      values = c.hide_label-label.ensures.terms ground.data_.signature m.values;
+      values = c.hide_label-label.ensures.over ground.data_.signature m.values;
     }) c.args.gates.now.items has (c.hide_label-label.ensures.same ∙ ap (λ (gates : List ℕ). hidden_label gates (label_of
     c.args.moved.label)) c.as_slice.ensures.value) c.in_ok-target.ensures.same

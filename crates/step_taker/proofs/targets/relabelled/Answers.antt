@@ -21,6 +21,6 @@ returns c =
     relabelling_made ground leaves whole part below c.args.moved m _ refl (record {
       parts = c.in_ok-target.ensures.closed_parts ground given;
       terms = c.in_ok-target.ensures.terms ground.data_.signature m.terms;
-      values = subst (AreTermsOf ground.data_.signature) (sym c.relabel_label-label.ensures.terms) m.values;
-    }) c.args.pairs.items has (c.relabel_label-label.ensures.same ∙ ap (λ (pairs : Relabelling). label_under pairs (label_of
+      values = subst (AreTermsOf ground.data_.signature) (sym c.relabel-label.ensures.profiles) m.values;
+    }) c.args.pairs.items has (c.relabel-label.ensures.same ∙ ap (λ (pairs : Relabelling). label_under pairs (label_of
     c.args.moved.label)) c.as_slice.ensures.value) c.in_ok-target.ensures.same

@@ -1,8 +1,8 @@
 use Rattle.std.proofs.Common.{◌+◌, ◌++◌, ◌∷◌, ◌∙◌, ℕ, suc, List, [], length, map, refl, ap, sym, subst, arith, rules, append_assoc, append-nil, add-one}
 use Rattle.std.specs.Prelude.{option_map}
-use Rattle.term_algebra.specs.Equation.{Data}
-use Rattle.term_algebra.specs.Term.{Term}
-use Rattle.term_algebra.specs.Substitution.{binding, without}
+use Rattle.lotos_base.specs.Equation.{Data}
+use Rattle.lotos_base.specs.Term.{Term}
+use Rattle.lotos_base.specs.Substitution.{binding, without}
 use Rattle.behaviour_semantics.specs.Behaviour.{Behaviour, enable, exit_with, let_be, let_terms, let_variables, numbers_of, parallel, hide, choose_value, call, action, choice, choose_gate, disable, guard, inner_action, par_gate, relabel, stop}
 use Rattle.behaviour_semantics.specs.Derives.{leaves_in}
 use Rattle.behaviour_semantics.specs.Fault.{size}
@@ -17,24 +17,24 @@ use Rattle.behaviour_tree.specs.StateView.{environment_of, node_profiles, pair_p
 use Rattle.behaviour_tree.specs.declared.moves.Shape.{Shape}
 use Rattle.behaviour_tree.specs.declared.states.Node.{Node}
 use Rattle.behaviour_tree.specs.declared.behaviours.Beh.{Beh}
-use Rattle.event_offers.specs.OfferView.{label_profiles}
+use Rattle.step_parts.specs.HandedOn.{label_profiles}
 use Rattle.sort_terms.specs.EquationView.{variable_of}
 use Rattle.sort_terms.specs.declared.sorted.Sorted.{Sorted}
 use Rattle.behaviour_instances.proofs.InstanceLemmas.{states_suit}
 use Rattle.step_parts.specs.StepFaults.{kept_number, UnlessMemory}
 use Rattle.step_parts.proofs.NodeLemmas.{first_terms, second_terms}
+use Rattle.step_parts.proofs.HandedOn.{held_before, holds_after, keeps_both, keeps_itself}
 use Rattle.step_taker.specs.Rows.{same_row}
 use Rattle.step_taker.specs.Sides.{enabling_of, followed, following_profiles, IsSideState, side_of, side_profiles}
 use Rattle.step_taker.specs.Stands.{stand}
 use Rattle.step_taker.specs.Taken.{ground_of, setting_on}
-use Rattle.step_taker.specs.Walked.{IsClosedOn, IsFirstFault, IsMoved, IsPassable, IsPassableSide, IsWalk, IsWalked}
+use Rattle.step_taker.specs.Walked.{IsClosedOn, IsFirstStepFault, IsMoved, IsPassable, IsPassableSide, IsStepWalk, IsWalked}
 use Rattle.step_taker.proofs.WalkLemmas.{walked_on, walked_own, walked_part, nodes_below}
 use Rattle.step_taker.proofs.TogetherLemmas.{left_told, right_told}
 use Rattle.step_taker.proofs.ThereLemmas.{absent_there, below_there, copies_walked, is_below, memory_walked, misfit_there, of_behaviour, of_shape, part_there, refusal_walked, there_refused, there_walked}
 use Rattle.step_taker.proofs.SplitLemmas.{passable_as}
 use Rattle.step_taker.proofs.GoodLemmas.{label_closed, leaves_enough, target_closed}
 use Rattle.step_taker.proofs.BodyLemmas.{call_closed, instance_over, is_called, keeps_ground, leaf_value, let_closed, value_closed, mapped_at}
-use Rattle.step_taker.proofs.EventLemmas.{carried}
 use Rattle.step_taker.proofs.UnfitLemmas.{unfit_stop, unfit_guard, unfit_choice, unfit_parallel, unfit_hide, unfit_enable, unfit_disable, unfit_let, unfit_value, unfit_gate, unfit_call, unfit_relabel}
 use Rattle.step_taker.proofs.FormLemmas.{guard_row, left_row, right_row, left_alone_row, right_alone_row, disabled_row, undisabled_row, hide_row, enabled_row, passed_row, let_row, value_row, gate_row, call_row, relabel_row, no_gate, no_process}
 use Rattle.step_taker.proofs.WeightLemmas.{part_less, right_less, level_less, form_less, opened_less, left_less}
@@ -57,14 +57,6 @@ node_step-returns-in-Stop-clause-answer g t c =
     (unfit_stop (setting_on (ground_of (g.D.Deciding.known_data c.args.data.now) (g.D.Deciding.canon c.args.data.now)
     c.args.walk.now.spec.now)) (terms_of c.args.walk.now.leaves.now) c.args.at.leaf c.args.shape.now) c.misfit.ensures
 
-pub node_step-returns-in-Stop-clause-same_data : goal.node_step-returns-in-Stop-clause-same_data
-node_step-returns-in-Stop-clause-same_data g t c =
-    refl
-
-pub node_step-returns-in-Stop-clause-same_canon : goal.node_step-returns-in-Stop-clause-same_canon
-node_step-returns-in-Stop-clause-same_canon g t c =
-    refl
-
 pub node_step-instance-requires : goal.node_step-instance-requires
 node_step-instance-requires g t c =
     states_suit c.in-Part.environment.items (behaviour_of c.deref.result.now)
@@ -75,14 +67,6 @@ pub node_step-returns-in_err-whole-in-Part-clause-answer : goal.node_step-return
 node_step-returns-in_err-whole-in-Part-clause-answer g t c =
     λ place there. memory_walked (ground_of (g.D.Deciding.known_data c.args.data.now) (g.D.Deciding.canon c.args.data.now)
     c.args.walk.now.spec.now) (terms_of c.args.walk.now.leaves.now) place c.from_residual.result c.from_residual.ensures.1
-
-pub node_step-returns-in_err-whole-in-Part-clause-same_data : goal.node_step-returns-in_err-whole-in-Part-clause-same_data
-node_step-returns-in_err-whole-in-Part-clause-same_data g t c =
-    refl
-
-pub node_step-returns-in_err-whole-in-Part-clause-same_canon : goal.node_step-returns-in_err-whole-in-Part-clause-same_canon
-node_step-returns-in_err-whole-in-Part-clause-same_canon g t c =
-    refl
 
 pub node_step-beh_step-requires : goal.node_step-beh_step-requires
 node_step-beh_step-requires g t c κs within = (
@@ -120,14 +104,6 @@ node_step-returns-in_ok-whole-in-Part-clause-answer g t c =
     with_values (binding (environment_of c.in-Part.environment.items)) (behaviour_of b)) c.deref.ensures ∙ sym (ap stands_for
     c.in-Part.is)) there)
 
-pub node_step-returns-in_ok-whole-in-Part-clause-same_data : goal.node_step-returns-in_ok-whole-in-Part-clause-same_data
-node_step-returns-in_ok-whole-in-Part-clause-same_data g t c =
-    c.beh_step.ensures.same_data
-
-pub node_step-returns-in_ok-whole-in-Part-clause-same_canon : goal.node_step-returns-in_ok-whole-in-Part-clause-same_canon
-node_step-returns-in_ok-whole-in-Part-clause-same_canon g t c =
-    c.beh_step.ensures.same_canon
-
 pub node_step-call_step-requires : goal.node_step-call_step-requires
 node_step-call_step-requires g t c κs within = (
   (form_less (shape_of c.args.shape.now) (stands_for c.args.node.now) 3 _ (omega arith) c.decreases),
@@ -149,14 +125,6 @@ node_step-returns-in-Call-clause-answer g t c =
     c.in-Call.gates.items (terms_of c.in-Call.values.items)) (shape_of c.args.shape.now) c.args.at (sym (ap stands_for c.in-Call.is))
     there)
 
-pub node_step-returns-in-Call-clause-same_data : goal.node_step-returns-in-Call-clause-same_data
-node_step-returns-in-Call-clause-same_data g t c =
-    c.call_step.ensures.same_data
-
-pub node_step-returns-in-Call-clause-same_canon : goal.node_step-returns-in-Call-clause-same_canon
-node_step-returns-in-Call-clause-same_canon g t c =
-    c.call_step.ensures.same_canon
-
 pub node_step-parallel_step-requires : goal.node_step-parallel_step-requires
 node_step-parallel_step-requires g t c κs within = (
   (form_less (shape_of c.args.shape.now) (stands_for c.args.node.now) 3 _ (omega arith) c.decreases),
@@ -176,7 +144,8 @@ node_step-parallel_step-requires g t c κs within = (
             r) _ _ _ _ (sym (refl {a = c.in-Parallel.left.value})) (sym (refl {a = c.in-Parallel.right.value}))) c.requires.node.passable),
         (
           (subst (λ (node :
-              Node). IsClosedNode node) (sym (refl {a = c.in-Parallel.left.value})) (subst (λ (node : Node). IsClosedNode node) c.in-Parallel.is
+              Node). IsClosedNode node) (sym (refl {a = c.in-Parallel.left.value})) (subst (λ (node : Node). IsClosedNode node)
+              c.in-Parallel.is
               c.requires.node.states).0),
           (subst (λ (node : Node). IsClosedNode node) (sym (refl {a = c.in-Parallel.right.value})) (subst (λ (node :
               Node). IsClosedNode node) c.in-Parallel.is c.requires.node.states).1),
@@ -194,14 +163,6 @@ node_step-returns-in-Parallel-clause-answer g t c =
     c.in-Parallel.meet) (stands_for l) (stands_for r))) _ _ _ _ (sym (refl {a = c.in-Parallel.left.value})) (sym
     (refl {a = c.in-Parallel.right.value})))) there)
 
-pub node_step-returns-in-Parallel-clause-same_data : goal.node_step-returns-in-Parallel-clause-same_data
-node_step-returns-in-Parallel-clause-same_data g t c =
-    c.parallel_step.ensures.same_data
-
-pub node_step-returns-in-Parallel-clause-same_canon : goal.node_step-returns-in-Parallel-clause-same_canon
-node_step-returns-in-Parallel-clause-same_canon g t c =
-    c.parallel_step.ensures.same_canon
-
 pub node_step-disable_step-requires : goal.node_step-disable_step-requires
 node_step-disable_step-requires g t c κs within = (
   (form_less (shape_of c.args.shape.now) (stands_for c.args.node.now) 3 _ (omega arith) c.decreases),
@@ -216,7 +177,8 @@ node_step-disable_step-requires g t c κs within = (
             (node_profiles c.args.node.now) ((node_profiles c.in-Disable.left.value) ++ (node_profiles
             c.in-Disable.right.value)) ((ap stands_for c.in-Disable.is) ∙ two_as (λ (l r : Node). (disable (stands_for l)
             (stands_for
-            r))) _ _ _ _ (sym (refl {a = c.in-Disable.left.value})) (sym (refl {a = c.in-Disable.right.value}))) ((ap node_profiles c.in-Disable.is) ∙
+            r))) _ _ _ _ (sym (refl {a = c.in-Disable.left.value})) (sym (refl {a = c.in-Disable.right.value}))) ((ap node_profiles
+            c.in-Disable.is) ∙
             two_as (λ
             (l r : Node). node_profiles l ++ node_profiles r) _ _ _ _ (sym (refl {a = c.in-Disable.left.value})) (sym
             (refl {a = c.in-Disable.right.value})))
@@ -238,14 +200,6 @@ node_step-returns-in-Disable-clause-answer g t c =
     c.in-Disable.left.value) (stands_for c.in-Disable.right.value)) (shape_of c.args.shape.now) c.args.at (sym ((ap
     stands_for c.in-Disable.is) ∙ two_as (λ (l r : Node). (disable (stands_for l) (stands_for r))) _ _ _ _ (sym
     (refl {a = c.in-Disable.left.value})) (sym (refl {a = c.in-Disable.right.value})))) there)
-
-pub node_step-returns-in-Disable-clause-same_data : goal.node_step-returns-in-Disable-clause-same_data
-node_step-returns-in-Disable-clause-same_data g t c =
-    c.disable_step.ensures.same_data
-
-pub node_step-returns-in-Disable-clause-same_canon : goal.node_step-returns-in-Disable-clause-same_canon
-node_step-returns-in-Disable-clause-same_canon g t c =
-    c.disable_step.ensures.same_canon
 
 pub node_step-hide_step-requires : goal.node_step-hide_step-requires
 node_step-hide_step-requires g t c κs within = (
@@ -275,14 +229,6 @@ node_step-returns-in-Hide-clause-answer g t c =
     (stands_for c.in-Hide.inner.value)) (shape_of c.args.shape.now) c.args.at (sym ((ap stands_for c.in-Hide.is) ∙ ap (λ (n :
     Node). hide c.in-Hide.gates.items (stands_for n)) (sym (refl {a = c.in-Hide.inner.value})))) there)
 
-pub node_step-returns-in-Hide-clause-same_data : goal.node_step-returns-in-Hide-clause-same_data
-node_step-returns-in-Hide-clause-same_data g t c =
-    c.hide_step.ensures.same_data
-
-pub node_step-returns-in-Hide-clause-same_canon : goal.node_step-returns-in-Hide-clause-same_canon
-node_step-returns-in-Hide-clause-same_canon g t c =
-    c.hide_step.ensures.same_canon
-
 pub node_step-relabel_step-requires : goal.node_step-relabel_step-requires
 node_step-relabel_step-requires g t c κs within = (
   (form_less (shape_of c.args.shape.now) (stands_for c.args.node.now) 3 _ (omega arith) c.decreases),
@@ -310,14 +256,6 @@ node_step-returns-in-Relabel-clause-answer g t c =
     (stands_for c.deref-in-Relabel.result.now)) (shape_of c.args.shape.now) c.args.at (sym ((ap stands_for c.in-Relabel.is) ∙ ap (λ
     (n : Node). relabel c.in-Relabel.pairs.items (stands_for n)) (sym c.deref-in-Relabel.ensures))) there)
 
-pub node_step-returns-in-Relabel-clause-same_data : goal.node_step-returns-in-Relabel-clause-same_data
-node_step-returns-in-Relabel-clause-same_data g t c =
-    c.relabel_step.ensures.same_data
-
-pub node_step-returns-in-Relabel-clause-same_canon : goal.node_step-returns-in-Relabel-clause-same_canon
-node_step-returns-in-Relabel-clause-same_canon g t c =
-    c.relabel_step.ensures.same_canon
-
 pub node_step-enable_step-requires : goal.node_step-enable_step-requires
 node_step-enable_step-requires g t c κs within = (
   (form_less (shape_of c.args.shape.now) (stands_for c.args.node.now) 3 _ (omega arith) c.decreases),
@@ -333,10 +271,12 @@ node_step-enable_step-requires g t c κs within = (
             ((node_profiles c.in-Enable.left.value) ++ (profiles_in c.in-Enable.right.value ++ (map pair_profile
             c.in-Enable.environment.items))) ((ap stands_for c.in-Enable.is) ∙ ap (λ (l : Node). enable (stands_for l) (variables_of
             c.in-Enable.variables.items) (with_values (without (numbers_of (variables_of c.in-Enable.variables.items)) (binding
-            (environment_of c.in-Enable.environment.items))) (behaviour_of c.in-Enable.right.value))) (sym (refl {a = c.in-Enable.left.value}))
+            (environment_of c.in-Enable.environment.items))) (behaviour_of c.in-Enable.right.value))) (sym (refl {a =
+            c.in-Enable.left.value}))
             ∙ ap (λ (r : Beh). enable (stands_for c.in-Enable.left.value) (variables_of c.in-Enable.variables.items) (with_values
             (without (numbers_of (variables_of c.in-Enable.variables.items)) (binding (environment_of
-            c.in-Enable.environment.items))) (behaviour_of r))) (sym (refl {a = c.in-Enable.right.value}))) ((ap node_profiles c.in-Enable.is) ∙
+            c.in-Enable.environment.items))) (behaviour_of r))) (sym (refl {a = c.in-Enable.right.value}))) ((ap node_profiles
+            c.in-Enable.is) ∙
             append_assoc (node_profiles c.in-Enable.left.value) (profiles_in c.in-Enable.right.value) (map pair_profile
             c.in-Enable.environment.items)
             ∙ ap (λ (l : Node). node_profiles l ++ (profiles_in c.in-Enable.right.value ++ (map pair_profile
@@ -347,7 +287,8 @@ node_step-enable_step-requires g t c κs within = (
           (subst (λ (node : Node). IsClosedNode node) (sym (refl {a = c.in-Enable.left.value})) (subst (λ (node : Node). IsClosedNode node)
               c.in-Enable.is c.requires.node.states).0),
           subst (λ (b : Beh). IsClosedUnder (variables_of c.in-Enable.variables.items)
-              c.in-Enable.environment.items (behaviour_of b)) (sym (refl {a = c.in-Enable.right.value})) (subst (λ (node : Node). IsClosedNode node)
+              c.in-Enable.environment.items (behaviour_of b)) (sym (refl {a = c.in-Enable.right.value})) (subst (λ (node : Node).
+              IsClosedNode node)
               c.in-Enable.is c.requires.node.states).1,
         ),
       ),
@@ -368,17 +309,10 @@ node_step-returns-in-Enable-clause-answer g t c =
     (without (numbers_of (variables_of c.in-Enable.variables.items)) (binding (environment_of c.in-Enable.environment.items)))
     (behaviour_of r))) (sym (refl {a = c.in-Enable.right.value})))) there)
 
-pub node_step-returns-in-Enable-clause-same_data : goal.node_step-returns-in-Enable-clause-same_data
-node_step-returns-in-Enable-clause-same_data g t c =
-    c.enable_step.ensures.same_data
-
-pub node_step-returns-in-Enable-clause-same_canon : goal.node_step-returns-in-Enable-clause-same_canon
-node_step-returns-in-Enable-clause-same_canon g t c =
-    c.enable_step.ensures.same_canon
-
 pub side_step-beh_step-requires : goal.side_step-beh_step-requires
 side_step-beh_step-requires g t c κs within = (
-  (level_less (shape_of c.args.shape.now) (side_of c.args.side.now) _ 4 2 _ (omega arith) (sym (ap side_of c.in-Closed.is ∙ ap behaviour_of (sym c.deref.ensures)))
+  (level_less (shape_of c.args.shape.now) (side_of c.args.side.now) _ 4 2 _ (omega arith) (sym (ap side_of c.in-Closed.is ∙ ap
+      behaviour_of (sym c.deref.ensures)))
       c.decreases),
   (
     search rules,
@@ -397,17 +331,10 @@ side_step-returns-in-Closed-clause-answer g t c =
     λ place there. c.beh_step.ensures.answer place (of_behaviour place (side_of c.args.side.now) _ (shape_of c.args.shape.now) c.args.at
     (sym (ap side_of c.in-Closed.is ∙ ap behaviour_of (sym c.deref.ensures))) there)
 
-pub side_step-returns-in-Closed-clause-same_data : goal.side_step-returns-in-Closed-clause-same_data
-side_step-returns-in-Closed-clause-same_data g t c =
-    c.beh_step.ensures.same_data
-
-pub side_step-returns-in-Closed-clause-same_canon : goal.side_step-returns-in-Closed-clause-same_canon
-side_step-returns-in-Closed-clause-same_canon g t c =
-    c.beh_step.ensures.same_canon
-
 pub side_step-node_step-requires : goal.side_step-node_step-requires
 side_step-node_step-requires g t c κs within = (
-  (level_less (shape_of c.args.shape.now) (side_of c.args.side.now) _ 4 3 _ (omega arith) (sym (ap side_of c.in-Standing.is ∙ ap stands_for (sym c.deref-in-Standing.ensures)))
+  (level_less (shape_of c.args.shape.now) (side_of c.args.side.now) _ 4 3 _ (omega arith) (sym (ap side_of c.in-Standing.is ∙ ap
+      stands_for (sym c.deref-in-Standing.ensures)))
       c.decreases),
   (
     search rules,
@@ -430,14 +357,6 @@ side_step-returns-in-Standing-clause-answer g t c =
     λ place there. c.node_step.ensures.answer place (of_behaviour place (side_of c.args.side.now) _ (shape_of c.args.shape.now) c.args.at
     (sym (ap side_of c.in-Standing.is ∙ ap stands_for (sym c.deref-in-Standing.ensures))) there)
 
-pub side_step-returns-in-Standing-clause-same_data : goal.side_step-returns-in-Standing-clause-same_data
-side_step-returns-in-Standing-clause-same_data g t c =
-    c.node_step.ensures.same_data
-
-pub side_step-returns-in-Standing-clause-same_canon : goal.side_step-returns-in-Standing-clause-same_canon
-side_step-returns-in-Standing-clause-same_canon g t c =
-    c.node_step.ensures.same_canon
-
 pub beh_step-returns-in-Stop-clause-answer : goal.beh_step-returns-in-Stop-clause-answer
 beh_step-returns-in-Stop-clause-answer g t c =
     λ place there. misfit_there (ground_of (g.D.Deciding.known_data c.args.data.now) (g.D.Deciding.canon c.args.data.now)
@@ -446,14 +365,6 @@ beh_step-returns-in-Stop-clause-answer g t c =
     c.misfit.result
     (unfit_stop (setting_on (ground_of (g.D.Deciding.known_data c.args.data.now) (g.D.Deciding.canon c.args.data.now)
     c.args.walk.now.spec.now)) (terms_of c.args.walk.now.leaves.now) c.args.at.leaf c.args.shape.now) c.misfit.ensures
-
-pub beh_step-returns-in-Stop-clause-same_data : goal.beh_step-returns-in-Stop-clause-same_data
-beh_step-returns-in-Stop-clause-same_data g t c =
-    refl
-
-pub beh_step-returns-in-Stop-clause-same_canon : goal.beh_step-returns-in-Stop-clause-same_canon
-beh_step-returns-in-Stop-clause-same_canon g t c =
-    refl
 
 pub beh_step-exit_step-requires-clause-walk : goal.beh_step-exit_step-requires-clause-walk
 beh_step-exit_step-requires-clause-walk g t c =
@@ -470,14 +381,6 @@ beh_step-returns-in-Exit-clause-answer g t c =
     λ place there. c.exit_step.ensures.answer place (of_behaviour place (behaviour_of c.args.behaviour.now) (exit_with (map exit_value_of
     c.in-Exit.values.items)) (shape_of c.args.shape.now) c.args.at (sym (ap behaviour_of c.in-Exit.is)) there)
 
-pub beh_step-returns-in-Exit-clause-same_data : goal.beh_step-returns-in-Exit-clause-same_data
-beh_step-returns-in-Exit-clause-same_data g t c =
-    c.exit_step.ensures.same_data
-
-pub beh_step-returns-in-Exit-clause-same_canon : goal.beh_step-returns-in-Exit-clause-same_canon
-beh_step-returns-in-Exit-clause-same_canon g t c =
-    c.exit_step.ensures.same_canon
-
 pub beh_step-action_step-requires-clause-walk : goal.beh_step-action_step-requires-clause-walk
 beh_step-action_step-requires-clause-walk g t c =
     c.requires.walk
@@ -489,8 +392,10 @@ beh_step-action_step-requires-clause-part g t c =
     c.in-Action.test) (behaviour_of c.in-Action.next.value)) (profiles_in c.args.behaviour.now) ((joined (map offer_profiles
     c.in-Action.offers.items) ++ option_profiles c.in-Action.test) ++ (profiles_in c.in-Action.next.value)) ((ap behaviour_of
     c.in-Action.is) ∙ ap (λ (x : Beh). (action c.in-Action.gate (map offer_of c.in-Action.offers.items) (option_map test_of
-    c.in-Action.test) (behaviour_of x))) (sym (refl {a = c.in-Action.next.value}))) ((ap profiles_in c.in-Action.is) ∙ ap (λ (x : Beh). ((joined (map
-    offer_profiles c.in-Action.offers.items) ++ option_profiles c.in-Action.test) ++ (profiles_in x))) (sym (refl {a = c.in-Action.next.value})))
+    c.in-Action.test) (behaviour_of x))) (sym (refl {a = c.in-Action.next.value}))) ((ap profiles_in c.in-Action.is) ∙ ap (λ (x : Beh).
+    ((joined (map
+    offer_profiles c.in-Action.offers.items) ++ option_profiles c.in-Action.test) ++ (profiles_in x))) (sym (refl {a =
+    c.in-Action.next.value})))
     c.requires.part)
 
 pub beh_step-returns-in-Action-clause-answer : goal.beh_step-returns-in-Action-clause-answer
@@ -500,33 +405,18 @@ beh_step-returns-in-Action-clause-answer g t c =
     c.args.shape.now) c.args.at (sym ((ap behaviour_of c.in-Action.is) ∙ ap (λ (x : Beh). (action c.in-Action.gate (map offer_of
     c.in-Action.offers.items) (option_map test_of c.in-Action.test) (behaviour_of x))) (sym (refl {a = c.in-Action.next.value})))) there)
 
-pub beh_step-returns-in-Action-clause-same_data : goal.beh_step-returns-in-Action-clause-same_data
-beh_step-returns-in-Action-clause-same_data g t c =
-    c.action_step.ensures.same_data
-
-pub beh_step-returns-in-Action-clause-same_canon : goal.beh_step-returns-in-Action-clause-same_canon
-beh_step-returns-in-Action-clause-same_canon g t c =
-    c.action_step.ensures.same_canon
-
 pub beh_step-returns-in-Inner-clause-answer : goal.beh_step-returns-in-Inner-clause-answer
 beh_step-returns-in-Inner-clause-answer g t c =
     λ place there. c.inner_step.ensures (ground_of (g.D.Deciding.known_data c.args.data.now) (g.D.Deciding.canon c.args.data.now)
     c.args.walk.now.spec.now) (terms_of c.args.walk.now.leaves.now) place (passable_as (ground_of (g.D.Deciding.known_data
     c.args.data.now) (g.D.Deciding.canon c.args.data.now) c.args.walk.now.spec.now) (behaviour_of c.args.behaviour.now) (inner_action
     (behaviour_of c.in-Inner.next.value)) (profiles_in c.args.behaviour.now) (profiles_in c.in-Inner.next.value) ((ap
-    behaviour_of c.in-Inner.is) ∙ ap (λ (x : Beh). (inner_action (behaviour_of x))) (sym (refl {a = c.in-Inner.next.value}))) ((ap profiles_in
+    behaviour_of c.in-Inner.is) ∙ ap (λ (x : Beh). (inner_action (behaviour_of x))) (sym (refl {a = c.in-Inner.next.value}))) ((ap
+    profiles_in
     c.in-Inner.is) ∙ ap (λ (x : Beh). (profiles_in x)) (sym (refl {a = c.in-Inner.next.value}))) c.requires.part) (of_behaviour place
     (behaviour_of c.args.behaviour.now) (inner_action (behaviour_of c.in-Inner.next.value)) (shape_of c.args.shape.now)
     c.args.at (sym ((ap behaviour_of c.in-Inner.is) ∙ ap (λ (x : Beh). (inner_action (behaviour_of x))) (sym
     (refl {a = c.in-Inner.next.value})))) there)
-
-pub beh_step-returns-in-Inner-clause-same_data : goal.beh_step-returns-in-Inner-clause-same_data
-beh_step-returns-in-Inner-clause-same_data g t c =
-    refl
-
-pub beh_step-returns-in-Inner-clause-same_canon : goal.beh_step-returns-in-Inner-clause-same_canon
-beh_step-returns-in-Inner-clause-same_canon g t c =
-    refl
 
 pub beh_step-guard_step-requires : goal.beh_step-guard_step-requires
 beh_step-guard_step-requires g t c κs within = (
@@ -551,14 +441,6 @@ beh_step-returns-in-Guard-clause-answer g t c =
     λ place there. c.guard_step.ensures.answer place (of_behaviour place (behaviour_of c.args.behaviour.now) (guard (test_of
     c.in-Guard.test) (behaviour_of c.deref.result.now)) (shape_of c.args.shape.now) c.args.at (sym ((ap behaviour_of
     c.in-Guard.is) ∙ ap (λ (x : Beh). (guard (test_of c.in-Guard.test) (behaviour_of x))) (sym c.deref.ensures))) there)
-
-pub beh_step-returns-in-Guard-clause-same_data : goal.beh_step-returns-in-Guard-clause-same_data
-beh_step-returns-in-Guard-clause-same_data g t c =
-    c.guard_step.ensures.same_data
-
-pub beh_step-returns-in-Guard-clause-same_canon : goal.beh_step-returns-in-Guard-clause-same_canon
-beh_step-returns-in-Guard-clause-same_canon g t c =
-    c.guard_step.ensures.same_canon
 
 pub beh_step-choice_step-requires : goal.beh_step-choice_step-requires
 beh_step-choice_step-requires g t c κs within = (
@@ -587,14 +469,6 @@ beh_step-returns-in-Choice-clause-answer g t c =
     behaviour_of c.in-Choice.is) ∙ two_as (λ (l r : Beh). (choice (behaviour_of l) (behaviour_of r))) _ _ _ _ (sym
     c.deref-in-Choice.ensures) (sym c.deref-in-Choice-2.ensures))) there)
 
-pub beh_step-returns-in-Choice-clause-same_data : goal.beh_step-returns-in-Choice-clause-same_data
-beh_step-returns-in-Choice-clause-same_data g t c =
-    c.choice_step.ensures.same_data
-
-pub beh_step-returns-in-Choice-clause-same_canon : goal.beh_step-returns-in-Choice-clause-same_canon
-beh_step-returns-in-Choice-clause-same_canon g t c =
-    c.choice_step.ensures.same_canon
-
 pub beh_step-parallel_step-requires : goal.beh_step-parallel_step-requires
 beh_step-parallel_step-requires g t c κs within = (
   (form_less (shape_of c.args.shape.now) (behaviour_of c.args.behaviour.now) 2 _ (omega arith) c.decreases),
@@ -610,8 +484,10 @@ beh_step-parallel_step-requires g t c κs within = (
             c.in-Parallel.left.value) ++ (profiles_in c.in-Parallel.right.value)) ((ap behaviour_of c.in-Parallel.is) ∙
             two_as
             (λ (l r : Beh). (parallel (meet_of c.in-Parallel.meet) (behaviour_of l) (behaviour_of r))) _ _ _ _ (sym
-            (refl {a = c.in-Parallel.left.value})) (sym (refl {a = c.in-Parallel.right.value}))) ((ap profiles_in c.in-Parallel.is) ∙ two_as (λ (l r : Beh).
-            profiles_in l ++ profiles_in r) _ _ _ _ (sym (refl {a = c.in-Parallel.left.value})) (sym (refl {a = c.in-Parallel.right.value})))
+            (refl {a = c.in-Parallel.left.value})) (sym (refl {a = c.in-Parallel.right.value}))) ((ap profiles_in c.in-Parallel.is) ∙
+            two_as (λ (l r : Beh).
+            profiles_in l ++ profiles_in r) _ _ _ _ (sym (refl {a = c.in-Parallel.left.value})) (sym (refl {a =
+            c.in-Parallel.right.value})))
             c.requires.part),
         (tt, tt),
       ),
@@ -626,14 +502,6 @@ beh_step-returns-in-Parallel-clause-answer g t c =
     c.args.shape.now) c.args.at (sym ((ap behaviour_of c.in-Parallel.is) ∙ two_as (λ (l r : Beh). (parallel (meet_of
     c.in-Parallel.meet) (behaviour_of l) (behaviour_of r))) _ _ _ _ (sym (refl {a = c.in-Parallel.left.value})) (sym
     (refl {a = c.in-Parallel.right.value})))) there)
-
-pub beh_step-returns-in-Parallel-clause-same_data : goal.beh_step-returns-in-Parallel-clause-same_data
-beh_step-returns-in-Parallel-clause-same_data g t c =
-    c.parallel_step.ensures.same_data
-
-pub beh_step-returns-in-Parallel-clause-same_canon : goal.beh_step-returns-in-Parallel-clause-same_canon
-beh_step-returns-in-Parallel-clause-same_canon g t c =
-    c.parallel_step.ensures.same_canon
 
 pub beh_step-hide_step-requires : goal.beh_step-hide_step-requires
 beh_step-hide_step-requires g t c κs within = (
@@ -661,14 +529,6 @@ beh_step-returns-in-Hide-clause-answer g t c =
     (behaviour_of c.in-Hide.next.value)) (shape_of c.args.shape.now) c.args.at (sym ((ap behaviour_of c.in-Hide.is) ∙ ap (λ (x
     : Beh). (hide c.in-Hide.gates.items (behaviour_of x))) (sym (refl {a = c.in-Hide.next.value})))) there)
 
-pub beh_step-returns-in-Hide-clause-same_data : goal.beh_step-returns-in-Hide-clause-same_data
-beh_step-returns-in-Hide-clause-same_data g t c =
-    c.hide_step.ensures.same_data
-
-pub beh_step-returns-in-Hide-clause-same_canon : goal.beh_step-returns-in-Hide-clause-same_canon
-beh_step-returns-in-Hide-clause-same_canon g t c =
-    c.hide_step.ensures.same_canon
-
 pub beh_step-disable_step-requires : goal.beh_step-disable_step-requires
 beh_step-disable_step-requires g t c κs within = (
   (form_less (shape_of c.args.shape.now) (behaviour_of c.args.behaviour.now) 2 _ (omega arith) c.decreases),
@@ -683,7 +543,8 @@ beh_step-disable_step-requires g t c κs within = (
             c.in-Disable.right.value)) (profiles_in c.args.behaviour.now) ((profiles_in c.in-Disable.left.value) ++
             (profiles_in
             c.in-Disable.right.value)) ((ap behaviour_of c.in-Disable.is) ∙ two_as (λ (l r : Beh). (disable (behaviour_of l)
-            (behaviour_of r))) _ _ _ _ (sym (refl {a = c.in-Disable.left.value})) (sym (refl {a = c.in-Disable.right.value}))) ((ap profiles_in
+            (behaviour_of r))) _ _ _ _ (sym (refl {a = c.in-Disable.left.value})) (sym (refl {a = c.in-Disable.right.value}))) ((ap
+            profiles_in
             c.in-Disable.is)
             ∙ two_as (λ (l r : Beh). profiles_in l ++ profiles_in r) _ _ _ _ (sym (refl {a = c.in-Disable.left.value})) (sym
             (refl {a = c.in-Disable.right.value}))) c.requires.part),
@@ -699,14 +560,6 @@ beh_step-returns-in-Disable-clause-answer g t c =
     c.in-Disable.left.value) (behaviour_of c.in-Disable.right.value)) (shape_of c.args.shape.now) c.args.at (sym ((ap
     behaviour_of c.in-Disable.is) ∙ two_as (λ (l r : Beh). (disable (behaviour_of l) (behaviour_of r))) _ _ _ _ (sym
     (refl {a = c.in-Disable.left.value})) (sym (refl {a = c.in-Disable.right.value})))) there)
-
-pub beh_step-returns-in-Disable-clause-same_data : goal.beh_step-returns-in-Disable-clause-same_data
-beh_step-returns-in-Disable-clause-same_data g t c =
-    c.disable_step.ensures.same_data
-
-pub beh_step-returns-in-Disable-clause-same_canon : goal.beh_step-returns-in-Disable-clause-same_canon
-beh_step-returns-in-Disable-clause-same_canon g t c =
-    c.disable_step.ensures.same_canon
 
 pub beh_step-let_step-requires : goal.beh_step-let_step-requires
 beh_step-let_step-requires g t c κs within = (
@@ -731,14 +584,6 @@ beh_step-returns-in-Let-clause-answer g t c =
     c.in-Let.bindings.items) (behaviour_of c.deref-in-Let.result.now)) (shape_of c.args.shape.now) c.args.at (sym ((ap behaviour_of
     c.in-Let.is) ∙ ap (λ (x : Beh). (let_be (map let_of c.in-Let.bindings.items) (behaviour_of x))) (sym c.deref-in-Let.ensures)))
     there)
-
-pub beh_step-returns-in-Let-clause-same_data : goal.beh_step-returns-in-Let-clause-same_data
-beh_step-returns-in-Let-clause-same_data g t c =
-    c.let_step.ensures.same_data
-
-pub beh_step-returns-in-Let-clause-same_canon : goal.beh_step-returns-in-Let-clause-same_canon
-beh_step-returns-in-Let-clause-same_canon g t c =
-    c.let_step.ensures.same_canon
 
 pub beh_step-value_step-requires : goal.beh_step-value_step-requires
 beh_step-value_step-requires g t c κs within = (
@@ -765,14 +610,6 @@ beh_step-returns-in-ChooseValue-clause-answer g t c =
     behaviour_of c.in-ChooseValue.is) ∙ ap (λ (x : Beh). (choose_value (variable_of c.in-ChooseValue.variable) (behaviour_of x)))
     (sym c.deref-in-ChooseValue.ensures))) there)
 
-pub beh_step-returns-in-ChooseValue-clause-same_data : goal.beh_step-returns-in-ChooseValue-clause-same_data
-beh_step-returns-in-ChooseValue-clause-same_data g t c =
-    c.value_step.ensures.same_data
-
-pub beh_step-returns-in-ChooseValue-clause-same_canon : goal.beh_step-returns-in-ChooseValue-clause-same_canon
-beh_step-returns-in-ChooseValue-clause-same_canon g t c =
-    c.value_step.ensures.same_canon
-
 pub beh_step-gate_step-requires : goal.beh_step-gate_step-requires
 beh_step-gate_step-requires g t c κs within = (
   (form_less (shape_of c.args.shape.now) (behaviour_of c.args.behaviour.now) 2 _ (omega arith) c.decreases),
@@ -798,14 +635,6 @@ beh_step-returns-in-ChooseGate-clause-answer g t c =
     c.args.at (sym ((ap behaviour_of c.in-ChooseGate.is) ∙ ap (λ (x : Beh). (choose_gate c.in-ChooseGate.gate
     c.in-ChooseGate.gates.items (behaviour_of x))) (sym c.deref-in-ChooseGate.ensures))) there)
 
-pub beh_step-returns-in-ChooseGate-clause-same_data : goal.beh_step-returns-in-ChooseGate-clause-same_data
-beh_step-returns-in-ChooseGate-clause-same_data g t c =
-    c.gate_step.ensures.same_data
-
-pub beh_step-returns-in-ChooseGate-clause-same_canon : goal.beh_step-returns-in-ChooseGate-clause-same_canon
-beh_step-returns-in-ChooseGate-clause-same_canon g t c =
-    c.gate_step.ensures.same_canon
-
 pub beh_step-call_step-requires : goal.beh_step-call_step-requires
 beh_step-call_step-requires g t c κs within = (
   (form_less (shape_of c.args.shape.now) (behaviour_of c.args.behaviour.now) 2 _ (omega arith) c.decreases),
@@ -827,14 +656,6 @@ beh_step-returns-in-Call-clause-answer g t c =
     c.in-Call.gates.items (terms_of c.in-Call.values.items)) (shape_of c.args.shape.now) c.args.at (sym (ap behaviour_of
     c.in-Call.is)) there)
 
-pub beh_step-returns-in-Call-clause-same_data : goal.beh_step-returns-in-Call-clause-same_data
-beh_step-returns-in-Call-clause-same_data g t c =
-    c.call_step.ensures.same_data
-
-pub beh_step-returns-in-Call-clause-same_canon : goal.beh_step-returns-in-Call-clause-same_canon
-beh_step-returns-in-Call-clause-same_canon g t c =
-    c.call_step.ensures.same_canon
-
 pub beh_step-enable_step-requires : goal.beh_step-enable_step-requires
 beh_step-enable_step-requires g t c κs within = (
   (form_less (shape_of c.args.shape.now) (behaviour_of c.args.behaviour.now) 2 _ (omega arith) c.decreases),
@@ -849,7 +670,8 @@ beh_step-enable_step-requires g t c κs within = (
             (environment_of c.new-environment.result.items))) (behaviour_of c.in-Enable.right.value))) (profiles_in
             c.args.behaviour.now) ((profiles_in c.in-Enable.left.value) ++ ((profiles_in c.in-Enable.right.value) ++ (map
             pair_profile c.new-environment.result.items))) ((ap behaviour_of c.in-Enable.is) ∙ two_as (λ (l r : Beh). enable
-            (behaviour_of l) (variables_of c.in-Enable.variables.items) (behaviour_of r)) _ _ _ _ (sym (refl {a = c.in-Enable.left.value})) (sym
+            (behaviour_of l) (variables_of c.in-Enable.variables.items) (behaviour_of r)) _ _ _ _ (sym (refl {a =
+            c.in-Enable.left.value})) (sym
             (refl {a = c.in-Enable.right.value}))
             ∙ ap (enable (behaviour_of c.in-Enable.left.value) (variables_of c.in-Enable.variables.items)) (sym (nothing_put
             (variables_of c.in-Enable.variables.items) c.new-environment.result.items (behaviour_of c.in-Enable.right.value)
@@ -865,7 +687,8 @@ beh_step-enable_step-requires g t c κs within = (
               c.in-Enable.right.value) c.new-environment.ensures.items
               (subst (λ (b : Behaviour). IsClosedOn (ground_of (g.D.Deciding.known_data c.args.data.now) (g.D.Deciding.canon
               c.args.data.now) c.args.walk.now.spec.now) b) ((ap behaviour_of c.in-Enable.is) ∙ two_as (λ (l r : Beh). enable
-              (behaviour_of l) (variables_of c.in-Enable.variables.items) (behaviour_of r)) _ _ _ _ (sym (refl {a = c.in-Enable.left.value}))
+              (behaviour_of l) (variables_of c.in-Enable.variables.items) (behaviour_of r)) _ _ _ _ (sym (refl {a =
+              c.in-Enable.left.value}))
               (sym (refl {a = c.in-Enable.right.value}))) c.requires.part.closed),
         ),
       ),
@@ -885,26 +708,10 @@ beh_step-returns-in-Enable-clause-answer g t c =
     (variables_of c.in-Enable.variables.items) c.new-environment.result.items (behaviour_of c.in-Enable.right.value)
     c.new-environment.ensures.items)))) there)
 
-pub beh_step-returns-in-Enable-clause-same_data : goal.beh_step-returns-in-Enable-clause-same_data
-beh_step-returns-in-Enable-clause-same_data g t c =
-    c.enable_step.ensures.same_data
-
-pub beh_step-returns-in-Enable-clause-same_canon : goal.beh_step-returns-in-Enable-clause-same_canon
-beh_step-returns-in-Enable-clause-same_canon g t c =
-    c.enable_step.ensures.same_canon
-
 pub beh_step-returns-in_err-opened-in-ParGate-clause-answer : goal.beh_step-returns-in_err-opened-in-ParGate-clause-answer
 beh_step-returns-in_err-opened-in-ParGate-clause-answer g t c =
     λ place there. memory_walked (ground_of (g.D.Deciding.known_data c.args.data.now) (g.D.Deciding.canon c.args.data.now)
     c.args.walk.now.spec.now) (terms_of c.args.walk.now.leaves.now) place c.from_residual.result c.from_residual.ensures.1
-
-pub beh_step-returns-in_err-opened-in-ParGate-clause-same_data : goal.beh_step-returns-in_err-opened-in-ParGate-clause-same_data
-beh_step-returns-in_err-opened-in-ParGate-clause-same_data g t c =
-    refl
-
-pub beh_step-returns-in_err-opened-in-ParGate-clause-same_canon : goal.beh_step-returns-in_err-opened-in-ParGate-clause-same_canon
-beh_step-returns-in_err-opened-in-ParGate-clause-same_canon g t c =
-    refl
 
 pub beh_step-node_step-requires : goal.beh_step-node_step-requires
 beh_step-node_step-requires g t c κs within = (
@@ -931,7 +738,8 @@ beh_step-node_step-requires g t c κs within = (
               c.requires.part.closed)));
           terms_of_signature = c.in_ok-opened-in-ParGate.ensures.terms (g.D.Deciding.known_data
               c.args.data.now).signature (subst (AreTermsOf (g.D.Deciding.known_data c.args.data.now).signature) ((ap profiles_in
-              c.in-ParGate.is) ∙ ap (λ (x : Beh). (profiles_in x)) (sym (refl {a = c.in-ParGate.next.value}))) c.requires.part.terms_of_signature);
+              c.in-ParGate.is) ∙ ap (λ (x : Beh). (profiles_in x)) (sym (refl {a = c.in-ParGate.next.value})))
+              c.requires.part.terms_of_signature);
         });
         states = closed_state (g.D.Deciding.known_data c.args.data.now).signature (specification_of c.args.walk.now.spec.now)
             c.in_ok-opened-in-ParGate.opened (c.in_ok-opened-in-ParGate.ensures.closed_parts (g.D.Deciding.known_data
@@ -975,14 +783,6 @@ beh_step-returns-in_ok-opened-in-ParGate-clause-answer g t c =
       leaf = refl;
     })))
 
-pub beh_step-returns-in_ok-opened-in-ParGate-clause-same_data : goal.beh_step-returns-in_ok-opened-in-ParGate-clause-same_data
-beh_step-returns-in_ok-opened-in-ParGate-clause-same_data g t c =
-    c.node_step.ensures.same_data
-
-pub beh_step-returns-in_ok-opened-in-ParGate-clause-same_canon : goal.beh_step-returns-in_ok-opened-in-ParGate-clause-same_canon
-beh_step-returns-in_ok-opened-in-ParGate-clause-same_canon g t c =
-    c.node_step.ensures.same_canon
-
 pub guard_step-returns-in_default : goal.guard_step-returns-in_default
 guard_step-returns-in_default g t c =
     record {
@@ -992,8 +792,7 @@ guard_step-returns-in_default g t c =
           (unfit_guard (setting_on (ground_of (g.D.Deciding.known_data c.args.data.now) (g.D.Deciding.canon c.args.data.now)
           c.args.walk.now.spec.now)) (terms_of c.args.walk.now.leaves.now) c.args.at.leaf c.args.shape.now (test_of c.args.test.now)
           (behaviour_of c.args.next.now) (λ part is. c.in_default.not-Guarded part is)) c.misfit.ensures;
-      same_data = refl;
-      same_canon = refl;
+      same_known = keeps_itself;
     }
 
 pub guard_step-checked_pair-requires-clause-left : goal.guard_step-checked_pair-requires-clause-left
@@ -1024,14 +823,6 @@ guard_step-returns-in_err-checked_pair-clause-answer g t c =
     c.in-Guarded.inner.value) place.number c.args.at.leaf (test_of c.args.test.now) (behaviour_of c.args.next.now))
     c.in_err-checked_pair.field-0.0 (c.in_err-checked_pair.ensures.checked place.number there.node)))
 
-pub guard_step-returns-in_err-checked_pair-clause-same_data : goal.guard_step-returns-in_err-checked_pair-clause-same_data
-guard_step-returns-in_err-checked_pair-clause-same_data g t c =
-    c.checked_pair.ensures.same_data
-
-pub guard_step-returns-in_err-checked_pair-clause-same_canon : goal.guard_step-returns-in_err-checked_pair-clause-same_canon
-guard_step-returns-in_err-checked_pair-clause-same_canon g t c =
-    c.checked_pair.ensures.same_canon
-
 pub guard_step-beh_step-requires : goal.guard_step-beh_step-requires
 guard_step-beh_step-requires g t c κs within = (
   (part_less (shape_of c.args.shape.now) (shape_of c.deref.result.now) (behaviour_of c.args.next.now) 2 _ (omega arith) (ap (λ (s :
@@ -1039,14 +830,13 @@ guard_step-beh_step-requires g t c κs within = (
   (
     search rules,
     (
-      (carried (λ (d : Data) (f : Term → Term). IsWalk (ground_of d f c.args.walk.now.spec.now)
-          c.args.walk.now.leaves.now c.below.result.leaf) _ _ _ _ (sym c.checked_pair.ensures.same_data) (sym
-          c.checked_pair.ensures.same_canon) (subst (λ (k : ℕ). IsWalk (ground_of (g.D.Deciding.known_data c.args.data.now)
+      (holds_after (λ (d : Data) (f : Term → Term). IsStepWalk (ground_of d f c.args.walk.now.spec.now)
+          c.args.walk.now.leaves.now c.below.result.leaf) c.checked_pair.ensures.same_known (subst (λ (k : ℕ). IsStepWalk (ground_of
+          (g.D.Deciding.known_data c.args.data.now)
           (g.D.Deciding.canon c.args.data.now) c.args.walk.now.spec.now) c.args.walk.now.leaves.now k) (sym c.below.ensures.leaf)
           c.requires.walk)),
-      (carried (λ (d : Data) (f : Term → Term). IsPassable (ground_of d f c.args.walk.now.spec.now) (behaviour_of
-          c.args.next.now) (profiles_in c.args.next.now)) _ _ _ _ (sym c.checked_pair.ensures.same_data) (sym
-          c.checked_pair.ensures.same_canon) (record {
+      (holds_after (λ (d : Data) (f : Term → Term). IsPassable (ground_of d f c.args.walk.now.spec.now) (behaviour_of
+          c.args.next.now) (profiles_in c.args.next.now)) c.checked_pair.ensures.same_known (record {
             closed = c.requires.part.closed.1;
             terms_of_signature = second_terms
                 (g.D.Deciding.known_data c.args.data.now).signature (test_profiles c.args.test.now) (profiles_in c.args.next.now)
@@ -1076,22 +866,14 @@ guard_step-returns-clause-answer g t c =
     c.args.at.leaf) (is_below (guard (test_of c.args.test.now) (behaviour_of c.args.next.now)) (behaviour_of c.args.next.now)
     (guarded (shape_of c.deref.result.now)) (shape_of c.deref.result.now) place.number c.args.at.leaf refl)) (λ m. refl)
     c.beh_step.result
-    (carried (λ (d : Data) (f : Term → Term). IsWalked (ground_of d f c.args.walk.now.spec.now) (terms_of c.args.walk.now.leaves.now)
-    (stand (behaviour_of c.args.next.now) (shape_of c.deref.result.now) (suc place.number) c.args.at.leaf) c.beh_step.result) _ _ _ _
-    c.checked_pair.ensures.same_data c.checked_pair.ensures.same_canon (c.beh_step.ensures.answer (stand (behaviour_of
+    (held_before (λ (d : Data) (f : Term → Term). IsWalked (ground_of d f c.args.walk.now.spec.now) (terms_of c.args.walk.now.leaves.now)
+    (stand (behaviour_of c.args.next.now) (shape_of c.deref.result.now) (suc place.number) c.args.at.leaf) c.beh_step.result)
+    c.checked_pair.ensures.same_known (c.beh_step.ensures.answer (stand (behaviour_of
     c.args.next.now) (shape_of c.deref.result.now) (suc place.number) c.args.at.leaf) (below_there place (guard (test_of
     c.args.test.now) (behaviour_of c.args.next.now)) (behaviour_of c.args.next.now) (guarded (shape_of c.deref.result.now)) (shape_of
     c.deref.result.now) c.args.at c.below.result (of_shape place (guard (test_of c.args.test.now) (behaviour_of c.args.next.now))
     (shape_of c.args.shape.now) (guarded (shape_of c.deref.result.now)) c.args.at (ap (λ (s : Shape). guarded (shape_of s))
     c.deref.ensures ∙ sym (ap shape_of c.in-Guarded.is)) there) c.below.ensures.node c.args.at.leaf c.below.ensures.leaf))))
-
-pub guard_step-returns-clause-same_data : goal.guard_step-returns-clause-same_data
-guard_step-returns-clause-same_data g t c =
-    c.beh_step.ensures.same_data ∙ c.checked_pair.ensures.same_data
-
-pub guard_step-returns-clause-same_canon : goal.guard_step-returns-clause-same_canon
-guard_step-returns-clause-same_canon g t c =
-    c.beh_step.ensures.same_canon ∙ c.checked_pair.ensures.same_canon
 
 pub choice_step-returns-in_default : goal.choice_step-returns-in_default
 choice_step-returns-in_default g t c =
@@ -1103,8 +885,7 @@ choice_step-returns-in_default g t c =
           c.args.walk.now.spec.now)) (terms_of c.args.walk.now.leaves.now) c.args.at.leaf c.args.shape.now (behaviour_of
           c.args.left.now) (behaviour_of c.args.right.now) (λ part is. c.in_default.not-Left part is) (λ part is.
           c.in_default.not-Right part is)) c.misfit.ensures;
-      same_data = refl;
-      same_canon = refl;
+      same_known = keeps_itself;
     }
 
 pub choice_step-beh_step-requires : goal.choice_step-beh_step-requires
@@ -1114,7 +895,7 @@ choice_step-beh_step-requires g t c κs within = (
   (
     search rules,
     (
-      (subst (λ (k : ℕ). IsWalk (ground_of (g.D.Deciding.known_data c.args.data.now) (g.D.Deciding.canon
+      (subst (λ (k : ℕ). IsStepWalk (ground_of (g.D.Deciding.known_data c.args.data.now) (g.D.Deciding.canon
           c.args.data.now) c.args.walk.now.spec.now) c.args.walk.now.leaves.now k) (sym c.below.ensures.leaf) c.requires.walk),
       (record {
         closed = c.requires.part.closed.0;
@@ -1151,14 +932,6 @@ choice_step-returns-in-Left-clause-answer g t c =
     (shape_of c.deref.result.now)) c.args.at (ap (λ (s : Shape). left_side (shape_of s)) c.deref.ensures ∙ sym (ap shape_of
     c.in-Left.is)) there) c.below.ensures.node c.args.at.leaf c.below.ensures.leaf)))
 
-pub choice_step-returns-in-Left-clause-same_data : goal.choice_step-returns-in-Left-clause-same_data
-choice_step-returns-in-Left-clause-same_data g t c =
-    c.beh_step.ensures.same_data
-
-pub choice_step-returns-in-Left-clause-same_canon : goal.choice_step-returns-in-Left-clause-same_canon
-choice_step-returns-in-Left-clause-same_canon g t c =
-    c.beh_step.ensures.same_canon
-
 pub choice_step-beh_step-requires-in-Right : goal.choice_step-beh_step-requires-in-Right
 choice_step-beh_step-requires-in-Right g t c κs within = (
   (part_less (shape_of c.args.shape.now) (shape_of c.deref-in-Right.result.now) (behaviour_of c.args.right.now) 2 _ (omega arith) (ap
@@ -1167,7 +940,7 @@ choice_step-beh_step-requires-in-Right g t c κs within = (
   (
     search rules,
     (
-      (subst (λ (k : ℕ). IsWalk (ground_of (g.D.Deciding.known_data c.args.data.now) (g.D.Deciding.canon
+      (subst (λ (k : ℕ). IsStepWalk (ground_of (g.D.Deciding.known_data c.args.data.now) (g.D.Deciding.canon
           c.args.data.now) c.args.walk.now.spec.now) c.args.walk.now.leaves.now k) (sym c.below-in-Right.ensures.leaf) c.requires.walk),
       (record {
         closed = c.requires.part.closed.1;
@@ -1206,14 +979,6 @@ choice_step-returns-in-Right-clause-answer g t c =
     (shape_of s)) c.deref-in-Right.ensures ∙ sym (ap shape_of c.in-Right.is)) there) c.below-in-Right.ensures.node c.args.at.leaf
     c.below-in-Right.ensures.leaf)))
 
-pub choice_step-returns-in-Right-clause-same_data : goal.choice_step-returns-in-Right-clause-same_data
-choice_step-returns-in-Right-clause-same_data g t c =
-    c.beh_step-in-Right.ensures.same_data
-
-pub choice_step-returns-in-Right-clause-same_canon : goal.choice_step-returns-in-Right-clause-same_canon
-choice_step-returns-in-Right-clause-same_canon g t c =
-    c.beh_step-in-Right.ensures.same_canon
-
 pub parallel_step-returns-in_default : goal.parallel_step-returns-in_default
 parallel_step-returns-in_default g t c =
     record {
@@ -1224,8 +989,7 @@ parallel_step-returns-in_default g t c =
           c.args.walk.now.spec.now)) (terms_of c.args.walk.now.leaves.now) c.args.at.leaf c.args.shape.now (meet_of c.args.meet.now)
           (side_of c.args.left.now) (side_of c.args.right.now) (λ part is. c.in_default.not-Left part is) (λ part is.
           c.in_default.not-Right part is) (λ part other is. c.in_default.not-Both part other is)) c.misfit.ensures;
-      same_data = refl;
-      same_canon = refl;
+      same_known = keeps_itself;
     }
 
 pub parallel_step-side_step-requires : goal.parallel_step-side_step-requires
@@ -1235,7 +999,7 @@ parallel_step-side_step-requires g t c κs within = (
   (
     search rules,
     (
-      (subst (λ (k : ℕ). IsWalk (ground_of (g.D.Deciding.known_data c.args.data.now) (g.D.Deciding.canon c.args.data.now)
+      (subst (λ (k : ℕ). IsStepWalk (ground_of (g.D.Deciding.known_data c.args.data.now) (g.D.Deciding.canon c.args.data.now)
           c.args.walk.now.spec.now) c.args.walk.now.leaves.now k) (sym c.below.ensures.leaf) c.requires.walk),
       (record {
         passable = (record {
@@ -1275,14 +1039,6 @@ parallel_step-returns-in_err-moved-in-Left-clause-answer g t c =
     c.args.shape.now) (left_side (shape_of c.deref.result.now)) c.args.at (ap (λ (s : Shape). left_side (shape_of s)) c.deref.ensures
     ∙ sym (ap shape_of c.in-Left.is)) there) c.below.ensures.node c.args.at.leaf c.below.ensures.leaf))))
 
-pub parallel_step-returns-in_err-moved-in-Left-clause-same_data : goal.parallel_step-returns-in_err-moved-in-Left-clause-same_data
-parallel_step-returns-in_err-moved-in-Left-clause-same_data g t c =
-    c.side_step.ensures.same_data
-
-pub parallel_step-returns-in_err-moved-in-Left-clause-same_canon : goal.parallel_step-returns-in_err-moved-in-Left-clause-same_canon
-parallel_step-returns-in_err-moved-in-Left-clause-same_canon g t c =
-    c.side_step.ensures.same_canon
-
 pub parallel_step-returns-in_ok-moved-in-Left-clause-answer : goal.parallel_step-returns-in_ok-moved-in-Left-clause-answer
 parallel_step-returns-in_ok-moved-in-Left-clause-answer g t c =
     λ place there.
@@ -1315,14 +1071,6 @@ parallel_step-returns-in_ok-moved-in-Left-clause-answer g t c =
     c.args.at (ap (λ (s : Shape). left_side (shape_of s)) c.deref.ensures ∙ sym (ap shape_of c.in-Left.is)) there)
     c.below.ensures.node c.args.at.leaf c.below.ensures.leaf)))
 
-pub parallel_step-returns-in_ok-moved-in-Left-clause-same_data : goal.parallel_step-returns-in_ok-moved-in-Left-clause-same_data
-parallel_step-returns-in_ok-moved-in-Left-clause-same_data g t c =
-    c.side_step.ensures.same_data
-
-pub parallel_step-returns-in_ok-moved-in-Left-clause-same_canon : goal.parallel_step-returns-in_ok-moved-in-Left-clause-same_canon
-parallel_step-returns-in_ok-moved-in-Left-clause-same_canon g t c =
-    c.side_step.ensures.same_canon
-
 pub parallel_step-side_step-requires-in-Right : goal.parallel_step-side_step-requires-in-Right
 parallel_step-side_step-requires-in-Right g t c κs within = (
   (part_less (shape_of c.args.shape.now) (shape_of c.deref-in-Right.result.now) (side_of c.args.right.now) 4 _ (omega arith) (ap (λ (s
@@ -1331,7 +1079,7 @@ parallel_step-side_step-requires-in-Right g t c κs within = (
   (
     search rules,
     (
-      (subst (λ (k : ℕ). IsWalk (ground_of (g.D.Deciding.known_data c.args.data.now) (g.D.Deciding.canon
+      (subst (λ (k : ℕ). IsStepWalk (ground_of (g.D.Deciding.known_data c.args.data.now) (g.D.Deciding.canon
           c.args.data.now) c.args.walk.now.spec.now) c.args.walk.now.leaves.now k) (sym c.below-in-Right.ensures.leaf) c.requires.walk),
       (record {
         passable = (record {
@@ -1373,14 +1121,6 @@ parallel_step-returns-in_err-moved-in-Right-clause-answer g t c =
     (shape_of s)) c.deref-in-Right.ensures ∙ sym (ap shape_of c.in-Right.is)) there) c.below-in-Right.ensures.node c.args.at.leaf
     c.below-in-Right.ensures.leaf))))
 
-pub parallel_step-returns-in_err-moved-in-Right-clause-same_data : goal.parallel_step-returns-in_err-moved-in-Right-clause-same_data
-parallel_step-returns-in_err-moved-in-Right-clause-same_data g t c =
-    c.side_step-in-Right.ensures.same_data
-
-pub parallel_step-returns-in_err-moved-in-Right-clause-same_canon : goal.parallel_step-returns-in_err-moved-in-Right-clause-same_canon
-parallel_step-returns-in_err-moved-in-Right-clause-same_canon g t c =
-    c.side_step-in-Right.ensures.same_canon
-
 pub parallel_step-returns-in_ok-moved-in-Right-clause-answer : goal.parallel_step-returns-in_ok-moved-in-Right-clause-answer
 parallel_step-returns-in_ok-moved-in-Right-clause-answer g t c =
     λ place there.
@@ -1415,14 +1155,6 @@ parallel_step-returns-in_ok-moved-in-Right-clause-answer g t c =
     c.deref-in-Right.result.now)) c.args.at (ap (λ (s : Shape). right_side (shape_of s)) c.deref-in-Right.ensures ∙ sym (ap shape_of
     c.in-Right.is)) there) c.below-in-Right.ensures.node c.args.at.leaf c.below-in-Right.ensures.leaf)))
 
-pub parallel_step-returns-in_ok-moved-in-Right-clause-same_data : goal.parallel_step-returns-in_ok-moved-in-Right-clause-same_data
-parallel_step-returns-in_ok-moved-in-Right-clause-same_data g t c =
-    c.side_step-in-Right.ensures.same_data
-
-pub parallel_step-returns-in_ok-moved-in-Right-clause-same_canon : goal.parallel_step-returns-in_ok-moved-in-Right-clause-same_canon
-parallel_step-returns-in_ok-moved-in-Right-clause-same_canon g t c =
-    c.side_step-in-Right.ensures.same_canon
-
 pub parallel_step-side_step-requires-in-Both : goal.parallel_step-side_step-requires-in-Both
 parallel_step-side_step-requires-in-Both g t c κs within = (
   (left_less (shape_of c.args.shape.now) (shape_of c.deref-in-Both.result.now) (shape_of c.in-Both.other.value) (side_of
@@ -1432,7 +1164,7 @@ parallel_step-side_step-requires-in-Both g t c κs within = (
     search rules,
     (
       (subst (λ (k : ℕ).
-          IsWalk (ground_of (g.D.Deciding.known_data c.args.data.now) (g.D.Deciding.canon c.args.data.now) c.args.walk.now.spec.now)
+          IsStepWalk (ground_of (g.D.Deciding.known_data c.args.data.now) (g.D.Deciding.canon c.args.data.now) c.args.walk.now.spec.now)
           c.args.walk.now.leaves.now k) (sym c.below-in-Both.ensures.leaf) c.requires.walk),
       (record {
         passable = (record {
@@ -1471,14 +1203,6 @@ parallel_step-returns-in_err-first-in-Both-clause-answer g t c =
     c.deref-in-Both.ensures ∙ sym (ap shape_of c.in-Both.is)) there) c.below-in-Both.ensures.node c.args.at.leaf
     c.below-in-Both.ensures.leaf))))
 
-pub parallel_step-returns-in_err-first-in-Both-clause-same_data : goal.parallel_step-returns-in_err-first-in-Both-clause-same_data
-parallel_step-returns-in_err-first-in-Both-clause-same_data g t c =
-    c.side_step-in-Both.ensures.same_data
-
-pub parallel_step-returns-in_err-first-in-Both-clause-same_canon : goal.parallel_step-returns-in_err-first-in-Both-clause-same_canon
-parallel_step-returns-in_err-first-in-Both-clause-same_canon g t c =
-    c.side_step-in-Both.ensures.same_canon
-
 pub parallel_step-side_step-requires-in-Both-2 : goal.parallel_step-side_step-requires-in-Both-2
 parallel_step-side_step-requires-in-Both-2 g t c κs within = (
   (right_less (shape_of c.args.shape.now) (shape_of c.deref-in-Both.result.now) (shape_of c.deref-in-Both-2.result.now) (side_of
@@ -1488,9 +1212,8 @@ parallel_step-side_step-requires-in-Both-2 g t c κs within = (
     search
         rules,
     (
-      (carried (λ (d : Data) (f : Term → Term). IsWalk (ground_of d f c.args.walk.now.spec.now) c.args.walk.now.leaves.now
-          c.in_ok-first-in-Both.first.behind.leaf) _ _ _ _ (sym c.side_step-in-Both.ensures.same_data) (sym
-          c.side_step-in-Both.ensures.same_canon) (record {
+      (holds_after (λ (d : Data) (f : Term → Term). IsStepWalk (ground_of d f c.args.walk.now.spec.now) c.args.walk.now.leaves.now
+          c.in_ok-first-in-Both.first.behind.leaf) c.side_step-in-Both.ensures.same_known (record {
             over = c.requires.walk.over;
             leaves_of_signature =
                 c.requires.walk.leaves_of_signature;
@@ -1514,9 +1237,8 @@ parallel_step-side_step-requires-in-Both-2 g t c κs within = (
                 (both_sides (shape_of c.deref-in-Both.result.now) (shape_of c.deref-in-Both-2.result.now)) c.args.at (omega arith))
                 c.below-in-Both.ensures.node c.args.at.leaf c.below-in-Both.ensures.leaf))));
           })),
-      (carried (λ (d : Data) (f : Term → Term).
-          IsPassableSide (ground_of d f c.args.walk.now.spec.now) c.args.right.now) _ _ _ _ (sym c.side_step-in-Both.ensures.same_data)
-          (sym c.side_step-in-Both.ensures.same_canon) (record {
+      (holds_after (λ (d : Data) (f : Term → Term).
+          IsPassableSide (ground_of d f c.args.walk.now.spec.now) c.args.right.now) c.side_step-in-Both.ensures.same_known (record {
             passable = (record {
               closed = c.requires.part.closed.2;
               terms_of_signature
@@ -1553,10 +1275,10 @@ parallel_step-returns-in_err-second-in-Both-clause-answer g t c =
     (shape_of c.deref-in-Both-2.result.now)) c.args.at (two_as (λ (s t : Shape). both_sides (shape_of s) (shape_of t)) _ _ _ _
     c.deref-in-Both.ensures c.deref-in-Both-2.ensures ∙ sym (ap shape_of c.in-Both.is)) there) c.below-in-Both.ensures.node
     c.args.at.leaf c.below-in-Both.ensures.leaf)) c.in_err-second-in-Both.field-0.0
-    (carried (λ (d : Data) (f : Term → Term). UnlessMemory (IsFirstFault (ground_of d f c.args.walk.now.spec.now) (terms_of
+    (held_before (λ (d : Data) (f : Term → Term). UnlessMemory (IsFirstStepFault (ground_of d f c.args.walk.now.spec.now) (terms_of
     c.args.walk.now.leaves.now) (stand (side_of c.args.right.now) (shape_of c.deref-in-Both-2.result.now) (suc (place.number + size
-    (shape_of c.deref-in-Both.result.now))) c.in_ok-first-in-Both.first.behind.leaf)) c.in_err-second-in-Both.field-0.0) _ _ _ _
-    c.side_step-in-Both.ensures.same_data c.side_step-in-Both.ensures.same_canon (c.in_err-second-in-Both.ensures.answer (stand
+    (shape_of c.deref-in-Both.result.now))) c.in_ok-first-in-Both.first.behind.leaf)) c.in_err-second-in-Both.field-0.0)
+    c.side_step-in-Both.ensures.same_known (c.in_err-second-in-Both.ensures.answer (stand
     (side_of c.args.right.now) (shape_of c.deref-in-Both-2.result.now) (suc (place.number + size (shape_of
     c.deref-in-Both.result.now))) c.in_ok-first-in-Both.first.behind.leaf) (record {
       behaviour = refl;
@@ -1574,18 +1296,12 @@ parallel_step-returns-in_err-second-in-Both-clause-answer g t c =
       leaf = refl;
     })))))
 
-pub parallel_step-returns-in_err-second-in-Both-clause-same_data : goal.parallel_step-returns-in_err-second-in-Both-clause-same_data
-parallel_step-returns-in_err-second-in-Both-clause-same_data g t c =
-    (c.side_step-in-Both-2.ensures.same_data ∙ c.side_step-in-Both.ensures.same_data)
-
-pub parallel_step-returns-in_err-second-in-Both-clause-same_canon : goal.parallel_step-returns-in_err-second-in-Both-clause-same_canon
-parallel_step-returns-in_err-second-in-Both-clause-same_canon g t c =
-    (c.side_step-in-Both-2.ensures.same_canon ∙ c.side_step-in-Both.ensures.same_canon)
-
 pub parallel_step-together-requires-clause-left : goal.parallel_step-together-requires-clause-left
 parallel_step-together-requires-clause-left g t c =
     subst (λ (d : Data). AreTermsOf d.signature (label_profiles c.in_ok-first-in-Both.first.label)) (sym
-    (c.side_step-in-Both-2.ensures.same_data ∙ c.side_step-in-Both.ensures.same_data)) (c.in_ok-first-in-Both.ensures.answer (stand
+    (c.side_step-in-Both-2.ensures.same_known.same_data ∙ c.side_step-in-Both.ensures.same_known.same_data))
+    (c.in_ok-first-in-Both.ensures.answer
+    (stand
     (side_of c.args.left.now) (shape_of c.deref-in-Both.result.now) (suc c.args.at.node) c.args.at.leaf) (below_there (stand
     (parallel (meet_of c.args.meet.now) (side_of c.args.left.now) (side_of c.args.right.now)) (both_sides (shape_of
     c.deref-in-Both.result.now) (shape_of c.deref-in-Both-2.result.now)) c.args.at.node c.args.at.leaf) (parallel (meet_of
@@ -1598,7 +1314,7 @@ parallel_step-together-requires-clause-left g t c =
 pub parallel_step-together-requires-clause-right : goal.parallel_step-together-requires-clause-right
 parallel_step-together-requires-clause-right g t c =
     subst (λ (d : Data). AreTermsOf d.signature (label_profiles c.in_ok-second-in-Both.second.label)) (sym
-    c.side_step-in-Both-2.ensures.same_data) (c.in_ok-second-in-Both.ensures.answer (stand (side_of c.args.right.now) (shape_of
+    c.side_step-in-Both-2.ensures.same_known.same_data) (c.in_ok-second-in-Both.ensures.answer (stand (side_of c.args.right.now) (shape_of
     c.deref-in-Both-2.result.now) (suc (c.args.at.node + size (shape_of c.deref-in-Both.result.now)))
     c.in_ok-first-in-Both.first.behind.leaf) (record {
       behaviour = refl;
@@ -1627,17 +1343,18 @@ parallel_step-returns-in_ok-second-in-Both-clause-answer g t c =
     (both_sides (shape_of c.deref-in-Both.result.now) (shape_of c.deref-in-Both-2.result.now)) c.args.at (two_as (λ (s t : Shape).
     both_sides (shape_of s) (shape_of t)) _ _ _ _ c.deref-in-Both.ensures c.deref-in-Both-2.ensures ∙ sym (ap shape_of c.in-Both.is))
     there) c.together.result
-    (carried (λ (d : Data) (f : Term → Term). IsWalked (ground_of d f c.args.walk.now.spec.now) (terms_of c.args.walk.now.leaves.now)
+    (held_before (λ (d : Data) (f : Term → Term). IsWalked (ground_of d f c.args.walk.now.spec.now) (terms_of c.args.walk.now.leaves.now)
     (stand (parallel (meet_of c.args.meet.now) (side_of c.args.left.now) (side_of c.args.right.now)) (both_sides (shape_of
-    c.deref-in-Both.result.now) (shape_of c.deref-in-Both-2.result.now)) place.number c.args.at.leaf) c.together.result) _ _ _ _
-    (c.side_step-in-Both-2.ensures.same_data ∙ c.side_step-in-Both.ensures.same_data) (c.side_step-in-Both-2.ensures.same_canon ∙
-    c.side_step-in-Both.ensures.same_canon) (c.together.ensures.answer (terms_of c.args.walk.now.leaves.now) (side_of
+    c.deref-in-Both.result.now) (shape_of c.deref-in-Both-2.result.now)) place.number c.args.at.leaf) c.together.result) (keeps_both
+    c.side_step-in-Both.ensures.same_known c.side_step-in-Both-2.ensures.same_known) (c.together.ensures.answer (terms_of
+    c.args.walk.now.leaves.now)
+    (side_of
     c.args.left.now) (side_of c.args.right.now) (shape_of c.deref-in-Both.result.now) (shape_of c.deref-in-Both-2.result.now)
     place.number c.args.at.leaf there.node
-    (carried (λ (d : Data) (f : Term → Term). IsMoved (ground_of d f c.args.walk.now.spec.now) (terms_of c.args.walk.now.leaves.now)
+    (holds_after (λ (d : Data) (f : Term → Term). IsMoved (ground_of d f c.args.walk.now.spec.now) (terms_of c.args.walk.now.leaves.now)
     (stand (side_of c.args.left.now) (shape_of c.deref-in-Both.result.now) (suc place.number) c.args.at.leaf)
-    c.in_ok-first-in-Both.first) _ _ _ _ (sym (c.side_step-in-Both-2.ensures.same_data ∙ c.side_step-in-Both.ensures.same_data)) (sym
-    (c.side_step-in-Both-2.ensures.same_canon ∙ c.side_step-in-Both.ensures.same_canon)) (c.in_ok-first-in-Both.ensures.answer (stand
+    c.in_ok-first-in-Both.first) (keeps_both c.side_step-in-Both.ensures.same_known c.side_step-in-Both-2.ensures.same_known)
+    (c.in_ok-first-in-Both.ensures.answer (stand
     (side_of c.args.left.now) (shape_of c.deref-in-Both.result.now) (suc place.number) c.args.at.leaf) (below_there place (parallel
     (meet_of c.args.meet.now) (side_of c.args.left.now) (side_of c.args.right.now)) (side_of c.args.left.now) (both_sides (shape_of
     c.deref-in-Both.result.now) (shape_of c.deref-in-Both-2.result.now)) (shape_of c.deref-in-Both.result.now) c.args.at
@@ -1645,10 +1362,10 @@ parallel_step-returns-in_ok-second-in-Both-clause-answer g t c =
     (shape_of c.args.shape.now) (both_sides (shape_of c.deref-in-Both.result.now) (shape_of c.deref-in-Both-2.result.now)) c.args.at
     (two_as (λ (s t : Shape). both_sides (shape_of s) (shape_of t)) _ _ _ _ c.deref-in-Both.ensures c.deref-in-Both-2.ensures ∙ sym
     (ap shape_of c.in-Both.is)) there) c.below-in-Both.ensures.node c.args.at.leaf c.below-in-Both.ensures.leaf)))
-    (carried (λ (d : Data) (f : Term → Term). IsMoved (ground_of d f c.args.walk.now.spec.now) (terms_of c.args.walk.now.leaves.now)
+    (holds_after (λ (d : Data) (f : Term → Term). IsMoved (ground_of d f c.args.walk.now.spec.now) (terms_of c.args.walk.now.leaves.now)
     (stand (side_of c.args.right.now) (shape_of c.deref-in-Both-2.result.now) (suc (place.number + size (shape_of
-    c.deref-in-Both.result.now))) c.in_ok-first-in-Both.first.behind.leaf) c.in_ok-second-in-Both.second) _ _ _ _ (sym
-    c.side_step-in-Both-2.ensures.same_data) (sym c.side_step-in-Both-2.ensures.same_canon) (c.in_ok-second-in-Both.ensures.answer
+    c.deref-in-Both.result.now))) c.in_ok-first-in-Both.first.behind.leaf) c.in_ok-second-in-Both.second)
+    c.side_step-in-Both-2.ensures.same_known (c.in_ok-second-in-Both.ensures.answer
     (stand (side_of c.args.right.now) (shape_of c.deref-in-Both-2.result.now) (suc (place.number + size (shape_of
     c.deref-in-Both.result.now))) c.in_ok-first-in-Both.first.behind.leaf) (record {
       behaviour = refl;
@@ -1666,14 +1383,6 @@ parallel_step-returns-in_ok-second-in-Both-clause-answer g t c =
       leaf = refl;
     })))))
 
-pub parallel_step-returns-in_ok-second-in-Both-clause-same_data : goal.parallel_step-returns-in_ok-second-in-Both-clause-same_data
-parallel_step-returns-in_ok-second-in-Both-clause-same_data g t c =
-    c.together.ensures.same_data ∙ (c.side_step-in-Both-2.ensures.same_data ∙ c.side_step-in-Both.ensures.same_data)
-
-pub parallel_step-returns-in_ok-second-in-Both-clause-same_canon : goal.parallel_step-returns-in_ok-second-in-Both-clause-same_canon
-parallel_step-returns-in_ok-second-in-Both-clause-same_canon g t c =
-    c.together.ensures.same_canon ∙ (c.side_step-in-Both-2.ensures.same_canon ∙ c.side_step-in-Both.ensures.same_canon)
-
 pub hide_step-returns-in_default : goal.hide_step-returns-in_default
 hide_step-returns-in_default g t c =
     record {
@@ -1683,8 +1392,7 @@ hide_step-returns-in_default g t c =
           (unfit_hide (setting_on (ground_of (g.D.Deciding.known_data c.args.data.now) (g.D.Deciding.canon c.args.data.now)
           c.args.walk.now.spec.now)) (terms_of c.args.walk.now.leaves.now) c.args.at.leaf c.args.shape.now c.args.gates.now.items
           (side_of c.args.inner.now) (λ part is. c.in_default.not-Hidden part is)) c.misfit.ensures;
-      same_data = refl;
-      same_canon = refl;
+      same_known = keeps_itself;
     }
 
 pub hide_step-side_step-requires : goal.hide_step-side_step-requires
@@ -1694,7 +1402,7 @@ hide_step-side_step-requires g t c κs within = (
   (
     search rules,
     (
-      (subst (λ (k : ℕ). IsWalk (ground_of (g.D.Deciding.known_data c.args.data.now) (g.D.Deciding.canon
+      (subst (λ (k : ℕ). IsStepWalk (ground_of (g.D.Deciding.known_data c.args.data.now) (g.D.Deciding.canon
           c.args.data.now) c.args.walk.now.spec.now) c.args.walk.now.leaves.now k) (sym c.below.ensures.leaf) c.requires.walk),
       (record {
         passable = (record { closed = c.requires.part.closed.1; terms_of_signature = c.requires.part.terms_of_signature });
@@ -1728,14 +1436,6 @@ hide_step-returns-in_err-moved-clause-answer g t c =
     (shape_of s)) c.deref.ensures ∙ sym (ap shape_of c.in-Hidden.is)) there) c.below.ensures.node c.args.at.leaf
     c.below.ensures.leaf))))
 
-pub hide_step-returns-in_err-moved-clause-same_data : goal.hide_step-returns-in_err-moved-clause-same_data
-hide_step-returns-in_err-moved-clause-same_data g t c =
-    c.side_step.ensures.same_data
-
-pub hide_step-returns-in_err-moved-clause-same_canon : goal.hide_step-returns-in_err-moved-clause-same_canon
-hide_step-returns-in_err-moved-clause-same_canon g t c =
-    c.side_step.ensures.same_canon
-
 pub hide_step-returns-clause-answer : goal.hide_step-returns-clause-answer
 hide_step-returns-clause-answer g t c =
     λ place there.
@@ -1758,14 +1458,6 @@ hide_step-returns-clause-answer g t c =
     (shape_of c.deref.result.now)) c.args.at (ap (λ (s : Shape). hidden (shape_of s)) c.deref.ensures ∙ sym (ap shape_of
     c.in-Hidden.is)) there) c.below.ensures.node c.args.at.leaf c.below.ensures.leaf)))
 
-pub hide_step-returns-clause-same_data : goal.hide_step-returns-clause-same_data
-hide_step-returns-clause-same_data g t c =
-    c.side_step.ensures.same_data
-
-pub hide_step-returns-clause-same_canon : goal.hide_step-returns-clause-same_canon
-hide_step-returns-clause-same_canon g t c =
-    c.side_step.ensures.same_canon
-
 pub enable_step-returns-in_default : goal.enable_step-returns-in_default
 enable_step-returns-in_default g t c =
     record {
@@ -1776,8 +1468,7 @@ enable_step-returns-in_default g t c =
           c.args.walk.now.spec.now)) (terms_of c.args.walk.now.leaves.now) c.args.at.leaf c.args.shape.now (side_of c.args.left.now)
           (variables_of c.args.side.now.variables.now.items) (followed c.args.side.now) (λ part is. c.in_default.not-Passed part is)
           (λ part is. c.in_default.not-Enabled part is)) c.misfit.ensures;
-      same_data = refl;
-      same_canon = refl;
+      same_known = keeps_itself;
     }
 
 pub enable_step-side_step-requires : goal.enable_step-side_step-requires
@@ -1788,7 +1479,7 @@ enable_step-side_step-requires g t c κs within = (
     search
         rules,
     (
-      (subst (λ (k : ℕ). IsWalk (ground_of (g.D.Deciding.known_data c.args.data.now) (g.D.Deciding.canon c.args.data.now)
+      (subst (λ (k : ℕ). IsStepWalk (ground_of (g.D.Deciding.known_data c.args.data.now) (g.D.Deciding.canon c.args.data.now)
           c.args.walk.now.spec.now) c.args.walk.now.leaves.now k) (sym c.below.ensures.leaf) c.requires.walk),
       (record {
         passable = (record {
@@ -1827,14 +1518,6 @@ enable_step-returns-in_err-moved-in-Passed-clause-answer g t c =
     Shape). passed (shape_of s)) c.deref.ensures ∙ sym (ap shape_of c.in-Passed.is)) there) c.below.ensures.node c.args.at.leaf
     c.below.ensures.leaf))))
 
-pub enable_step-returns-in_err-moved-in-Passed-clause-same_data : goal.enable_step-returns-in_err-moved-in-Passed-clause-same_data
-enable_step-returns-in_err-moved-in-Passed-clause-same_data g t c =
-    c.side_step.ensures.same_data
-
-pub enable_step-returns-in_err-moved-in-Passed-clause-same_canon : goal.enable_step-returns-in_err-moved-in-Passed-clause-same_canon
-enable_step-returns-in_err-moved-in-Passed-clause-same_canon g t c =
-    c.side_step.ensures.same_canon
-
 pub enable_step-returns-in_ok-moved-in-Passed-clause-answer : goal.enable_step-returns-in_ok-moved-in-Passed-clause-answer
 enable_step-returns-in_ok-moved-in-Passed-clause-answer g t c =
     λ place there.
@@ -1865,14 +1548,6 @@ enable_step-returns-in_ok-moved-in-Passed-clause-answer g t c =
     (passed (shape_of c.deref.result.now)) c.args.at (ap (λ (s : Shape). passed (shape_of s)) c.deref.ensures ∙ sym (ap shape_of
     c.in-Passed.is)) there) c.below.ensures.node c.args.at.leaf c.below.ensures.leaf)))
 
-pub enable_step-returns-in_ok-moved-in-Passed-clause-same_data : goal.enable_step-returns-in_ok-moved-in-Passed-clause-same_data
-enable_step-returns-in_ok-moved-in-Passed-clause-same_data g t c =
-    c.side_step.ensures.same_data
-
-pub enable_step-returns-in_ok-moved-in-Passed-clause-same_canon : goal.enable_step-returns-in_ok-moved-in-Passed-clause-same_canon
-enable_step-returns-in_ok-moved-in-Passed-clause-same_canon g t c =
-    c.side_step.ensures.same_canon
-
 pub enable_step-side_step-requires-in-Enabled : goal.enable_step-side_step-requires-in-Enabled
 enable_step-side_step-requires-in-Enabled g t c κs within = (
   (part_less (shape_of c.args.shape.now) (shape_of c.deref-in-Enabled.result.now) (side_of c.args.left.now) 4 _ (omega arith) (ap (λ
@@ -1881,7 +1556,7 @@ enable_step-side_step-requires-in-Enabled g t c κs within = (
   (
     search rules,
     (
-      (subst (λ (k : ℕ). IsWalk (ground_of (g.D.Deciding.known_data c.args.data.now) (g.D.Deciding.canon
+      (subst (λ (k : ℕ). IsStepWalk (ground_of (g.D.Deciding.known_data c.args.data.now) (g.D.Deciding.canon
           c.args.data.now) c.args.walk.now.spec.now) c.args.walk.now.leaves.now k) (sym c.below-in-Enabled.ensures.leaf)
           c.requires.walk),
       (record {
@@ -1925,14 +1600,6 @@ enable_step-returns-in_err-moved-in-Enabled-clause-answer g t c =
     c.below-in-Enabled.result (of_shape place (enabling_of (side_of c.args.left.now) c.args.side.now) (shape_of c.args.shape.now)
     (enabled (shape_of c.deref-in-Enabled.result.now)) c.args.at (ap (λ (s : Shape). enabled (shape_of s)) c.deref-in-Enabled.ensures
     ∙ sym (ap shape_of c.in-Enabled.is)) there) c.below-in-Enabled.ensures.node c.args.at.leaf c.below-in-Enabled.ensures.leaf))))
-
-pub enable_step-returns-in_err-moved-in-Enabled-clause-same_data : goal.enable_step-returns-in_err-moved-in-Enabled-clause-same_data
-enable_step-returns-in_err-moved-in-Enabled-clause-same_data g t c =
-    c.side_step-in-Enabled.ensures.same_data
-
-pub enable_step-returns-in_err-moved-in-Enabled-clause-same_canon : goal.enable_step-returns-in_err-moved-in-Enabled-clause-same_canon
-enable_step-returns-in_err-moved-in-Enabled-clause-same_canon g t c =
-    c.side_step-in-Enabled.ensures.same_canon
 
 pub enable_step-returns-in_ok-moved-in-Enabled-clause-answer : goal.enable_step-returns-in_ok-moved-in-Enabled-clause-answer
 enable_step-returns-in_ok-moved-in-Enabled-clause-answer g t c =
@@ -1978,14 +1645,6 @@ enable_step-returns-in_ok-moved-in-Enabled-clause-answer g t c =
     (enabled (shape_of c.deref-in-Enabled.result.now)) c.args.at (ap (λ (s : Shape). enabled (shape_of s)) c.deref-in-Enabled.ensures
     ∙ sym (ap shape_of c.in-Enabled.is)) there) c.below-in-Enabled.ensures.node c.args.at.leaf c.below-in-Enabled.ensures.leaf)))
 
-pub enable_step-returns-in_ok-moved-in-Enabled-clause-same_data : goal.enable_step-returns-in_ok-moved-in-Enabled-clause-same_data
-enable_step-returns-in_ok-moved-in-Enabled-clause-same_data g t c =
-    c.side_step-in-Enabled.ensures.same_data
-
-pub enable_step-returns-in_ok-moved-in-Enabled-clause-same_canon : goal.enable_step-returns-in_ok-moved-in-Enabled-clause-same_canon
-enable_step-returns-in_ok-moved-in-Enabled-clause-same_canon g t c =
-    c.side_step-in-Enabled.ensures.same_canon
-
 pub disable_step-returns-in_default : goal.disable_step-returns-in_default
 disable_step-returns-in_default g t c =
     record {
@@ -1996,8 +1655,7 @@ disable_step-returns-in_default g t c =
           c.args.walk.now.spec.now)) (terms_of c.args.walk.now.leaves.now) c.args.at.leaf c.args.shape.now (side_of c.args.left.now)
           (side_of c.args.right.now) (λ part is. c.in_default.not-Left part is) (λ part is. c.in_default.not-Right part is))
           c.misfit.ensures;
-      same_data = refl;
-      same_canon = refl;
+      same_known = keeps_itself;
     }
 
 pub disable_step-side_step-requires : goal.disable_step-side_step-requires
@@ -2007,7 +1665,7 @@ disable_step-side_step-requires g t c κs within = (
   (
     search rules,
     (
-      (subst (λ (k : ℕ). IsWalk (ground_of (g.D.Deciding.known_data c.args.data.now) (g.D.Deciding.canon c.args.data.now)
+      (subst (λ (k : ℕ). IsStepWalk (ground_of (g.D.Deciding.known_data c.args.data.now) (g.D.Deciding.canon c.args.data.now)
           c.args.walk.now.spec.now) c.args.walk.now.leaves.now k) (sym c.below.ensures.leaf) c.requires.walk),
       (record {
         passable = (record {
@@ -2046,14 +1704,6 @@ disable_step-returns-in_err-moved-in-Left-clause-answer g t c =
     c.args.at (ap (λ (s : Shape). left_side (shape_of s)) c.deref.ensures ∙ sym (ap shape_of c.in-Left.is)) there)
     c.below.ensures.node c.args.at.leaf c.below.ensures.leaf))))
 
-pub disable_step-returns-in_err-moved-in-Left-clause-same_data : goal.disable_step-returns-in_err-moved-in-Left-clause-same_data
-disable_step-returns-in_err-moved-in-Left-clause-same_data g t c =
-    c.side_step.ensures.same_data
-
-pub disable_step-returns-in_err-moved-in-Left-clause-same_canon : goal.disable_step-returns-in_err-moved-in-Left-clause-same_canon
-disable_step-returns-in_err-moved-in-Left-clause-same_canon g t c =
-    c.side_step.ensures.same_canon
-
 pub disable_step-returns-in_ok-moved-in-Left-clause-answer : goal.disable_step-returns-in_ok-moved-in-Left-clause-answer
 disable_step-returns-in_ok-moved-in-Left-clause-answer g t c =
     λ place there.
@@ -2084,14 +1734,6 @@ disable_step-returns-in_ok-moved-in-Left-clause-answer g t c =
     c.deref.result.now)) c.args.at (ap (λ (s : Shape). left_side (shape_of s)) c.deref.ensures ∙ sym (ap shape_of c.in-Left.is))
     there) c.below.ensures.node c.args.at.leaf c.below.ensures.leaf)))
 
-pub disable_step-returns-in_ok-moved-in-Left-clause-same_data : goal.disable_step-returns-in_ok-moved-in-Left-clause-same_data
-disable_step-returns-in_ok-moved-in-Left-clause-same_data g t c =
-    c.side_step.ensures.same_data
-
-pub disable_step-returns-in_ok-moved-in-Left-clause-same_canon : goal.disable_step-returns-in_ok-moved-in-Left-clause-same_canon
-disable_step-returns-in_ok-moved-in-Left-clause-same_canon g t c =
-    c.side_step.ensures.same_canon
-
 pub disable_step-side_step-requires-in-Right : goal.disable_step-side_step-requires-in-Right
 disable_step-side_step-requires-in-Right g t c κs within = (
   (part_less (shape_of c.args.shape.now) (shape_of c.deref-in-Right.result.now) (side_of c.args.right.now) 4 _ (omega arith) (ap (λ (s
@@ -2100,7 +1742,7 @@ disable_step-side_step-requires-in-Right g t c κs within = (
   (
     search rules,
     (
-      (subst (λ (k : ℕ). IsWalk (ground_of (g.D.Deciding.known_data c.args.data.now) (g.D.Deciding.canon
+      (subst (λ (k : ℕ). IsStepWalk (ground_of (g.D.Deciding.known_data c.args.data.now) (g.D.Deciding.canon
           c.args.data.now) c.args.walk.now.spec.now) c.args.walk.now.leaves.now k) (sym c.below-in-Right.ensures.leaf) c.requires.walk),
       (record {
         passable = (record {
@@ -2142,14 +1784,6 @@ disable_step-returns-in-Right-clause-answer g t c =
     c.deref-in-Right.result.now)) c.args.at (ap (λ (s : Shape). right_side (shape_of s)) c.deref-in-Right.ensures ∙ sym (ap shape_of
     c.in-Right.is)) there) c.below-in-Right.ensures.node c.args.at.leaf c.below-in-Right.ensures.leaf)))
 
-pub disable_step-returns-in-Right-clause-same_data : goal.disable_step-returns-in-Right-clause-same_data
-disable_step-returns-in-Right-clause-same_data g t c =
-    c.side_step-in-Right.ensures.same_data
-
-pub disable_step-returns-in-Right-clause-same_canon : goal.disable_step-returns-in-Right-clause-same_canon
-disable_step-returns-in-Right-clause-same_canon g t c =
-    c.side_step-in-Right.ensures.same_canon
-
 pub let_step-returns-in_default : goal.let_step-returns-in_default
 let_step-returns-in_default g t c =
     record {
@@ -2159,8 +1793,7 @@ let_step-returns-in_default g t c =
           (unfit_let (setting_on (ground_of (g.D.Deciding.known_data c.args.data.now) (g.D.Deciding.canon c.args.data.now)
           c.args.walk.now.spec.now)) (terms_of c.args.walk.now.leaves.now) c.args.at.leaf c.args.shape.now (map let_of
           c.args.bindings.now.items) (behaviour_of c.args.next.now) (λ part is. c.in_default.not-Bound part is)) c.misfit.ensures;
-      same_data = refl;
-      same_canon = refl;
+      same_known = keeps_itself;
     }
 
 pub let_step-let_body-requires : goal.let_step-let_body-requires
@@ -2172,14 +1805,6 @@ let_step-returns-in_err-body-clause-answer g t c =
     λ place there. memory_walked (ground_of (g.D.Deciding.known_data c.args.data.now) (g.D.Deciding.canon c.args.data.now)
     c.args.walk.now.spec.now) (terms_of c.args.walk.now.leaves.now) place c.from_residual.result c.from_residual.ensures.1
 
-pub let_step-returns-in_err-body-clause-same_data : goal.let_step-returns-in_err-body-clause-same_data
-let_step-returns-in_err-body-clause-same_data g t c =
-    c.let_body.ensures.same_data
-
-pub let_step-returns-in_err-body-clause-same_canon : goal.let_step-returns-in_err-body-clause-same_canon
-let_step-returns-in_err-body-clause-same_canon g t c =
-    c.let_body.ensures.same_canon
-
 pub let_step-beh_step-requires : goal.let_step-beh_step-requires
 let_step-beh_step-requires g t c κs within = (
   (part_less (shape_of c.args.shape.now) (shape_of c.deref.result.now) (behaviour_of c.in_ok-body.body) 2 _ (omega arith) (ap (λ (s :
@@ -2187,13 +1812,13 @@ let_step-beh_step-requires g t c κs within = (
   (
     search rules,
     (
-      (carried (λ (d : Data) (f : Term → Term). IsWalk (ground_of d f c.args.walk.now.spec.now)
-          c.args.walk.now.leaves.now c.below.result.leaf) _ _ _ _ (sym c.let_body.ensures.same_data) (sym c.let_body.ensures.same_canon)
-          (subst (λ (k : ℕ). IsWalk (ground_of (g.D.Deciding.known_data c.args.data.now) (g.D.Deciding.canon c.args.data.now)
+      (holds_after (λ (d : Data) (f : Term → Term). IsStepWalk (ground_of d f c.args.walk.now.spec.now)
+          c.args.walk.now.leaves.now c.below.result.leaf) c.let_body.ensures.same_known
+          (subst (λ (k : ℕ). IsStepWalk (ground_of (g.D.Deciding.known_data c.args.data.now) (g.D.Deciding.canon c.args.data.now)
           c.args.walk.now.spec.now) c.args.walk.now.leaves.now k) (sym c.below.ensures.leaf) c.requires.walk)),
-      (carried (λ (d : Data) (f :
+      (holds_after (λ (d : Data) (f :
           Term → Term). IsPassable (ground_of d f c.args.walk.now.spec.now) (behaviour_of c.in_ok-body.body) (profiles_in
-          c.in_ok-body.body)) _ _ _ _ (sym c.let_body.ensures.same_data) (sym c.let_body.ensures.same_canon) (record {
+          c.in_ok-body.body)) c.let_body.ensures.same_known (record {
             closed = subst (λ (b
                 : Behaviour). IsClosedOn (ground_of (g.D.Deciding.known_data c.args.data.now) (g.D.Deciding.canon c.args.data.now)
                 c.args.walk.now.spec.now) b) (sym c.in_ok-body.ensures.same) (let_closed (ground_of (g.D.Deciding.known_data
@@ -2232,10 +1857,10 @@ let_step-returns-clause-answer g t c =
     c.args.bindings.now.items)) (map (g.D.Deciding.canon c.args.data.now) (let_terms (map let_of c.args.bindings.now.items))))
     (behaviour_of c.args.next.now)) (let_bound (shape_of c.deref.result.now)) (shape_of c.deref.result.now) place.number
     c.args.at.leaf refl)) (λ m. refl) c.beh_step.result
-    (carried (λ (d : Data) (f : Term → Term). IsWalked (ground_of d f c.args.walk.now.spec.now) (terms_of c.args.walk.now.leaves.now)
+    (held_before (λ (d : Data) (f : Term → Term). IsWalked (ground_of d f c.args.walk.now.spec.now) (terms_of c.args.walk.now.leaves.now)
     (stand (with_values (binding_of (let_variables (map let_of c.args.bindings.now.items)) (map (g.D.Deciding.canon c.args.data.now)
     (let_terms (map let_of c.args.bindings.now.items)))) (behaviour_of c.args.next.now)) (shape_of c.deref.result.now) (suc
-    place.number) c.args.at.leaf) c.beh_step.result) _ _ _ _ c.let_body.ensures.same_data c.let_body.ensures.same_canon
+    place.number) c.args.at.leaf) c.beh_step.result) c.let_body.ensures.same_known
     (c.beh_step.ensures.answer (stand (with_values (binding_of (let_variables (map let_of c.args.bindings.now.items)) (map
     (g.D.Deciding.canon c.args.data.now) (let_terms (map let_of c.args.bindings.now.items)))) (behaviour_of c.args.next.now))
     (shape_of c.deref.result.now) (suc place.number) c.args.at.leaf) (part_there place (let_be (map let_of c.args.bindings.now.items)
@@ -2247,14 +1872,6 @@ let_step-returns-clause-answer g t c =
     (shape_of s)) c.deref.ensures ∙ sym (ap shape_of c.in-Bound.is)) there) c.in_ok-body.ensures.same refl c.below.ensures.node
     c.args.at.leaf c.below.ensures.leaf))))
 
-pub let_step-returns-clause-same_data : goal.let_step-returns-clause-same_data
-let_step-returns-clause-same_data g t c =
-    c.beh_step.ensures.same_data ∙ c.let_body.ensures.same_data
-
-pub let_step-returns-clause-same_canon : goal.let_step-returns-clause-same_canon
-let_step-returns-clause-same_canon g t c =
-    c.beh_step.ensures.same_canon ∙ c.let_body.ensures.same_canon
-
 pub value_step-returns-in_default : goal.value_step-returns-in_default
 value_step-returns-in_default g t c =
     record {
@@ -2264,8 +1881,7 @@ value_step-returns-in_default g t c =
           (unfit_value (setting_on (ground_of (g.D.Deciding.known_data c.args.data.now) (g.D.Deciding.canon c.args.data.now)
           c.args.walk.now.spec.now)) (terms_of c.args.walk.now.leaves.now) c.args.at.leaf c.args.shape.now (variable_of
           c.args.variable.now) (behaviour_of c.args.next.now) (λ part is. c.in_default.not-Value part is)) c.misfit.ensures;
-      same_data = refl;
-      same_canon = refl;
+      same_known = keeps_itself;
     }
 
 pub value_step-returns-in_err-checked_value-clause-answer : goal.value_step-returns-in_err-checked_value-clause-answer
@@ -2289,14 +1905,6 @@ value_step-returns-in_err-checked_value-clause-answer g t c =
     (c.in_err-checked_value.ensures.checked (g.D.Deciding.known_data c.args.data.now).signature place.number
     c.requires.walk.leaves_of_signature there.node)))
 
-pub value_step-returns-in_err-checked_value-clause-same_data : goal.value_step-returns-in_err-checked_value-clause-same_data
-value_step-returns-in_err-checked_value-clause-same_data g t c =
-    refl
-
-pub value_step-returns-in_err-checked_value-clause-same_canon : goal.value_step-returns-in_err-checked_value-clause-same_canon
-value_step-returns-in_err-checked_value-clause-same_canon g t c =
-    refl
-
 pub value_step-value_body-requires-clause-walk : goal.value_step-value_body-requires-clause-walk
 value_step-value_body-requires-clause-walk g t c =
     c.requires.walk
@@ -2317,14 +1925,6 @@ value_step-returns-in_err-body-clause-answer g t c =
     c.args.walk.now.spec.now) (terms_of c.args.walk.now.leaves.now) place c.from_residual-in_err-body.result
     c.from_residual-in_err-body.ensures.1
 
-pub value_step-returns-in_err-body-clause-same_data : goal.value_step-returns-in_err-body-clause-same_data
-value_step-returns-in_err-body-clause-same_data g t c =
-    c.value_body.ensures.same_data
-
-pub value_step-returns-in_err-body-clause-same_canon : goal.value_step-returns-in_err-body-clause-same_canon
-value_step-returns-in_err-body-clause-same_canon g t c =
-    c.value_body.ensures.same_canon
-
 pub value_step-beh_step-requires : goal.value_step-beh_step-requires
 value_step-beh_step-requires g t c κs within = (
   (part_less (shape_of c.args.shape.now) (shape_of c.deref.result.now) (behaviour_of c.in_ok-body.body) 2 _ (omega arith) (ap (λ (s :
@@ -2332,17 +1932,16 @@ value_step-beh_step-requires g t c κs within = (
   (
     search rules,
     (
-      (carried (λ (d : Data) (f : Term → Term). IsWalk (ground_of d f c.args.walk.now.spec.now)
-          c.args.walk.now.leaves.now (c.args.at.leaf + 1)) _ _ _ _ (sym c.value_body.ensures.same_data) (sym
-          c.value_body.ensures.same_canon) (record {
+      (holds_after (λ (d : Data) (f : Term → Term). IsStepWalk (ground_of d f c.args.walk.now.spec.now)
+          c.args.walk.now.leaves.now (c.args.at.leaf + 1)) c.value_body.ensures.same_known (record {
             over = c.requires.walk.over;
             leaves_of_signature =
                 c.requires.walk.leaves_of_signature;
             within = c.in_ok-checked_value.ensures.there;
           })),
-      (carried (λ (d : Data) (f : Term → Term).
-          IsPassable (ground_of d f c.args.walk.now.spec.now) (behaviour_of c.in_ok-body.body) (profiles_in c.in_ok-body.body)) _ _ _ _
-          (sym c.value_body.ensures.same_data) (sym c.value_body.ensures.same_canon) (record {
+      (holds_after (λ (d : Data) (f : Term → Term).
+          IsPassable (ground_of d f c.args.walk.now.spec.now) (behaviour_of c.in_ok-body.body) (profiles_in c.in_ok-body.body))
+          c.value_body.ensures.same_known (record {
             closed = subst (λ (b : Behaviour).
                 IsClosedOn (ground_of (g.D.Deciding.known_data c.args.data.now) (g.D.Deciding.canon c.args.data.now)
                 c.args.walk.now.spec.now) b)
@@ -2383,11 +1982,12 @@ value_step-returns-clause-answer g t c =
     (g.D.Deciding.known_data c.args.data.now).signature place.number c.requires.walk.leaves_of_signature there.node) (λ l. refl)
     (after_leaf c.args.variable.now.sort) (λ m. refl) (λ m. refl) (λ m. refl)
     (place_nodes place.number (size (shape_of c.deref.result.now))) (λ m. place_after c.args.at.leaf (length m.sorts)) c.beh_step.result
-    (carried (λ (d : Data) (f : Term → Term). IsWalked (ground_of d f c.args.walk.now.spec.now) (terms_of c.args.walk.now.leaves.now)
+    (held_before (λ (d : Data) (f : Term → Term). IsWalked (ground_of d f c.args.walk.now.spec.now) (terms_of c.args.walk.now.leaves.now)
     (stand (with_values (binding_of ((variable_of c.args.variable.now) ∷ []) ((g.D.Deciding.canon c.args.data.now) (leaves_in
     (terms_of c.args.walk.now.leaves.now) c.args.at.leaf c.args.variable.now.sort) ∷ [])) (behaviour_of c.args.next.now)) (shape_of
-    c.deref.result.now) (suc place.number) (suc c.args.at.leaf)) c.beh_step.result) _ _ _ _ c.value_body.ensures.same_data
-    c.value_body.ensures.same_canon (c.beh_step.ensures.answer (stand (with_values (binding_of ((variable_of c.args.variable.now) ∷
+    c.deref.result.now) (suc place.number) (suc c.args.at.leaf)) c.beh_step.result) c.value_body.ensures.same_known
+    (c.beh_step.ensures.answer
+    (stand (with_values (binding_of ((variable_of c.args.variable.now) ∷
     []) ((g.D.Deciding.canon c.args.data.now) (leaves_in (terms_of c.args.walk.now.leaves.now) c.args.at.leaf
     c.args.variable.now.sort) ∷ [])) (behaviour_of c.args.next.now)) (shape_of c.deref.result.now) (suc place.number) (suc
     c.args.at.leaf)) (part_there place (choose_value (variable_of c.args.variable.now) (behaviour_of c.args.next.now)) (with_values
@@ -2399,14 +1999,6 @@ value_step-returns-clause-answer g t c =
     c.deref.ensures ∙ sym (ap shape_of c.in-Value.is)) there) c.in_ok-body.ensures.same refl c.below.ensures.node (suc
     c.args.at.leaf) (add-one c.args.at.leaf)))))
 
-pub value_step-returns-clause-same_data : goal.value_step-returns-clause-same_data
-value_step-returns-clause-same_data g t c =
-    c.beh_step.ensures.same_data ∙ c.value_body.ensures.same_data
-
-pub value_step-returns-clause-same_canon : goal.value_step-returns-clause-same_canon
-value_step-returns-clause-same_canon g t c =
-    c.beh_step.ensures.same_canon ∙ c.value_body.ensures.same_canon
-
 pub gate_step-returns-in_default : goal.gate_step-returns-in_default
 gate_step-returns-in_default g t c =
     record {
@@ -2416,8 +2008,7 @@ gate_step-returns-in_default g t c =
           (unfit_gate (setting_on (ground_of (g.D.Deciding.known_data c.args.data.now) (g.D.Deciding.canon c.args.data.now)
           c.args.walk.now.spec.now)) (terms_of c.args.walk.now.leaves.now) c.args.at.leaf c.args.shape.now c.args.formal
           c.args.gates.now.items (behaviour_of c.args.next.now) (λ k part is. c.in_default.not-Gate k part is)) c.misfit.ensures;
-      same_data = refl;
-      same_canon = refl;
+      same_known = keeps_itself;
     }
 
 pub gate_step-returns-in_default-gate_at-clause-answer : goal.gate_step-returns-in_default-gate_at-clause-answer
@@ -2433,14 +2024,6 @@ gate_step-returns-in_default-gate_at-clause-answer g t c =
     c.in-Gate.position c.args.formal c.args.gates.now.items (behaviour_of c.args.next.now) (sym c.gate_at.ensures ∙ none_of
     c.gate_at.result c.in_default-gate_at.not-Some)) c.misfit-in_default-gate_at.ensures
 
-pub gate_step-returns-in_default-gate_at-clause-same_data : goal.gate_step-returns-in_default-gate_at-clause-same_data
-gate_step-returns-in_default-gate_at-clause-same_data g t c =
-    refl
-
-pub gate_step-returns-in_default-gate_at-clause-same_canon : goal.gate_step-returns-in_default-gate_at-clause-same_canon
-gate_step-returns-in_default-gate_at-clause-same_canon g t c =
-    refl
-
 pub gate_step-beh_step-requires : goal.gate_step-beh_step-requires
 gate_step-beh_step-requires g t c κs within = (
   (part_less (shape_of c.args.shape.now) (shape_of c.deref.result.now) (behaviour_of c.args.next.now) 2 _ (omega arith) (ap (λ (s :
@@ -2448,7 +2031,7 @@ gate_step-beh_step-requires g t c κs within = (
   (
     search rules,
     (
-      (subst (λ (k : ℕ). IsWalk (ground_of (g.D.Deciding.known_data c.args.data.now) (g.D.Deciding.canon
+      (subst (λ (k : ℕ). IsStepWalk (ground_of (g.D.Deciding.known_data c.args.data.now) (g.D.Deciding.canon
           c.args.data.now) c.args.walk.now.spec.now) c.args.walk.now.leaves.now k) (sym c.below.ensures.leaf) c.requires.walk),
       (record {
         closed = c.requires.part.closed.2;
@@ -2494,14 +2077,6 @@ gate_step-returns-in_err-moved-clause-answer g t c =
     c.in-Gate.position (shape_of s)) c.deref.ensures ∙ sym (ap shape_of c.in-Gate.is)) there) c.below.ensures.node c.args.at.leaf
     c.below.ensures.leaf))))
 
-pub gate_step-returns-in_err-moved-clause-same_data : goal.gate_step-returns-in_err-moved-clause-same_data
-gate_step-returns-in_err-moved-clause-same_data g t c =
-    c.beh_step.ensures.same_data
-
-pub gate_step-returns-in_err-moved-clause-same_canon : goal.gate_step-returns-in_err-moved-clause-same_canon
-gate_step-returns-in_err-moved-clause-same_canon g t c =
-    c.beh_step.ensures.same_canon
-
 pub gate_step-returns-clause-answer : goal.gate_step-returns-clause-answer
 gate_step-returns-clause-answer g t c =
     λ place there.
@@ -2537,14 +2112,6 @@ gate_step-returns-clause-answer g t c =
     c.deref.result.now)) c.args.at (ap (λ (s : Shape). at_gate c.in-Gate.position (shape_of s)) c.deref.ensures ∙ sym (ap shape_of
     c.in-Gate.is)) there) c.below.ensures.node c.args.at.leaf c.below.ensures.leaf)))
 
-pub gate_step-returns-clause-same_data : goal.gate_step-returns-clause-same_data
-gate_step-returns-clause-same_data g t c =
-    c.beh_step.ensures.same_data
-
-pub gate_step-returns-clause-same_canon : goal.gate_step-returns-clause-same_canon
-gate_step-returns-clause-same_canon g t c =
-    c.beh_step.ensures.same_canon
-
 pub relabel_step-returns-in_default : goal.relabel_step-returns-in_default
 relabel_step-returns-in_default g t c =
     record {
@@ -2554,8 +2121,7 @@ relabel_step-returns-in_default g t c =
           (unfit_relabel (setting_on (ground_of (g.D.Deciding.known_data c.args.data.now) (g.D.Deciding.canon c.args.data.now)
           c.args.walk.now.spec.now)) (terms_of c.args.walk.now.leaves.now) c.args.at.leaf c.args.shape.now c.args.pairs.now.items
           (stands_for c.args.inner.now) (λ part is. c.in_default.not-Relabelled part is)) c.misfit.ensures;
-      same_data = refl;
-      same_canon = refl;
+      same_known = keeps_itself;
     }
 
 pub relabel_step-node_step-requires : goal.relabel_step-node_step-requires
@@ -2565,7 +2131,7 @@ relabel_step-node_step-requires g t c κs within = (
   (
     search rules,
     (
-      (subst (λ (k : ℕ). IsWalk (ground_of (g.D.Deciding.known_data c.args.data.now) (g.D.Deciding.canon
+      (subst (λ (k : ℕ). IsStepWalk (ground_of (g.D.Deciding.known_data c.args.data.now) (g.D.Deciding.canon
           c.args.data.now) c.args.walk.now.spec.now) c.args.walk.now.leaves.now k) (sym c.below.ensures.leaf) c.requires.walk),
       (record {
         passable = (record { closed = c.requires.part.closed.1; terms_of_signature = c.requires.part.terms_of_signature });
@@ -2608,14 +2174,6 @@ relabel_step-returns-in_err-moved-clause-answer g t c =
     c.args.at (ap (λ (s : Shape). relabelled (shape_of s)) c.deref.ensures ∙ sym (ap shape_of c.in-Relabelled.is)) there)
     c.below.ensures.node c.args.at.leaf c.below.ensures.leaf))))
 
-pub relabel_step-returns-in_err-moved-clause-same_data : goal.relabel_step-returns-in_err-moved-clause-same_data
-relabel_step-returns-in_err-moved-clause-same_data g t c =
-    c.node_step.ensures.same_data
-
-pub relabel_step-returns-in_err-moved-clause-same_canon : goal.relabel_step-returns-in_err-moved-clause-same_canon
-relabel_step-returns-in_err-moved-clause-same_canon g t c =
-    c.node_step.ensures.same_canon
-
 pub relabel_step-returns-clause-answer : goal.relabel_step-returns-clause-answer
 relabel_step-returns-clause-answer g t c =
     λ place there.
@@ -2648,14 +2206,6 @@ relabel_step-returns-clause-answer g t c =
     c.deref.result.now)) c.args.at (ap (λ (s : Shape). relabelled (shape_of s)) c.deref.ensures ∙ sym (ap shape_of
     c.in-Relabelled.is)) there) c.below.ensures.node c.args.at.leaf c.below.ensures.leaf)))
 
-pub relabel_step-returns-clause-same_data : goal.relabel_step-returns-clause-same_data
-relabel_step-returns-clause-same_data g t c =
-    c.node_step.ensures.same_data
-
-pub relabel_step-returns-clause-same_canon : goal.relabel_step-returns-clause-same_canon
-relabel_step-returns-clause-same_canon g t c =
-    c.node_step.ensures.same_canon
-
 pub call_step-returns-in_default : goal.call_step-returns-in_default
 call_step-returns-in_default g t c =
     record {
@@ -2665,8 +2215,7 @@ call_step-returns-in_default g t c =
           (unfit_call (setting_on (ground_of (g.D.Deciding.known_data c.args.data.now) (g.D.Deciding.canon c.args.data.now)
           c.args.walk.now.spec.now)) (terms_of c.args.walk.now.leaves.now) c.args.at.leaf c.args.shape.now c.args.process
           c.args.gates.now.items (terms_of c.args.values.now.items) (λ part is. c.in_default.not-Called part is)) c.misfit.ensures;
-      same_data = refl;
-      same_canon = refl;
+      same_known = keeps_itself;
     }
 
 pub call_step-returns-in_default-called_at-clause-answer : goal.call_step-returns-in_default-called_at-clause-answer
@@ -2681,14 +2230,6 @@ call_step-returns-in_default-called_at-clause-answer g t c =
     c.args.process c.args.gates.now.items (terms_of c.args.values.now.items)
     (none_mapped process_of c.args.walk.now.spec.now.processes.items c.args.process (sym c.called_at.ensures ∙ ap (option_map (λ p.
     p.now)) (none_of c.called_at.result c.in_default-called_at.not-Some)))) c.misfit-in_default-called_at.ensures
-
-pub call_step-returns-in_default-called_at-clause-same_data : goal.call_step-returns-in_default-called_at-clause-same_data
-call_step-returns-in_default-called_at-clause-same_data g t c =
-    refl
-
-pub call_step-returns-in_default-called_at-clause-same_canon : goal.call_step-returns-in_default-called_at-clause-same_canon
-call_step-returns-in_default-called_at-clause-same_canon g t c =
-    refl
 
 pub call_step-call_body-requires-clause-walk : goal.call_step-call_body-requires-clause-walk
 call_step-call_body-requires-clause-walk g t c =
@@ -2706,14 +2247,6 @@ call_step-returns-in_err-body-clause-answer g t c =
     λ place there. memory_walked (ground_of (g.D.Deciding.known_data c.args.data.now) (g.D.Deciding.canon c.args.data.now)
     c.args.walk.now.spec.now) (terms_of c.args.walk.now.leaves.now) place c.from_residual.result c.from_residual.ensures.1
 
-pub call_step-returns-in_err-body-clause-same_data : goal.call_step-returns-in_err-body-clause-same_data
-call_step-returns-in_err-body-clause-same_data g t c =
-    c.call_body.ensures.same_data
-
-pub call_step-returns-in_err-body-clause-same_canon : goal.call_step-returns-in_err-body-clause-same_canon
-call_step-returns-in_err-body-clause-same_canon g t c =
-    c.call_body.ensures.same_canon
-
 pub call_step-beh_step-requires : goal.call_step-beh_step-requires
 call_step-beh_step-requires g t c κs within = (
   (part_less (shape_of c.args.shape.now) (shape_of c.deref.result.now) (behaviour_of c.in_ok-body.body) 2 _ (omega arith) (ap (λ (s :
@@ -2721,14 +2254,13 @@ call_step-beh_step-requires g t c κs within = (
   (
     search rules,
     (
-      (carried (λ (d : Data) (f : Term → Term). IsWalk (ground_of d f c.args.walk.now.spec.now)
-          c.args.walk.now.leaves.now c.below.result.leaf) _ _ _ _ (sym c.call_body.ensures.same_data) (sym
-          c.call_body.ensures.same_canon)
-          (subst (λ (k : ℕ). IsWalk (ground_of (g.D.Deciding.known_data c.args.data.now) (g.D.Deciding.canon c.args.data.now)
+      (holds_after (λ (d : Data) (f : Term → Term). IsStepWalk (ground_of d f c.args.walk.now.spec.now)
+          c.args.walk.now.leaves.now c.below.result.leaf) c.call_body.ensures.same_known
+          (subst (λ (k : ℕ). IsStepWalk (ground_of (g.D.Deciding.known_data c.args.data.now) (g.D.Deciding.canon c.args.data.now)
           c.args.walk.now.spec.now) c.args.walk.now.leaves.now k) (sym c.below.ensures.leaf) c.requires.walk)),
-      (carried (λ (d : Data) (f :
+      (holds_after (λ (d : Data) (f :
           Term → Term). IsPassable (ground_of d f c.args.walk.now.spec.now) (behaviour_of c.in_ok-body.body) (profiles_in
-          c.in_ok-body.body)) _ _ _ _ (sym c.call_body.ensures.same_data) (sym c.call_body.ensures.same_canon) (record {
+          c.in_ok-body.body)) c.call_body.ensures.same_known (record {
             closed = subst (λ
                 (b : Behaviour). IsClosedOn (ground_of (g.D.Deciding.known_data c.args.data.now) (g.D.Deciding.canon c.args.data.now)
                 c.args.walk.now.spec.now) b) (sym c.in_ok-body.ensures.same) (call_closed (ground_of (g.D.Deciding.known_data
@@ -2769,10 +2301,10 @@ call_step-returns-in_err-moved-clause-answer g t c =
     (terms_of c.args.values.now.items) (process_of c.in-Some.called.now) (mapped_at process_of
     c.args.walk.now.spec.now.processes.items c.args.process c.in-Some.called.now (sym c.called_at.ensures ∙ ap (option_map (λ p.
     p.now)) c.in-Some.is))) refl c.in_err-moved.field-0.0
-    (carried (λ (d : Data) (f : Term → Term). UnlessMemory (IsFirstFault (ground_of d f c.args.walk.now.spec.now) (terms_of
+    (held_before (λ (d : Data) (f : Term → Term). UnlessMemory (IsFirstStepFault (ground_of d f c.args.walk.now.spec.now) (terms_of
     c.args.walk.now.leaves.now) (stand (with_values (binding_of (process_of c.in-Some.called.now).parameters (map (g.D.Deciding.canon
     c.args.data.now) (terms_of c.args.values.now.items))) (process_of c.in-Some.called.now).body) (shape_of c.deref.result.now) (suc
-    place.number) c.args.at.leaf)) c.in_err-moved.field-0.0) _ _ _ _ c.call_body.ensures.same_data c.call_body.ensures.same_canon
+    place.number) c.args.at.leaf)) c.in_err-moved.field-0.0) c.call_body.ensures.same_known
     (c.in_err-moved.ensures.answer (stand (with_values (binding_of (process_of c.in-Some.called.now).parameters (map
     (g.D.Deciding.canon c.args.data.now) (terms_of c.args.values.now.items))) (process_of c.in-Some.called.now).body) (shape_of
     c.deref.result.now) (suc place.number) c.args.at.leaf) (part_there place (call c.args.process c.args.gates.now.items (terms_of
@@ -2782,14 +2314,6 @@ call_step-returns-in_err-moved-clause-answer g t c =
     (of_shape place (call c.args.process c.args.gates.now.items (terms_of c.args.values.now.items)) (shape_of c.args.shape.now)
     (called (shape_of c.deref.result.now)) c.args.at (ap (λ (s : Shape). called (shape_of s)) c.deref.ensures ∙ sym (ap shape_of
     c.in-Called.is)) there) c.in_ok-body.ensures.same refl c.below.ensures.node c.args.at.leaf c.below.ensures.leaf)))))
-
-pub call_step-returns-in_err-moved-clause-same_data : goal.call_step-returns-in_err-moved-clause-same_data
-call_step-returns-in_err-moved-clause-same_data g t c =
-    (c.beh_step.ensures.same_data ∙ c.call_body.ensures.same_data)
-
-pub call_step-returns-in_err-moved-clause-same_canon : goal.call_step-returns-in_err-moved-clause-same_canon
-call_step-returns-in_err-moved-clause-same_canon g t c =
-    (c.beh_step.ensures.same_canon ∙ c.call_body.ensures.same_canon)
 
 pub call_step-in_call-requires : goal.call_step-in_call-requires
 call_step-in_call-requires g t c =
@@ -2835,11 +2359,11 @@ call_step-returns-clause-answer g t c =
     (ground_of (g.D.Deciding.known_data c.args.data.now) (g.D.Deciding.canon c.args.data.now) c.args.walk.now.spec.now)
     (g.met.D.Deciding.is_canon c.args.data.now) c.requires.walk.over c.args.process c.args.gates.now.items c.in-Some.called.now
     c.args.values.now.items (sym c.called_at.ensures ∙ ap (option_map (λ p. p.now)) c.in-Some.is) c.requires.part.closed
-    c.requires.part.terms_of_signature)) c.in_ok-moved.moved (carried (λ (d : Data) (f : Term → Term). IsMoved (ground_of d f
+    c.requires.part.terms_of_signature)) c.in_ok-moved.moved (held_before (λ (d : Data) (f : Term → Term). IsMoved (ground_of d f
     c.args.walk.now.spec.now) (terms_of c.args.walk.now.leaves.now) (stand (with_values (binding_of (process_of
     c.in-Some.called.now).parameters (map (g.D.Deciding.canon c.args.data.now) (terms_of c.args.values.now.items))) (process_of
-    c.in-Some.called.now).body) (shape_of c.deref.result.now) (suc place.number) c.args.at.leaf) c.in_ok-moved.moved) _ _ _ _
-    c.call_body.ensures.same_data c.call_body.ensures.same_canon (c.in_ok-moved.ensures.answer (stand (with_values (binding_of
+    c.in-Some.called.now).body) (shape_of c.deref.result.now) (suc place.number) c.args.at.leaf) c.in_ok-moved.moved)
+    c.call_body.ensures.same_known (c.in_ok-moved.ensures.answer (stand (with_values (binding_of
     (process_of c.in-Some.called.now).parameters (map (g.D.Deciding.canon c.args.data.now) (terms_of c.args.values.now.items)))
     (process_of c.in-Some.called.now).body) (shape_of c.deref.result.now) (suc place.number) c.args.at.leaf) (part_there place (call
     c.args.process c.args.gates.now.items (terms_of c.args.values.now.items)) (with_values (binding_of (process_of
@@ -2848,11 +2372,11 @@ call_step-returns-clause-answer g t c =
     (shape_of c.deref.result.now) c.args.at c.below.result (of_shape place (call c.args.process c.args.gates.now.items (terms_of
     c.args.values.now.items)) (shape_of c.args.shape.now) (called (shape_of c.deref.result.now)) c.args.at (ap (λ (s : Shape). called
     (shape_of s)) c.deref.ensures ∙ sym (ap shape_of c.in-Called.is)) there) c.in_ok-body.ensures.same refl c.below.ensures.node
-    c.args.at.leaf c.below.ensures.leaf)))) (carried (λ (d : Data) (f : Term → Term). IsMoved (ground_of d f
+    c.args.at.leaf c.below.ensures.leaf)))) (held_before (λ (d : Data) (f : Term → Term). IsMoved (ground_of d f
     c.args.walk.now.spec.now) (terms_of c.args.walk.now.leaves.now) (stand (with_values (binding_of (process_of
     c.in-Some.called.now).parameters (map (g.D.Deciding.canon c.args.data.now) (terms_of c.args.values.now.items))) (process_of
-    c.in-Some.called.now).body) (shape_of c.deref.result.now) (suc place.number) c.args.at.leaf) c.in_ok-moved.moved) _ _ _ _
-    c.call_body.ensures.same_data c.call_body.ensures.same_canon (c.in_ok-moved.ensures.answer (stand (with_values (binding_of
+    c.in-Some.called.now).body) (shape_of c.deref.result.now) (suc place.number) c.args.at.leaf) c.in_ok-moved.moved)
+    c.call_body.ensures.same_known (c.in_ok-moved.ensures.answer (stand (with_values (binding_of
     (process_of c.in-Some.called.now).parameters (map (g.D.Deciding.canon c.args.data.now) (terms_of c.args.values.now.items)))
     (process_of c.in-Some.called.now).body) (shape_of c.deref.result.now) (suc place.number) c.args.at.leaf) (part_there place (call
     c.args.process c.args.gates.now.items (terms_of c.args.values.now.items)) (with_values (binding_of (process_of
@@ -2862,11 +2386,3 @@ call_step-returns-clause-answer g t c =
     c.args.values.now.items)) (shape_of c.args.shape.now) (called (shape_of c.deref.result.now)) c.args.at (ap (λ (s : Shape). called
     (shape_of s)) c.deref.ensures ∙ sym (ap shape_of c.in-Called.is)) there) c.in_ok-body.ensures.same refl c.below.ensures.node
     c.args.at.leaf c.below.ensures.leaf))))
-
-pub call_step-returns-clause-same_data : goal.call_step-returns-clause-same_data
-call_step-returns-clause-same_data g t c =
-    (c.beh_step.ensures.same_data ∙ c.call_body.ensures.same_data)
-
-pub call_step-returns-clause-same_canon : goal.call_step-returns-clause-same_canon
-call_step-returns-clause-same_canon g t c =
-    (c.beh_step.ensures.same_canon ∙ c.call_body.ensures.same_canon)

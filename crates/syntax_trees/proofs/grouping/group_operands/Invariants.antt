@@ -1,7 +1,7 @@
 use Rattle.std.proofs.Common.{◌≡◌, map, length}
 use Rattle.std.specs.Prelude.{Some}
 use Rattle.syntax_trees.specs.Grouping.{leftmost}
-use Rattle.syntax_trees.specs.Waiting.{Rises, grouped_onto}
+use Rattle.syntax_trees.specs.Waiting.{StrengthRises, grouped_onto}
 use Rattle.syntax_trees.proofs.grouping.group_operands.Given as goal
 
 -- the operands and signs that are left, put in front of what is grouped so far, are the whole list
@@ -16,7 +16,7 @@ invariant-loop-sign g l =
       first = g.O.Operand.plain l.tree;
       waiting = map (λ w. (g.O.Operand.plain_sign w.0, g.O.Operand.plain w.1)) l.waiting.items;
     })))
-    × Rises (λ w. g.O.Operand.binds (g.O.Operand.plain_sign w.0)) l.waiting.items
+    × StrengthRises (λ w. g.O.Operand.binds (g.O.Operand.plain_sign w.0)) l.waiting.items
 
 -- the signs that are left
 abbrev pub decreases-loop-sign : goal.decreases-loop-sign

@@ -8,7 +8,7 @@ use Rattle.sort_terms.specs.declared.terms.Term.{Term}
 use Rattle.sort_terms.specs.declared.sorted.Sorted.{Sorted}
 use Rattle.term_match.specs.FoundView.{found_pairs}
 use Rattle.term_match.specs.Matched.{IsMatchedBy, IsPair}
-use Rattle.term_match.specs.Numbers.{AreDistinct}
+use Rattle.term_match.specs.Numbers.{AreDistinctNumbers}
 use Rattle.term_match.specs.Search.{searched}
 use Rattle.term_match.specs.SubstView.{profiled_pairs}
 use Rattle.term_match.proofs.MatchLemmas.{search_is_match, search_is_distinct, search_fits, no_search_no_match, numbers_same, numbers_of}
@@ -34,8 +34,8 @@ of-requires c =
     ∙ (λ i. searched (profiled_of (c.term.ensures i)) (profiled_of (c.term-2.ensures i)) (found_pairs (c.new.ensures.items i)))) in
     let copied : found_pairs c.in-Some.found.items ≡ profiled_pairs c.in_ok-copies-in-Some.field-0.items =
     sym (c.in_ok-copies-in-Some.ensures ∙ ap found_pairs c.as_slice.ensures.value) in
-    subst (λ (ns : List ℕ). AreDistinct ns) (sym (numbers_same c.in_ok-copies-in-Some.field-0.items))
-    (subst (λ (pairs : List (ℕ × ProfiledTerm)). AreDistinct (numbers_of pairs)) copied
+    subst (λ (ns : List ℕ). AreDistinctNumbers ns) (sym (numbers_same c.in_ok-copies-in-Some.field-0.items))
+    (subst (λ (pairs : List (ℕ × ProfiledTerm)). AreDistinctNumbers (numbers_of pairs)) copied
     (search_is_distinct (profiled_in c.args.pattern.now) (profiled_in c.args.term.now) (found_pairs c.in-Some.found.items) found))
 
 pub returns-in_ok-copies-in-Some-clause-none : goal.returns-in_ok-copies-in-Some-clause-none

@@ -1,5 +1,5 @@
 use Rattle.std.proofs.Common.{◌≡◌, drop}
-use Rattle.term_algebra.specs.Substitution.{is_listed}
+use Rattle.lotos_base.specs.Substitution.{is_listed}
 use Rattle.term_match.proofs.noting.listed.Given as goal
 
 abbrev pub invariant-loop-known : goal.invariant-loop-known

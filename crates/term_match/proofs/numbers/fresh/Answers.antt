@@ -1,7 +1,7 @@
 use Rattle.std.proofs.Common.{◌≡◌, ◌++◌, [], ◌∷◌, ℕ, List, get_or, sym, subst}
 use Rattle.std.specs.Prelude.{false}
-use Rattle.term_algebra.specs.Substitution.{is_listed}
-use Rattle.term_match.specs.Numbers.{AreDistinct}
+use Rattle.lotos_base.specs.Substitution.{is_listed}
+use Rattle.term_match.specs.Numbers.{AreDistinctNumbers}
 use Rattle.term_match.proofs.DistinctLemmas.{distinct_more}
 use Rattle.term_match.specs.Renumbering.{new_numbers}
 use Rattle.term_match.proofs.NumberLemmas.{EachMember, each_more, fresh_absent, olds_more, news_more, below_next}
@@ -15,7 +15,7 @@ loop-old-preserved c =
     record {
       olds = olds_more c.loop-old.made.items c.push.new.self.items c.args.olds.now c.loop-old.old-index c.in_ok-new.new
           c.loop-old-test.true c.in_ok-push.ensures.items c.loop-old.invariant.olds;
-      distinct = subst (λ (ns : List ℕ). AreDistinct ns) (sym news)
+      distinct = subst (λ (ns : List ℕ). AreDistinctNumbers ns) (sym news)
           (distinct_more c.in_ok-new.new (new_numbers c.loop-old.made.items) c.loop-old.invariant.distinct
           (fresh_absent c.in_ok-new.new c.loop-old.next (new_numbers c.loop-old.made.items) c.loop-old.invariant.below c.in_ok-new.ensures.0));
       free = subst (λ (ns : List ℕ). EachMember (λ n. is_listed c.args.taken.now n ≡ false) ns) (sym news)

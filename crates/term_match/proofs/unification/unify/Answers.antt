@@ -2,7 +2,7 @@ use Rattle.std.proofs.Common.{◌≡◌, ◌<◌, ◌-◌, ℕ, List, [], Vec, G
 use Rattle.sort_terms.specs.ProfiledTerm.{ProfiledTerm, head_sort}
 use Rattle.sort_terms.specs.SortedView.{profiled_in}
 use Rattle.sort_terms.specs.declared.sorted.Sorted.{Sorted}
-use Rattle.term_match.specs.Numbers.{AreDistinct}
+use Rattle.term_match.specs.Numbers.{AreDistinctNumbers}
 use Rattle.term_match.specs.SubstView.{profiled_pairs}
 use Rattle.term_match.proofs.MatchLemmas.{numbers_same}
 use Rattle.term_match.specs.Disagreement.{disagreement}
@@ -24,7 +24,7 @@ loop-state-init c =
 
 pub of-requires : goal.of-requires
 of-requires c =
-    subst (λ (ns : List ℕ). AreDistinct ns) (sym (numbers_same c.loop-state.state.pairs.items)) c.loop-state.invariant.distinct
+    subst (λ (ns : List ℕ). AreDistinctNumbers ns) (sym (numbers_same c.loop-state.state.pairs.items)) c.loop-state.invariant.distinct
 
 pub returns-in-Solved-clause-none : goal.returns-in-Solved-clause-none
 returns-in-Solved-clause-none c =

@@ -1,5 +1,5 @@
 use Rattle.std.proofs.Common.{sym, subst}
-use Rattle.term_algebra.specs.Signature.{Signature}
+use Rattle.lotos_base.specs.Signature.{Signature}
 use Rattle.sort_terms.specs.ProfiledTerm.{IsOf}
 use Rattle.sort_terms.specs.SortedView.{profiled_in}
 use Rattle.path_order.specs.RulesView.{rules_in}

@@ -1,8 +1,8 @@
 use Rattle.std.proofs.Common.{◌≡◌, ◌++◌}
 use Rattle.lotos_base.specs.WrittenView.{placed_name_of}
-use Rattle.lotos_sentences.specs.Names.{variables_of_sort}
+use Rattle.lotos_rows.specs.Names.{variables_of_sort}
 use Rattle.syntax_trees.specs.TreeViews.{variable_of}
-use Rattle.ll_engine.specs.Run.{from_last}
+use Rattle.lotos_rows.specs.HandedOn.{from_last}
 use Rattle.tree_building.proofs.names.add_variables.Given as goal
 
 -- the variables of the names so far are in front

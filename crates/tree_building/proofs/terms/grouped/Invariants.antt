@@ -1,8 +1,8 @@
 use Rattle.std.proofs.Common.{◌≡◌, length}
 use Rattle.lotos_base.specs.WrittenView.{written_term_of}
-use Rattle.lotos_sentences.specs.Terms.{infix_term}
+use Rattle.lotos_rows.specs.Terms.{infix_term}
 use Rattle.syntax_trees.specs.LeftGrouping.{grouped_left}
-use Rattle.ll_engine.specs.Run.{from_last}
+use Rattle.lotos_rows.specs.HandedOn.{from_last}
 use Rattle.tree_building.specs.TermsViews.{factor_of}
 use Rattle.tree_building.proofs.terms.grouped.Given as goal
 

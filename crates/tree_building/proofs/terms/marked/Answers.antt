@@ -4,7 +4,7 @@ use Rattle.lotos_base.specs.declared.written_terms.Written.{out-Written}
 use Rattle.lotos_base.specs.Name.{spelling}
 use Rattle.lotos_base.specs.WrittenTerm.{PlacedName, WrittenTerm, written, written_terms}
 use Rattle.lotos_base.specs.WrittenView.{text_place_of, form_of, placed_name_of, written_term_of}
-use Rattle.ll_engine.specs.Run.{from_last}
+use Rattle.lotos_rows.specs.HandedOn.{from_last}
 use Rattle.tree_building.specs.TermsMeaning.{with_sorts}
 use Rattle.tree_building.proofs.FromLast.{map_reverse}
 use Rattle.tree_building.proofs.MadeTerms.{made, opened}

@@ -1,7 +1,7 @@
 use Rattle.std.proofs.Common.{refl}
 use Rattle.std.proofs.lemmas.Result.{MatchResult-weaker, err_from_is_err_and}
-use Rattle.type_presentations.specs.declared.operation_list.OperationList.{OperationList}
-use Rattle.type_presentations.specs.declared.sort_list.SortList.{SortList}
+use Rattle.type_presentations.specs.OperationListView.{OperationList}
+use Rattle.type_presentations.specs.SortListView.{SortList}
 use Rattle.type_presentations.specs.PresentationView.{presentation_of}
 use Rattle.type_presentations.specs.declared.presentations.Presentation.{Presentation}
 use Rattle.type_presentations.proofs.SignatureLemmas.{operations_differ, sorts_differ}

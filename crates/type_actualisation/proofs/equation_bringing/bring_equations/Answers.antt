@@ -14,20 +14,20 @@ with_list p list = record {
   formal_ops = p.formal_ops;
 }
 
-pub join_equations-requires-clause-keyed : goal.join_equations-requires-clause-keyed
-join_equations-requires-clause-keyed c = c.requires.1.keyed.equations
+pub join-requires-clause-keyed : goal.join-requires-clause-keyed
+join-requires-clause-keyed c = c.requires.1.keyed.equations
 
-pub join_equations-requires-clause-keeps : goal.join_equations-requires-clause-keeps
-join_equations-requires-clause-keeps c =
+pub join-requires-clause-keeps : goal.join-requires-clause-keeps
+join-requires-clause-keeps c =
     keep c.requires.0 c.args.base.now c.args.presentation.now c.args.sorts.now c.args.ops.now c.requires.1
 
 pub returns : goal.returns
 returns c = λ a is.
-    let new = with_list c.args.presentation.now c.join_equations.new.list in
+    let new = with_list c.args.presentation.now c.join.new.self in
     let comes =
     comes_to a c.args.base.now c.args.presentation.now new c.args.sorts.now c.args.ops.now is refl refl refl refl
-    c.in_ok-join_equations.ensures.equations in (
+    c.in_ok-join.ensures.equations in (
       comes,
       sound_then a c.args.base.now c.args.presentation.now new c.args.sorts.now c.args.ops.now is refl refl refl refl
-          c.in_ok-join_equations.ensures.keyed comes c.in_ok-join_equations.ensures.sides,
+          c.in_ok-join.ensures.keyed comes c.in_ok-join.ensures.sides,
     )

@@ -1,5 +1,5 @@
 use Rattle.std.proofs.Common.{◌≡◌, ◌++◌}
-use Rattle.lotos_sentences.specs.Types.{operations_of_profile}
+use Rattle.lotos_rows.specs.Types.{operations_of_profile}
 use Rattle.syntax_trees.specs.TreeViews.{operation_of}
 use Rattle.ll_engine.specs.Run.{from_last}
 use Rattle.tree_building.specs.NamesViews.{named_operation_of, profile_of}

@@ -2,7 +2,7 @@ use Rattle.std.proofs.Common.{List, ℕ, map, subst}
 use Rattle.std.specs.Prelude.{true}
 use Rattle.std.proofs.lemmas.Result.{err_from_is_err_and}
 use Rattle.lotos_base.specs.Name.{spelling}
-use Rattle.term_algebra.specs.Signature.{Sort}
+use Rattle.lotos_base.specs.Signature.{Sort}
 use Rattle.type_presentations.specs.NamesView.{HasNames}
 use Rattle.syntax_trees.specs.TreeViews.{operation_of}
 use Rattle.type_definitions.proofs.HoldsLemmas.{holds_weaker}

@@ -2,7 +2,7 @@ use Rattle.std.proofs.Common.{ℕ, ◌<◌, ◌^◌, List, ap, sym, ◌∙◌, r
 use Rattle.std.specs.Prelude.{Some}
 use Rattle.lotos_base.specs.Name.{spelling}
 use Rattle.lotos_base.specs.WrittenView.{text_place_of, placed_name_of}
-use Rattle.term_algebra.specs.Signature.{Sort}
+use Rattle.lotos_base.specs.Signature.{Sort}
 use Rattle.type_presentations.proofs.NameLemmas.{named_of}
 use Rattle.type_definitions.specs.TypeFault.{unknown_sort}
 use Rattle.type_declarations.specs.DeclaredOperation.{sort_names}

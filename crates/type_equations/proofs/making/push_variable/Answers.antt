@@ -2,7 +2,7 @@ use Rattle.std.proofs.Common.{ℕ, List, length, map, ap, sym, ◌∙◌}
 use Rattle.std.specs.Prelude.{Some}
 use Rattle.std.proofs.lemmas.Bool.{ltb-true, ltb-false}
 use Rattle.std.proofs.lemmas.Option.{slice_get_past, slice_get-get_or}
-use Rattle.term_algebra.specs.Equation.{Variable}
+use Rattle.lotos_base.specs.Equation.{Variable}
 use Rattle.sort_terms.specs.declared.equations.Variable.{Variable as CodeVariable}
 use Rattle.sort_terms.specs.EquationView.{variable_of}
 use Rattle.type_equations.proofs.CollectLemmas.{not_in_scope, in_scope}

@@ -1,7 +1,7 @@
 use Rattle.std.proofs.lemmas.Result.{err_from_is_err_and}
 use Rattle.lotos_base.specs.WrittenView.{written_term_of}
 use Rattle.std.proofs.Common.{sym, subst}
-use Rattle.term_algebra.specs.Signature.{Signature}
+use Rattle.lotos_base.specs.Signature.{Signature}
 use Rattle.syntax_trees.specs.TreeViews.{equation_of}
 use Rattle.syntax_trees.specs.WrittenEquation.{WrittenEquation}
 use Rattle.sort_terms.specs.ProfiledTerm.{IsOf}

@@ -1,5 +1,5 @@
 use Rattle.std.proofs.Common.{sym, ◌∙◌, subst}
-use Rattle.term_algebra.specs.Signature.{Signature, IsWellFormedSignature}
+use Rattle.lotos_base.specs.Signature.{Signature, IsWellFormedSignature}
 use Rattle.sort_terms.specs.Operations.{operation_of, sort_of}
 use Rattle.type_presentations.proofs.SizeLemmas.{within_limits}
 use Rattle.type_presentations.specs.PresentationView.{presentation_of}

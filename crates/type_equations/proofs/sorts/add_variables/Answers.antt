@@ -2,7 +2,7 @@ use Rattle.std.proofs.Common.{◌≡◌, ℕ, List, ◌++◌, length, map, ap, s
 use Rattle.std.proofs.lemmas.List.{append-nil, length-map}
 use Rattle.std.proofs.lemmas.Result.{err_from_is_err_and}
 use Rattle.lotos_base.specs.Name.{spelling}
-use Rattle.term_algebra.specs.Equation.{Variable}
+use Rattle.lotos_base.specs.Equation.{Variable}
 use Rattle.syntax_trees.specs.TreeViews.{variables_of}
 use Rattle.syntax_trees.specs.declared.named.VarText.{VarText}
 use Rattle.sort_terms.specs.EquationView.{variable_of}

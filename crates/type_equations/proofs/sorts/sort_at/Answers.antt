@@ -2,7 +2,7 @@ use Rattle.std.proofs.Common.{ℕ, List, ap, sym, subst}
 use Rattle.std.specs.Prelude.{Some}
 use Rattle.lotos_base.specs.Name.{spelling}
 use Rattle.lotos_base.specs.WrittenView.{text_place_of}
-use Rattle.term_algebra.specs.Signature.{Signature}
+use Rattle.lotos_base.specs.Signature.{Signature}
 use Rattle.sort_terms.specs.Reading.{IsSortNamed}
 use Rattle.type_definitions.specs.TypeFault.{unknown_sort}
 use Rattle.type_equations.proofs.SortLemmas.{sort_none, sort_found}

@@ -1,7 +1,7 @@
 use Rattle.std.proofs.Common.{◌≡◌, ℕ, List, sym, subst, ◌∙◌}
 use Rattle.std.specs.Prelude.{codes}
 use Rattle.lotos_base.specs.Name.{spelling}
-use Rattle.term_algebra.specs.Signature.{Signature}
+use Rattle.lotos_base.specs.Signature.{Signature}
 use Rattle.sort_terms.specs.Reading.{IsSortNamed}
 use Rattle.type_definitions.specs.Declarations.{sort_numbered}
 use Rattle.type_equations.proofs.SortLemmas.{sort_none, sort_found, no_truth, truth_is}

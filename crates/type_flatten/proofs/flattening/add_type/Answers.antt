@@ -1,7 +1,7 @@
 use Rattle.std.proofs.Common.{◌≡◌, ◌<◌, ◌≤◌, length, ap, sym, ◌∙◌, ltb-true, ltb-false}
 use Rattle.std.specs.Prelude.{Some, slice_get}
 use Rattle.std.proofs.lemmas.Option.{slice_get-get_or, slice_get_past}
-use Rattle.type_mentions.specs.declared.type_texts.TypeText.{TypeText}
+use Rattle.type_definitions.specs.declared.type_texts.TypeText.{TypeText}
 use Rattle.type_flatten.proofs.OrderLemmas.{type_added, nothing_added}
 use Rattle.type_flatten.proofs.flattening.add_type.Goals as goal
 

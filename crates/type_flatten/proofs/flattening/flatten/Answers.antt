@@ -1,8 +1,8 @@
 use Rattle.std.proofs.Common.{List, map, sym, subst}
 use Rattle.std.proofs.lemmas.Result.{MatchResult-weaker, err_from_is_err_and}
 use Rattle.syntax_trees.specs.TreeViews.{item_of}
-use Rattle.type_mentions.specs.DeclaredTypes.{DeclaredType, types_of}
-use Rattle.type_mentions.specs.MentionFaults.{AreInOrder}
+use Rattle.type_definitions.specs.DeclaredTypes.{DeclaredType, types_of}
+use Rattle.type_definitions.specs.MentionFaults.{AreInOrder}
 use Rattle.type_flatten.specs.FlatView.{IsFlat, IsRefused}
 use Rattle.type_flatten.proofs.AllTypesLemmas.{names_refused}
 use Rattle.type_flatten.proofs.flattening.flatten.Goals as goal

@@ -1,10 +1,10 @@
 use Rattle.std.proofs.Common.{◌≡◌, ◌∙◌, ℕ, List, ap}
 use Rattle.std.proofs.lemmas.Result.{MatchResult-weaker, err_from_is_err_and}
 use Rattle.type_definitions.specs.Flattened.{types_at}
-use Rattle.type_mentions.specs.DeclaredTypes.{DeclaredType}
-use Rattle.type_mentions.specs.TypeNamesView.{types_in}
-use Rattle.type_mentions.specs.TypeView.{declared_types_of}
-use Rattle.type_mentions.specs.declared.type_texts.TypeText.{TypeText}
+use Rattle.type_definitions.specs.DeclaredTypes.{DeclaredType}
+use Rattle.type_definitions.specs.TypeNamesView.{types_in}
+use Rattle.type_definitions.specs.TypeView.{declared_types_of}
+use Rattle.type_definitions.specs.declared.type_texts.TypeText.{TypeText}
 use Rattle.type_flatten.proofs.AllTypesLemmas.{nothing_refused, refused_in_order, flat_in_order}
 use Rattle.type_flatten.proofs.flattening.flatten_in_order.Goals as goal
 

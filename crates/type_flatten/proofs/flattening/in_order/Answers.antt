@@ -1,8 +1,8 @@
 use Rattle.std.proofs.Common.{List, [], ◌∷◌, ◌++◌, get_or, ap, ◌∙◌}
 use Rattle.type_definitions.specs.Flattened.{types_at}
-use Rattle.type_mentions.specs.TypeNamesView.{types_in}
-use Rattle.type_mentions.specs.TypeView.{declared_types_of}
-use Rattle.type_mentions.specs.declared.type_texts.TypeText.{TypeText}
+use Rattle.type_definitions.specs.TypeNamesView.{types_in}
+use Rattle.type_definitions.specs.TypeView.{declared_types_of}
+use Rattle.type_definitions.specs.declared.type_texts.TypeText.{TypeText}
 use Rattle.type_flatten.proofs.OrderLemmas.{next_in_order}
 use Rattle.type_flatten.proofs.flattening.in_order.Goals as goal
 

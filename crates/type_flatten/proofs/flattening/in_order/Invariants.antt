@@ -1,7 +1,7 @@
 use Rattle.std.proofs.Common.{◌≡◌, ◌++◌, drop}
 use Rattle.type_definitions.specs.Flattened.{types_at}
-use Rattle.type_mentions.specs.TypeNamesView.{types_in}
-use Rattle.type_mentions.specs.TypeView.{declared_types_of}
+use Rattle.type_definitions.specs.TypeNamesView.{types_in}
+use Rattle.type_definitions.specs.TypeView.{declared_types_of}
 use Rattle.type_flatten.proofs.flattening.in_order.Given as goal
 
 abbrev pub invariant-loop-number : goal.invariant-loop-number

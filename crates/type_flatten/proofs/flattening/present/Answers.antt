@@ -1,15 +1,15 @@
 use Rattle.std.proofs.Common.{List, ℕ}
 use Rattle.std.proofs.lemmas.Result.{err_from_is_err_and}
 use Rattle.syntax_trees.specs.WrittenItem.{WrittenTypeBody}
-use Rattle.type_mentions.specs.TypeView.{declared_type_of}
+use Rattle.type_definitions.specs.TypeView.{declared_type_of}
 use Rattle.type_definitions.specs.Union.{Mentioned}
 use Rattle.type_definitions.specs.declared.type_faults.TypeFault.TheVariants.{NoMemory}
 use Rattle.type_presentations.specs.PresentationView.{presentation_of}
 use Rattle.type_unions.specs.PresentedView.{presented_in}
-use Rattle.type_flatten.specs.FlatView.{IsFirstFault}
+use Rattle.type_flatten.specs.FlatView.{IsFirstTypeFault}
 use Rattle.type_flatten.proofs.flattening.present.Goals as goal
 
-wanting : (done : List Mentioned) (name : List ℕ) (body : WrittenTypeBody) → IsFirstFault done name body NoMemory
+wanting : (done : List Mentioned) (name : List ℕ) (body : WrittenTypeBody) → IsFirstTypeFault done name body NoMemory
 wanting done name body = record { found = tt }
 
 pub add-requires-clause-presentation : goal.add-requires-clause-presentation

@@ -2,8 +2,8 @@ use Rattle.std.proofs.Common.{◌+◌, List, drop, ap}
 use Rattle.std.proofs.lemmas.Result.{err_from_is_err_and}
 use Rattle.type_presentations.proofs.KeptLemmas.{drop_next}
 use Rattle.type_presentations.proofs.JoinedLemmas.{nothing_due}
-use Rattle.type_mentions.specs.TypeView.{declared_type_of, declared_types_of}
-use Rattle.type_mentions.specs.declared.type_texts.TypeText.{TypeText}
+use Rattle.type_definitions.specs.TypeView.{declared_type_of, declared_types_of}
+use Rattle.type_definitions.specs.declared.type_texts.TypeText.{TypeText}
 use Rattle.type_unions.specs.PresentedView.{presented_in}
 use Rattle.type_flatten.proofs.AllTypesLemmas.{at_the_start, presented_next, refused_next, all_there}
 use Rattle.type_flatten.proofs.flattening.present_all.Goals as goal

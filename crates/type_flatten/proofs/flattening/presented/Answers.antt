@@ -1,7 +1,7 @@
 use Rattle.std.proofs.lemmas.Result.{err_from_is_err_and}
 use Rattle.std.proofs.Common.{List, subst}
 use Rattle.type_definitions.specs.Union.{Mentioned}
-use Rattle.type_mentions.specs.TypeView.{declared_types_of}
+use Rattle.type_definitions.specs.TypeView.{declared_types_of}
 use Rattle.type_flatten.specs.FlatView.{ArePresentedBehind, AreRefusedBehind}
 use Rattle.type_flatten.proofs.flattening.presented.Goals as goal
 

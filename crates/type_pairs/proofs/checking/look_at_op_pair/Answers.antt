@@ -3,7 +3,7 @@ use Rattle.std.specs.Prelude.{Some}
 use Rattle.lotos_base.specs.Name.{spelling}
 use Rattle.lotos_base.specs.WrittenView.{text_place_of}
 use Rattle.syntax_trees.specs.TreeViews.{pair_of}
-use Rattle.term_algebra.specs.Signature.{Operation}
+use Rattle.lotos_base.specs.Signature.{Operation}
 use Rattle.type_presentations.proofs.NameLemmas.{named_of}
 use Rattle.type_definitions.specs.TypeFault.{unknown_operation, double_operation}
 use Rattle.type_pairs.specs.PairNames.{names_of_operations, old_names}

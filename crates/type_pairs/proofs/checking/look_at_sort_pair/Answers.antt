@@ -3,7 +3,7 @@ use Rattle.std.specs.Prelude.{Some}
 use Rattle.lotos_base.specs.Name.{spelling}
 use Rattle.lotos_base.specs.WrittenView.{text_place_of}
 use Rattle.syntax_trees.specs.TreeViews.{pair_of}
-use Rattle.term_algebra.specs.Signature.{Sort}
+use Rattle.lotos_base.specs.Signature.{Sort}
 use Rattle.type_presentations.proofs.NameLemmas.{named_of}
 use Rattle.type_definitions.specs.TypeFault.{unknown_sort}
 use Rattle.type_pairs.specs.PairNames.{names_of_sorts}

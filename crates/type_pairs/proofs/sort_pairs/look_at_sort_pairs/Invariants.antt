@@ -1,5 +1,5 @@
 use Rattle.std.proofs.Common.{◌≡◌, [], map, take, drop}
-use Rattle.term_algebra.specs.Signature.{Signature}
+use Rattle.lotos_base.specs.Signature.{Signature}
 use Rattle.syntax_trees.specs.TreeViews.{pair_of}
 use Rattle.type_presentations.specs.NamesView.{HasNames}
 use Rattle.type_definitions.specs.Renaming.{sort_pairs_fault}

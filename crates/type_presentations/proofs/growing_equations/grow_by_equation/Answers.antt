@@ -1,5 +1,5 @@
 use Rattle.std.proofs.Common.{List, sym, subst}
-use Rattle.term_algebra.specs.Equation.{Equation, IsWellFormedData}
+use Rattle.lotos_base.specs.Equation.{Equation, IsWellFormedData}
 use Rattle.sort_terms.specs.EquationView.{equation_of}
 use Rattle.type_presentations.specs.EquationListView.{equations_in}
 use Rattle.type_presentations.specs.PresentationView.{presentation_of}

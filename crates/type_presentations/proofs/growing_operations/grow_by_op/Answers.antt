@@ -1,14 +1,15 @@
-use Rattle.std.proofs.Common.{List, length, ap, sym, ◌∙◌}
+use Rattle.std.proofs.Common.{List, [], ◌∷◌, length, ap, sym, ◌∙◌}
 use Rattle.std.proofs.lemmas.List.{length-map}
-use Rattle.term_algebra.specs.Signature.{Operation}
+use Rattle.lotos_base.specs.Signature.{Operation}
 use Rattle.sort_terms.specs.Operations.{operation_of}
+use Rattle.sort_terms.specs.declared.operations.Op.{Op as CodeOp}
 use Rattle.sort_terms.specs.WellFormedTest.{are_one_operation}
 use Rattle.type_presentations.specs.OperationListView.{operations_in}
 use Rattle.type_presentations.specs.SortListView.{sorts_in}
 use Rattle.type_presentations.specs.EquationListView.{equations_in}
 use Rattle.type_presentations.proofs.AddedLemmas.{by_profile}
 use Rattle.type_presentations.proofs.KeyedLemmas.{mutual_by_key}
-use Rattle.type_definitions.specs.Presentation.{Presentation, is_same_operation}
+use Rattle.type_definitions.specs.Presentation.{Presentation, is_same_operation, with_new}
 use Rattle.type_presentations.specs.PresentationView.{presentation_of}
 use Rattle.type_presentations.proofs.GrowthLemmas.{grown_by, one_operation_clashes, operations_differ, stand_with_operation, first_alone, second_alone}
 use Rattle.type_presentations.proofs.growing_operations.grow_by_op.Goals as goal
@@ -26,7 +27,9 @@ returns-then-added-clause-clash c =
     let g =
     grown_by is_same_operation are_one_operation one_operation_clashes (mutual_by_key by_profile.key by_profile.same by_profile.tell) (operations_in c.args.presentation.now.ops)
     (operations_in c.add.new.self) (operation_of c.args.op) c.in_ok-added.added.clashes (length c.ops-before.result.now)
-    (length c.ops-after.result.now) c.in_ok-added.ensures.operations c.in_ok-added.ensures.clashes
+    (length c.ops-after.result.now)
+    (c.in_ok-added.ensures.members ∙ ap (λ (o : CodeOp). with_new is_same_operation (operations_in c.args.presentation.now.ops) (operation_of o ∷ [])) c.in_ok-new.ensures.ok)
+    c.in_ok-added.ensures.clashes
     (operations_differ (presentation_of c.args.presentation.now).signature c.requires.sound.data_.signature)
     (sym (length-map c.ops-before.result.now (λ op. operation_of op.value)) ∙ ap (λ (xs : List Operation). length xs) c.ops-before.ensures)
     (sym (length-map c.ops-after.result.now (λ op. operation_of op.value)) ∙ ap (λ (xs : List Operation). length xs) c.ops-after.ensures) in
@@ -37,7 +40,9 @@ returns-else-added-clause-clash c =
     let g =
     grown_by is_same_operation are_one_operation one_operation_clashes (mutual_by_key by_profile.key by_profile.same by_profile.tell) (operations_in c.args.presentation.now.ops)
     (operations_in c.add.new.self) (operation_of c.args.op) c.in_ok-added.added.clashes (length c.ops-before.result.now)
-    (length c.ops-after.result.now) c.in_ok-added.ensures.operations c.in_ok-added.ensures.clashes
+    (length c.ops-after.result.now)
+    (c.in_ok-added.ensures.members ∙ ap (λ (o : CodeOp). with_new is_same_operation (operations_in c.args.presentation.now.ops) (operation_of o ∷ [])) c.in_ok-new.ensures.ok)
+    c.in_ok-added.ensures.clashes
     (operations_differ (presentation_of c.args.presentation.now).signature c.requires.sound.data_.signature)
     (sym (length-map c.ops-before.result.now (λ op. operation_of op.value)) ∙ ap (λ (xs : List Operation). length xs) c.ops-before.ensures)
     (sym (length-map c.ops-after.result.now (λ op. operation_of op.value)) ∙ ap (λ (xs : List Operation). length xs) c.ops-after.ensures) in
@@ -48,7 +53,9 @@ returns-else-added-clause-grown c = λ none.
     let g =
     grown_by is_same_operation are_one_operation one_operation_clashes (mutual_by_key by_profile.key by_profile.same by_profile.tell) (operations_in c.args.presentation.now.ops)
     (operations_in c.add.new.self) (operation_of c.args.op) c.in_ok-added.added.clashes (length c.ops-before.result.now)
-    (length c.ops-after.result.now) c.in_ok-added.ensures.operations c.in_ok-added.ensures.clashes
+    (length c.ops-after.result.now)
+    (c.in_ok-added.ensures.members ∙ ap (λ (o : CodeOp). with_new is_same_operation (operations_in c.args.presentation.now.ops) (operation_of o ∷ [])) c.in_ok-new.ensures.ok)
+    c.in_ok-added.ensures.clashes
     (operations_differ (presentation_of c.args.presentation.now).signature c.requires.sound.data_.signature)
     (sym (length-map c.ops-before.result.now (λ op. operation_of op.value)) ∙ ap (λ (xs : List Operation). length xs) c.ops-before.ensures)
     (sym (length-map c.ops-after.result.now (λ op. operation_of op.value)) ∙ ap (λ (xs : List Operation). length xs) c.ops-after.ensures) in

@@ -1,6 +1,6 @@
-use Rattle.std.proofs.Common.{List, length, ap, sym, ◌∙◌}
+use Rattle.std.proofs.Common.{List, [], ◌∷◌, length, ap, sym, ◌∙◌}
 use Rattle.std.proofs.lemmas.List.{length-map}
-use Rattle.term_algebra.specs.Signature.{Sort}
+use Rattle.lotos_base.specs.Signature.{Sort}
 use Rattle.sort_terms.specs.Operations.{sort_of}
 use Rattle.sort_terms.specs.WellFormedTest.{are_one_sort}
 use Rattle.type_presentations.specs.SortListView.{sorts_in}
@@ -8,7 +8,7 @@ use Rattle.type_presentations.specs.OperationListView.{operations_in}
 use Rattle.type_presentations.specs.EquationListView.{equations_in}
 use Rattle.type_presentations.proofs.AddedLemmas.{by_name}
 use Rattle.type_presentations.proofs.KeyedLemmas.{mutual_by_key}
-use Rattle.type_definitions.specs.Presentation.{Presentation, is_same_sort}
+use Rattle.type_definitions.specs.Presentation.{Presentation, is_same_sort, with_new}
 use Rattle.type_presentations.specs.PresentationView.{presentation_of}
 use Rattle.type_presentations.proofs.GrowthLemmas.{grown_by, one_sort_clashes, sorts_differ, stand_with_sort, first_alone, second_alone}
 use Rattle.type_presentations.proofs.growing_sorts.grow_by_sort.Goals as goal
@@ -26,7 +26,9 @@ returns-then-added-clause-clash c =
     let g =
     grown_by is_same_sort are_one_sort one_sort_clashes (mutual_by_key by_name.key by_name.same by_name.tell) (sorts_in c.args.presentation.now.sorts)
     (sorts_in c.add.new.self) (sort_of c.args.sort.now) c.in_ok-added.added.clashes (length c.sorts-before.result.now)
-    (length c.sorts-after.result.now) c.in_ok-added.ensures.sorts c.in_ok-added.ensures.clashes
+    (length c.sorts-after.result.now)
+    (c.in_ok-added.ensures.members ∙ ap (λ (s : Sort). with_new is_same_sort (sorts_in c.args.presentation.now.sorts) (s ∷ [])) c.in_ok-copy.ensures)
+    c.in_ok-added.ensures.clashes
     (sorts_differ (presentation_of c.args.presentation.now).signature c.requires.sound.data_.signature)
     (sym (length-map c.sorts-before.result.now sort_of) ∙ ap (λ (xs : List Sort). length xs) c.sorts-before.ensures)
     (sym (length-map c.sorts-after.result.now sort_of) ∙ ap (λ (xs : List Sort). length xs) c.sorts-after.ensures) in
@@ -37,7 +39,9 @@ returns-else-added-clause-clash c =
     let g =
     grown_by is_same_sort are_one_sort one_sort_clashes (mutual_by_key by_name.key by_name.same by_name.tell) (sorts_in c.args.presentation.now.sorts)
     (sorts_in c.add.new.self) (sort_of c.args.sort.now) c.in_ok-added.added.clashes (length c.sorts-before.result.now)
-    (length c.sorts-after.result.now) c.in_ok-added.ensures.sorts c.in_ok-added.ensures.clashes
+    (length c.sorts-after.result.now)
+    (c.in_ok-added.ensures.members ∙ ap (λ (s : Sort). with_new is_same_sort (sorts_in c.args.presentation.now.sorts) (s ∷ [])) c.in_ok-copy.ensures)
+    c.in_ok-added.ensures.clashes
     (sorts_differ (presentation_of c.args.presentation.now).signature c.requires.sound.data_.signature)
     (sym (length-map c.sorts-before.result.now sort_of) ∙ ap (λ (xs : List Sort). length xs) c.sorts-before.ensures)
     (sym (length-map c.sorts-after.result.now sort_of) ∙ ap (λ (xs : List Sort). length xs) c.sorts-after.ensures) in
@@ -48,7 +52,9 @@ returns-else-added-clause-grown c = λ none.
     let g =
     grown_by is_same_sort are_one_sort one_sort_clashes (mutual_by_key by_name.key by_name.same by_name.tell) (sorts_in c.args.presentation.now.sorts)
     (sorts_in c.add.new.self) (sort_of c.args.sort.now) c.in_ok-added.added.clashes (length c.sorts-before.result.now)
-    (length c.sorts-after.result.now) c.in_ok-added.ensures.sorts c.in_ok-added.ensures.clashes
+    (length c.sorts-after.result.now)
+    (c.in_ok-added.ensures.members ∙ ap (λ (s : Sort). with_new is_same_sort (sorts_in c.args.presentation.now.sorts) (s ∷ [])) c.in_ok-copy.ensures)
+    c.in_ok-added.ensures.clashes
     (sorts_differ (presentation_of c.args.presentation.now).signature c.requires.sound.data_.signature)
     (sym (length-map c.sorts-before.result.now sort_of) ∙ ap (λ (xs : List Sort). length xs) c.sorts-before.ensures)
     (sym (length-map c.sorts-after.result.now sort_of) ∙ ap (λ (xs : List Sort). length xs) c.sorts-after.ensures) in

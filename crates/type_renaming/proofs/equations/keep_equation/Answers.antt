@@ -1,6 +1,6 @@
 use Rattle.std.proofs.Common.{◌≡◌, ℕ, List, ap, sym, subst, ◌∙◌}
-use Rattle.term_algebra.specs.Signature.{Signature, Operation}
-use Rattle.term_algebra.specs.Equation.{Equation, IsEquationOver}
+use Rattle.lotos_base.specs.Signature.{Signature, Operation}
+use Rattle.lotos_base.specs.Equation.{Equation, IsEquationOver}
 use Rattle.sort_terms.specs.EquationView.{equation_of}
 use Rattle.sort_terms.specs.ProfiledTerm.{ProfiledTerm, IsOf}
 use Rattle.sort_terms.specs.SortedView.{profiled_in}

@@ -1,7 +1,7 @@
 use Rattle.std.proofs.Common.{◌≡◌, ℕ, Bool, List, ◌∷◌, ◌++◌, [], length, map, ap, sym, ◌∙◌}
 use Rattle.std.specs.Prelude.{true, false, not}
 use Rattle.std.specs.List.{list_any}
-use Rattle.term_algebra.specs.Signature.{Operation}
+use Rattle.lotos_base.specs.Signature.{Operation}
 use Rattle.sort_terms.specs.Operations.{operation_of}
 use Rattle.type_renaming.proofs.PartLemmas.{shared, image_is_known}
 use Rattle.sort_terms.specs.WellFormedTest.{all_differ, are_one_operation, has_known_sorts}

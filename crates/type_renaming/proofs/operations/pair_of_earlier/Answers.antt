@@ -1,5 +1,5 @@
 use Rattle.std.proofs.Common.{List, ap, sym, refl, ◌∙◌}
-use Rattle.term_algebra.specs.Signature.{Operation}
+use Rattle.lotos_base.specs.Signature.{Operation}
 use Rattle.sort_terms.specs.Operations.{operation_of}
 use Rattle.type_renaming.proofs.PartLemmas.{shared}
 use Rattle.sort_terms.specs.declared.operations.Op.{Op}

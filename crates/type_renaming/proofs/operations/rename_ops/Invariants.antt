@@ -1,5 +1,5 @@
 use Rattle.std.proofs.Common.{◌≡◌, map, take, drop}
-use Rattle.term_algebra.specs.Signature.{Operation}
+use Rattle.lotos_base.specs.Signature.{Operation}
 use Rattle.sort_terms.specs.WellFormedTest.{are_one_operation}
 use Rattle.type_definitions.specs.TypeFault.{double_operation}
 use Rattle.type_definitions.specs.Renaming.{clash_among, pair_for, renamed_operation, renamed_operation_clash}

@@ -2,7 +2,7 @@ use Rattle.std.proofs.Common.{ℕ, List, map, length, ap, sym, ◌∙◌}
 use Rattle.std.specs.List.{list_all}
 use Rattle.std.proofs.lemmas.List.{length-map}
 use Rattle.std.proofs.lemmas.Result.{err_from_is_err_and}
-use Rattle.term_algebra.specs.Signature.{Operation}
+use Rattle.lotos_base.specs.Signature.{Operation}
 use Rattle.sort_terms.specs.WellFormedTest.{all_differ, are_one_operation, has_known_sorts}
 use Rattle.type_presentations.specs.OperationListView.{operations_in}
 use Rattle.type_presentations.proofs.GrowthLemmas.{operations_differ}

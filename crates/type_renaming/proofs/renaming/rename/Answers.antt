@@ -2,7 +2,7 @@ use Rattle.std.proofs.Common.{◌≡◌, ℕ, List, map, sym, subst, ◌∙◌}
 use Rattle.std.specs.Prelude.{None}
 use Rattle.std.proofs.lemmas.Result.{err_from_is_err_and, MatchResult-weaker}
 use Rattle.lotos_base.specs.Name.{spelling}
-use Rattle.term_algebra.specs.Signature.{Sort, Operation}
+use Rattle.lotos_base.specs.Signature.{Sort, Operation}
 use Rattle.syntax_trees.specs.TreeViews.{pair_of, pairs_of}
 use Rattle.syntax_trees.specs.WrittenItem.{WrittenPairs}
 use Rattle.type_presentations.specs.NamesView.{HasNames}

@@ -1,7 +1,7 @@
 use Rattle.std.proofs.Common.{◌≡◌, ℕ, Bool, List, ◌∷◌, ◌++◌, [], map, ap, sym, ◌∙◌}
 use Rattle.std.specs.Prelude.{true, false, not}
 use Rattle.std.specs.List.{list_any}
-use Rattle.term_algebra.specs.Signature.{Sort}
+use Rattle.lotos_base.specs.Signature.{Sort}
 use Rattle.sort_terms.specs.Operations.{sort_of}
 use Rattle.sort_terms.specs.WellFormedTest.{all_differ, are_one_sort}
 use Rattle.syntax_trees.specs.WrittenItem.{WrittenPairs}

@@ -1,5 +1,5 @@
 use Rattle.std.proofs.Common.{List, ap, sym, refl, ◌∙◌}
-use Rattle.term_algebra.specs.Signature.{Sort}
+use Rattle.lotos_base.specs.Signature.{Sort}
 use Rattle.sort_terms.specs.Operations.{sort_of}
 use Rattle.sort_terms.specs.WellFormedTest.{are_one_sort}
 use Rattle.syntax_trees.specs.TreeViews.{pair_of}

@@ -1,5 +1,5 @@
 use Rattle.std.proofs.Common.{List, [], refl}
-use Rattle.term_algebra.specs.Term.{Term}
+use Rattle.lotos_base.specs.Term.{Term}
 use Rattle.behaviour_semantics.specs.Solving.{Entry, settled}
 use Rattle.behaviour_semantics.specs.Menu.{Meets}
 use Rattle.worked_cases.specs.BehaviourSamples.{sample_data}

@@ -1,6 +1,6 @@
 use Rattle.std.proofs.Common.{◌≡◌, ℕ, zero, suc, List, [], ◌∷◌, map, Option, None, Some, option_map, refl, ap, subst}
 use Rattle.std.specs.Prelude.{slice_get}
-use Rattle.term_algebra.specs.Substitution.{Substitution}
+use Rattle.lotos_base.specs.Substitution.{Substitution}
 use Rattle.behaviour_semantics.specs.Behaviour.{stop, Process}
 use Rattle.behaviour_semantics.specs.Shape.{left_side, right_side, called}
 use Rattle.behaviour_semantics.specs.Move.{relabelling}

@@ -1,5 +1,5 @@
 use Rattle.std.proofs.Common.{refl}
-use Rattle.term_algebra.specs.Equation.{IsEquationOver}
+use Rattle.lotos_base.specs.Equation.{IsEquationOver}
 use Rattle.behaviour_semantics.proofs.ListLemmas.{Every-at}
 use Rattle.worked_cases.specs.BehaviourSamples.{sample_signature, sample_data}
 use Rattle.worked_cases.proofs.EquationTests.{are_equations_over}

@@ -1,5 +1,5 @@
 use Rattle.std.proofs.Common.{◌≡◌, List, [], refl}
-use Rattle.term_algebra.specs.Term.{Term}
+use Rattle.lotos_base.specs.Term.{Term}
 use Rattle.behaviour_semantics.specs.Label.{gate_event}
 use Rattle.behaviour_semantics.specs.Shape.{act, left_side, right_side}
 use Rattle.behaviour_semantics.specs.Solving.{Entry}

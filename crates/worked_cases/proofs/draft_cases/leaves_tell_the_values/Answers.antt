@@ -1,8 +1,8 @@
 -- The variable 0 stands at the second leaf of the first draft; the others lack something that is asked of drafts in order.
 use Rattle.std.proofs.Common.{◌≡◌, ◌<◌, ℕ, zero, suc, List, [], ◌∷◌, slice_get, Some, refl, ap, sym, ◌∙◌, arith, inl, inr}
-use Rattle.term_algebra.specs.Term.{Term, variable}
-use Rattle.term_algebra.specs.Sorting.{HasSort, Occurs}
-use Rattle.term_algebra.specs.Equality.{same_term}
+use Rattle.lotos_base.specs.Term.{Term, variable}
+use Rattle.lotos_base.specs.Sorting.{HasSort, Occurs}
+use Rattle.lotos_base.specs.Equality.{same_term}
 use Rattle.behaviour_semantics.specs.DraftOrder.{IsLeaf, HasLeafVariables}
 use Rattle.behaviour_semantics.proofs.OptionLemmas.{some_value}
 use Rattle.worked_cases.specs.BehaviourSamples.{nat_sort, nought, one, two, succ, nat, sample_signature}

@@ -1,9 +1,9 @@
 use Rattle.std.proofs.Common.{◌≡◌, ℕ, [], true, refl, subst}
-use Rattle.term_algebra.specs.Term.{Term}
-use Rattle.term_algebra.specs.Substitution.{Substitution, IsGrounding}
-use Rattle.term_algebra.specs.Sorting.{IsGroundOf}
-use Rattle.term_algebra.proofs.SubstitutionLemmas.{ground_no_variable}
-use Rattle.term_algebra.proofs.CanonLemmas.{canon_tells}
+use Rattle.lotos_base.specs.Term.{Term}
+use Rattle.lotos_base.specs.Substitution.{Substitution, IsGrounding}
+use Rattle.lotos_base.specs.Sorting.{IsGroundOf}
+use Rattle.lotos_base.proofs.SubstitutionLemmas.{ground_no_variable}
+use Rattle.lotos_base.proofs.CanonLemmas.{canon_tells}
 use Rattle.behaviour_semantics.specs.Alike.{AlikeTerms}
 use Rattle.worked_cases.specs.BehaviourSamples.{nat_sort, sample_signature, sample_data, sample_canon, nought, one, plus, nat}
 use Rattle.worked_cases.proofs.SampleCanon.{sample_is_canon}

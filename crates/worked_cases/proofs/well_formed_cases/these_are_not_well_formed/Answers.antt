@@ -1,12 +1,12 @@
 use Rattle.std.proofs.Common.{◌≡◌, ◌<◌, ℕ, List, [], ◌∷◌, length, refl, ap, sym, subst, arith}
-use Rattle.term_algebra.specs.Term.{Term, no_terms, term_then}
+use Rattle.lotos_base.specs.Term.{Term, no_terms, term_then}
 use Rattle.behaviour_semantics.specs.Behaviour.{Process}
 use Rattle.behaviour_semantics.specs.WellFormed.{AreTermsIn, IsCall}
 use Rattle.behaviour_semantics.proofs.OptionLemmas.{some_value}
 use Rattle.worked_cases.specs.BehaviourSamples.{nat_sort, sample_signature, gate_x, succ, truth}
 use Rattle.worked_cases.specs.ValueCases.{counting}
-use Rattle.term_algebra.specs.Signature.{Operation}
-use Rattle.term_algebra.specs.Sorting.{HasSort, HaveSorts}
+use Rattle.lotos_base.specs.Signature.{Operation}
+use Rattle.lotos_base.specs.Sorting.{HasSort, HaveSorts}
 use Rattle.worked_cases.proofs.CaseLemmas.{truth_not_sorted, sort_of_nought}
 use Rattle.worked_cases.proofs.well_formed_cases.these_are_not_well_formed.Goals as goal
 

@@ -2,7 +2,7 @@ use Rattle.std.proofs.Common.{◌≡◌, ℕ, suc, ◌+◌, List, [], ◌∷◌,
 use Rattle.std.specs.Prelude.{Option, None}
 use Rattle.std.proofs.lemmas.List.{map-append}
 use Rattle.lotos_base.specs.declared.places.Place.{Place as CodePlace}
-use Rattle.term_algebra.specs.Equation.{Place}
+use Rattle.lotos_base.specs.Equation.{Place}
 use Rattle.actual_members.specs.MakersView.{place_seen}
 use Rattle.actual_members.specs.Noting.{no_makers}
 use Rattle.actual_members.proofs.NotingLemmas.{one_more_none}

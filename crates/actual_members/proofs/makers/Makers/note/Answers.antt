@@ -1,6 +1,6 @@
 use Rattle.std.proofs.Common.{◌<◌, ◌≤◌, length, ap, ◌∙◌, arith}
 use Rattle.std.specs.Prelude.{Option}
-use Rattle.term_algebra.specs.Equation.{Place}
+use Rattle.lotos_base.specs.Equation.{Place}
 use Rattle.actual_members.specs.MakersView.{place_seen}
 use Rattle.actual_members.specs.Noting.{two_makers}
 use Rattle.actual_members.proofs.NotingLemmas.{noted_there, maker_there, noted_new, new_is_alone}

@@ -1,7 +1,7 @@
 use Rattle.std.proofs.Common.{vec_len}
-use Rattle.term_algebra.specs.Signature.{Signature}
+use Rattle.lotos_base.specs.Signature.{Signature}
 use Rattle.draft_parts.specs.DraftTerms.{HasTermsOf}
-use Rattle.draft_parts.specs.RuleView.{IsRuleOver, made_by}
+use Rattle.draft_parts.specs.RuleView.{IsDraftRuleOver, made_by}
 use Rattle.draft_parts.proofs.ListLemmas.{taken_over, half_more, half_done, some_at, empty_rest}
 use Rattle.draft_parts.proofs.rule.Rule.apply_to_all.Goals as goal
 
@@ -13,7 +13,7 @@ loop-draft-preserved c = λ signature r h.
     half_more signature (made_by signature c.args.self.now) c.args.drafts.items c.loop-draft.rest.items c.pop.new.self.items
     c.loop-draft.made.items c.push_made.new.drafts.items c.in-Some.draft c.in_ok-next.next c.in-Some.ensures.items
     c.in_ok-push_made.ensures (c.in_ok-next.ensures.same signature fine)
-    (some_at signature c.in-Some.draft (λ (signature : Signature). IsRuleOver signature c.args.self.now) c.in_ok-next.next
+    (some_at signature c.in-Some.draft (λ (signature : Signature). IsDraftRuleOver signature c.args.self.now) c.in_ok-next.next
     c.in_ok-next.ensures.over r fine) (c.loop-draft.invariant signature r h)
 
 pub returns : goal.returns

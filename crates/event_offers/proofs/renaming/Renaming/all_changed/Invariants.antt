@@ -1,6 +1,6 @@
 use Rattle.std.proofs.Common.{◌≡◌, ◌++◌, map, length}
 use Rattle.std.specs.Vec.Iter.{into_iter_items, into_iter_len}
-use Rattle.term_algebra.specs.Substitution.{substituted}
+use Rattle.lotos_base.specs.Substitution.{substituted}
 use Rattle.term_match.specs.ProfiledInstance.{profiled_instance}
 use Rattle.behaviour_tree.specs.BehaviourTerms.{profiles_of}
 use Rattle.behaviour_tree.specs.BehaviourView.{terms_of}

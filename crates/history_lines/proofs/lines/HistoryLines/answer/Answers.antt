@@ -1,9 +1,9 @@
 use Rattle.std.proofs.Common.{◌≤◌, [], length, refl, ap, arith}
 use Rattle.line_server.specs.Request.{take_step, undo, save, replay, show_normal, compare, show_menu, show_behaviour, show_trace, no_request, skip, leave}
 use Rattle.line_server.specs.RequestView.{wants}
-use Rattle.session_reports.specs.Standing.{shown_menu, state_line, shown_trace}
-use Rattle.session_reports.specs.ShelfAnswer.{refusal_in}
-use Rattle.session_reports.specs.CommandRefusal.{ill_formed}
+use Rattle.history_lines.specs.Standing.{shown_menu, state_line, shown_trace}
+use Rattle.history_lines.specs.ShelfAnswer.{refusal_in}
+use Rattle.history_lines.specs.CommandRefusal.{ill_formed}
 use Rattle.session_lines.specs.Refusal.{bad_command}
 use Rattle.history_lines.specs.LinesView.{basis_of, reached, standing_of}
 use Rattle.history_lines.specs.Serving.{moment_of}

@@ -1,9 +1,9 @@
 use Rattle.std.proofs.Common.{◌≡◌, ◌++◌, ℕ, ◌≤◌, List, inl, inr, refl, codes, length, subst}
 use Rattle.line_server.specs.Request.{save}
-use Rattle.session_reports.specs.CommandRefusal.{unwritten}
-use Rattle.session_reports.specs.ShelfAnswer.{trace_limit, HasPut, saved_text, refusal_in}
+use Rattle.history_lines.specs.CommandRefusal.{unwritten}
+use Rattle.history_lines.specs.ShelfAnswer.{trace_limit, HasPut, saved_text, refusal_in}
 use Rattle.history_lines.specs.LinesView.{standing_of}
-use Rattle.history_lines.specs.Serving.{moment_of, Gives, IsBeforeOrBehind}
+use Rattle.history_lines.specs.Serving.{moment_of, GivesAnswer, IsBeforeOrBehind}
 use Rattle.history_lines.proofs.ServingLemmas.{either_way}
 use Rattle.history_lines.proofs.ShelfLemmas.{gives_saved, gives_unwritten, as_before_put}
 use Rattle.history_lines.proofs.lines.HistoryLines.put_trace.Goals as goal
@@ -19,7 +19,7 @@ returns-in-Ok-clause-answered g c =
     let short = subst (λ (it : List ℕ). length it ≤ trace_limit) c.requires.trace c.requires.short in
     let put = subst (λ (it : List ℕ). HasPut (g.F.Shelf.texts c.args.shelf.now) texts name it) c.requires.trace c.in-Ok.ensures.leaves in
     either_way c.name_line.result (λ line. line.items ≡ codes "saved " ++ name ++ codes "\n")
-    (λ line. Gives (moment_of before faults) (save name) line.items (moment_of after faults_after))
+    (λ line. GivesAnswer (moment_of before faults) (save name) line.items (moment_of after faults_after))
     (λ _. IsBeforeOrBehind (moment_of before faults) (save name) (moment_of after faults_after))
     (λ line printed. gives_saved before texts faults faults_after name line.items short put c.in-Ok.ensures.counts printed)
     (λ _. inr (saved_text name, gives_saved before texts faults faults_after name (saved_text name) short put c.in-Ok.ensures.counts refl))
@@ -35,7 +35,7 @@ returns-in-Err-Failed-clause-answered g c =
     let name = c.args.name.now in
     let short = subst (λ (it : List ℕ). length it ≤ trace_limit) c.requires.trace c.requires.short in
     either_way c.name_line-in-Err-Failed.result (λ line. line.items ≡ codes "refused 808 Unwritten " ++ name ++ codes "\n")
-    (λ line. Gives (moment_of before faults) (save name) line.items (moment_of after faults_after))
+    (λ line. GivesAnswer (moment_of before faults) (save name) line.items (moment_of after faults_after))
     (λ _. IsBeforeOrBehind (moment_of before faults) (save name) (moment_of after faults_after))
     (λ line printed.
     gives_unwritten before texts faults faults_after name line.items short

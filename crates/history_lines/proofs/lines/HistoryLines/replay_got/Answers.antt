@@ -1,8 +1,8 @@
 use Rattle.std.proofs.Common.{◌≡◌, ◌++◌, ◌<◌, ◌+◌, inl, refl, codes, length, arith}
 use Rattle.line_server.specs.Request.{replay}
-use Rattle.session_reports.specs.ShelfAnswer.{trace_limit}
+use Rattle.history_lines.specs.ShelfAnswer.{trace_limit}
 use Rattle.history_lines.specs.LinesView.{standing_of}
-use Rattle.history_lines.specs.Serving.{moment_of, Gives, IsBeforeOrBehind}
+use Rattle.history_lines.specs.Serving.{moment_of, GivesAnswer, IsBeforeOrBehind}
 use Rattle.history_lines.proofs.ServingLemmas.{either_way, is_as_before}
 use Rattle.history_lines.proofs.ShelfLemmas.{got_short, got_long, gives_long_text}
 use Rattle.history_lines.proofs.lines.HistoryLines.replay_got.Goals as goal
@@ -13,7 +13,7 @@ returns-then-got-gt-TRACE_LIMIT-clause-answered g c = λ texts faults gets.
     let name = c.args.name.now in
     let long : trace_limit < length c.args.got.now = omega (arith, c.if-got-gt-TRACE_LIMIT.true) in
     either_way c.name_line.result (λ line. line.items ≡ codes "refused 809 TraceTooLong " ++ name ++ codes "\n")
-    (λ line. Gives (moment_of before faults) (replay name) line.items (moment_of before faults))
+    (λ line. GivesAnswer (moment_of before faults) (replay name) line.items (moment_of before faults))
     (λ _. IsBeforeOrBehind (moment_of before faults) (replay name) (moment_of before faults))
     (λ line printed. gives_long_text before faults name line.items (got_long texts name c.args.got.now gets long) printed)
     (λ _. inl (is_as_before before before faults faults refl refl))

@@ -1,10 +1,10 @@
 use Rattle.std.proofs.Common.{◌≡◌, ◌++◌, ◌+◌, ℕ, inl, inr, List, Option, IfSome, refl, codes, ap, sym, subst}
 use Rattle.lotos_base.specs.Outside.{Texts, Gets}
 use Rattle.line_server.specs.Request.{replay}
-use Rattle.session_reports.specs.CommandRefusal.{unread}
-use Rattle.session_reports.specs.ShelfAnswer.{trace_limit, refusal_in}
+use Rattle.history_lines.specs.CommandRefusal.{unread}
+use Rattle.history_lines.specs.ShelfAnswer.{trace_limit, refusal_in}
 use Rattle.history_lines.specs.LinesView.{standing_of}
-use Rattle.history_lines.specs.Serving.{moment_of, Gives, IsBeforeOrBehind}
+use Rattle.history_lines.specs.Serving.{moment_of, GivesAnswer, IsBeforeOrBehind}
 use Rattle.history_lines.proofs.ServingLemmas.{either_way, is_as_before, at_moment, same_moment}
 use Rattle.history_lines.proofs.ShelfLemmas.{gives_failed, gives_missing}
 use Rattle.history_lines.proofs.lines.HistoryLines.replay_line.Goals as goal
@@ -35,7 +35,7 @@ returns-in-Err-Missing-clause-answered g c =
     let missing = rw c.in-Err-Missing.field-0-is at c.in-Err-Missing.ensures.answers in
     let counted = rw c.in-Err-Missing.field-0-is at c.in-Err-Missing.ensures.counts in
     either_way c.name_line.result (λ line. line.items ≡ codes "refused 807 Unread " ++ name ++ codes "\n")
-    (λ line. Gives (moment_of before faults) (replay name) line.items (moment_of after faults_after))
+    (λ line. GivesAnswer (moment_of before faults) (replay name) line.items (moment_of after faults_after))
     (λ _. IsBeforeOrBehind (moment_of before faults) (replay name) (moment_of after faults_after))
     (λ line printed. gives_missing before after faults faults_after name line.items missing same counted printed)
     (λ _. inl (is_as_before before after faults faults_after same counted))
@@ -51,7 +51,7 @@ returns-in-Err-Failed-clause-answered g c =
     let same : after ≡ before = ap (λ (it : Option Texts). standing_of c.args.self.now it) c.in-Err-Failed.ensures.texts in
     let rises = rw c.in-Err-Failed.field-0-is at c.in-Err-Failed.ensures.counts in
     either_way c.name_line-in-Err-Failed.result (λ line. line.items ≡ codes "refused 807 Unread " ++ name ++ codes "\n")
-    (λ line. Gives (moment_of before faults) (replay name) line.items (moment_of after faults_after))
+    (λ line. GivesAnswer (moment_of before faults) (replay name) line.items (moment_of after faults_after))
     (λ _. IsBeforeOrBehind (moment_of before faults) (replay name) (moment_of after faults_after))
     (λ line printed. gives_failed before after faults faults_after name line.items same rises printed)
     (λ _.

@@ -1,9 +1,9 @@
 use Rattle.std.proofs.Common.{◌≡◌, ◌++◌, ℕ, List, [], inl, inr, refl, codes, decimal}
 use Rattle.line_server.specs.Request.{replay}
-use Rattle.session_reports.specs.Standing.{shown_menu}
+use Rattle.history_lines.specs.Standing.{shown_menu}
 use Rattle.history_lines.specs.LinesView.{basis_of, reached, standing_of}
 use Rattle.history_lines.specs.RefusalView.{AddsFault}
-use Rattle.history_lines.specs.Serving.{moment_of, Gives, IsBeforeOrBehind}
+use Rattle.history_lines.specs.Serving.{moment_of, GivesAnswer, IsBeforeOrBehind}
 use Rattle.history_lines.proofs.ServingLemmas.{either_way, same_standing, is_as_before}
 use Rattle.history_lines.proofs.ShelfLemmas.{gives_replayed, gives_refused}
 use Rattle.history_lines.proofs.lines.HistoryLines.replay_whole.Goals as goal
@@ -16,7 +16,7 @@ returns-in-Ok-clause-answered g c = λ texts faults stands.
     let name = c.args.name.now in
     let told : List ℕ = codes "replayed " ++ decimal c.in-Ok.count ++ codes "\n" ++ shown_menu (basis_of new) (reached new) in
     either_way c.replayed.result (λ line. line.items ≡ told)
-    (λ line. Gives (moment_of before faults) (replay name) line.items (moment_of after faults))
+    (λ line. GivesAnswer (moment_of before faults) (replay name) line.items (moment_of after faults))
     (λ _. IsBeforeOrBehind (moment_of before faults) (replay name) (moment_of after faults))
     (λ line is.
     gives_replayed before after faults name c.args.text.now line.items c.in-Ok.count stands c.requires.short
@@ -36,7 +36,7 @@ returns-in-Err-clause-answered g c = λ texts faults stands.
     let same : after ≡ before = same_standing after before c.in-Err.ensures.stays.basis c.in-Err.ensures.answered.0 refl in
     let name = c.args.name.now in
     either_way c.fault_line.result (λ line. AddsFault c.in-Err.fault [] line.items)
-    (λ line. Gives (moment_of before faults) (replay name) line.items (moment_of after faults))
+    (λ line. GivesAnswer (moment_of before faults) (replay name) line.items (moment_of after faults))
     (λ _. IsBeforeOrBehind (moment_of before faults) (replay name) (moment_of after faults))
     (λ line adds.
     gives_refused before after faults name c.args.text.now line.items c.in-Err.fault stands c.requires.short

@@ -1,10 +1,10 @@
 use Rattle.std.proofs.Common.{◌≡◌, ◌++◌, ◌<◌, ℕ, List, inl, inr, refl, codes, length, subst, arith}
 use Rattle.line_server.specs.Request.{save}
-use Rattle.session_reports.specs.ShelfAnswer.{trace_limit}
-use Rattle.session_reports.specs.Standing.{shown_trace}
+use Rattle.history_lines.specs.ShelfAnswer.{trace_limit}
+use Rattle.history_lines.specs.Standing.{shown_trace}
 use Rattle.session_log.proofs.ResultLemmas.{gave_up}
 use Rattle.history_lines.specs.LinesView.{basis_of, reached, standing_of}
-use Rattle.history_lines.specs.Serving.{moment_of, Gives, IsBeforeOrBehind}
+use Rattle.history_lines.specs.Serving.{moment_of, GivesAnswer, IsBeforeOrBehind}
 use Rattle.history_lines.proofs.ServingLemmas.{either_way, is_as_before}
 use Rattle.history_lines.proofs.ShelfLemmas.{gives_long_trace}
 use Rattle.history_lines.proofs.lines.HistoryLines.save_line.Goals as goal
@@ -24,7 +24,7 @@ returns-then-len-gt-TRACE_LIMIT-clause-answered g c =
     let long : trace_limit < length (shown_trace (basis_of lines) (reached lines)) =
     subst (λ (it : List ℕ). trace_limit < length it) c.in_ok-trace.ensures counted in
     either_way c.name_line.result (λ line. line.items ≡ codes "refused 809 TraceTooLong " ++ name ++ codes "\n")
-    (λ line. Gives (moment_of before faults) (save name) line.items (moment_of before faults))
+    (λ line. GivesAnswer (moment_of before faults) (save name) line.items (moment_of before faults))
     (λ _. IsBeforeOrBehind (moment_of before faults) (save name) (moment_of before faults))
     (λ line printed. gives_long_trace before faults name line.items long printed)
     (λ _. inl (is_as_before before before faults faults refl refl))

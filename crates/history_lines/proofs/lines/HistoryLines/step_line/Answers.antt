@@ -3,10 +3,10 @@ use Rattle.behaviour_tree.specs.MoveView.{label_of}
 use Rattle.sort_terms.specs.SignatureView.{signature_of}
 use Rattle.line_server.specs.Request.{take_step}
 use Rattle.session_histories.specs.Session.{SessionBasis}
-use Rattle.session_reports.specs.Answer.{did_text}
+use Rattle.history_lines.specs.Answer.{did_text}
 use Rattle.history_lines.specs.LinesView.{basis_of, reached, standing_of}
 use Rattle.history_lines.specs.RefusalView.{AddsDecline}
-use Rattle.history_lines.specs.Serving.{moment_of, Gives, IsBeforeOrBehind}
+use Rattle.history_lines.specs.Serving.{moment_of, GivesAnswer, IsBeforeOrBehind}
 use Rattle.history_lines.proofs.ServingLemmas.{either_way, same_standing, is_as_before, gives_step, gives_declined}
 use Rattle.history_lines.proofs.lines.HistoryLines.step_line.Goals as goal
 
@@ -17,7 +17,7 @@ returns-in-Ok-clause-answered g c = λ texts faults.
     let request = take_step c.args.number c.args.text.now in
     either_way c.did.result
     (λ line. line.items ≡ did_text (basis_of c.take.new.self) (label_of c.in-Ok.label) (reached c.take.new.self))
-    (λ line. Gives (moment_of before faults) request line.items (moment_of after faults))
+    (λ line. GivesAnswer (moment_of before faults) request line.items (moment_of after faults))
     (λ _. IsBeforeOrBehind (moment_of before faults) request (moment_of after faults))
     (λ line printed.
     gives_step before after faults c.args.number c.args.text.now line.items (label_of c.in-Ok.label) c.in-Ok.ensures.answered
@@ -39,7 +39,7 @@ returns-in-Err-clause-answered g c = λ texts faults.
     let shown = signature_of c.take.new.self.signature.now in
     either_way c.decline_line.result
     (λ line. AddsDecline shown c.in-Err.decline [] line.items)
-    (λ line. Gives (moment_of before faults) request line.items (moment_of after faults))
+    (λ line. GivesAnswer (moment_of before faults) request line.items (moment_of after faults))
     (λ _. IsBeforeOrBehind (moment_of before faults) request (moment_of after faults))
     (λ line adds.
     gives_declined before after faults c.args.number c.args.text.now line.items c.in-Err.decline shown c.in-Err.ensures.answered.1 same

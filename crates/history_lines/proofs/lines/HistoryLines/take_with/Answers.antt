@@ -1,6 +1,6 @@
 use Rattle.behaviour_tree.specs.BehaviourView.{terms_of}
 use Rattle.behaviour_tree.specs.MoveView.{label_of}
-use Rattle.session_reports.specs.StepAnswer.{is_taken}
+use Rattle.history_lines.specs.StepAnswer.{is_taken}
 use Rattle.session_log.proofs.ResultLemmas.{gave_up}
 use Rattle.history_lines.specs.LinesView.{basis_of, reached}
 use Rattle.history_lines.specs.declared.refusals.Decline.TheVariants.{Step}
@@ -15,8 +15,8 @@ returns-clause-answered g c =
 
 pub returns-clause-stays : goal.returns-clause-stays
 returns-clause-stays g c =
-    stays g.M.MenuMaker.suits c.args.self.now c.step.new.self c.step.new.data c.requires.serving c.step.ensures.same_data
-    c.step.ensures.same_canon c.step.ensures.same_spec c.step.ensures.lawful_after
+    stays g.M.MenuMaker.suits c.args.self.now c.step.new.self c.step.new.data c.requires.serving c.step.ensures.same_known.same_data
+    c.step.ensures.same_known.same_canon c.step.ensures.same_spec c.step.ensures.lawful_after
 
 pub returns-in_err-step-clause-answered : goal.returns-in_err-step-clause-answered
 returns-in_err-step-clause-answered g c =
@@ -28,5 +28,5 @@ returns-in_err-step-clause-answered g c =
 
 pub returns-in_err-step-clause-stays : goal.returns-in_err-step-clause-stays
 returns-in_err-step-clause-stays g c =
-    stays g.M.MenuMaker.suits c.args.self.now c.step.new.self c.step.new.data c.requires.serving c.step.ensures.same_data
-    c.step.ensures.same_canon c.step.ensures.same_spec c.step.ensures.lawful_after
+    stays g.M.MenuMaker.suits c.args.self.now c.step.new.self c.step.new.data c.requires.serving c.step.ensures.same_known.same_data
+    c.step.ensures.same_known.same_canon c.step.ensures.same_spec c.step.ensures.lawful_after

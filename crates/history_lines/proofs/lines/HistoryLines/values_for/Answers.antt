@@ -1,7 +1,7 @@
 use Rattle.std.proofs.Common.{◌≡◌, map, length, Some, subst, arith}
 use Rattle.std.proofs.lemmas.List.{length-map}
 use Rattle.lotos_base.specs.WrittenView.{written_term_of}
-use Rattle.term_algebra.specs.Signature.{Signature}
+use Rattle.lotos_base.specs.Signature.{Signature}
 use Rattle.behaviour_tree.specs.BehaviourView.{terms_of}
 use Rattle.event_offers.specs.OfferView.{plain_entry}
 use Rattle.event_offers.specs.declared.menus.Menu.{Menu}
@@ -11,7 +11,7 @@ use Rattle.session_histories.specs.Replay.{AreRead}
 use Rattle.session_log.specs.Entries.{AreGiven}
 use Rattle.session_log.specs.RefusalView.{TellsStep}
 use Rattle.session_log.proofs.ResultLemmas.{gave_up}
-use Rattle.session_reports.specs.StepAnswer.{IsFirstMisread}
+use Rattle.history_lines.specs.StepAnswer.{IsFirstMisread}
 use Rattle.history_lines.specs.LinesView.{basis_of, reached}
 use Rattle.history_lines.specs.Values.{TellsMisread}
 use Rattle.history_lines.specs.declared.refusals.Decline.TheVariants.{Terms, Step}

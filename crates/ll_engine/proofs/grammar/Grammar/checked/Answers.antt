@@ -1,13 +1,13 @@
 use Rattle.std.proofs.Common.{List, subst}
 use Rattle.ll_engine.specs.declared.symbol.Row.{Row}
 use Rattle.ll_engine.specs.View.{grammar_of}
-use Rattle.ll_engine.specs.Checked.{IsChecked, IsFaultOf}
+use Rattle.ll_engine.specs.Checked.{IsChecked, IsTableFaultOf}
 use Rattle.ll_engine.proofs.Exactness.{exact_barren-ok, exact_ok-fault, exact_barren-fault, exact_left_cycle-fault, exact_conflict-fault}
 use Rattle.ll_engine.proofs.grammar.Grammar.checked.Goals as goal
 use Rattle.ll_engine.proofs.grammar.Grammar.checked.Goals.{In-Err}
 
-fault_of : (c : In-Err) → IsFaultOf (grammar_of c.args.rows.items c.args.parts c.args.tokens c.args.start) c.in-Err.fault
-fault_of c = subst (λ (rows : List Row). IsFaultOf (grammar_of rows c.args.parts c.args.tokens c.args.start) c.in-Err.fault) c.deref.ensures.value c.in-Err.ensures
+fault_of : (c : In-Err) → IsTableFaultOf (grammar_of c.args.rows.items c.args.parts c.args.tokens c.args.start) c.in-Err.fault
+fault_of c = subst (λ (rows : List Row). IsTableFaultOf (grammar_of rows c.args.parts c.args.tokens c.args.start) c.in-Err.fault) c.deref.ensures.value c.in-Err.ensures
 
 pub returns-in-Ok-clause-barren : goal.returns-in-Ok-clause-barren
 returns-in-Ok-clause-barren c =

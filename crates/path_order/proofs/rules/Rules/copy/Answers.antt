@@ -1,5 +1,5 @@
 use Rattle.std.proofs.Common.{List, sym, subst}
-use Rattle.term_algebra.specs.Signature.{Signature}
+use Rattle.lotos_base.specs.Signature.{Signature}
 use Rattle.sort_terms.specs.SignatureView.{signature_of}
 use Rattle.path_order.specs.RuleSides.{AreAllOver, Sides, all_sides}
 use Rattle.path_order.proofs.rules.Rules.copy.Goals as goal

@@ -1,7 +1,7 @@
 use Rattle.std.proofs.Common.{sym, ◌∙◌, ap, subst}
 use Rattle.lotos_base.specs.Name.{spelling}
 use Rattle.sort_terms.specs.ReaderView.{signature_read}
-use Rattle.term_algebra.specs.Signature.{Signature}
+use Rattle.lotos_base.specs.Signature.{Signature}
 use Rattle.scope_parts.specs.Sorts.{sort_named, true_of}
 use Rattle.scope_parts.specs.TermsView.{IsTruthOf}
 use Rattle.scope_parts.proofs.SortLemmas.{sort_answer}

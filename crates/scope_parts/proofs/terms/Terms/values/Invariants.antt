@@ -5,7 +5,7 @@ use Rattle.behaviour_tree.specs.BehaviourView.{terms_of}
 use Rattle.behaviour_tree.specs.Over.{AreTermsOf}
 use Rattle.lotos_base.specs.WrittenView.{written_terms_of}
 use Rattle.sort_terms.specs.ReaderView.{signature_read}
-use Rattle.term_algebra.specs.Term.{Term}
+use Rattle.lotos_base.specs.Term.{Term}
 use Rattle.scope_parts.specs.Resolution.{Resolution}
 use Rattle.scope_parts.specs.Terms.{ValuesAre}
 use Rattle.scope_parts.specs.VisibleView.{visible_in}

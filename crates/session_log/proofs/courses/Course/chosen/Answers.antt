@@ -1,6 +1,6 @@
 use Rattle.std.proofs.Common.{sym, ap, ◌∙◌, subst}
-use Rattle.term_algebra.specs.Equation.{Data}
-use Rattle.term_algebra.specs.Term.{Term}
+use Rattle.lotos_base.specs.Equation.{Data}
+use Rattle.lotos_base.specs.Term.{Term}
 use Rattle.behaviour_tree.specs.BehaviourTerms.{profiles_of}
 use Rattle.behaviour_tree.specs.BehaviourView.{terms_of}
 use Rattle.behaviour_tree.specs.Over.{AreTermsOf}
@@ -22,7 +22,7 @@ returns-in_err-check_values-clause-chosen g c =
 
 pub derivation-requires-clause-over : goal.derivation-requires-clause-over
 derivation-requires-clause-over g c =
-    subst (λ (d : Data). IsEntryOver d.signature c.in_ok-entry.entry.now) (sym c.in_ok-check_values.ensures.same_data)
+    subst (λ (d : Data). IsEntryOver d.signature c.in_ok-entry.entry.now) (sym c.in_ok-check_values.ensures.same_known.same_data)
     (entry_over (g.D.Deciding.known_data c.args.data.now).signature c.args.self.now.menu c.args.number c.in_ok-entry.entry.now
     c.requires.menu c.in_ok-entry.ensures.0)
 
@@ -33,7 +33,7 @@ returns-clause-chosen g c = record {
   meets = c.in_ok-check_values.ensures.checked;
   same = c.in_ok-derivation.ensures.same
       ∙ ap (λ (k : Term → Term). canonical_derivation k (plain_entry c.in_ok-entry.entry.now) (terms_of c.args.values.now))
-      c.in_ok-check_values.ensures.same_canon;
+      c.in_ok-check_values.ensures.same_known.same_canon;
   leaves = subst (λ (d : Data). AreTermsOf d.signature (profiles_of c.in_ok-derivation.field-0.leaves.items))
-      c.in_ok-check_values.ensures.same_data c.in_ok-derivation.ensures.is_of;
+      c.in_ok-check_values.ensures.same_known.same_data c.in_ok-derivation.ensures.is_of;
 }

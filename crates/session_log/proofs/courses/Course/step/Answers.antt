@@ -1,6 +1,6 @@
-use Rattle.std.proofs.Common.{◌≡◌, List, None, refl, sym, ◌∙◌, subst}
-use Rattle.term_algebra.specs.Equation.{Data}
-use Rattle.term_algebra.specs.Term.{Term}
+use Rattle.std.proofs.Common.{◌≡◌, List, None, refl, subst}
+use Rattle.lotos_base.specs.Equation.{Data}
+use Rattle.lotos_base.specs.Term.{Term}
 use Rattle.behaviour_semantics.specs.Fault.{fault_of}
 use Rattle.behaviour_tree.specs.DefinitionView.{specification_of}
 use Rattle.behaviour_tree.specs.MoveView.{derivation_of}
@@ -8,9 +8,10 @@ use Rattle.behaviour_tree.specs.StateView.{state_of}
 use Rattle.behaviour_tree.specs.BehaviourView.{terms_of}
 use Rattle.menu_builder.specs.Menus.{entries_in}
 use Rattle.sort_terms.specs.declared.sorted.Sorted.{Sorted}
+use Rattle.event_offers.proofs.KeepingLemmas.{holds_after, keeps_both}
 use Rattle.session_histories.specs.Refusal.{step_refusal}
 use Rattle.session_log.specs.CourseView.{basis_over}
-use Rattle.session_log.specs.Entries.{IsChosen}
+use Rattle.session_log.specs.Entries.{IsChosenEntry}
 use Rattle.session_log.specs.Kept.{IsKeptMenu}
 use Rattle.session_log.specs.RefusalView.{TellsStep}
 use Rattle.session_log.specs.declared.courses.Past.{Past}
@@ -27,10 +28,8 @@ moved-requires-clause-free g c =
     let free = chosen_free known canon spec c.args.self.now c.args.number c.as_slice.result.now c.in_ok-derivation.derivation
     (state_over g.M.MenuMaker.suits known canon spec c.args.ranks.now c.args.maker.now c.args.self.now
     (g.met.D.Deciding.is_canon c.args.data.now) c.requires.suited c.requires.kept) c.requires.kept c.in_ok-derivation.ensures.chosen in
-    subst (λ (d : Data). fault_of d (g.D.Deciding.canon c.chosen.new.data) (specification_of spec).processes
-    (state_of c.args.self.now.state) (derivation_of c.in_ok-derivation.derivation) ≡ None) (sym c.in_ok-derivation.ensures.same_data)
-    (subst (λ (k : Term → Term). fault_of known k (specification_of spec).processes (state_of c.args.self.now.state)
-    (derivation_of c.in_ok-derivation.derivation) ≡ None) (sym c.in_ok-derivation.ensures.same_canon) free)
+    holds_after (λ (d : Data) (k : Term → Term). fault_of d k (specification_of spec).processes (state_of c.args.self.now.state)
+    (derivation_of c.in_ok-derivation.derivation) ≡ None) c.in_ok-derivation.ensures.same_known free
 
 pub returns-in_err-derivation-clause-answered : goal.returns-in_err-derivation-clause-answered
 returns-in_err-derivation-clause-answered g c =
@@ -60,10 +59,8 @@ returns-clause-answered g c =
     let known = g.D.Deciding.known_data c.args.data.now in
     let canon = g.D.Deciding.canon c.args.data.now in
     let spec = c.args.spec.now in
-    let same = c.in_ok-derivation.ensures.same_data in
-    let same_canon = c.in_ok-derivation.ensures.same_canon in
-    let later = c.in_ok-taken.ensures.same_data ∙ same in
-    let later_canon = c.in_ok-taken.ensures.same_canon ∙ same_canon in
+    let same = c.in_ok-derivation.ensures.same_known in
+    let later = keeps_both same c.in_ok-taken.ensures.same_known in
     let next : Past = record {
       derivation = c.in_ok-derivation.derivation;
       label = c.in_ok-kept.kept;
@@ -73,12 +70,13 @@ returns-clause-answered g c =
       menu = c.in_ok-menu.menu;
     } in
     has_stepped known canon spec c.args.self.now c.args.number c.args.values.items c.in_ok-taken.taken.0 next c.keep.new.self (record {
-      chosen = subst (λ (values : List Sorted). IsChosen known canon c.args.self.now.menu c.args.number values c.in_ok-derivation.derivation)
-          c.as_slice.ensures.value c.in_ok-derivation.ensures.chosen;
+      chosen = subst (λ (values : List Sorted). IsChosenEntry known canon c.args.self.now.menu c.args.number values
+          c.in_ok-derivation.derivation) c.as_slice.ensures.value c.in_ok-derivation.ensures.chosen;
       taken = taken_over known _ canon _ spec c.args.self.now.state c.in_ok-taken.taken.1 c.in_ok-derivation.derivation
-          c.in_ok-taken.taken.0 same same_canon c.in_ok-taken.ensures.answer;
-      exact = exact_over known _ canon _ spec c.in_ok-taken.taken.1 c.in_ok-menu.menu later later_canon c.in_ok-menu.ensures.exact;
-      entries = subst (λ (d : Data). IsKeptMenu d.signature c.in_ok-menu.menu) later c.in_ok-menu.ensures.over;
+          c.in_ok-taken.taken.0 same.same_data same.same_canon c.in_ok-taken.ensures.answer;
+      exact = exact_over known _ canon _ spec c.in_ok-taken.taken.1 c.in_ok-menu.menu later.same_data later.same_canon
+          c.in_ok-menu.ensures.exact;
+      entries = subst (λ (d : Data). IsKeptMenu d.signature c.in_ok-menu.menu) later.same_data c.in_ok-menu.ensures.over;
       numbered = refl;
       valued = refl;
       labelled = c.in_ok-kept.ensures.same;
@@ -91,10 +89,8 @@ returns-clause-kept_after g c =
     let known = g.D.Deciding.known_data c.args.data.now in
     let canon = g.D.Deciding.canon c.args.data.now in
     let spec = c.args.spec.now in
-    let same = c.in_ok-derivation.ensures.same_data in
-    let same_canon = c.in_ok-derivation.ensures.same_canon in
-    let later = c.in_ok-taken.ensures.same_data ∙ same in
-    let later_canon = c.in_ok-taken.ensures.same_canon ∙ same_canon in
+    let same = c.in_ok-derivation.ensures.same_known in
+    let later = keeps_both same c.in_ok-taken.ensures.same_known in
     let next : Past = record {
       derivation = c.in_ok-derivation.derivation;
       label = c.in_ok-kept.kept;
@@ -105,12 +101,13 @@ returns-clause-kept_after g c =
     } in
     kept_stepped known canon spec c.args.self.now c.args.number c.args.values.items c.in_ok-taken.taken.0 next c.keep.new.self
     c.requires.kept c.requires.given (record {
-      chosen = subst (λ (values : List Sorted). IsChosen known canon c.args.self.now.menu c.args.number values c.in_ok-derivation.derivation)
-          c.as_slice.ensures.value c.in_ok-derivation.ensures.chosen;
+      chosen = subst (λ (values : List Sorted). IsChosenEntry known canon c.args.self.now.menu c.args.number values
+          c.in_ok-derivation.derivation) c.as_slice.ensures.value c.in_ok-derivation.ensures.chosen;
       taken = taken_over known _ canon _ spec c.args.self.now.state c.in_ok-taken.taken.1 c.in_ok-derivation.derivation
-          c.in_ok-taken.taken.0 same same_canon c.in_ok-taken.ensures.answer;
-      exact = exact_over known _ canon _ spec c.in_ok-taken.taken.1 c.in_ok-menu.menu later later_canon c.in_ok-menu.ensures.exact;
-      entries = subst (λ (d : Data). IsKeptMenu d.signature c.in_ok-menu.menu) later c.in_ok-menu.ensures.over;
+          c.in_ok-taken.taken.0 same.same_data same.same_canon c.in_ok-taken.ensures.answer;
+      exact = exact_over known _ canon _ spec c.in_ok-taken.taken.1 c.in_ok-menu.menu later.same_data later.same_canon
+          c.in_ok-menu.ensures.exact;
+      entries = subst (λ (d : Data). IsKeptMenu d.signature c.in_ok-menu.menu) later.same_data c.in_ok-menu.ensures.over;
       numbered = refl;
       valued = refl;
       labelled = c.in_ok-kept.ensures.same;

@@ -1,13 +1,14 @@
 use Rattle.std.proofs.Common.{length, refl, ap, sym, ◌∙◌, subst}
-use Rattle.term_algebra.specs.Equation.{Data}
-use Rattle.term_algebra.specs.Term.{Term}
+use Rattle.lotos_base.specs.Equation.{Data}
+use Rattle.lotos_base.specs.Term.{Term}
 use Rattle.behaviour_tree.specs.StateView.{state_of}
 use Rattle.session_histories.specs.Replay.{goes_on}
+use Rattle.event_offers.proofs.KeepingLemmas.{held_before, holds_after}
 use Rattle.session_log.specs.CourseView.{past_of, progress_of}
 use Rattle.session_log.specs.Kept.{AreSuited, IsKeptCourse, IsKeptState}
 use Rattle.session_log.proofs.CourseLemmas.{copied_kept, first_kept, same_beginning}
 use Rattle.session_log.proofs.EntryLemmas.{mapped_length}
-use Rattle.session_log.proofs.ReplayLemmas.{over_same, replayed_here, replay_told_here}
+use Rattle.session_log.proofs.ReplayLemmas.{replayed_here, replay_told_here}
 use Rattle.session_log.proofs.ResultLemmas.{gave_up}
 use Rattle.session_log.proofs.sessions.Session.replay.Goals as goal
 
@@ -21,22 +22,20 @@ open-requires-clause-kept g c =
 
 pub replay_text-requires-clause-suited : goal.replay_text-requires-clause-suited
 replay_text-requires-clause-suited g c =
-    over_same _ (g.D.Deciding.known_data c.args.data.now) _ (g.D.Deciding.canon c.args.data.now)
-    (λ (d : Data) (k : Term → Term). AreSuited g.M.MenuMaker.suits d k c.args.self.now.spec c.args.self.now.ranks c.open.new.maker)
-    (sym c.in_ok-course.ensures.same_data) (sym c.in_ok-course.ensures.same_canon) c.in_ok-course.ensures.suited_after
+    holds_after (λ (d : Data) (k : Term → Term). AreSuited g.M.MenuMaker.suits d k c.args.self.now.spec c.args.self.now.ranks
+    c.open.new.maker) c.in_ok-course.ensures.same_known c.in_ok-course.ensures.suited_after
 
 pub replay_text-requires-clause-over : goal.replay_text-requires-clause-over
 replay_text-requires-clause-over g c = record {
-  printed = c.requires.signature ∙ ap (λ (d : Data). d.signature) (sym c.in_ok-course.ensures.same_data);
+  printed = c.requires.signature ∙ ap (λ (d : Data). d.signature) (sym c.in_ok-course.ensures.same_known.same_data);
   read = c.in_ok-reader.ensures
-      ∙ (c.requires.signature ∙ ap (λ (d : Data). d.signature) (sym c.in_ok-course.ensures.same_data));
+      ∙ (c.requires.signature ∙ ap (λ (d : Data). d.signature) (sym c.in_ok-course.ensures.same_known.same_data));
 }
 
 pub replay_text-requires-clause-kept : goal.replay_text-requires-clause-kept
 replay_text-requires-clause-kept g c =
-    over_same _ (g.D.Deciding.known_data c.args.data.now) _ (g.D.Deciding.canon c.args.data.now)
-    (λ (d : Data) (k : Term → Term). IsKeptCourse d k c.args.self.now.spec c.in_ok-course.course)
-    (sym c.in_ok-course.ensures.same_data) (sym c.in_ok-course.ensures.same_canon) c.in_ok-course.ensures.kept_after
+    holds_after (λ (d : Data) (k : Term → Term). IsKeptCourse d k c.args.self.now.spec c.in_ok-course.course)
+    c.in_ok-course.ensures.same_known c.in_ok-course.ensures.kept_after
 
 pub returns-in_err-replay_text-clause-answered : goal.returns-in_err-replay_text-clause-answered
 returns-in_err-replay_text-clause-answered g c =
@@ -46,7 +45,7 @@ returns-in_err-replay_text-clause-answered g c =
     gave_up _ _ c.from_residual-in_err-replay_text.result c.in_err-replay_text.field-0.0 c.from_residual-in_err-replay_text.ensures.1 (
       refl,
       replay_told_here known _ canon _ spec c.args.self.now.course c.in_ok-course.course c.args.text.now
-          c.in_ok-course.ensures.same_data c.in_ok-course.ensures.same_canon
+          c.in_ok-course.ensures.same_known.same_data c.in_ok-course.ensures.same_known.same_canon
           (same_beginning known canon spec c.args.self.now.course c.in_ok-course.course c.requires.lawful.course
           c.in_ok-course.ensures.kept_after
           (ap state_of c.in_ok-course.ensures.begins.0 ∙ (c.in_ok-first.ensures.same ∙ ap state_of c.first_state.ensures)))
@@ -55,9 +54,8 @@ returns-in_err-replay_text-clause-answered g c =
 
 pub returns-in_err-replay_text-clause-lawful_after : goal.returns-in_err-replay_text-clause-lawful_after
 returns-in_err-replay_text-clause-lawful_after g c = record {
-  suited = over_same (g.D.Deciding.known_data c.args.data.now) _ (g.D.Deciding.canon c.args.data.now) _
-      (λ (d : Data) (k : Term → Term). AreSuited g.M.MenuMaker.suits d k c.args.self.now.spec c.args.self.now.ranks c.replay_text.new.maker)
-      c.in_ok-course.ensures.same_data c.in_ok-course.ensures.same_canon c.in_err-replay_text.ensures.suited_after;
+  suited = held_before (λ (d : Data) (k : Term → Term). AreSuited g.M.MenuMaker.suits d k c.args.self.now.spec c.args.self.now.ranks
+      c.replay_text.new.maker) c.in_ok-course.ensures.same_known c.in_err-replay_text.ensures.suited_after;
   course = c.requires.lawful.course;
 }
 
@@ -67,7 +65,7 @@ returns-clause-answered g c =
     let canon = g.D.Deciding.canon c.args.data.now in
     let spec = c.args.self.now.spec in (
       replayed_here known _ canon _ spec c.args.self.now.course c.in_ok-course.course c.args.text.now
-          c.in_ok-course.ensures.same_data c.in_ok-course.ensures.same_canon
+          c.in_ok-course.ensures.same_known.same_data c.in_ok-course.ensures.same_known.same_canon
           (same_beginning known canon spec c.args.self.now.course c.in_ok-course.course c.requires.lawful.course
           c.in_ok-course.ensures.kept_after
           (ap state_of c.in_ok-course.ensures.begins.0 ∙ (c.in_ok-first.ensures.same ∙ ap state_of c.first_state.ensures)))
@@ -77,10 +75,8 @@ returns-clause-answered g c =
 
 pub returns-clause-lawful_after : goal.returns-clause-lawful_after
 returns-clause-lawful_after g c = record {
-  suited = over_same (g.D.Deciding.known_data c.args.data.now) _ (g.D.Deciding.canon c.args.data.now) _
-      (λ (d : Data) (k : Term → Term). AreSuited g.M.MenuMaker.suits d k c.args.self.now.spec c.args.self.now.ranks c.replay_text.new.maker)
-      c.in_ok-course.ensures.same_data c.in_ok-course.ensures.same_canon c.in_ok-replay_text.ensures.suited_after;
-  course = over_same (g.D.Deciding.known_data c.args.data.now) _ (g.D.Deciding.canon c.args.data.now) _
-      (λ (d : Data) (k : Term → Term). IsKeptCourse d k c.args.self.now.spec c.replay_text.new.course)
-      c.in_ok-course.ensures.same_data c.in_ok-course.ensures.same_canon c.in_ok-replay_text.ensures.kept_after;
+  suited = held_before (λ (d : Data) (k : Term → Term). AreSuited g.M.MenuMaker.suits d k c.args.self.now.spec c.args.self.now.ranks
+      c.replay_text.new.maker) c.in_ok-course.ensures.same_known c.in_ok-replay_text.ensures.suited_after;
+  course = held_before (λ (d : Data) (k : Term → Term). IsKeptCourse d k c.args.self.now.spec c.replay_text.new.course)
+      c.in_ok-course.ensures.same_known c.in_ok-replay_text.ensures.kept_after;
 }

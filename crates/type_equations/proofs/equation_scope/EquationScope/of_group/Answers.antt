@@ -4,7 +4,7 @@ use Rattle.std.proofs.lemmas.List.{length-map}
 use Rattle.std.proofs.lemmas.Result.{err_from_is_err_and}
 use Rattle.lotos_base.specs.Name.{spelling}
 use Rattle.lotos_base.specs.WrittenView.{text_place_of}
-use Rattle.term_algebra.specs.Equation.{Variable}
+use Rattle.lotos_base.specs.Equation.{Variable}
 use Rattle.syntax_trees.specs.TreeViews.{group_of, variables_of}
 use Rattle.syntax_trees.specs.declared.named.VarText.{VarText}
 use Rattle.sort_terms.specs.EquationView.{variable_of}

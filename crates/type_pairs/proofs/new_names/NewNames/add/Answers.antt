@@ -1,7 +1,7 @@
 use Rattle.std.proofs.Common.{◌+◌, refl, ◌∙◌}
 use Rattle.std.proofs.lemmas.List.{length-map}
 use Rattle.lotos_base.specs.Name.{spelling}
-use Rattle.term_algebra.specs.Signature.{Sort}
+use Rattle.lotos_base.specs.Signature.{Sort}
 use Rattle.syntax_trees.specs.TreeViews.{pair_of}
 use Rattle.type_presentations.proofs.NameLemmas.{named_of}
 use Rattle.type_definitions.specs.Actualisation.{formal_sorts_of}

@@ -1,6 +1,6 @@
 use Rattle.std.proofs.Common.{◌≡◌, ◌++◌, ◌∷◌, [], map, ap, ◌∙◌, sym, refl, List}
 use Rattle.std.specs.Str.{bytes_eq}
-use Rattle.term_algebra.specs.Equation.{Equation}
+use Rattle.lotos_base.specs.Equation.{Equation}
 use Rattle.sort_terms.specs.EquationView.{equation_of}
 use Rattle.type_definitions.specs.Presentation.{with_new}
 use Rattle.type_presentations.specs.EquationKeys.{equation_key as key_of_equation}

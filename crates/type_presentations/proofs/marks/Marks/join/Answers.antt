@@ -14,16 +14,18 @@ pub loop-number-preserved : goal.loop-number-preserved
 loop-number-preserved c = (
   c.in_ok-add.ensures.known,
   ap (λ (ms : List ℕ). with_new nat_eq ms (map (number_in c.args.numbers.now)
-      (drop (c.loop-number.number-index + 1) c.args.coming.now)))
+      (drop (c.loop-number.number-index + 1) c.as_slice-number-items.result.now)))
       (c.in_ok-add.ensures.marks
       ∙ ap (λ (n : ℕ). with_new nat_eq (marks_in c.loop-number.self) (n ∷ [])) c.number_at.ensures)
       ∙ ap (λ (ns : List ℕ). with_new nat_eq (marks_in c.loop-number.self) (map (number_in c.args.numbers.now) ns))
-      (sym (number_next c.args.coming.now c.loop-number.number-index c.loop-number-test.true))
+      (sym (number_next c.as_slice-number-items.result.now c.loop-number.number-index c.loop-number-test.true))
       ∙ c.loop-number.invariant.1,
 )
 
 pub returns-clause-marks : goal.returns-clause-marks
 returns-clause-marks c =
     ap (λ (ns : List ℕ). with_new nat_eq (marks_in c.loop-number.self) (map (number_in c.args.numbers.now) ns))
-    (sym (nothing_due c.args.coming.now c.loop-number.number-index c.loop-number-test.false))
+    (sym (nothing_due c.as_slice-number-items.result.now c.loop-number.number-index c.loop-number-test.false))
     ∙ c.loop-number.invariant.1
+    ∙ ap (λ (ns : List ℕ). with_new nat_eq (marks_in c.args.self.now) (map (number_in c.args.numbers.now) ns))
+    c.as_slice-number-items.ensures.value

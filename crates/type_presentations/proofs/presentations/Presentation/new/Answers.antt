@@ -9,5 +9,5 @@ returns-clause-sound c = record {
   formal_sorts = c.new-4.ensures.known;
   formal_ops = c.new-5.ensures.known;
   sides = no_sides _ _ c.new-3.ensures.equations;
-  data_ = nothing_in _ _ _ c.new.ensures.sorts c.new-2.ensures.operations c.new-3.ensures.equations;
+  data_ = nothing_in _ _ _ c.new.ensures.members c.new-2.ensures.members c.new-3.ensures.equations;
 }

@@ -1,5 +1,0 @@
-use Rattle.acceptance_outcomes.proofs.DecidedBooks.{books_are_decided}
-use Rattle.acceptance_outcomes.proofs.decided_laws.books_are_decided.Goals as goal
-
-pub returns : goal.returns
-returns c = books_are_decided

@@ -1,0 +1,4 @@
+pub mod CallLemmas
+pub mod NestedLemmas
+pub mod ResolverLemmas
+pub mod StandingLemmas

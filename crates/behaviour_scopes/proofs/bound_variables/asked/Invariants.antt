@@ -1,0 +1,10 @@
+use Rattle.std.proofs.Common.{◌≡◌, ◌++◌, map, drop}
+use Rattle.behaviour_semantics.specs.Behaviour.{asked_variables}
+use Rattle.behaviour_tree.specs.BehaviourView.{offer_of}
+use Rattle.sort_terms.specs.EquationView.{variable_of}
+use Rattle.behaviour_scopes.proofs.bound_variables.asked.Given as goal
+
+abbrev pub invariant-loop-offer : goal.invariant-loop-offer
+invariant-loop-offer l =
+    map variable_of l.made.items ++ asked_variables (map offer_of (drop l.offer-index l.offer-items))
+    ≡ asked_variables (map offer_of l.offer-items)

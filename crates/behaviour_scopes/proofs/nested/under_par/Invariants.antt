@@ -1,0 +1,20 @@
+use Rattle.std.proofs.Common.{◌≡◌, length, map, vec_len}
+use Rattle.behaviour_tree.specs.BehaviourTerms.{profiles_in}
+use Rattle.behaviour_tree.specs.BehaviourView.{behaviour_of, meet_of}
+use Rattle.behaviour_scopes.specs.PlacesView.{places_in}
+use Rattle.scope_parts.specs.Choices.{under_par, with_signs}
+use Rattle.scope_parts.specs.GatesView.{choice_in}
+use Rattle.behaviour_scopes.proofs.nested.under_par.Given as goal
+
+abbrev pub invariant-loop-choice : goal.invariant-loop-choice
+invariant-loop-choice l = record {
+  counted : length l.meets.items ≡ length l.choices.items;
+  nested :
+      under_par (with_signs (map choice_in l.choices.items) (map meet_of l.meets.items)) (behaviour_of l.made)
+      ≡ under_par (with_signs (map choice_in l.initial.choices.items) (map meet_of l.initial.meets.items)) (behaviour_of l.initial.made);
+  profiles : profiles_in l.made ≡ profiles_in l.initial.made;
+  places : places_in l.made ≡ places_in l.initial.made;
+}
+
+abbrev pub decreases-loop-choice : goal.decreases-loop-choice
+decreases-loop-choice l = vec_len l.choices

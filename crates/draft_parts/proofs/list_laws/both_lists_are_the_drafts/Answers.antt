@@ -1,5 +1,0 @@
-use Rattle.draft_parts.proofs.BothListLemmas.{both_are_drafts}
-use Rattle.draft_parts.proofs.list_laws.both_lists_are_the_drafts.Goals as goal
-
-pub returns : goal.returns
-returns c = both_are_drafts

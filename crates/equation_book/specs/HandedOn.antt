@@ -1,0 +1,3 @@
+-- What crates above this one need of the crates below it.
+pub use Rattle.critical_pairs.specs.Joining.{AreUnjoinedBy, ArePeaksOf}
+pub use Rattle.critical_pairs.specs.Listing.{equation_at}

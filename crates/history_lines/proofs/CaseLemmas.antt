@@ -1,0 +1,18 @@
+-- What the worked cases are shown by.
+use Rattle.std.proofs.Common.{◌≡◌, ℕ, List, [], refl}
+use Rattle.lotos_base.specs.declared.places.Place.{Place}
+use Rattle.lotos_lexer.specs.Tokens as lexed
+use Rattle.lotos_lexer.specs.Tokens.{tokens_of}
+use Rattle.sentence_trees.specs.declared.fault.ReadFault.TheVariants.{BadByte, OpenComment}
+use Rattle.lotos_rows.specs.Words.{left_out}
+use Rattle.session_lines.specs.Refusal.{AreTerms, AreUnread}
+
+-- a text without tokens is a list of no terms
+pub no_terms_in : (text : List ℕ) → tokens_of 0 text ≡ lexed.Tokens [] → AreTerms text []
+no_terms_in text cut_ = record { tokens = []; cut_into = cut_; sentence = left_out; shallow = refl }
+
+pub bad_byte_in : (text : List ℕ) (place : Place) → tokens_of 0 text ≡ lexed.BadByte place → AreUnread text 101
+bad_byte_in text place cut_ = (BadByte place, cut_, (λ none. absurd (cc none)), refl)
+
+pub open_comment_in : (text : List ℕ) (place : Place) → tokens_of 0 text ≡ lexed.OpenComment place → AreUnread text 102
+open_comment_in text place cut_ = (OpenComment place, cut_, (λ none. absurd (cc none)), refl)

@@ -1,9 +1,0 @@
-pub mod Words
-pub mod Names
-pub mod Terms
-pub mod Equations
-pub mod Renamings
-pub mod Types
-pub mod Behaviours
-pub mod Definitions
-pub mod Starts

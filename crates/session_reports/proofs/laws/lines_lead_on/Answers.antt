@@ -1,8 +1,0 @@
-use Rattle.session_reports.proofs.ReachedLemmas.{begins_reached, line_reached}
-use Rattle.session_reports.proofs.laws.lines_lead_on.Goals as goal
-
-pub returns : goal.returns
-returns c = record {
-  begins = begins_reached c.sessions_follow_derivations.ensures;
-  goes_on = line_reached c.sessions_follow_derivations.ensures c.sessions_stay_lawful.ensures;
-}

@@ -1,5 +1,0 @@
-use Rattle.session_reports.proofs.AnsweredLemmas.{served_answered}
-use Rattle.session_reports.proofs.laws.served_lines_are_answered.Goals as goal
-
-pub returns : goal.returns
-returns c = served_answered c.lines_lead_on.ensures

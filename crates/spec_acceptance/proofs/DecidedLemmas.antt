@@ -1,0 +1,275 @@
+-- Functionalities and recursion of what the code keeps of a specification are decided by the plain specification and the places.
+use Rattle.std.proofs.Common.{refl, ap, sym, ◌∙◌, ◌≡◌, subst, ℕ, List, [], ◌∷◌, map, length, Option, None, Some, slice_get}
+use Rattle.std.proofs.lemmas.Option.{same_Some}
+use Rattle.list_laws.proofs.Members.{at_map}
+use Rattle.lotos_base.specs.Equation.{Place, Data}
+use Rattle.lotos_base.specs.WrittenView.{text_place_of}
+use Rattle.lotos_base.specs.declared.places.Place as code
+use Rattle.syntax_trees.specs.WrittenDefinition.{WrittenSpecification}
+use Rattle.syntax_trees.specs.TakenItems.{without_items}
+use Rattle.behaviour_semantics.specs.Behaviour.{Specification}
+use Rattle.behaviour_semantics.specs.Guardedness.{IsGuarded}
+use Rattle.behaviour_tree.specs.declared.definitions.Process.{Process}
+use Rattle.behaviour_tree.specs.declared.definitions.Spec.{Spec}
+use Rattle.static_scope.specs.KeptPlaces.{places_of}
+use Rattle.static_scope.specs.TextPlaces.{text_places}
+use Rattle.process_checks.specs.Calls.{calls_of, process_at, called_by, graph_of}
+use Rattle.process_checks.specs.Functionality.{Functionality, Disagreement, all_disagreements}
+use Rattle.process_checks.specs.Graph.{IsFirstOnCycle, IsKeptCycle, LiesOnCycle}
+use Rattle.process_checks.specs.Ways.{CallsHaveCycle}
+use Rattle.process_checks.specs.Ranks.{IsSiteAt, IsUnguarded}
+use Rattle.process_checks.specs.declared.calls.CallSite.{CallSite}
+use Rattle.process_checks.proofs.CallLemmas.{not_guarded}
+use Rattle.process_checks.proofs.WayLemmas.{way_of_leads}
+use Rattle.start_values.specs.Refusal.{Refusal, too_long, bad_byte, open_comment, wrong_syntax, too_deep, too_many_libraries, wrong_names, wrong_types, wrong_scopes, mismatch, unguarded, unknown_operation, twice_listed, unorientable, unjoined, start_values, start_term}
+use Rattle.spec_acceptance.specs.PartLaws.{IsDecided}
+use Rattle.spec_acceptance.specs.Checks.{KeepsSpecification, FunctionalitiesAgree, IsFirstDisagreement, Disagree, Guarded, Cyclic}
+use Rattle.spec_acceptance.specs.AcceptanceLaws.{ExitsAreDecided, RanksAreDecided}
+use Rattle.spec_acceptance.proofs.OneCycle.{first_is_one, kept_cycle_is_one}
+use Rattle.spec_acceptance.proofs.PlacedCalls.{PlacedCall, placed_call, seen_by, calls_by, calls_are_by}
+use Rattle.spec_acceptance.proofs.PlacedDisagreements.{PlacedDisagreement, seen_disagreements, disagreements_by, disagreements_are_by}
+
+-- ---- Functionalities
+
+-- what is kept has the disagreements that the plain specification and the places tell
+module _ (data_ : Data) (tree : WrittenSpecification) (spec : Specification) where
+  abbrev Kept : Spec → Type 0
+  Kept kept = KeepsSpecification data_ tree spec kept
+
+  abbrev told_all : List PlacedDisagreement
+  told_all = disagreements_by data_.signature spec (text_places (without_items tree))
+
+  seen_are_told : (kept : Spec) → Kept kept → seen_disagreements (all_disagreements kept) ≡ told_all
+  seen_are_told kept keeps =
+      sym (disagreements_are_by data_.signature kept keeps.over)
+      ∙ ap (λ (s : Specification). disagreements_by data_.signature s (places_of kept)) keeps.same
+      ∙ ap (disagreements_by data_.signature spec) keeps.places
+
+  -- the first of them
+  abbrev IsFirstTold : List PlacedDisagreement → Place → Functionality → Functionality → Type 0
+  IsFirstTold [] place left right = ⊥
+  IsFirstTold (first ∷ others) place left right = first ≡ (place, left, right)
+
+  first_told : (ds : List Disagreement) (place : Place) (left right : Functionality) → IsFirstDisagreement ds place left right
+      → IsFirstTold (seen_disagreements ds) place left right
+  first_told [] place left right is = absurd is
+  first_told (d ∷ ds) place left right is =
+      ap (λ (p : Place). (p, d.left, d.right)) is.0
+      ∙ ap (λ (f : Functionality). (place, f, d.right)) is.1
+      ∙ ap (λ (f : Functionality). (place, left, f)) is.2
+
+  told_once : (ds : List PlacedDisagreement) (place other : Place) (left also right too : Functionality) → IsFirstTold ds place left right
+      → IsFirstTold ds other also too → mismatch place left right ≡ mismatch other also too
+  told_once [] place other left also right too is not = absurd is
+  told_once (d ∷ ds) place other left also right too is same =
+      ap (λ (t : PlacedDisagreement). mismatch t.0 t.1 t.2) (sym is ∙ same)
+
+  -- a refusal for functionalities is a mismatch
+  mismatched : (refusal : Refusal) → Disagree data_ tree spec refusal →
+      (place : Place) × (left : Functionality) × (right : Functionality) × (refusal ≡ mismatch place left right)
+      × IsFirstTold told_all place left right
+  mismatched (mismatch place left right) is = (
+    place,
+    left,
+    right,
+    refl,
+    subst (λ (ds : List PlacedDisagreement). IsFirstTold ds place left right) (seen_are_told is.0 is.1)
+        (first_told (all_disagreements is.0) place left right is.2),
+  )
+  mismatched (too_long number) is = absurd is
+  mismatched (bad_byte place) is = absurd is
+  mismatched (open_comment place) is = absurd is
+  mismatched (wrong_syntax place) is = absurd is
+  mismatched (too_deep place) is = absurd is
+  mismatched (too_many_libraries place name) is = absurd is
+  mismatched (wrong_names fault) is = absurd is
+  mismatched (wrong_types fault) is = absurd is
+  mismatched (wrong_scopes fault) is = absurd is
+  mismatched (unguarded place process cycle) is = absurd is
+  mismatched (unknown_operation place name) is = absurd is
+  mismatched (twice_listed place name) is = absurd is
+  mismatched (unorientable equation) is = absurd is
+  mismatched (unjoined first second peak left right) is = absurd is
+  mismatched (start_values wanted given) is = absurd is
+  mismatched (start_term refusal) is = absurd is
+
+  none_told : (ds : List Disagreement) → ds ≡ [] → seen_disagreements ds ≡ []
+  none_told ds none = ap seen_disagreements none
+
+  pub exits_decided : IsDecided (FunctionalitiesAgree data_ tree spec) (Disagree data_ tree spec)
+  exits_decided = record {
+    one_value = λ b c is also. is.0 ∙ sym also.0;
+    not_both = λ b refusal is not.
+        let told = mismatched refusal not in
+        subst (λ (ds : List PlacedDisagreement). IsFirstTold ds told.0 told.1 told.2)
+        (sym (seen_are_told is.1.0 is.1.1) ∙ none_told (all_disagreements is.1.0) is.1.2) told.4;
+    one_fault = λ refusal other is also.
+        let told = mismatched refusal is in
+        let tells = mismatched other also in
+        told.3 ∙ told_once told_all told.0 tells.0 told.1 tells.1 told.2 tells.2 told.4 tells.4 ∙ sym tells.3;
+  }
+
+pub exits_are_decided : ExitsAreDecided
+exits_are_decided data_ tree spec = exits_decided data_ tree spec
+
+-- ---- Recursion
+
+-- the processes that are called
+abbrev call_number : PlacedCall → ℕ
+call_number c = c.1
+
+abbrev numbers_in : List PlacedCall → List ℕ
+numbers_in calls = map call_number calls
+
+called_seen : (sites : List CallSite) → map call_number (map placed_call sites) ≡ map process_at sites
+called_seen [] = refl
+called_seen (s ∷ sites) = ap (λ (ns : List ℕ). s.process ∷ ns) (called_seen sites)
+
+graph_seen : (processes : List Process) → map numbers_in (map seen_by processes) ≡ graph_of processes
+graph_seen [] = refl
+graph_seen (p ∷ processes) =
+    ap (λ (ns : List ℕ). ns ∷ map numbers_in (map seen_by processes)) (called_seen (calls_of p.body))
+    ∙ ap (λ (rest : List (List ℕ)). called_by p ∷ rest) (graph_seen processes)
+
+-- the place of a call
+abbrev place_of_call : Option PlacedCall → Option Place
+place_of_call None = None
+place_of_call (Some c) = Some c.0
+
+abbrev place_among : ℕ → Option (List PlacedCall) → Option Place
+place_among position None = None
+place_among position (Some calls) = place_of_call (slice_get calls position)
+
+abbrev place_there : List (List PlacedCall) → ℕ → ℕ → Option Place
+place_there calls process position = place_among position (slice_get calls process)
+
+site_placed : (kept : Spec) (process position : ℕ) (place : code.Place) → IsSiteAt kept process position place
+    → place_there (map seen_by kept.processes.items) process position ≡ Some (text_place_of place)
+site_placed kept process position place is =
+    ap (place_among position) (at_map seen_by kept.processes.items process is.caller is.found)
+    ∙ ap place_of_call (at_map placed_call (calls_of is.caller.body) position is.site is.stands)
+    ∙ ap (λ (at : code.Place). Some (text_place_of at)) is.placed
+
+-- the first call on a cycle of these calls, with its place and the cycle that is kept
+record IsToldCycle (calls : List (List PlacedCall)) (place : Place) (process : ℕ) (cycle : List ℕ) : Type 0 where
+  pub position : ℕ
+  pub first : IsFirstOnCycle (map numbers_in calls) process position
+  pub kept : IsKeptCycle (map numbers_in calls) process position cycle
+  pub placed : place_there calls process position ≡ Some place
+
+same_refusal : (place other : Place) (process also : ℕ) (cycle too : List ℕ) → place ≡ other → process ≡ also → cycle ≡ too
+    → unguarded place process cycle ≡ unguarded other also too
+same_refusal place other process also cycle too one two three =
+    ap (λ (p : Place). unguarded p process cycle) one ∙ ap (λ (n : ℕ). unguarded other n cycle) two
+    ∙ ap (λ (ns : List ℕ). unguarded other also ns) three
+
+cycle_told_once : (calls : List (List PlacedCall)) (place other : Place) (process also : ℕ) (cycle too : List ℕ)
+    → IsToldCycle calls place process cycle → IsToldCycle calls other also too
+    → unguarded place process cycle ≡ unguarded other also too
+cycle_told_once calls place other process also cycle too one two =
+    same_refusal place other process also cycle too
+    (same_Some place other (sym one.placed ∙ ap (λ (n : ℕ). place_there calls n one.position) same.0
+    ∙ ap (place_there calls also) same.1 ∙ two.placed))
+    same.0
+    (kept_cycle_is_one (map numbers_in calls) also two.position cycle too
+    (subst (λ (n : ℕ). IsKeptCycle (map numbers_in calls) n two.position cycle) same.0
+    (subst (λ (i : ℕ). IsKeptCycle (map numbers_in calls) process i cycle) same.1 one.kept)) two.kept)
+  where
+    same : (process ≡ also) × (one.position ≡ two.position)
+    same = first_is_one (map numbers_in calls) process also one.position two.position one.first two.first
+
+-- a cycle of what is kept is none of a guarded specification
+cycle_of : (kept : Spec) (process position : ℕ) → LiesOnCycle (graph_of kept.processes.items) process position
+    → CallsHaveCycle (graph_of kept.processes.items)
+cycle_of kept process position on = (
+  process,
+  (
+    length on.positions,
+    way_of_leads (graph_of kept.processes.items) process (position ∷ on.positions) on.way process on.leads,
+  ),
+)
+
+module _ (data_ : Data) (tree : WrittenSpecification) (spec : Specification) where
+  abbrev calls_all : List (List PlacedCall)
+  calls_all = calls_by spec (text_places (without_items tree))
+
+  calls_are_told : (kept : Spec) → KeepsSpecification data_ tree spec kept → map seen_by kept.processes.items ≡ calls_all
+  calls_are_told kept keeps =
+      sym (calls_are_by kept) ∙ ap (λ (s : Specification). calls_by s (places_of kept)) keeps.same ∙ ap (calls_by spec) keeps.places
+
+  graph_told : (kept : Spec) → KeepsSpecification data_ tree spec kept → graph_of kept.processes.items ≡ map numbers_in calls_all
+  graph_told kept keeps =
+      sym (graph_seen kept.processes.items) ∙ ap (λ (calls : List (List PlacedCall)). map numbers_in calls) (calls_are_told kept keeps)
+
+  cycle_told : (kept : Spec) (at : code.Place) (process : ℕ) (cycle : List ℕ) → KeepsSpecification data_ tree spec kept
+      → IsUnguarded kept at process cycle → IsToldCycle calls_all (text_place_of at) process cycle
+  cycle_told kept at process cycle keeps is = record {
+    position = is.position;
+    first = subst (λ (g : List (List ℕ)). IsFirstOnCycle g process is.position) (graph_told kept keeps) is.first;
+    kept = subst (λ (g : List (List ℕ)). IsKeptCycle g process is.position cycle) (graph_told kept keeps) is.kept;
+    placed =
+        ap (λ (calls : List (List PlacedCall)). place_there calls process is.position) (sym (calls_are_told kept keeps))
+        ∙ site_placed kept process is.position at is.stands;
+  }
+
+  -- a refusal for recursion is for a cycle
+  cyclic : (refusal : Refusal) → Cyclic data_ tree spec refusal →
+      (place : Place) × (process : ℕ) × (cycle : List ℕ) × (refusal ≡ unguarded place process cycle)
+      × IsToldCycle calls_all place process cycle
+  cyclic (unguarded place process cycle) is = (
+    place,
+    process,
+    cycle,
+    refl,
+    subst (λ (p : Place). IsToldCycle calls_all p process cycle) is.3 (cycle_told is.0 is.1 process cycle is.2 is.4),
+  )
+  cyclic (too_long number) is = absurd is
+  cyclic (bad_byte place) is = absurd is
+  cyclic (open_comment place) is = absurd is
+  cyclic (wrong_syntax place) is = absurd is
+  cyclic (too_deep place) is = absurd is
+  cyclic (too_many_libraries place name) is = absurd is
+  cyclic (wrong_names fault) is = absurd is
+  cyclic (wrong_types fault) is = absurd is
+  cyclic (wrong_scopes fault) is = absurd is
+  cyclic (mismatch place left right) is = absurd is
+  cyclic (unknown_operation place name) is = absurd is
+  cyclic (twice_listed place name) is = absurd is
+  cyclic (unorientable equation) is = absurd is
+  cyclic (unjoined first second peak left right) is = absurd is
+  cyclic (start_values wanted given) is = absurd is
+  cyclic (start_term refusal) is = absurd is
+
+  kept_cyclic : (refusal : Refusal) → Cyclic data_ tree spec refusal → IsGuarded spec.processes → ⊥
+  kept_cyclic (unguarded place process cycle) is guarded =
+      not_guarded is.0.processes.items (cycle_of is.0 process is.4.position is.4.first.on_cycle)
+      (subst (λ (s : Specification). IsGuarded s.processes) (sym is.2.same) guarded)
+  kept_cyclic (too_long number) is guarded = absurd is
+  kept_cyclic (bad_byte place) is guarded = absurd is
+  kept_cyclic (open_comment place) is guarded = absurd is
+  kept_cyclic (wrong_syntax place) is guarded = absurd is
+  kept_cyclic (too_deep place) is guarded = absurd is
+  kept_cyclic (too_many_libraries place name) is guarded = absurd is
+  kept_cyclic (wrong_names fault) is guarded = absurd is
+  kept_cyclic (wrong_types fault) is guarded = absurd is
+  kept_cyclic (wrong_scopes fault) is guarded = absurd is
+  kept_cyclic (mismatch place left right) is guarded = absurd is
+  kept_cyclic (unknown_operation place name) is guarded = absurd is
+  kept_cyclic (twice_listed place name) is guarded = absurd is
+  kept_cyclic (unorientable equation) is guarded = absurd is
+  kept_cyclic (unjoined first second peak left right) is guarded = absurd is
+  kept_cyclic (start_values wanted given) is guarded = absurd is
+  kept_cyclic (start_term refusal) is guarded = absurd is
+
+  pub ranks_decided : IsDecided (Guarded spec) (Cyclic data_ tree spec)
+  ranks_decided = record {
+    one_value = λ b c is also. is.0 ∙ sym also.0;
+    not_both = λ b refusal is not. kept_cyclic refusal not is.1;
+    one_fault = λ refusal other is also.
+        let told = cyclic refusal is in
+        let tells = cyclic other also in
+        told.3 ∙ cycle_told_once calls_all told.0 tells.0 told.1 tells.1 told.2 tells.2 told.4 tells.4 ∙ sym tells.3;
+  }
+
+pub ranks_are_decided : RanksAreDecided
+ranks_are_decided data_ tree spec = ranks_decided data_ tree spec

@@ -1,0 +1,132 @@
+-- Items of an order give operations one order, and have one first fault.
+use Rattle.std.proofs.Common.{refl, ap, sym, ◌∙◌, ◌≡◌, ◌<◌, subst, ℕ, zero, suc, List, [], ◌∷◌, ◌++◌, length, None, Some, slice_get, arith}
+use Rattle.std.proofs.lemmas.Option.{same_Some}
+use Rattle.lotos_base.specs.WrittenTerm.{ListedOperation}
+use Rattle.lotos_base.specs.Equation.{Place}
+use Rattle.lotos_base.specs.Signature.{Signature}
+use Rattle.rewriting_theory.proofs.PairListLemmas.{neither_less}
+use Rattle.termination_theory.specs.Precedence.{Precedence, IsOver}
+use Rattle.path_order.specs.Listed.{AreListedBy}
+use Rattle.path_order.specs.Listing.{AreListed, none_listed, listed_then, IsAbove, IsUnknown, IsTwice, IsFineItem, IsFirstWrong}
+use Rattle.path_order.specs.OrderedBy.{IsPrecedenceBy}
+
+-- ---- Falling lists with the same members are one
+
+abbrev Falls : List ℕ → Type 0
+Falls fs = (i j f g : ℕ) → slice_get fs i ≡ Some f → slice_get fs j ≡ Some g → i < j → g < f
+
+abbrev HasMember : List ℕ → ℕ → Type 0
+HasMember fs f = (j : ℕ) × (slice_get fs j ≡ Some f)
+
+falls_behind : (f : ℕ) (fs : List ℕ) → Falls (f ∷ fs) → Falls fs
+falls_behind f fs falls i j g h at there less = falls (suc i) (suc j) g h at there (omega (arith, less))
+
+below_first : (f : ℕ) (fs : List ℕ) → Falls (f ∷ fs) → (j g : ℕ) → slice_get fs j ≡ Some g → g < f
+below_first f fs falls j g there = falls zero (suc j) f g refl there (omega arith)
+
+one_first : (f g : ℕ) (fs gs : List ℕ) → Falls (f ∷ fs) → Falls (g ∷ gs) → (j k : ℕ) → slice_get (g ∷ gs) j ≡ Some f
+    → slice_get (f ∷ fs) k ≡ Some g → f ≡ g
+one_first f g fs gs falls also zero k there back = sym (same_Some g f there)
+one_first f g fs gs falls also (suc j) zero there back = same_Some f g back
+one_first f g fs gs falls also (suc j) (suc k) there back =
+    absurd (omega (arith, below_first g gs also j f there, below_first f fs falls k g back))
+
+member_behind : (g h : ℕ) (gs : List ℕ) (j : ℕ) → slice_get (g ∷ gs) j ≡ Some h → h < g → HasMember gs h
+member_behind g h gs zero there less = absurd (omega (arith, less, same_Some g h there))
+member_behind g h gs (suc j) there less = (j, there)
+
+none_there : (f j : ℕ) → slice_get [] j ≡ Some f → ⊥
+none_there f j there = let none : None ≡ Some f = there in cc
+
+falling_once : (fs gs : List ℕ) → Falls fs → Falls gs → ((f : ℕ) → HasMember fs f → HasMember gs f)
+    → ((f : ℕ) → HasMember gs f → HasMember fs f) → fs ≡ gs
+falling_once [] [] falls also there back = refl
+falling_once [] (g ∷ gs) falls also there back = let is = back g (zero, refl) in absurd (none_there g is.0 is.1)
+falling_once (f ∷ fs) [] falls also there back = let is = there f (zero, refl) in absurd (none_there f is.0 is.1)
+falling_once (f ∷ fs) (g ∷ gs) falls also there back =
+    let one = there f (zero, refl) in
+    let two = back g (zero, refl) in
+    let same : f ≡ g = one_first f g fs gs falls also one.0 two.0 one.1 two.1 in
+    let rest : fs ≡ gs = falling_once fs gs (falls_behind f fs falls) (falls_behind g gs also)
+    (λ h is.
+    let at = there h (suc is.0, is.1) in
+    member_behind g h gs at.0 at.1 (subst (λ (k : ℕ). h < k) same (below_first f fs falls is.0 h is.1)))
+    (λ h is.
+    let at = back h (suc is.0, is.1) in
+    member_behind f h fs at.0 at.1 (subst (λ (k : ℕ). h < k) (sym same) (below_first g gs also is.0 h is.1))) in
+    (λ i. same i ∷ rest i)
+
+-- ---- The order of the items
+
+listed_by_once : (signature : Signature) (item : ListedOperation) (fs gs : List ℕ) → AreListedBy signature item fs
+    → AreListedBy signature item gs → fs ≡ gs
+listed_by_once signature item fs gs one also =
+    falling_once fs gs one.latest_first also.latest_first (λ f is. also.all f (one.listed is.0 f is.1))
+    (λ f is. one.all f (also.listed is.0 f is.1))
+
+listed_once : {signature : Signature} {items : List ListedOperation} {one other : List ℕ} → AreListed signature items one
+    → AreListed signature items other → one ≡ other
+listed_once none_listed none_listed = refl
+listed_once {signature = signature} (listed_then {item = item} {fs = fs} one more) (listed_then {fs = gs} also rest) =
+    let first : fs ≡ gs = listed_by_once signature item fs gs one also in
+    let later = listed_once more rest in
+    (λ i. first i ++ later i)
+
+pub over_once : (signature : Signature) (items : List ListedOperation) (p q : Precedence) → IsPrecedenceBy signature items p
+    → IsPrecedenceBy signature items q → (f g : ℕ) → f < length signature.operations → g < length signature.operations
+    → IsOver p f g → IsOver q f g
+over_once signature items p q is also f g first second over =
+    (also.over f g first second).1
+    (subst (λ (listing : List ℕ). IsAbove listing f g) (listed_once is.listed also.listed) ((is.over f g first second).0 over))
+
+-- ---- Faults of items
+
+-- what is wrong keeps an item from being fine
+abbrev pub IsFault : Signature → List ListedOperation → (ℕ → ListedOperation → Type 0) → Type 0
+IsFault signature items IsWrong = (k : ℕ) (item : ListedOperation) → slice_get items k ≡ Some item → IsWrong k item
+    → IsFineItem signature items k → ⊥
+
+abbrev pub UnknownAt : Signature → ℕ → ListedOperation → Type 0
+UnknownAt signature k item = IsUnknown signature item
+
+abbrev pub TwiceAt : Signature → List ListedOperation → ℕ → ListedOperation → Type 0
+TwiceAt signature items k item = IsTwice signature items k item
+
+pub unknown_is_fault : (signature : Signature) (items : List ListedOperation) → IsFault signature items (UnknownAt signature)
+unknown_is_fault signature items k item at wrong fine = (fine item at).0 wrong
+
+pub twice_is_fault : (signature : Signature) (items : List ListedOperation) → IsFault signature items (TwiceAt signature items)
+twice_is_fault signature items k item at wrong fine = (fine item at).1 wrong
+
+module _ (signature : Signature) (items : List ListedOperation) (IsWrong IsOther : ℕ → ListedOperation → Type 0)
+    (wrongs : IsFault signature items IsWrong) (others : IsFault signature items IsOther)
+    (place at : Place) (name word : List ℕ)
+    (one : IsFirstWrong signature items IsWrong place name) (other : IsFirstWrong signature items IsOther at word) where
+  one_number : one.number ≡ other.number
+  one_number =
+      neither_less one.number other.number
+      (λ less. wrongs one.number one.item one.is_at one.wrong (other.fine_before one.number less))
+      (λ less. others other.number other.item other.is_at other.wrong (one.fine_before other.number less))
+
+  pub one_item : one.item ≡ other.item
+  one_item = same_Some one.item other.item (sym one.is_at ∙ ap (λ (k : ℕ). slice_get items k) one_number ∙ other.is_at)
+
+  pub one_place : place ≡ at
+  one_place = one.placed ∙ ap (λ (item : ListedOperation). item.place) one_item ∙ sym other.placed
+
+  pub one_name : name ≡ word
+  one_name = one.named ∙ ap (λ (item : ListedOperation). item.name) one_item ∙ sym other.named
+
+-- an item that lists nothing lists nothing twice
+pub not_unknown_and_twice : (signature : Signature) (items : List ListedOperation) (place at : Place) (name word : List ℕ)
+    → IsFirstWrong signature items (UnknownAt signature) place name → IsFirstWrong signature items (TwiceAt signature items) at word → ⊥
+not_unknown_and_twice signature items place at name word one other =
+    let same = one_item signature items (UnknownAt signature) (TwiceAt signature items) (unknown_is_fault signature items)
+    (twice_is_fault signature items) place at name word one other in
+    subst (λ (item : ListedOperation). IsUnknown signature item) same one.wrong other.wrong.operation other.wrong.is_listed
+
+pub not_fine_and_wrong : (signature : Signature) (items : List ListedOperation) (p : Precedence)
+    (IsWrong : ℕ → ListedOperation → Type 0) → IsFault signature items IsWrong → (place : Place) (name : List ℕ)
+    → IsPrecedenceBy signature items p → IsFirstWrong signature items IsWrong place name → ⊥
+not_fine_and_wrong signature items p IsWrong wrongs place name is one =
+    wrongs one.number one.item one.is_at one.wrong (is.fine one.number)

@@ -1,0 +1,98 @@
+-- Over a shelf that tells its texts there is one answer.
+use Rattle.std.proofs.Common.{refl, ap, sym, ◌≡◌, ◌+◌, ◌⊎◌, inl, inr, subst, ℕ, zero, suc, List, [], ◌∷◌, take, All, Option, None, Some, IsSomeAnd, Ok, Err, arith}
+use Rattle.std.specs.Option.{option_map}
+use Rattle.lotos_base.specs.Counts.{Rises}
+use Rattle.lotos_base.specs.Limits.{text_limit}
+use Rattle.lotos_base.specs.Outside.{Texts}
+use Rattle.lotos_grammar.specs.Gathering.{GotFile}
+use Rattle.lotos_grammar.specs.GatheringLaws.{AreGotFrom}
+use Rattle.lotos_grammar.specs.ShelfUse.{ShelfState, IsFileOf}
+use Rattle.spec_acceptance.specs.Acceptance.{Asked, Acceptance, IsAccepted}
+use Rattle.spec_acceptance.specs.Ending.{unread, refused}
+use Rattle.spec_acceptance.specs.Part.{Comes, goes_on, stops}
+use Rattle.spec_acceptance.specs.Doing.{Did}
+use Rattle.spec_acceptance.specs.declared.not_accepted.NotAccepted.TheVariants.{File, Spec, NoMemory}
+use Rattle.spec_acceptance.specs.AcceptanceOutcomes.{got_from, ComesOver, OutcomesOverTextsAreOne, RefusesOver, AnswersOver, ReadsAreOne}
+use Rattle.spec_acceptance.proofs.OneFault.{acceptance_has_one_outcome}
+
+-- ---- What was got
+
+cut_there : (limit : ℕ) (o : Option (List ℕ)) (bytes : List ℕ) → IsSomeAnd o (λ (text : List ℕ). bytes ≡ take limit text)
+    → option_map (λ (text : List ℕ). take limit text) o ≡ Some bytes
+cut_there limit None bytes is = absurd is
+cut_there limit (Some text) bytes is = ap (λ (b : List ℕ). Some b) (sym is)
+
+cut_lacking : (limit : ℕ) (o : Option (List ℕ)) → o ≡ None → option_map (λ (text : List ℕ). take limit text) o ≡ None
+cut_lacking limit o none = ap (λ (p : Option (List ℕ)). option_map (λ (text : List ℕ). take limit text) p) none
+
+all_behind : (P : GotFile → Type 0) (file : GotFile) (files : List GotFile) → All P (file ∷ files) → All P files
+all_behind P file files all k other less = all (suc k) other (omega (arith, less))
+
+got_all : (texts : Texts) (files : List GotFile) → All (IsFileOf (Some texts)) files → AreGotFrom (got_from texts) files
+got_all texts [] all = tt
+got_all texts (file ∷ files) all = (
+  cut_there (text_limit + 1) (texts file.name) file.bytes (all zero file (omega arith)),
+  got_all texts files (all_behind (IsFileOf (Some texts)) file files all),
+)
+
+got_told : (texts : Texts) (told : Option Texts) (files : List GotFile) → told ≡ Some texts → All (IsFileOf told) files
+    → AreGotFrom (got_from texts) files
+got_told texts told files same all = got_all texts files (subst (λ (t : Option Texts). All (IsFileOf t) files) same all)
+
+-- a file that could not be got without a fault is none of the texts
+lacks_told : (texts : Texts) (told : Option Texts) (before after : ℕ) (name : List ℕ) → told ≡ Some texts → (¬ Rises before after)
+    → Rises before after ⊎ ((after ≡ before) × IsSomeAnd told (λ (all : Texts). all name ≡ None)) → got_from texts name ≡ None
+lacks_told texts told before after name same not (inl rises) = absurd (not rises)
+lacks_told texts told before after name same not (inr lacks) =
+    cut_lacking (text_limit + 1) (texts name)
+    (subst (λ (t : Option Texts). IsSomeAnd t (λ (all : Texts). all name ≡ None)) same lacks.1)
+
+-- ---- What came of it
+
+pub comes_over : (texts : Texts) (asked : Asked) (before after : ShelfState) (comes : Comes Acceptance) → before.texts ≡ Some texts
+    → (¬ Rises before.faults after.faults) → Did before after (IsAccepted asked) comes → ComesOver texts asked comes
+comes_over texts asked before after (goes_on acceptance) told not did = record {
+  files = did.0;
+  came = did.2;
+  got_files = got_told texts before.texts did.0 told did.1.content;
+  lacks = tt;
+}
+comes_over texts asked before after (stops (unread name)) told not did = record {
+  files = did.0;
+  came = did.2;
+  got_files = got_told texts before.texts did.0 told did.1.content;
+  lacks = lacks_told texts before.texts before.faults after.faults name told not did.1.cause;
+}
+comes_over texts asked before after (stops (refused r)) told not did = record {
+  files = did.0;
+  came = did.2;
+  got_files = got_told texts before.texts did.0 told did.1.content;
+  lacks = tt;
+}
+
+pub outcomes_over_texts_are_one : OutcomesOverTextsAreOne
+outcomes_over_texts_are_one texts asked one other is also =
+    (acceptance_has_one_outcome asked (got_from texts) is.files also.files one other is.came also.came is.got_files also.got_files
+    is.lacks also.lacks).1
+
+-- ---- The answer
+
+wants_memory : (comes : Comes Acceptance) → RefusesOver comes NoMemory
+wants_memory (goes_on acceptance) = tt
+wants_memory (stops (unread name)) = tt
+wants_memory (stops (refused r)) = tt
+
+pub reads_are_one : ReadsAreOne
+reads_are_one texts asked comes over before after told not (Ok accepted) is =
+    let same = outcomes_over_texts_are_one texts asked (goes_on is.0) comes
+    (comes_over texts asked before after (goes_on is.0) told not is.1) over in
+    subst (λ (c : Comes Acceptance). AnswersOver c (Ok accepted)) same is.2
+reads_are_one texts asked comes over before after told not (Err (File name)) did =
+    let same = outcomes_over_texts_are_one texts asked (stops (unread name.items)) comes
+    (comes_over texts asked before after (stops (unread name.items)) told not did) over in
+    subst (λ (c : Comes Acceptance). AnswersOver c (Err (File name))) same refl
+reads_are_one texts asked comes over before after told not (Err (Spec r)) is =
+    let same = outcomes_over_texts_are_one texts asked (stops (refused is.0)) comes
+    (comes_over texts asked before after (stops (refused is.0)) told not is.2) over in
+    subst (λ (c : Comes Acceptance). AnswersOver c (Err (Spec r))) same is.1
+reads_are_one texts asked comes over before after told not (Err NoMemory) kept = wants_memory comes

@@ -1,6 +1,0 @@
-use Rattle.std.proofs.Common.{◌≡◌, drop}
-use Rattle.term_algebra.specs.Substitution.{is_listed}
-use Rattle.step_parts.proofs.labels.lists.Given as goal
-
-abbrev pub invariant-loop-listed : goal.invariant-loop-listed
-invariant-loop-listed l = is_listed l.gates l.gate ≡ is_listed (drop l.listed-index l.gates) l.gate

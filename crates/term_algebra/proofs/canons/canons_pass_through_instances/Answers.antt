@@ -1,9 +1,0 @@
--- By the third, fourth, sixth and seventh laws of a canon.
-use Rattle.term_algebra.proofs.CanonLemmas.{canon_through, canon_renamed}
-use Rattle.term_algebra.proofs.canons.canons_pass_through_instances.Goals as goal
-
-pub returns-clause-instances : goal.returns-clause-instances
-returns-clause-instances c = canon_through
-
-pub returns-clause-renamed : goal.returns-clause-renamed
-returns-clause-renamed c = canon_renamed

@@ -1,7 +1,0 @@
-use Rattle.std.proofs.Common.{◌≡◌, take}
-use Rattle.term_algebra.specs.PlainView.{arguments_of, pairs_of}
-use Rattle.term_algebra.specs.Substitution.{all_substituted, binding}
-use Rattle.term_algebra.proofs.plain.+instance.Given as goal
-
-abbrev pub invariant-instances-loop-term : goal.invariant-instances-loop-term
-invariant-instances-loop-term l = arguments_of l.made.items ≡ all_substituted (binding (pairs_of l.values)) (arguments_of (take l.term-index l.term-items))

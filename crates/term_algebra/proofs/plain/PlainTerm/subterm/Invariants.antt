@@ -1,7 +1,0 @@
-use Rattle.std.proofs.Common.{◌≡◌, drop}
-use Rattle.term_algebra.specs.Path.{subterm as subterm_at}
-use Rattle.term_algebra.specs.PlainView.{term_of}
-use Rattle.term_algebra.proofs.plain.PlainTerm.subterm.Given as goal
-
-abbrev pub invariant-loop-position : goal.invariant-loop-position
-invariant-loop-position l = subterm_at l.path (term_of l.fn.self) ≡ subterm_at (drop l.position-index l.path) (term_of l.part)

@@ -1,9 +1,0 @@
-pub mod MentionLemmas
-pub mod NumberLists
-pub mod ReachLemmas
-pub mod OrderLemmas
-pub mod WalkLemmas
-pub mod CycleLemmas
-pub mod OrderingLemmas
-pub mod NameLemmas
-pub mod UnknownLemmas

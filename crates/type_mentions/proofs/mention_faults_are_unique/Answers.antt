@@ -1,5 +1,0 @@
-use Rattle.type_mentions.proofs.MentionLemmas.{faults_unique}
-use Rattle.type_mentions.proofs.mention_faults_are_unique.Goals as goal
-
-pub returns : goal.returns
-returns c = faults_unique

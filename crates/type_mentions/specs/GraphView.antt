@@ -1,8 +1,0 @@
--- The graph that the code's rows stand for.
-use Rattle.std.specs.Prelude.{ℕ, List, map, Vec}
-use Rattle.std.specs.declared.alloc.Global.{Global}
-use Rattle.type_mentions.specs.GraphRows.{rows_of}
-use Rattle.type_mentions.specs.declared.graph.MentionGraph.{MentionGraph}
-
-abbrev pub graph_of : MentionGraph → List (List ℕ)
-graph_of graph = rows_of graph.rows.items
