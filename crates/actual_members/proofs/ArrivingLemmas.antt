@@ -4,6 +4,7 @@ use Rattle.std.specs.Prelude.{Option, Some, None, ◌||◌, nat_lt, slice_get, s
 use Rattle.std.specs.List.{list_any}
 use Rattle.std.proofs.lemmas.List.{append-nil}
 use Rattle.std.proofs.lemmas.Option.{none-some}
+use Rattle.lotos_base.proofs.Pieces.{same_heads, same_tails}
 use Rattle.lotos_base.specs.Equation.{Place}
 use Rattle.sort_terms.specs.WellFormedTest.{all_differ}
 use Rattle.type_presentations.proofs.KeptLemmas.{added_is_there, first_stays}
@@ -118,12 +119,6 @@ begins {A = A} s st there rest actuals starts all are none makers no_clash not_m
 
 -- ---- One of them came.
 
-head_is : {A : Type 0} (x y : A) (xs ys : List A) → x ∷ xs ≡ y ∷ ys → x ≡ y
-head_is x y xs ys e = cc
-
-tail_is : {A : Type 0} (x y : A) (xs ys : List A) → x ∷ xs ≡ y ∷ ys → xs ≡ ys
-tail_is x y xs ys e = cc
-
 unmarked : (b : Bool) (n : ℕ) → None ≡ (if b then Some n else None) → b ≡ false
 unmarked true n e = absurd (none-some n e)
 unmarked false n e = refl
@@ -138,7 +133,7 @@ formal_next : {A : Type 0} (s : Setting A) (st new : Arrived A) (i number : ℕ)
 formal_next {A = A} s st new i number x later actuals more before next has =
     let are : Some number ∷ more ≡ (if is_marked s.marks i then Some (s.actual x) else None) ∷ actuals_from s.marks s.actual (suc i) later =
     sym next ∙ before.known in
-    let here = marked (is_marked s.marks i) number (s.actual x) (head_is (Some number) _ more _ are) in
+    let here = marked (is_marked s.marks i) number (s.actual x) (same_heads (Some number) _ more _ are) in
     let gone : unmarked_from s.marks i (x ∷ later) ≡ unmarked_from s.marks (suc i) later =
     ap (λ (b : Bool). if b then unmarked_from s.marks (suc i) later else x ∷ unmarked_from s.marks (suc i) later) here.0 in record {
       members =
@@ -153,7 +148,7 @@ formal_next {A = A} s st new i number x later actuals more before next has =
           st.numbers ++ (if b then s.actual x else first_position (are_one_member s.k (s.come x).image) (at_end s))
           ∷ numbers_from s (at_end s) (suc i) later) (sym here.0)
           ∙ before.numbered;
-      known = tail_is (Some number) _ more _ are;
+      known = same_tails (Some number) _ more _ are;
       many =
           before.many
           ∙ ap (λ (ys : List A). first_fault (fault_at too_large st.too_many) (many_behind s st.list (map s.come ys))) gone
@@ -209,7 +204,7 @@ other_next : {A : Type 0} (s : Setting A) (st new : Arrived A) (i : ℕ) (x : A)
 other_next {A = A} s st new i x later actuals more is before next has =
     let are : None ∷ more ≡ (if is_marked s.marks i then Some (s.actual x) else None) ∷ actuals_from s.marks s.actual (suc i) later =
     sym next ∙ before.known in
-    let here = unmarked (is_marked s.marks i) (s.actual x) (head_is None _ more _ are) in
+    let here = unmarked (is_marked s.marks i) (s.actual x) (same_heads None _ more _ are) in
     let stays : unmarked_from s.marks i (x ∷ later) ≡ x ∷ unmarked_from s.marks (suc i) later =
     ap (λ (b : Bool). if b then unmarked_from s.marks (suc i) later else x ∷ unmarked_from s.marks (suc i) later) here in
     let same : A → A → Bool = are_one_member s.k in
@@ -232,7 +227,7 @@ other_next {A = A} s st new i x later actuals more is before next has =
           st.numbers ++ (if b then s.actual x else first_position (same image) (at_end s)) ∷ numbers_from s (at_end s) (suc i) later)
           (sym here)
           ∙ before.numbered;
-      known = tail_is None _ more _ are;
+      known = same_tails None _ more _ are;
       many =
           before.many
           ∙ ap (λ (ys : List A). first_fault (fault_at too_large st.too_many) (many_behind s st.list (map s.come ys))) stays

@@ -3,8 +3,10 @@ use Rattle.std.proofs.Common.{◌≡◌, ℕ, suc, Bool, true, false, List, [], 
 use Rattle.std.specs.Prelude.{Option, Some, None, ◌||◌, ◌&&◌, not, nat_eq, if◌then◌else◌}
 use Rattle.std.specs.List.{list_any}
 use Rattle.std.specs.Str.{bytes_eq}
-use Rattle.std.proofs.lemmas.Bool.{and_parts, eqb-true}
+use Rattle.std.proofs.lemmas.Bool.{and_parts, eqb-true, or_parts}
 use Rattle.std.proofs.lemmas.Slice.Eq.{bytes_eq-Decides}
+use Rattle.std.proofs.Math.Bool.{or_assoc}
+use Rattle.lotos_base.proofs.Truth.{same_truth}
 use Rattle.lotos_base.specs.Names.{folded}
 use Rattle.lotos_base.specs.Equation.{Place}
 use Rattle.syntax_trees.specs.WrittenItem.{WrittenPair}
@@ -19,14 +21,6 @@ use Rattle.actual_members.specs.Noting.{first_place, maker_at, noted, two_makers
 use Rattle.actual_members.specs.CondensedLaws.{TellsClashes}
 
 -- ---- Tests.
-
-neither : (a b : Bool) → (a || b) ≡ false → (a ≡ false) × (b ≡ false)
-neither true b e = let h : true ≡ false = e in cc
-neither false b e = (refl, e)
-
-grouped : (a b c : Bool) → ((a || b) || c) ≡ (a || (b || c))
-grouped true b c = refl
-grouped false b c = refl
 
 turned_round : (a b c : Bool) → ((a || c) || b) ≡ ((a || b) || c)
 turned_round true b c = refl
@@ -121,7 +115,7 @@ clashes_with_absorbed k is [] z x apart = last (clashes k z x)
     last true = refl
     last false = refl
 clashes_with_absorbed {A = A} k is (c ∷ cs) z x apart =
-    let parts = neither (clashes k x c) (list_any (clashes k x) cs) apart in
+    let parts = or_parts (clashes k x c) (list_any (clashes k x) cs) apart in
     go (k.one x.image c.image && k.origin x.image c.image) refl parts.0 (clashes_with_absorbed k is cs z x parts.1)
   where
     go : (b : Bool) → (k.one x.image c.image && k.origin x.image c.image) ≡ b → clashes k x c ≡ false
@@ -133,7 +127,7 @@ clashes_with_absorbed {A = A} k is (c ∷ cs) z x apart =
         ∙ turned_round (clashes k z c) (list_any (clashes k z) cs) (clashes k z x)
     go false same other rest =
         ap (λ (b : Bool). clashes k z c || b) rest
-        ∙ sym (grouped (clashes k z c) (list_any (clashes k z) cs) (clashes k z x))
+        ∙ sym (or_assoc (clashes k z c) (list_any (clashes k z) cs) (clashes k z x))
 
 -- ---- What the code tests.
 
@@ -142,7 +136,7 @@ pub none_is_one : {A : Type 0} (k : Kind A) (cs : List (Coming A)) (x : Coming A
     → list_any (clashes k x) cs ≡ false
 none_is_one k [] x none = refl
 none_is_one k (c ∷ cs) x none =
-    let parts = neither (k.one x.image c.image) (list_any (k.one x.image) (images_of cs)) none in
+    let parts = or_parts (k.one x.image c.image) (list_any (k.one x.image) (images_of cs)) none in
     ap (λ (b : Bool). (b && (not (k.origin x.image c.image) || made_by_two x.pair c.pair)) || list_any (clashes k x) cs) parts.0
     ∙ none_is_one k cs x parts.1
 
@@ -153,7 +147,7 @@ pub clash_of_new : {A : Type 0} (k : Kind A) (cs : List (Coming A)) (x : Coming 
 clash_of_new k [] x new = refl
 clash_of_new {A = A} k (c ∷ cs) x new =
     let parts =
-    neither (k.one x.image c.image && k.origin x.image c.image)
+    or_parts (k.one x.image c.image && k.origin x.image c.image)
     (list_any (λ (d : A). k.one x.image d && k.origin x.image d) (images_of cs)) new in
     ap (λ (b : Bool). b || list_any (clashes k x) cs)
     (alone (k.one x.image c.image) (k.origin x.image c.image) (made_by_two x.pair c.pair) parts.0)
@@ -275,15 +269,10 @@ maker_seen {A = A} k (c ∷ cs) x = go (k.one x c.image && k.origin x c.image) (
 
 -- ---- The kinds of sorts and operations.
 
-both_or_neither : (a b : Bool) → (a ≡ true → b ≡ true) → (b ≡ true → a ≡ true) → a ≡ b
-both_or_neither true b there back = sym (there refl)
-both_or_neither false true there back = back refl
-both_or_neither false false there back = refl
-
 alike_by_key : {A : Type 0} (by : Keying A) (x y z : A) → by.same x y ≡ true → by.same z x ≡ by.same z y
 alike_by_key by x y z one =
     let key = (by.tell x y).1 one in
-    both_or_neither (by.same z x) (by.same z y) (λ h. (by.tell z y).0 ((by.tell z x).1 h ∙ key))
+    same_truth (by.same z x) (by.same z y) (λ h. (by.tell z y).0 ((by.tell z x).1 h ∙ key))
     (λ h. (by.tell z x).0 ((by.tell z y).1 h ∙ sym key))
 
 names_alike : (x y z : List ℕ) → one_name x y ≡ true → one_name z x ≡ one_name z y

@@ -1,13 +1,13 @@
 -- Names of the members that are marked, one after another.
-use Rattle.std.proofs.Common.{◌≡◌, ℕ, suc, ◌+◌, ◌<◌, ◌≤◌, Bool, true, false, List, [], ◌∷◌, ◌++◌, map, length, take, get_or, refl, ap, sym, ◌∙◌, subst, arith}
+use Rattle.std.proofs.Common.{◌≡◌, ℕ, suc, ◌+◌, ◌<◌, ◌≤◌, Bool, true, false, List, [], ◌∷◌, ◌++◌, map, length, take, get_or, ap, sym, ◌∙◌, subst, arith}
 use Rattle.std.specs.Prelude.{◌^◌, if◌then◌else◌}
-use Rattle.std.proofs.lemmas.Bool.{ltb-true}
 use Rattle.std.proofs.lemmas.List.{append-nil, map-append, length-map, length-append, length-take-le}
 use Rattle.type_definitions.proofs.WalkLemmas.{so_far}
 use Rattle.type_presentations.specs.NamesView.{HasNames}
 use Rattle.type_presentations.specs.declared.names.NamePositions.{NamePositions}
 use Rattle.type_definitions.specs.Presentation.{is_marked, presentation_limit}
 use Rattle.type_definitions.specs.Actualisation.{marked_from}
+use Rattle.type_definitions.proofs.FaultLemmas.{few_members}
 
 marked_last : {A : Type 0} (marks : List ℕ) (k : ℕ) (xs : List A) (x : A)
     → marked_from marks k (xs ++ x ∷ []) ≡ marked_from marks k xs ++ (if is_marked marks (k + length xs) then x ∷ [] else [])
@@ -122,15 +122,6 @@ count_small f name_of marks xs i count big within few many =
     let inside : i ≤ length xs = omega (arith, within) in
     let four : length (take i xs) ≡ i = length-take-le i xs inside in
     omega (arith, one, two, three, four, within, few, many)
-
-below : (m n limit big : ℕ) → m ≡ n → n ≤ limit → limit < big → m < big
-below m n limit big is most less = omega arith
-
-pub few_members : {A B : Type 0} (f : A → B) (xs : List A) (ys : List B) → map f xs ≡ ys → length ys ≤ presentation_limit
-    → length xs < 2 ^ 32
-few_members {B = B} f xs ys are few =
-    below (length xs) (length ys) presentation_limit (2 ^ 32) (sym (length-map xs f) ∙ ap (λ (zs : List B). length zs) are) few
-    (ltb-true presentation_limit (2 ^ 32) refl)
 
 -- a number of a member
 pub number_small : {A B : Type 0} (f : A → B) (xs : List A) (ys : List B) (i : ℕ) → map f xs ≡ ys → length ys ≤ presentation_limit

@@ -18,6 +18,7 @@ use Rattle.type_pairs.specs.PairIndexView.{pairs_in}
 use Rattle.type_presentations.proofs.AddedLemmas.{by_operation, by_sort}
 use Rattle.type_presentations.proofs.KeptLemmas.{one_more}
 use Rattle.type_presentations.proofs.KeyedLemmas.{itself_by_key}
+use Rattle.type_presentations.proofs.NameLemmas.{any_mapped}
 use Rattle.type_definitions.specs.TypeFault.{double_operation, double_sort}
 use Rattle.type_definitions.specs.Presentation.{first_position, presentation_limit, with_new}
 use Rattle.type_definitions.specs.Renaming.{operation_under, pair_for, sort_under}
@@ -136,11 +137,6 @@ has_image k mention x old new number is_second is_too_many added is numbered mad
 abbrev pub IsRenamer : Source → List ℕ → Option WrittenPair → Type 0
 IsRenamer source name pair = (names : List (List ℕ)) → HasNames source.formals.now names
     → pair ≡ unless (list_any (λ (n : List ℕ). one_name n name) names) (pair_for (pairs_in source.pairs.now) name)
-
-any_mapped : {A : Type 0} (name_of : A → List ℕ) (name : List ℕ) (xs : List A)
-    → list_any (λ (n : List ℕ). one_name n name) (map name_of xs) ≡ list_any (λ (x : A). one_name (name_of x) name) xs
-any_mapped name_of name [] = refl
-any_mapped name_of name (x ∷ xs) = ap (λ (b : Bool). one_name (name_of x) name || b) (any_mapped name_of name xs)
 
 renamer_is : {A : Type 0} (name_of : A → List ℕ) (formals : List A) (pairs : List WrittenPair) (source : Source) (name : List ℕ)
     (pair : Option WrittenPair) → IsRenamer source name pair → HasNames source.formals.now (map name_of formals)

@@ -4,6 +4,7 @@ use Rattle.std.specs.Prelude.{Option, Some, None, ◌||◌, ◌&&◌, not, if◌
 use Rattle.std.specs.List.{list_any}
 use Rattle.std.proofs.lemmas.List.{length-append}
 use Rattle.std.proofs.lemmas.List.Folds.{list_any-append}
+use Rattle.std.proofs.Math.Bool.{or-false}
 use Rattle.lotos_base.specs.WrittenTerm.{PlacedName}
 use Rattle.lotos_base.specs.Equation.{Place}
 use Rattle.syntax_trees.specs.WrittenItem.{WrittenPair}
@@ -13,6 +14,7 @@ use Rattle.type_definitions.specs.TypeFault.{TypeFault, fault_if, first_fault}
 use Rattle.type_definitions.specs.Presentation.{first_position, with_new}
 use Rattle.type_definitions.specs.Actualisation.{Actualising}
 use Rattle.type_definitions.specs.ActualisationFaults.{Coming, at_pair, coming_at, made_by_two}
+use Rattle.type_definitions.proofs.WithNewLemmas.{position_within}
 use Rattle.actual_members.specs.Condensed.{Kind, absorbed, clashes, images_of, makers_of, pair_at, place_of_pair}
 use Rattle.actual_members.specs.CondensedLaws.{TellsClashes}
 use Rattle.actual_members.specs.Noting.{maker_at, noted, two_makers}
@@ -30,10 +32,6 @@ not_inj false false e = refl
 and_true : (b : Bool) → (b && true) ≡ b
 and_true true = refl
 and_true false = refl
-
-or_false : (b : Bool) → (b || false) ≡ b
-or_false true = refl
-or_false false = refl
 
 -- ---- A name that has a position.
 
@@ -157,7 +155,7 @@ clash_is {A = A} k is earlier st c x after is_second added seconds =
         ∙ ap (λ (b : Bool). not (list_any (k.one x.image) st.list) && b) c.differ
         ∙ and_true (not (list_any (k.one x.image) st.list))) in
         ap (λ (p : Option WrittenPair). is_second || made_by_two x.pair p) (pair_none k c.members x.image (same_images ∙ told))
-        ∙ ap (λ (b : Bool). is_second || b) (made_by_one x.pair) ∙ or_false is_second ∙ second
+        ∙ ap (λ (b : Bool). is_second || b) (made_by_one x.pair) ∙ or-false is_second ∙ second
         ∙ ap (λ (ys : List A). list_any (k.one x.image) ys) (sym c.images) ∙ sym (is.tells.of_new c.members x (same_images ∙ told))
 
 -- one that clashes with none is condensed with what came
@@ -173,7 +171,7 @@ condensed_next {A = A} k is earlier st new c x is_second added made seconds firs
     ∙ ap (λ (ys : List A). first_position (are_one_member k x.image) ys) (sym c.images) in record {
       members = absorbed k c.members x;
       told = λ z.
-          list_any-append (clashes k z) earlier (x ∷ []) ∙ ap (λ (b : Bool). list_any (clashes k z) earlier || b) (or_false (clashes k z x))
+          list_any-append (clashes k z) earlier (x ∷ []) ∙ ap (λ (b : Bool). list_any (clashes k z) earlier || b) (or-false (clashes k z x))
           ∙ ap (λ (b : Bool). b || clashes k z x) (c.told z)
           ∙ sym (is.tells.clashes_stay c.members z x (sym (c.told x) ∙ none));
       images =
@@ -200,15 +198,6 @@ noted_new [] n maker is = refl
 noted_new (p ∷ ps) zero maker is = absurd (omega (arith, is))
 noted_new (p ∷ ps) (suc n) maker is = ap (λ (m : ℕ). suc m) (noted_new ps n maker (omega (arith, is)))
 
-inside : {A : Type 0} (test : A → Bool) (xs : List A) → list_any test xs ≡ true → first_position test xs < length xs
-inside test [] h = let e : false ≡ true = h in cc
-inside {A = A} test (x ∷ xs) h = go (test x) h (inside test xs)
-  where
-    go : (b : Bool) → (b || list_any test xs) ≡ true → (list_any test xs ≡ true → first_position test xs < length xs)
-        → (if b then 0 else suc (first_position test xs)) < suc (length xs)
-    go true there rest = omega arith
-    go false there rest = let below : first_position test xs < length xs = rest there in omega (arith, below)
-
 past : {A : Type 0} (test : A → Bool) (xs : List A) → list_any test xs ≡ false → first_position test xs ≡ length xs
 past test [] h = refl
 past {A = A} test (x ∷ xs) h = go (test x) h (past test xs)
@@ -234,7 +223,7 @@ as_many {A = A} same itself there after x makers noted_makers maker many added m
         → length (noted makers (first_position (same x) there) maker) ≡ length (if list_any (same x) there then there else there ++ x ∷ [])
     go true told =
         let below : first_position (same x) there < length makers =
-        let first : first_position (same x) there < length there = inside (same x) there told in omega (arith, first, many) in
+        let first : first_position (same x) there < length there = position_within (same x) there told in omega (arith, first, many) in
         noted_there makers (first_position (same x) there) maker below ∙ many
         ∙ ap (λ (b : Bool). length (if b then there else there ++ x ∷ [])) (sym told)
     go false told =

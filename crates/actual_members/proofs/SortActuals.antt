@@ -19,12 +19,12 @@ use Rattle.type_definitions.specs.Declarations.{sort_numbered}
 use Rattle.type_definitions.specs.Renaming.{pair_for}
 use Rattle.type_definitions.specs.Actualisation.{Actualising, actual_name, actual_sort}
 use Rattle.type_definitions.specs.ActualisationFaults.{missing, no_actual_sort}
+use Rattle.type_definitions.proofs.WithNewLemmas.{position_within}
 use Rattle.type_presentations.specs.PositionOfName.{position_of_name}
 use Rattle.type_presentations.specs.NamesView.{HasNames}
 use Rattle.type_presentations.specs.declared.names.NamePositions.{NamePositions}
 use Rattle.actual_members.specs.Actuals.{sort_lacks_actual, operation_lacks_actual, has_actual_in_some_form}
 use Rattle.actual_members.specs.PartsView.{AreFewNames}
-use Rattle.actual_members.proofs.SoughtLemmas.{within}
 
 pub has_sort : (a : Actualising) (s : Sort) (pair : Option WrittenPair) (n : ℕ) → pair_for a.pairs.sort_pairs s.name ≡ pair
     → is_sort_name a.actual.signature (actual_name s.name pair) ≡ true → n ≡ sort_numbered a.actual (actual_name s.name pair)
@@ -95,5 +95,5 @@ position_few names name found n big is some few = go (list_any test names) refl 
     go : (b : Bool) → list_any test names ≡ b → Some n ≡ (if b then Some (first_position test names) else None) → n < big
     go true there same =
         let at : n ≡ first_position test names = same_Some _ _ same in
-        let inside : first_position test names < length names = within test names there in omega (arith, at, inside, few)
+        let inside : first_position test names < length names = position_within test names there in omega (arith, at, inside, few)
     go false there same = absurd (none-some n (sym same))

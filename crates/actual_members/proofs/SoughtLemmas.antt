@@ -1,51 +1,33 @@
 -- Actual operations are found by name, form and profile.
 use Rattle.std.proofs.Common.{◌≡◌, ℕ, suc, ◌<◌, ◌≤◌, cond, append_assoc, Bool, true, false, List, [], ◌∷◌, ◌++◌, map, length, drop, get_or, ◌+◌, refl, ap, sym, ◌∙◌, subst, arith, Vec}
 use Rattle.std.proofs.Math.Path.{fun_ext}
-use Rattle.std.specs.Prelude.{Option, Some, None, ◌||◌, not, nat_lt, position, MatchOption, if◌then◌else◌}
+use Rattle.std.specs.Prelude.{Option, Some, None, ◌||◌, nat_lt, position, MatchOption, if◌then◌else◌}
 use Rattle.std.specs.List.{list_any, position_or_len}
 use Rattle.std.specs.Str.{bytes_eq}
 use Rattle.std.specs.declared.alloc.Global.{Global}
-use Rattle.std.proofs.lemmas.Bool.{and_parts, ltb-true, ltb-false}
+use Rattle.std.proofs.lemmas.Bool.{ltb-true, ltb-false, or_parts}
 use Rattle.std.proofs.lemmas.List.{append-nil, map-append}
-use Rattle.std.proofs.lemmas.List.Folds.{list_any-append}
 use Rattle.std.proofs.lemmas.Option.{none-some, same_Some}
 use Rattle.lotos_base.specs.Signature.{Operation, Form}
 use Rattle.syntax_trees.specs.WrittenItem.{WrittenPair}
 use Rattle.sort_terms.specs.Operations.{operation_of}
 use Rattle.sort_terms.specs.declared.operations.Op.{Op as CodeOp}
 use Rattle.sort_terms.specs.WellFormedTest.{all_differ, are_one_operation}
+use Rattle.sort_terms.proofs.WellFormedLemmas.{earlier_differ}
 use Rattle.type_definitions.proofs.WalkLemmas.{next_of}
 use Rattle.type_definitions.specs.Presentation.{with_new, first_position}
 use Rattle.type_definitions.specs.Actualisation.{Actualising, actual_operation, actualised_sort, has_actual, is_actual, other_form}
+use Rattle.type_definitions.proofs.WithNewLemmas.{position_within}
 use Rattle.type_presentations.specs.Keys.{profile_key}
 use Rattle.type_presentations.proofs.AddedLemmas.{by_profile}
 use Rattle.type_presentations.proofs.KeptLemmas.{first_is_position}
 use Rattle.type_presentations.proofs.KeyedLemmas.{any_by_key, first_by_key, mutual_by_key}
-use Rattle.type_presentations.proofs.KeySetLemmas.{items_of, has_items, any_items}
+use Rattle.type_presentations.proofs.KeySetLemmas.{items_of, has_items, any_items, first_items}
 use Rattle.actual_members.specs.ProfilesView.{HasProfiles}
 use Rattle.actual_members.specs.declared.profile_index.ProfileIndex.{ProfileIndex}
 use Rattle.actual_members.specs.Actuals.{IsActualOf, has_actual_in_some_form, operation_lacks_actual, sought_operation}
 
 -- ---- Keys of operations, no two of which have one name, form and profile.
-
-not_true : (b : Bool) → not b ≡ true → b ≡ false
-not_true true h = let e : false ≡ true = h in cc
-not_true false h = refl
-
-neither : (a b : Bool) → (a || b) ≡ false → (a ≡ false) × (b ≡ false)
-neither true b h = let e : true ≡ false = h in cc
-neither false b h = (refl, h)
-
-earlier_differ : {A : Type 0} (same : A → A → Bool) → ((x y : A) → same x y ≡ same y x) → (kept : List A) (x : A) (xs : List A)
-    → all_differ same (kept ++ x ∷ xs) ≡ true → list_any (same x) kept ≡ false
-earlier_differ same turned [] x xs h = refl
-earlier_differ same turned (y ∷ ys) x xs h =
-    let parts = and_parts (not (list_any (same y) (ys ++ x ∷ xs))) (all_differ same (ys ++ x ∷ xs)) h in
-    let none : list_any (same y) (ys ++ x ∷ xs) ≡ false = not_true (list_any (same y) (ys ++ x ∷ xs)) parts.0 in
-    let behind =
-    neither (list_any (same y) ys) (list_any (same y) (x ∷ xs)) (sym (list_any-append (same y) ys (x ∷ xs)) ∙ none) in
-    let here : same x y ≡ false = turned x y ∙ (neither (same y x) (list_any (same y) xs) behind.1).0 in
-    ap (λ (b : Bool). b || list_any (same x) ys) here ∙ earlier_differ same turned ys x xs parts.1
 
 keys_kept : (kept xs : List Operation) → all_differ are_one_operation (kept ++ xs) ≡ true
     → with_new bytes_eq (map profile_key kept) (map profile_key xs) ≡ map profile_key (kept ++ xs)
@@ -65,19 +47,10 @@ keys_kept kept (x ∷ xs) differ =
 
 -- ---- The first position of a member that passes a test.
 
-pub within : {A : Type 0} (test : A → Bool) (xs : List A) → list_any test xs ≡ true → first_position test xs < length xs
-within test [] h = let e : false ≡ true = h in cc
-within {A = A} test (x ∷ xs) h = go (test x) refl (within test xs)
-  where
-    go : (b : Bool) → test x ≡ b → (list_any test xs ≡ true → first_position test xs < length xs)
-        → (if b then 0 else suc (first_position test xs)) < suc (length xs)
-    go true is rest = omega arith
-    go false is rest = let there : first_position test xs < length xs = rest (rw is at h) in omega (arith, there)
-
 past : {A : Type 0} (test : A → Bool) (xs : List A) → list_any test xs ≡ false → first_position test xs ≡ length xs
 past test [] h = refl
 past {A = A} test (x ∷ xs) h =
-    let parts = neither (test x) (list_any test xs) h in
+    let parts = or_parts (test x) (list_any test xs) h in
     ap (λ (b : Bool). if b then 0 else suc (first_position test xs)) parts.0 ∙ ap (λ (n : ℕ). suc n) (past test xs parts.1)
 
 pub found_one : {A : Type 0} (test : A → Bool) (xs : List A) (n : ℕ) → Some n ≡ position test xs
@@ -107,7 +80,7 @@ found_none {A = A} test xs is = go (nat_lt (position_or_len test xs) (length xs)
     same = first_is_position test xs
 
     any : (b : Bool) → list_any test xs ≡ b → length xs ≤ position_or_len test xs → b ≡ false
-    any true told least = let at : first_position test xs < length xs = within test xs told in absurd (omega (arith, at, same, least))
+    any true told least = let at : first_position test xs < length xs = position_within test xs told in absurd (omega (arith, at, same, least))
     any false told least = refl
 
     go : (b : Bool) → nat_lt (position_or_len test xs) (length xs) ≡ b → None ≡ cond b (Some (position_or_len test xs)) None
@@ -122,12 +95,6 @@ pub record Kept (keys : List (Vec ℕ Global)) (operations : List Operation) : T
   pub kept : items_of keys ≡ with_new bytes_eq [] (map profile_key operations)
   pub differ : all_differ are_one_operation operations ≡ true
 
-first_of_items : (keys : List (Vec ℕ Global)) (items : List ℕ)
-    → first_position (has_items items) keys ≡ first_position (bytes_eq items) (items_of keys)
-first_of_items [] items = refl
-first_of_items (key ∷ keys) items =
-    ap (λ (n : ℕ). if bytes_eq items key.items then 0 else suc n) (first_of_items keys items)
-
 keys_are : (keys : List (Vec ℕ Global)) (operations : List Operation) → Kept keys operations → items_of keys ≡ map profile_key operations
 keys_are keys operations k = k.kept ∙ keys_kept [] operations k.differ
 
@@ -141,7 +108,7 @@ any_profile keys operations o items k is =
 pub first_profile : (keys : List (Vec ℕ Global)) (operations : List Operation) (o : Operation) (items : List ℕ) → Kept keys operations
     → items ≡ profile_key o → first_position (has_items items) keys ≡ first_position (are_one_operation o) operations
 first_profile keys operations o items k is =
-    first_of_items keys items ∙ ap (λ (ks : List (List ℕ)). first_position (bytes_eq items) ks) (keys_are keys operations k)
+    first_items keys items ∙ ap (λ (ks : List (List ℕ)). first_position (bytes_eq items) ks) (keys_are keys operations k)
     ∙ ap (λ (key : List ℕ). first_position (bytes_eq key) (map profile_key operations)) is
     ∙ first_by_key by_profile.key by_profile.same by_profile.tell o operations
 
@@ -247,7 +214,7 @@ pub position_small : (operations : List Operation) (o : Operation) (n big : ℕ)
     → (list_any (are_one_operation o) operations ≡ true) × (n ≡ first_position (are_one_operation o) operations)
     → length operations < big → n < big
 position_small operations o n big found few =
-    let inside : first_position (are_one_operation o) operations < length operations = within (are_one_operation o) operations found.0 in
+    let inside : first_position (are_one_operation o) operations < length operations = position_within (are_one_operation o) operations found.0 in
     omega (arith, found.1, inside, few)
 
 abbrev pub IsFoundAt : List Operation → Operation → ℕ → Type 0

@@ -4,6 +4,7 @@ use Rattle.std.specs.Prelude.{None, length, option_map}
 use Rattle.std.proofs.lemmas.List.{length-map, length-reverse}
 use Rattle.syntax_trees.specs.Grouping.{closed, in_front, leftmost, grouped}
 use Rattle.ll_engine.specs.Run.{from_last}
+use Rattle.ll_engine.proofs.Running.{length-from_last}
 
 module _ {A S : Type 0} (strength : S → ℕ) (join : S → A → A → A) where
   no_leftmost : (operands : List A) (signs : List S) → (length operands ≡ length signs + 1 → ⊥) → leftmost strength join operands signs ≡ None
@@ -18,12 +19,8 @@ module _ {A S : Type 0} (strength : S → ℕ) (join : S → A → A → A) wher
   no_grouped : (operands : List A) (signs : List S) → (length operands ≡ length signs + 1 → ⊥) → grouped strength join operands signs ≡ None
   no_grouped operands signs uneven = ap (option_map (λ all. closed join all.waiting all.first)) (no_leftmost operands signs uneven)
 
-length_from_last : {A B : Type 0} (f : A → B) (list : List A) → length (from_last f list) ≡ length list
-unfolding from_last
-length_from_last f list = length-reverse (map f list) ∙ length-map list f
-
 pub no_tree : {A S O G : Type 0} (strength : S → ℕ) (join : S → A → A → A) (plain : O → A) (plain_sign : G → S) (operands : List O) (signs : List G) →
     (length operands ≡ length signs + 1 → ⊥) → grouped strength join (from_last plain operands) (from_last plain_sign signs) ≡ None
 no_tree strength join plain plain_sign operands signs uneven =
     no_grouped strength join (from_last plain operands) (from_last plain_sign signs)
-    (λ even. uneven (sym (length_from_last plain operands) ∙ even ∙ ap (λ (n : ℕ). n + 1) (length_from_last plain_sign signs)))
+    (λ even. uneven (sym (length-from_last plain operands) ∙ even ∙ ap (λ (n : ℕ). n + 1) (length-from_last plain_sign signs)))

@@ -2,10 +2,11 @@
 use Rattle.std.proofs.Common.{◌≡◌, ◌++◌, ℕ, zero, suc, List, [], ◌∷◌, map, Bool, true, false, nat_eq, if◌then◌else◌, slice_get, Some, refl, ap, ◌∙◌, arith}
 use Rattle.std.proofs.lemmas.Bool.{eqb-true, eq-eqb}
 use Rattle.std.proofs.lemmas.Option.{same_Some}
+use Rattle.lotos_base.proofs.Numbers.{suc-injective}
 use Rattle.lotos_base.specs.Signature.{Signature, IsSort}
 use Rattle.behaviour_semantics.specs.Behaviour.{asked_variables, let_variables, numbers_of}
-use Rattle.behaviour_semantics.specs.WellFormed.{Every}
 use Rattle.behaviour_semantics.proofs.ListLemmas.{Every-append}
+use Rattle.behaviour_semantics.proofs.EveryLemmas.{every_front, every_back}
 use Rattle.lotos_base.specs.Substitution.{is_listed}
 use Rattle.sort_terms.specs.ProfiledTerm.{ProfiledTerm, IsOf, profiled_variable, head_sort}
 use Rattle.sort_terms.specs.SortedView.{profiled_in}
@@ -26,13 +27,6 @@ use Rattle.behaviour_instances.specs.InstanceLaws.{InstancesAreOfSignatures, Sta
 use Rattle.behaviour_instances.specs.Unlisted.{profiled_without}
 
 -- ---- Terms of a signature
-first_part : {X : Type 0} (P : X → Type 0) (xs ys : List X) → Every P (xs ++ ys) → Every P xs
-first_part P [] ys h = tt
-first_part P (x ∷ xs) ys h = (h.0, first_part P xs ys h.1)
-
-second_part : {X : Type 0} (P : X → Type 0) (xs ys : List X) → Every P (xs ++ ys) → Every P ys
-second_part P [] ys h = h
-second_part P (x ∷ xs) ys h = second_part P xs ys h.1
 
 module _ (signature : Signature) where
   -- what is put for each variable is of the signature
@@ -67,8 +61,8 @@ module _ (signature : Signature) where
   joined_of f values g [] h = tt
   joined_of {X = X} f values g (x ∷ items) h =
       Every-append (IsOf signature) (terms_placed values (f x)) (joined (map (λ (y : X). terms_placed values (f y)) items))
-      (placed_of values g (f x) (first_part (IsOf signature) (f x) (joined (map f items)) h))
-      (joined_of f values g items (second_part (IsOf signature) (f x) (joined (map f items)) h))
+      (placed_of values g (f x) (every_front (IsOf signature) (f x) (joined (map f items)) h))
+      (joined_of f values g items (every_back (IsOf signature) (f x) (joined (map f items)) h))
 
   bindings_of : (values : ProfiledSubstitution) → GivesTerms values → (bindings : List (Variable × Sorted))
       → AreTermsOf signature (map let_profile bindings) → AreTermsOf signature (map (let_placed values) bindings)
@@ -82,7 +76,7 @@ module _ (signature : Signature) where
   both_of : (xs ys made rest : List ProfiledTerm) → (AreTermsOf signature xs → AreTermsOf signature made)
       → (AreTermsOf signature ys → AreTermsOf signature rest) → AreTermsOf signature (xs ++ ys) → AreTermsOf signature (made ++ rest)
   both_of xs ys made rest f g h =
-      Every-append (IsOf signature) made rest (f (first_part (IsOf signature) xs ys h)) (g (second_part (IsOf signature) xs ys h))
+      Every-append (IsOf signature) made rest (f (every_front (IsOf signature) xs ys h)) (g (every_back (IsOf signature) xs ys h))
 
   instance_terms : (values : ProfiledSubstitution) → GivesTerms values → (b : Beh) → AreTermsOf signature (profiles_in b)
       → AreTermsOf signature (instance_profiles values b)
@@ -137,8 +131,6 @@ of_signatures signature environment b h k =
     instance_terms signature (profiled_binding (profiled_pairs environment)) (binding_gives signature environment k) b h
 
 -- ---- Environments of states
-suc-injective : (j k : ℕ) → suc j ≡ suc k → j ≡ k
-suc-injective j k e = omega arith
 
 nothing : (k : ℕ) → zero ≡ suc k → ⊥
 nothing k e = omega arith

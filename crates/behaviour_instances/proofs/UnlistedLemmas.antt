@@ -2,30 +2,22 @@
 use Rattle.std.proofs.Common.{◌≡◌, ℕ, List, [], ◌∷◌, Bool, true, false, nat_eq, if◌then◌else◌, refl, ap, sym, ◌∙◌, subst}
 use Rattle.std.proofs.Math.Path.{fun_ext}
 use Rattle.std.proofs.lemmas.Bool.{eqb-true}
+use Rattle.event_offers.proofs.ValueLemmas.{pairs_bare}
 use Rattle.lotos_base.specs.Term.{Term, variable}
-use Rattle.lotos_base.specs.Substitution.{Substitution, substituted, binding, is_listed, without}
+use Rattle.lotos_base.specs.Substitution.{binding, is_listed, without}
 use Rattle.sort_terms.specs.ProfiledTerm.{ProfiledTerm, profiled_variable, bare, head_sort}
-use Rattle.sort_terms.specs.SortedView.{term_in}
 use Rattle.sort_terms.specs.declared.sorted.Sorted.{Sorted}
-use Rattle.term_match.specs.ProfiledInstance.{profiled_binding, bare_pairs}
+use Rattle.term_match.specs.ProfiledInstance.{profiled_binding}
 use Rattle.term_match.specs.SubstView.{profiled_pairs}
 use Rattle.term_match.proofs.InstanceLemmas.{binding_bare}
 use Rattle.behaviour_tree.specs.StateView.{environment_of}
 use Rattle.behaviour_instances.specs.Suited.{SuitsWhere}
 use Rattle.behaviour_instances.specs.Unlisted.{profiled_without, unlisted_pairs}
 
-pairs_bare : (pairs : List (ℕ × Sorted)) → bare_pairs (profiled_pairs pairs) ≡ environment_of pairs
-pairs_bare [] = refl
-pairs_bare (pair ∷ pairs) = ap (λ (rest : List (ℕ × Term)). (pair.0, term_in pair.1) ∷ rest) (pairs_bare pairs)
-
 -- what an environment puts for a variable
 pub put_for : (pairs : List (ℕ × Sorted)) (n s : ℕ) → bare (profiled_binding (profiled_pairs pairs) n s) ≡ binding (environment_of pairs) n s
 put_for pairs n s =
     binding_bare (profiled_pairs pairs) n s ∙ ap (λ (ps : List (ℕ × Term)). binding ps n s) (pairs_bare pairs)
-
-pub put_in : (pairs : List (ℕ × Sorted)) (t : Term)
-    → substituted (λ n s. bare (profiled_binding (profiled_pairs pairs) n s)) t ≡ substituted (binding (environment_of pairs)) t
-put_in pairs t = ap (λ (v : Substitution). substituted v t) (fun_ext (λ n. fun_ext (λ s. put_for pairs n s)))
 
 module _ (numbers : List ℕ) (n s : ℕ) where
   gives : (pairs : List (ℕ × ProfiledTerm))

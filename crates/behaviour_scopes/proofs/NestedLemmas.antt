@@ -1,6 +1,7 @@
 -- Behaviours under choices, the innermost choice first.
-use Rattle.std.proofs.Common.{◌≡◌, ◌<◌, ◌+◌, ◌↔◌, ℕ, suc, List, [], ◌∷◌, ◌++◌, length, map, Option, None, Some, IsSome, refl, ap, sym, ◌∙◌, arith}
-use Rattle.std.proofs.lemmas.List.{map-append, length-append}
+use Rattle.std.proofs.Common.{◌≡◌, ◌<◌, ◌+◌, ◌↔◌, ℕ, List, [], ◌∷◌, ◌++◌, length, map, Option, None, Some, IsSome, refl, ap, sym, ◌∙◌, arith}
+use Rattle.std.proofs.lemmas.List.{map-append, length-append, length-map}
+use Rattle.lotos_base.proofs.Options.{none_unless_some}
 use Rattle.lotos_base.specs.Equation as equation
 use Rattle.behaviour_semantics.specs.Behaviour.{Behaviour, SynchronisationSet, choose_value, choose_gate, par_gate}
 use Rattle.behaviour_tree.specs.BehaviourView.{meet_of}
@@ -50,10 +51,6 @@ gates_next before after c b are =
     ∙ ap (λ ds. under_gates ds b) (map-append choice_in after (c ∷ []))
     ∙ gates_end (map choice_in after) (choice_in c) b
 
-length_mapped : {A B : Type 0} (f : A → B) (xs : List A) → length (map f xs) ≡ length xs
-length_mapped f [] = refl
-length_mapped f (x ∷ xs) = ap suc (length_mapped f xs)
-
 pub par_next : (before after : List code.GateChoice) (c : code.GateChoice) (met rest : List Meet) (m : Meet) (b : Behaviour)
     → before ≡ after ++ c ∷ [] → met ≡ rest ++ m ∷ [] → length rest ≡ length after
     → under_par (with_signs (map choice_in before) (map meet_of met)) b
@@ -65,19 +62,14 @@ par_next before after c met rest m b are meets counted =
     ∙ ap (λ ms. under_par (with_signs (map choice_in after ++ choice_in c ∷ []) ms) b) (map-append meet_of rest (m ∷ []))
     ∙ ap (λ ps. under_par ps b)
     (signs_end (map choice_in after) (map meet_of rest) (choice_in c) (meet_of m)
-    (length_mapped meet_of rest ∙ counted ∙ sym (length_mapped choice_in after)))
+    (length-map rest meet_of ∙ counted ∙ sym (length-map after choice_in)))
     ∙ par_end (with_signs (map choice_in after) (map meet_of rest)) (record { choice_ = choice_in c; meet = meet_of m }) b
-
--- nothing was left to take off
-none_there : {A : Type 0} (popped : Option A) → ((x : A) → popped ≡ Some x → ⊥) → popped ≡ None
-none_there None apart = refl
-none_there (Some x) apart = absurd (apart x refl)
 
 pub none_left : {A : Type 0} (popped : Option A) (rest : List A) (n : ℕ) → (IsSome popped ↔ (0 < n)) → n ≡ length rest
     → ((x : A) → popped ≡ Some x → ⊥) → rest ≡ []
 none_left popped [] n some long apart = refl
 none_left popped (v ∷ rest) n some long apart =
-    let none : popped ≡ None = none_there popped apart in
+    let none : popped ≡ None = none_unless_some popped apart in
     let there : IsSome popped = some.1 (omega arith) in absurd (cc (there, none))
 
 -- as many signs as choices are left

@@ -1,7 +1,7 @@
 -- What is known where a behaviour stands, once something was made visible or taken off again.
 use Rattle.std.proofs.Common.{◌≡◌, ℕ, zero, suc, ◌+◌, ◌-◌, ◌<◌, ◌≤◌, List, [], ◌∷◌, ◌++◌, length, get_or, take, map, refl, ap, sym, ◌∙◌, subst, arith}
 use Rattle.std.specs.Prelude.{Some, slice_get}
-use Rattle.std.proofs.lemmas.List.{length-append, map-append, take_more}
+use Rattle.std.proofs.lemmas.List.{length-append, map-append, take_more, take-map, append-nil}
 use Rattle.std.proofs.lemmas.Option.{none-some}
 use Rattle.lotos_base.specs.WrittenTerm.{WrittenTerm}
 use Rattle.lotos_base.specs.Signature.{Signature, IsSort}
@@ -23,9 +23,9 @@ use Rattle.scope_parts.specs.Numbering.{gates_in, variable_count, asked_for, pas
 use Rattle.scope_parts.specs.Resolution.{Resolution, resolved}
 use Rattle.behaviour_scopes.specs.ResolverState.{State, numbers_at, BehaviourStandsFor, behind, passed, seeing, with_first_variables, with_last_gates, gates_at_state, with_gates_declared}
 use Rattle.scope_parts.specs.Scope.{Binding, first_double}
-use Rattle.scope_parts.specs.Sorts.{placed_variables, sorted_variables, variables_at}
+use Rattle.scope_parts.specs.Sorts.{placed_variables}
 use Rattle.scope_parts.specs.Terms.{BindingsAre, let_names, LetIs, OffersFollow, OffersAre}
-use Rattle.scope_parts.proofs.FormedLists.{HaveSorts, AreDeclared, one_declared, variable_formed, variables_formed, beside_of, same_resolved, over_more}
+use Rattle.scope_parts.proofs.FormedLists.{HaveSorts, AreDeclared, one_declared, variable_formed, beside_of, same_resolved, over_more}
 use Rattle.scope_parts.proofs.GateLemmas.{declared_visible, declared_names, cut_back}
 
 -- ---- Scopes over a signature
@@ -56,12 +56,6 @@ pub over_cut : (signature : Signature) (n : ℕ) (old new : List Variable) → I
 over_cut signature n old new over are = subst (IsScopeOver signature) (sym are) (over_taken signature n old over)
 
 -- ---- Variables that are declared
-
-pub variables_declared : (signature : Signature) (next : ℕ) (ws : List WrittenVariable) (xs : List Variable)
-    → resolved xs ≡ variables_at signature next ws → AreDeclared signature next (length ws) xs
-variables_declared signature next ws xs is =
-    variables_formed signature next ws xs
-    (beside_of (first_double (placed_variables ws)) (sorted_variables signature next ws) xs is)
 
 bindings_declared : (signature : Signature) (variables : List Variable) (next : ℕ) (ws : List (WrittenVariable × WrittenTerm))
     (bs : List (Variable × Term)) → BindingsAre signature variables next ws (resolved bs)
@@ -119,18 +113,13 @@ take_front (x ∷ xs) ys = ap (λ vs. x ∷ vs) (take_front xs ys)
 
 -- ---- Variables copied one by one
 
-map_taken : {A B : Type 0} (f : A → B) (n : ℕ) (xs : List A) → take n (map f xs) ≡ map f (take n xs)
-map_taken f zero xs = refl
-map_taken f (suc n) [] = refl
-map_taken f (suc n) (x ∷ xs) = ap (λ ys. f x ∷ ys) (map_taken f n xs)
-
 taken_more : (items : List code.Variable) (i : ℕ) (x : code.Variable) → i < length items → x ≡ get_or items i x
     → take (i + 1) (map variable_of items) ≡ take i (map variable_of items) ++ variable_of x ∷ []
 taken_more items i x within is =
-    map_taken variable_of (i + 1) items
+    take-map variable_of (i + 1) items
     ∙ ap (map variable_of) (take_more items i x within ∙ ap (λ y. take i items ++ y ∷ []) (sym is))
     ∙ map-append variable_of (take i items) (x ∷ [])
-    ∙ ap (λ ys. ys ++ variable_of x ∷ []) (sym (map_taken variable_of i items))
+    ∙ ap (λ ys. ys ++ variable_of x ∷ []) (sym (take-map variable_of i items))
 
 pub one_pushed : (old now new : List Variable) (items : List code.Variable) (i : ℕ) (x copy : code.Variable) → i < length items
     → x ≡ get_or items i x → now ≡ old ++ take i (map variable_of items) → variable_of copy ≡ variable_of x
@@ -172,15 +161,11 @@ pub declares : (state : State) (names : List (List ℕ)) (gates : Gates) → gat
     → knowing gates state ≡ with_gates_declared names state
 declares state names gates = ap (λ (g : Gates). known state g.names g.visible state.scope.variables state.variable)
 
-names_none : (names : List (List ℕ)) → names ++ [] ≡ names
-names_none [] = refl
-names_none (name ∷ names) = ap (λ ns. name ∷ ns) (names_none names)
-
 -- behind nothing, and behind one part after the other
 pub behind_nothing : (state : State) → state ≡ behind [] 0 state
 behind_nothing state =
     let number : state.variable ≡ state.variable + 0 = omega arith in
-    ap (λ (ns : List (List ℕ)). known state ns state.scope.gates state.scope.variables state.variable) (sym (names_none state.names))
+    ap (λ (ns : List (List ℕ)). known state ns state.scope.gates state.scope.variables state.variable) (sym (append-nil state.names))
     ∙ ap (λ (n : ℕ). known state (state.names ++ []) state.scope.gates state.scope.variables n) number
 
 pub behind_both : (old between new : State) (names more : List (List ℕ)) (m n : ℕ) → between ≡ behind names m old

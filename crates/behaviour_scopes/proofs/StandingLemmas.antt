@@ -1,7 +1,8 @@
 -- What a behaviour stands for, form by form, from what its last part stands for where more is known.
 use Rattle.std.proofs.Common.{◌≡◌, ℕ, ◌+◌, List, length, inl, inr, refl, ap, sym, ◌∙◌, subst, arith}
 use Rattle.std.specs.Prelude.{Option, Result, Ok, Err, IsErrAnd, OnOk}
-use Rattle.std.proofs.lemmas.List.{length-append, length-map}
+use Rattle.std.proofs.lemmas.List.{length-append}
+use Rattle.scope_parts.proofs.FormedBehaviours.{declared_of, length_names}
 use Rattle.lotos_base.specs.WrittenTerm.{PlacedName, WrittenTerm}
 use Rattle.lotos_base.specs.Equation.{Place, Variable}
 use Rattle.lotos_base.specs.Term.{Term}
@@ -24,7 +25,7 @@ use Rattle.scope_parts.specs.Terms.{TestIs, TestOptionIs, LetIs, OffersAre}
 use Rattle.scope_parts.specs.FaultView.{FaultIs, Answers}
 use Rattle.scope_parts.specs.declared.scope_faults.ScopeFault as code
 use Rattle.scope_parts.proofs.AnswerLemmas.{err_is, means_map}
-use Rattle.behaviour_scopes.proofs.ResolverLemmas.{variables_declared, let_declared, offers_declare, stands_seeing, stands_declared}
+use Rattle.behaviour_scopes.proofs.ResolverLemmas.{let_declared, offers_declare, stands_seeing, stands_declared}
 
 -- what is made of a value
 abbrev pub lifted : {A B : Type 0} → (A → B) → Resolution A → Resolution B
@@ -140,17 +141,13 @@ pub choose_value_stands : (s between : State) (place : Place) (variables : List 
     → BehaviourStandsFor s (written.choose_value place variables inside) (lifted (under_values chosen) o)
 choose_value_stands s between place variables inside chosen o first are stands =
     go o (stands_seeing s between chosen (length variables) inside o are
-    (variables_declared s.signature s.variable variables chosen first).counted stands)
+    (declared_of s.signature s.variable variables chosen first).counted stands)
   where
     go : (r : Resolution Behaviour)
         → BehaviourIs s.signature (with_variables chosen s.scope) (past_variables (length variables) (numbers_at s)) inside r
         → BehaviourStandsFor s (written.choose_value place variables inside) (lifted (under_values chosen) r)
     go (resolved b) is = (chosen, first, (b, is, refl))
     go (faulty f) is = inr (chosen, first, is)
-
--- as many names as gates
-names_counted : (gates : List WrittenGateChoice) → length (choice_names gates) ≡ length gates
-names_counted gates = length-map gates (λ (gate : WrittenGateChoice). gate.name)
 
 stands_chosen : (s between : State) (gates : List WrittenGateChoice) (inside : WrittenBehaviour) (o : Resolution Behaviour)
     → between ≡ with_gates_declared (choice_names gates) s → BehaviourStandsFor between inside o
@@ -160,7 +157,7 @@ stands_chosen s between gates inside o are stands =
     subst
     (λ (n : ℕ). BehaviourIs s.signature
     (with_gates (choice_names gates) (length s.names) s.scope) (past_gates n (numbers_at s)) inside o)
-    (names_counted gates) (stands_declared s between (choice_names gates) inside o are stands)
+    (length_names gates) (stands_declared s between (choice_names gates) inside o are stands)
 
 pub choose_gate_stands : (s between : State) (place : Place) (gates : List WrittenGateChoice) (inside : WrittenBehaviour)
     (choices : List GateChoice) (o : Resolution Behaviour) → resolved choices ≡ choices_at s.scope.gates (length s.names) gates
@@ -281,7 +278,7 @@ pub enabling_stands : (s between : State) (accepted : List WrittenVariable) (lef
     → SignStands s (enabling accepted) left right (lifted (enable left variables) o)
 enabling_stands s between accepted left right variables o first are stands =
     go o (stands_seeing s between variables (length accepted) right o are
-    (variables_declared s.signature s.variable accepted variables first).counted stands)
+    (declared_of s.signature s.variable accepted variables first).counted stands)
   where
     go : (r : Resolution Behaviour)
         → BehaviourIs s.signature (with_variables variables s.scope) (past_variables (length accepted) (numbers_at s)) right r

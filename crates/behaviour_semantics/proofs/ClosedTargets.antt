@@ -3,7 +3,7 @@
 use Rattle.std.proofs.Common.{◌≡◌, ◌<◌, ℕ, suc, ◌+◌, List, [], ◌∷◌, ◌++◌, length, map, zip, slice_get, Bool, true, false, if◌then◌else◌, Option, None, Some, option_map, option_and_then, refl, ap, sym, ◌∙◌, subst, eqb-true}
 use Rattle.std.specs.Cmp.{first_so, second_so}
 use Rattle.std.proofs.lemmas.List.{append-nil}
-use Rattle.list_laws.proofs.Options.{mapped, chained}
+use Rattle.lotos_base.proofs.Options.{mapped, chained}
 use Rattle.lotos_base.specs.Signature.{Signature}
 use Rattle.lotos_base.specs.Term.{Term}
 use Rattle.lotos_base.specs.Sorting.{sort_of, IsGroundOf}
@@ -35,7 +35,7 @@ IsValue signature v = (sort : ℕ) × IsGroundOf signature sort v
 pub ground_of : (signature : Signature) (s : ℕ) (t : Term) → IsTermIn signature [] s t → IsGroundOf signature s t
 ground_of signature s t h = record { ground = no_variable_ground t (λ n r o. absurd (cc (h.bound n r o))); sorted = h.sorted }
 
-same_sort : (o : Option ℕ) (s : ℕ) → is_same_sort o (Some s) ≡ true → o ≡ Some s
+pub same_sort : (o : Option ℕ) (s : ℕ) → is_same_sort o (Some s) ≡ true → o ≡ Some s
 same_sort None s e = absurd (cc e)
 same_sort (Some r) s e = ap (λ (n : ℕ). Some n) (eqb-true r s e)
 

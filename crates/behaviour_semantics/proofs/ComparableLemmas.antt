@@ -1,7 +1,7 @@
 -- Two shapes that have a move of one behaviour are the same, or one comes before the other.
 use Rattle.std.proofs.Common.{◌≡◌, ◌<◌, ◌⊎◌, inl, inr, ℕ, suc, ◌+◌, List, [], ◌∷◌, length, map, zip, slice_get, Option, None, Some, option_map, option_and_then, refl, ap, sym, ◌∙◌, arith, subst, true, false}
 use Rattle.std.proofs.lemmas.Bool.{cases_order}
-use Rattle.list_laws.proofs.Options.{mapped, chained}
+use Rattle.lotos_base.proofs.Options.{mapped, chained}
 use Rattle.lotos_base.specs.Equation.{Variable}
 use Rattle.lotos_base.specs.Substitution.{Substitution}
 use Rattle.behaviour_semantics.specs.Behaviour.{Behaviour, stop, exit_with, action, inner_action, guard, choice, parallel, hide, enable, disable, let_be, choose_value, choose_gate, par_gate, call, relabel, Process, Relabelling, let_variables, let_terms}

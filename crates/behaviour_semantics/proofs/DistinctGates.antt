@@ -1,7 +1,7 @@
 -- Relabellings stay well formed: composed ones, and those of calls.
 use Rattle.std.proofs.Common.{◌≡◌, ◌<◌, ◌⊎◌, inl, inr, ℕ, zero, suc, List, [], ◌∷◌, ◌++◌, map, zip, filter, length, nat_eq, slice_get, Bool, true, false, not, if◌then◌else◌, cond, Some, refl, ap, sym, subst, arith}
 use Rattle.std.proofs.lemmas.Bool.Decides.{nat_tests}
-use Rattle.list_laws.proofs.Truth.{not_both}
+use Rattle.lotos_base.proofs.Truth.{not_both}
 use Rattle.lotos_base.specs.Substitution.{is_listed}
 use Rattle.behaviour_semantics.specs.Behaviour.{Relabelling}
 use Rattle.behaviour_semantics.specs.Label.{gate_under, formals_of, then_relabelling}

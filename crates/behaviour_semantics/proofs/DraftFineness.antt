@@ -1,6 +1,6 @@
 -- The draft of a shape in a closed well-formed behaviour is in order, and the leaves that meet it as such meet it.
 use Rattle.std.proofs.Common.{◌≡◌, ◌<◌, ◌≤◌, inr, ℕ, zero, suc, ◌+◌, ◌-◌, true, false, nat_eq, eq-eqb, ne_eqb, length, List, [], ◌∷◌, map, slice_get, Option, Some, option_map, refl, ap, sym, ◌∙◌, subst, arith}
-use Rattle.list_laws.proofs.Options.{mapped}
+use Rattle.lotos_base.proofs.Options.{mapped}
 use Rattle.lotos_base.specs.Signature.{Signature, IsSort}
 use Rattle.lotos_base.specs.Term.{Term, variable}
 use Rattle.lotos_base.specs.Equation.{Data}

@@ -1,6 +1,6 @@
 -- The draft of a shape, with ground leaves that meet it put in, is a derivation, and each derivation is one so.
 use Rattle.std.proofs.Common.{◌≡◌, ◌≤◌, inr, ℕ, suc, ◌+◌, ◌-◌, List, [], ◌∷◌, map, Some, option_map, refl, ap, sym, ◌∙◌, subst, arith}
-use Rattle.list_laws.proofs.Options.{mapped}
+use Rattle.lotos_base.proofs.Options.{mapped}
 use Rattle.lotos_base.specs.Signature.{Signature, IsSort, IsWellFormedSignature}
 use Rattle.lotos_base.specs.Term.{Term, variable, node}
 use Rattle.lotos_base.specs.Sorting.{IsGroundOf}

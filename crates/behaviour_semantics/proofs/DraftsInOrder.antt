@@ -1,7 +1,7 @@
 -- A change of the terms of a draft that keeps sorts and brings in no variable keeps the draft in order: tidying does so.
 use Rattle.std.proofs.Common.{◌≡◌, ◌<◌, ℕ, List, [], ◌∷◌, map, length, slice_get, Some, Bool, true, false, not, cond, refl, ap, sym, ◌∙◌, subst, arith}
 use Rattle.std.proofs.lemmas.List.{length-map}
-pub use Rattle.list_laws.proofs.Members.{at_map, from_map}
+pub use Rattle.lotos_base.proofs.Members.{at_map, from_map}
 use Rattle.lotos_base.specs.Signature.{Signature}
 use Rattle.lotos_base.specs.Term.{Term, variable}
 use Rattle.lotos_base.specs.Tests.{term_eq}

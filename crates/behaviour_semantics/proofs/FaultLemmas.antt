@@ -92,12 +92,12 @@ module _ (data_ : Data) (specification : Specification) (well_formed : IsSpecifi
       (same_faults s (suc node) next le) (opened b) (open_first b c)
 
 -- As many leaves as sorts, supplied from the first on, are values.
-unshifted : (signature : Signature) (given : Substitution) (next : ℕ) (sorts : List ℕ) → Supplied signature given (suc next) sorts
+pub unshifted : (signature : Signature) (given : Substitution) (next : ℕ) (sorts : List ℕ) → Supplied signature given (suc next) sorts
     → Supplied signature (λ k s. given (suc k) s) next sorts
 unshifted signature given next [] h = tt
 unshifted signature given next (s ∷ sorts) h = (h.0, unshifted signature given (suc next) sorts h.1)
 
-values_of : (signature : Signature) (sorts : List ℕ) (vs : List Term) → length sorts ≡ length vs
+pub values_of : (signature : Signature) (sorts : List ℕ) (vs : List Term) → length sorts ≡ length vs
     → Supplied signature (leaves_in vs) 0 sorts → AreValues signature sorts vs
 values_of signature [] [] e h = tt
 values_of signature [] (v ∷ vs) e h = absurd (omega arith)

@@ -3,7 +3,7 @@ use Rattle.std.proofs.Common.{◌≡◌, ◌≤◌, ◌⊎◌, inl, inr, ℕ, su
 use Rattle.std.specs.Prelude.{◌&&◌, nat_eq}
 use Rattle.std.specs.Cmp.{second_so}
 use Rattle.std.proofs.lemmas.List.{length-append}
-use Rattle.list_laws.proofs.Options.{mapped, chained}
+use Rattle.lotos_base.proofs.Options.{mapped, chained}
 use Rattle.lotos_base.specs.Term.{Term}
 use Rattle.lotos_base.specs.Sorting.{IsGroundOf}
 use Rattle.lotos_base.specs.Equation.{Data, Variable}

@@ -1,6 +1,6 @@
 -- The fault of a shape is the faulty node that comes first in preorder: by induction on the shape.
 use Rattle.std.proofs.Common.{◌≡◌, ◌<◌, ◌≤◌, ◌⊎◌, inl, inr, ℕ, suc, ◌+◌, List, [], ◌∷◌, length, map, slice_get, Option, None, Some, option_and_then, refl, ap, sym, ◌∙◌, subst, arith}
-use Rattle.list_laws.proofs.Options.{mapped}
+use Rattle.lotos_base.proofs.Options.{mapped}
 use Rattle.lotos_base.specs.Term.{Term}
 use Rattle.lotos_base.specs.Equation.{Data}
 use Rattle.lotos_base.specs.Canon.{IsCanon}

@@ -29,12 +29,12 @@ plain represent leaves = record { represent = represent; leaves = leaves; values
 pub plain_grounded : (data_ : Data) (represent : Term → Term) (leaves : Substitution) → Grounded data_ (plain represent leaves)
 plain_grounded data_ represent leaves n r h = absurd h
 
-every_at : {X : Type 0} (P : X → Type 0) (xs : List X) (k : ℕ) (z : X) → Every P xs → slice_get xs k ≡ Some z → P z
+pub every_at : {X : Type 0} (P : X → Type 0) (xs : List X) (k : ℕ) (z : X) → Every P xs → slice_get xs k ≡ Some z → P z
 every_at P [] k z h e = absurd (cc e)
 every_at P (x ∷ xs) zero z h e = subst P (some_value e) h.0
 every_at P (x ∷ xs) (suc k) z h e = every_at P xs k z h.1 e
 
-above_at : (processes : List Process) (k : ℕ) (process : Process) → slice_get processes k ≡ Some process → max (above_variables process.parameters) (above process.body) ≤ above_processes processes
+pub above_at : (processes : List Process) (k : ℕ) (process : Process) → slice_get processes k ≡ Some process → max (above_variables process.parameters) (above process.body) ≤ above_processes processes
 above_at [] k process e = absurd (cc e)
 above_at (p ∷ processes) zero process e =
     subst (λ (q : Process). max (above_variables q.parameters) (above q.body) ≤ above_processes (p ∷ processes)) (some_value e)

@@ -2,6 +2,7 @@
 use Rattle.std.proofs.Common.{◌≡◌, ◌<◌, ◌≤◌, ◌⊎◌, inl, inr, ℕ, zero, suc, ◌+◌, List, [], ◌∷◌, map, length, slice_get, Option, None, Some, Bool, true, false, nat_eq, if◌then◌else◌, refl, ap, sym, ◌∙◌, arith, subst, eqb-true, eq-eqb, ne_eqb}
 use Rattle.std.proofs.lemmas.Bool.{cases_order}
 use Rattle.lotos_base.specs.Term.{Term, variable, node}
+use Rattle.lotos_base.specs.Substitution.{is_listed}
 use Rattle.behaviour_semantics.specs.Solving.{leaf_sort, numbered, variables_left, place_of}
 use Rattle.behaviour_semantics.specs.DraftOrder.{IsLeaf}
 use Rattle.behaviour_semantics.proofs.OptionLemmas.{some_value}
@@ -262,3 +263,13 @@ module _ (leaves more : List Term) (same_length : length more ≡ length leaves)
   less m s leaf lt gone =
       let there : (q : ℕ) × (leaf_sort m leaves ≡ Some q) = leaf_there m s leaves leaf.0 leaf.1 in
       left_less 0 leaves more leaves more m there.0 same_length into (omega arith) (omega arith) (none_found m more gone) there.1
+
+pub listed_at : (numbers : List ℕ) (k n : ℕ) → slice_get numbers k ≡ Some n → is_listed numbers n ≡ true
+listed_at [] k n at = absurd (cc at)
+listed_at (m ∷ numbers) zero n at =
+    ap (λ (c : Bool). if c then true else is_listed numbers n) (eq-eqb m n (some_value at))
+listed_at (m ∷ numbers) (suc k) n at = by (nat_eq m n) (listed_at numbers k n at)
+  where
+    by : (c : Bool) → is_listed numbers n ≡ true → (if c then true else is_listed numbers n) ≡ true
+    by true rest = refl
+    by false rest = rest

@@ -67,3 +67,4 @@ pub mod SupplyLemmas
 pub mod OpenedLemmas
 pub mod RuleToMove
 pub mod MoveToRule
+pub mod EveryLemmas

@@ -1,6 +1,6 @@
 -- The listed drafts are those of the shapes that fit, in order.
 use Rattle.std.proofs.Common.{◌≡◌, inl, inr, ℕ, List, [], ◌∷◌, map, Some, option_map, refl, ap, sym, ◌∙◌, subst}
-use Rattle.list_laws.proofs.Options.{mapped}
+use Rattle.lotos_base.proofs.Options.{mapped}
 use Rattle.lotos_base.specs.Term.{Term}
 use Rattle.lotos_base.specs.Equation.{Data}
 use Rattle.behaviour_semantics.specs.Behaviour.{Behaviour, Process}
@@ -14,12 +14,12 @@ use Rattle.behaviour_semantics.proofs.ListingLemmas.{shaped, listed}
 use Rattle.behaviour_semantics.proofs.ListingSoundness.{are_moves}
 use Rattle.behaviour_semantics.proofs.ListingOrder.{shapes_rise}
 
-among_map : {X Y : Type 0} (f : X → Y) (xs : List X) (y : Y) → IsAmong y (map f xs) → (x : X) × IsAmong x xs × (f x ≡ y)
+pub among_map : {X Y : Type 0} (f : X → Y) (xs : List X) (y : Y) → IsAmong y (map f xs) → (x : X) × IsAmong x xs × (f x ≡ y)
 among_map f [] y a = absurd a
 among_map f (x ∷ xs) y (inl same) = (x, inl refl, same)
 among_map f (x ∷ xs) y (inr a) = let p : _ = among_map f xs y a in (p.0, inr p.1, p.2)
 
-map_among : {X Y : Type 0} (f : X → Y) (xs : List X) (x : X) → IsAmong x xs → IsAmong (f x) (map f xs)
+pub map_among : {X Y : Type 0} (f : X → Y) (xs : List X) (x : X) → IsAmong x xs → IsAmong (f x) (map f xs)
 map_among f [] x a = absurd a
 map_among f (y ∷ xs) x (inl same) = inl (ap f same)
 map_among f (y ∷ xs) x (inr a) = inr (map_among f xs x a)

@@ -14,14 +14,14 @@ use Rattle.behaviour_semantics.proofs.ListingOrder.{Earlier, Rising, RisingIn, m
 abbrev Inside : List ShapedMove → List ShapedMove → Type 0
 Inside xs ys = (x : ShapedMove) → IsAmong x xs → IsAmong x ys
 
-same_heads : (x y : ShapedMove) (xs ys : List ShapedMove) → Rising (x ∷ xs) → Rising (y ∷ ys) → IsAmong x (y ∷ ys) → IsAmong y (x ∷ xs) → x ≡ y
+pub same_heads : (x y : ShapedMove) (xs ys : List ShapedMove) → Rising (x ∷ xs) → Rising (y ∷ ys) → IsAmong x (y ∷ ys) → IsAmong y (x ∷ xs) → x ≡ y
 same_heads x y xs ys h k (inl same) b = sym same
 same_heads x y xs ys h k (inr a) (inl same) = same
 same_heads x y xs ys h k (inr a) (inr b) =
     absurd (Before-irrefl x.shape (Before-trans x.shape y.shape x.shape (Every-among (Earlier x) xs y h.0 b) (Every-among (Earlier y) ys x k.0 a)))
 
 -- what is behind the head of one list is behind the head of the other
-behind : (x y z : ShapedMove) (xs ys : List ShapedMove) → x ≡ y → Rising (x ∷ xs) → IsAmong z xs → IsAmong z (y ∷ ys) → IsAmong z ys
+pub behind : (x y z : ShapedMove) (xs ys : List ShapedMove) → x ≡ y → Rising (x ∷ xs) → IsAmong z xs → IsAmong z (y ∷ ys) → IsAmong z ys
 behind x y z xs ys heads h a (inl same) =
     absurd (Before-irrefl z.shape (subst (λ (w : ShapedMove). Before w.shape z.shape) (heads ∙ same) (Every-among (Earlier x) xs z h.0 a)))
 behind x y z xs ys heads h a (inr b) = b

@@ -1,6 +1,6 @@
 -- The listed moves are those of the table: each move of a shape is in the list, and each listed one is a move.
 use Rattle.std.proofs.Common.{◌≡◌, inl, inr, ℕ, zero, suc, ◌+◌, List, [], ◌∷◌, length, map, zip, slice_get, Bool, true, false, if◌then◌else◌, Option, None, Some, option_map, option_and_then, refl, ap, sym, ◌∙◌, subst, arith}
-use Rattle.list_laws.proofs.Options.{mapped, chained}
+use Rattle.lotos_base.proofs.Options.{mapped, chained}
 use Rattle.lotos_base.specs.Signature.{Signature}
 use Rattle.lotos_base.specs.Term.{Term}
 use Rattle.lotos_base.specs.Substitution.{Substitution}

@@ -1,7 +1,7 @@
 -- The shapes of the listed moves rise.
 use Rattle.std.proofs.Common.{◌≡◌, ◌<◌, ◌⊎◌, inl, inr, ℕ, zero, suc, ◌+◌, List, [], ◌∷◌, ◌++◌, length, map, zip, filter_map, slice_get, Bool, true, false, if◌then◌else◌, Option, None, Some, option_map, option_and_then, refl, ap, sym, subst, arith}
 use Rattle.std.specs.List.{cons_option}
-use Rattle.list_laws.proofs.Options.{mapped}
+use Rattle.lotos_base.proofs.Options.{mapped}
 use Rattle.lotos_base.specs.Signature.{Signature}
 use Rattle.lotos_base.specs.Term.{Term}
 use Rattle.lotos_base.specs.Equation.{Variable}

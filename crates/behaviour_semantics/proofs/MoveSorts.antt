@@ -1,6 +1,6 @@
 -- The sorts that the leaves of a move have are sorts of the signature.
 use Rattle.std.proofs.Common.{◌≡◌, ℕ, suc, ◌+◌, List, [], ◌∷◌, ◌++◌, length, map, zip, slice_get, Option, None, Some, option_map, option_and_then, refl, ap, sym, ◌∙◌, subst}
-use Rattle.list_laws.proofs.Options.{mapped, chained}
+use Rattle.lotos_base.proofs.Options.{mapped, chained}
 use Rattle.lotos_base.specs.Signature.{IsSort}
 use Rattle.lotos_base.specs.Equation.{Data, Variable}
 use Rattle.behaviour_semantics.specs.Behaviour.{Behaviour, parallel, enable, SynchronisationSet, Process, ExitValue, sorts_of, let_variables, let_terms}

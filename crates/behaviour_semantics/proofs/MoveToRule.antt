@@ -1,7 +1,7 @@
 -- Each move of the table is a transition: by induction on the shape, and for each variant by cases on the behaviour.
 use Rattle.std.proofs.Common.{◌≡◌, ℕ, suc, ◌+◌, List, [], ◌∷◌, ◌++◌, length, map, zip, slice_get, Option, Some, option_map, option_and_then, refl, sym, subst, Bool, true, false, ◌&&◌, nat_eq, eqb-true}
 pub use Rattle.std.proofs.lemmas.Bool.{and_parts}
-use Rattle.list_laws.proofs.Options.{mapped, chained}
+use Rattle.lotos_base.proofs.Options.{mapped, chained}
 use Rattle.lotos_base.specs.Term.{Term}
 use Rattle.lotos_base.specs.Equation.{Data, Variable}
 use Rattle.lotos_base.specs.Substitution.{Substitution, is_listed}

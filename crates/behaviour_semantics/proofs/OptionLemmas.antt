@@ -1,6 +1,6 @@
 -- What a computed option says of its parts.
 use Rattle.std.proofs.Common.{◌≡◌, Option, None, Some, unwrap_or, ap, refl, Bool, true, false, if◌then◌else◌}
-pub use Rattle.list_laws.proofs.Options.{mapped, chained}
+pub use Rattle.lotos_base.proofs.Options.{mapped, chained}
 
 -- The value of a `Some` is the value.
 pub some_value : {X : Type 0} {x y : X} → Some x ≡ Some y → x ≡ y

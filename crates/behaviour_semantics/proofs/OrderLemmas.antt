@@ -1,6 +1,11 @@
 -- The order of shapes is strict.
-use Rattle.std.proofs.Common.{◌≡◌, ℕ, refl, arith}
+use Rattle.lotos_base.specs.Term.{Term}
+use Rattle.lotos_base.specs.Equation.{Data}
+use Rattle.std.proofs.Common.{◌≡◌, ℕ, refl, arith, List}
 use Rattle.behaviour_semantics.specs.Shape.{Shape, act, quit, inner_step, guarded, left_side, right_side, both_sides, hidden, enabled, passed, let_bound, with_value, at_gate, called, relabelled, Agree, agree_act, agree_quit, agree_inner, agree_guarded, agree_left, agree_right, agree_both, agree_hidden, agree_enabled, agree_passed, agree_enabled_passed, agree_passed_enabled, agree_let, agree_value, agree_gate, agree_called, agree_relabelled, Before, left_then_right, left_then_both, right_then_both, by_gate, in_guarded, in_left, in_right, in_first, in_second, in_hidden, in_enabled, in_passed, in_enabled_passed, in_passed_enabled, in_let, in_value, in_gate, in_called, in_relabelled}
+use Rattle.behaviour_semantics.specs.Behaviour.{Behaviour, Process}
+use Rattle.behaviour_semantics.specs.Menu.{Exact, IsEntry}
+use Rattle.behaviour_semantics.specs.Solving.{Entry}
 
 pub Agree-refl : (s : Shape) → Agree s s
 Agree-refl act = agree_act
@@ -43,11 +48,11 @@ Agree-trans (agree_called a) (agree_called b) = agree_called (Agree-trans a b)
 Agree-trans (agree_relabelled a) (agree_relabelled b) = agree_relabelled (Agree-trans a b)
 
 -- Gate choices that agree choose one position.
-gate_parts : (j k : ℕ) (s t : Shape) → Agree (at_gate j s) (at_gate k t) → (j ≡ k) × Agree s t
+pub gate_parts : (j k : ℕ) (s t : Shape) → Agree (at_gate j s) (at_gate k t) → (j ≡ k) × Agree s t
 gate_parts j k s t (agree_gate a) = (refl, a)
 
 -- A shape that comes before another one does not agree with it.
-apart : {s t : Shape} → Before s t → Agree s t → ⊥
+pub apart : {s t : Shape} → Before s t → Agree s t → ⊥
 apart left_then_right a = elim a [ ]
 apart left_then_both a = elim a [ ]
 apart right_then_both a = elim a [ ]
@@ -161,3 +166,8 @@ chain (in_relabelled h) (in_relabelled k) = in_relabelled (chain h k)
 
 pub Before-trans : (s t u : Shape) → Before s t → Before t u → Before s u
 Before-trans s t u h k = chain h k
+
+pub entries_within : (data_ : Data) (canon : Term → Term) (processes : List Process) (b : Behaviour) (menu other : List Entry)
+    → Exact data_ canon processes b menu → Exact data_ canon processes b other → (x : Entry) → IsEntry menu x → IsEntry other x
+entries_within data_ canon processes b menu other exact another x inside =
+    let draft : _ = exact.solved x inside in another.every_solved x.shape draft.0 x draft.1 draft.2

@@ -46,7 +46,7 @@ every_all : {X : Type 0} (P : X → Type 0) → ((x : X) → P x) → (xs : List
 every_all P h [] = tt
 every_all P h (x ∷ xs) = (h x, every_all P h xs)
 
-every_map : {X : Type 0} (P Q : X → Type 0) → ((x : X) → P x → Q x) → (xs : List X) → Every P xs → Every Q xs
+pub every_map : {X : Type 0} (P Q : X → Type 0) → ((x : X) → P x → Q x) → (xs : List X) → Every P xs → Every Q xs
 every_map P Q f [] h = tt
 every_map P Q f (x ∷ xs) h = (f x h.0, every_map P Q f xs h.1)
 

@@ -1,7 +1,7 @@
 -- Behaviours that stand beside one another have moves with related labels, beside one another, for each shape.
 use Rattle.std.proofs.Common.{◌≡◌, ℕ, suc, ◌+◌, List, [], ◌∷◌, ◌++◌, length, map, zip, slice_get, Option, None, Some, option_map, option_and_then, Bool, true, false, ◌&&◌, nat_eq, refl, ap, sym, ◌∙◌, arith, subst, eqb-true}
 use Rattle.std.proofs.lemmas.Bool.{and_parts}
-use Rattle.list_laws.proofs.Options.{mapped, chained}
+use Rattle.lotos_base.proofs.Options.{mapped, chained}
 use Rattle.lotos_base.specs.Term.{Term}
 use Rattle.lotos_base.specs.Equation.{Data, Variable}
 use Rattle.lotos_base.specs.Substitution.{Substitution, is_listed}

@@ -2,8 +2,8 @@
 use Rattle.std.proofs.Common.{◌≡◌, ◌<◌, ◌≤◌, ◌⊎◌, inl, inr, ℕ, zero, suc, List, [], ◌∷◌, length, map, slice_get, Option, None, Some, option_map, Bool, true, false, ◌&&◌, ◌||◌, not, cond, nat_eq, nat_lt, if◌then◌else◌, refl, ap, sym, ◌∙◌, subst, arith, eqb-true, eq-eqb, lt-ltb}
 use Rattle.std.proofs.lemmas.Bool.{cases_order, le-ltb}
 use Rattle.std.proofs.lemmas.List.{length-map}
-use Rattle.list_laws.proofs.Truth.{same_truth}
-use Rattle.list_laws.proofs.Members.{at_map, from_map}
+use Rattle.lotos_base.proofs.Truth.{same_truth}
+use Rattle.lotos_base.proofs.Members.{at_map, from_map}
 use Rattle.lotos_base.specs.Term.{Term, variable, node, Terms, no_terms, term_then}
 use Rattle.lotos_base.specs.Tests.{term_eq, is_ground, are_ground, occurs}
 use Rattle.lotos_base.specs.Sorting.{IsTermOf, Occurs}

@@ -1,7 +1,7 @@
 -- The replacement that a condition gives: the draft stays in order, and the variable is gone.
 use Rattle.std.proofs.Common.{◌≡◌, ◌<◌, ◌≤◌, ◌⊎◌, inl, inr, ℕ, List, [], ◌∷◌, map, slice_get, Option, None, Some, Bool, true, false, nat_eq, nat_lt, if◌then◌else◌, refl, ap, sym, ◌∙◌, arith, subst, eqb-true, eq-eqb, lt-ltb, le-ltb}
 use Rattle.std.proofs.lemmas.Bool.{cases_order}
-use Rattle.list_laws.proofs.Members.{at_map, from_map}
+use Rattle.lotos_base.proofs.Members.{at_map, from_map}
 use Rattle.lotos_base.specs.Term.{Term, variable, node}
 use Rattle.lotos_base.specs.Tests.{occurs}
 use Rattle.lotos_base.specs.Sorting.{HasSort, Occurs}

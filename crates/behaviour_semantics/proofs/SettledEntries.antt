@@ -1,6 +1,6 @@
 -- The entry of a draft on which nothing is left to do stands for the same values as the draft.
 use Rattle.std.proofs.Common.{◌≡◌, ℕ, zero, suc, List, [], ◌∷◌, map, slice_get, Some, refl, ap, sym, ◌∙◌, subst}
-use Rattle.list_laws.proofs.Members.{at_map}
+use Rattle.lotos_base.proofs.Members.{at_map}
 use Rattle.lotos_base.specs.Signature.{Signature}
 use Rattle.lotos_base.specs.Term.{Term, variable}
 use Rattle.lotos_base.specs.Sorting.{IsGroundOf}

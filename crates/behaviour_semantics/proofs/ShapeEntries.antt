@@ -1,6 +1,6 @@
 -- The entry of a shape's draft: its variables stand at leaves of their own, in order.
 use Rattle.std.proofs.Common.{◌≡◌, ℕ, List, map, slice_get, Some, sym, ◌∙◌, subst}
-use Rattle.list_laws.proofs.Members.{at_map}
+use Rattle.lotos_base.proofs.Members.{at_map}
 use Rattle.lotos_base.specs.Term.{Term, variable}
 use Rattle.lotos_base.specs.Equation.{Data}
 use Rattle.lotos_base.specs.Equality.{Equal}

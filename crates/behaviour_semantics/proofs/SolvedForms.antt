@@ -2,7 +2,7 @@
 use Rattle.std.proofs.Common.{◌≡◌, ◌<◌, ◌≤◌, ◌⊎◌, inl, inr, ℕ, zero, suc, List, [], ◌∷◌, length, map, slice_get, Option, None, Some, Bool, true, false, ◌&&◌, ◌||◌, not, cond, nat_eq, if◌then◌else◌, refl, ap, sym, ◌∙◌, subst, arith, eqb-true, lt-ltb}
 use Rattle.std.proofs.lemmas.Bool.{cases_order, le-ltb}
 use Rattle.std.proofs.lemmas.List.{length-map}
-use Rattle.list_laws.proofs.Members.{at_map, from_map}
+use Rattle.lotos_base.proofs.Members.{at_map, from_map}
 use Rattle.lotos_base.specs.Signature.{IsSort}
 use Rattle.lotos_base.specs.Term.{Term, variable, node}
 use Rattle.lotos_base.specs.Tests.{term_eq, is_ground, occurs}

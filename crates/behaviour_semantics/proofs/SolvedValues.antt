@@ -1,6 +1,6 @@
 -- Values that solve a draft: tidying and replacing neither lose nor add any.
 use Rattle.std.proofs.Common.{◌≡◌, ℕ, List, [], ◌∷◌, map, Some, Bool, true, false, not, cond, nat_eq, refl, ap, sym, ◌∙◌, subst, eqb-true}
-use Rattle.list_laws.proofs.Members.{at_map}
+use Rattle.lotos_base.proofs.Members.{at_map}
 use Rattle.lotos_base.specs.Signature.{Signature}
 use Rattle.lotos_base.specs.Term.{Term, variable}
 use Rattle.lotos_base.specs.Tests.{term_eq}

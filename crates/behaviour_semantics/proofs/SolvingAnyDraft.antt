@@ -1,6 +1,6 @@
 -- What solving obeys on any draft in order.
 use Rattle.std.proofs.Common.{List, map, Option, Some}
-use Rattle.list_laws.proofs.Members.{at_map}
+use Rattle.lotos_base.proofs.Members.{at_map}
 use Rattle.lotos_base.specs.Term.{Term, variable}
 use Rattle.lotos_base.specs.Equation.{Data}
 use Rattle.lotos_base.specs.Substitution.{Substitution, substituted}

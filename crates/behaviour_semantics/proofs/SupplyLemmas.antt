@@ -1,5 +1,5 @@
 -- Leaves that a substitution gives from a number on.
-use Rattle.std.proofs.Common.{◌≡◌, ℕ, suc, ◌+◌, List, [], ◌∷◌, ◌++◌, length, refl, ap, arith, subst}
+use Rattle.std.proofs.Common.{◌≡◌, ℕ, suc, ◌+◌, List, [], ◌∷◌, ◌++◌, length, refl, ap, arith, subst, zero, slice_get, Some}
 use Rattle.lotos_base.specs.Signature.{Signature}
 use Rattle.lotos_base.specs.Term.{Term}
 use Rattle.lotos_base.specs.Sorting.{IsGroundOf}
@@ -9,6 +9,7 @@ use Rattle.behaviour_semantics.specs.Behaviour.{Test}
 use Rattle.behaviour_semantics.specs.Rule.{AreValues, AllHold}
 use Rattle.behaviour_semantics.specs.Move.{taken}
 use Rattle.behaviour_semantics.specs.Derives.{leaves_in}
+use Rattle.behaviour_semantics.proofs.OptionLemmas.{some_value}
 
 -- From this number on the substitution gives the leaves of the list.
 abbrev pub Supplies : Substitution → ℕ → List Term → Type 0
@@ -89,3 +90,10 @@ AllHold-append data_ (t ∷ ts) us h k = (h.0, AllHold-append data_ ts us h.1 k)
 pub AllHold-parts : (data_ : Data) (ts us : List Test) → AllHold data_ (ts ++ us) → AllHold data_ ts × AllHold data_ us
 AllHold-parts data_ [] us h = (tt, h)
 AllHold-parts data_ (t ∷ ts) us h = let rest : AllHold data_ ts × AllHold data_ us = AllHold-parts data_ ts us h.1 in ((h.0, rest.0), rest.1)
+
+pub value_at : (signature : Signature) (sorts : List ℕ) (values : List Term) → AreValues signature sorts values → (n s : ℕ)
+    → slice_get sorts n ≡ Some s → IsGroundOf signature s (leaves_in values n s)
+value_at signature [] values h n s at = absurd (cc at)
+value_at signature (r ∷ sorts) [] h n s at = absurd h
+value_at signature (r ∷ sorts) (v ∷ values) h zero s at = subst (λ (q : ℕ). IsGroundOf signature q v) (some_value at) h.0
+value_at signature (r ∷ sorts) (v ∷ values) h (suc n) s at = value_at signature sorts values h.1 n s at

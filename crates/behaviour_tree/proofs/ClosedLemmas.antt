@@ -1,19 +1,22 @@
 -- What closes a node closes each copy of it.
-use Rattle.std.proofs.Common.{◌≡◌, ℕ, zero, suc, List, [], ◌∷◌, map, slice_get, Some, ap, sym, ◌∙◌, subst}
+use Rattle.std.proofs.Common.{◌≡◌, ℕ, zero, suc, List, [], ◌∷◌, map, slice_get, Some, ap, sym, ◌∙◌, subst, ◌++◌}
 use Rattle.std.proofs.lemmas.Option.{same_Some, none-some}
 use Rattle.lotos_base.specs.Term.{Term}
 use Rattle.lotos_base.specs.Equation.{Variable}
 use Rattle.lotos_base.specs.Sorting.{IsGround}
+use Rattle.lotos_base.specs.Signature.{Signature}
 use Rattle.behaviour_semantics.specs.Behaviour.{Behaviour}
 use Rattle.behaviour_semantics.specs.Label.{formals_of}
 use Rattle.behaviour_semantics.specs.WellFormed.{Every, AreDistinct}
-use Rattle.sort_terms.specs.ProfiledTerm.{head_sort}
+use Rattle.behaviour_semantics.proofs.ListLemmas.{Every-append}
+use Rattle.sort_terms.specs.ProfiledTerm.{head_sort, ProfiledTerm, IsOf}
 use Rattle.sort_terms.specs.SortedView.{profiled_in, term_in}
 use Rattle.sort_terms.specs.declared.sorted.Sorted.{Sorted}
 use Rattle.behaviour_tree.specs.BehaviourView.{terms_of}
 use Rattle.behaviour_tree.specs.Closed.{AreGroundValues, IsClosedBy, IsClosedNode, IsClosedUnder, IsGivenOnce}
 use Rattle.behaviour_tree.specs.declared.states.Node.{Node}
 use Rattle.behaviour_tree.specs.StateView.{environment_of, pair_of, pair_profile}
+use Rattle.behaviour_tree.specs.Over.{AreTermsOf}
 
 -- Environments with the same variables, values and profiles.
 record AreAlike (made given : List (ℕ × Sorted)) : Type 0 where
@@ -127,3 +130,7 @@ formals_alike made given e distinct = subst (λ (pairs : List (ℕ × ℕ)). Are
 -- The node itself.
 pub same_closed : (made given : Node) → made ≡ given → IsClosedNode given → IsClosedNode made
 same_closed made given e closed = subst (λ (node : Node). IsClosedNode node) (sym e) closed
+
+pub terms_both : (signature : Signature) (first second : List ProfiledTerm) → AreTermsOf signature first → AreTermsOf signature second
+    → AreTermsOf signature (first ++ second)
+terms_both signature first second h k = Every-append (IsOf signature) first second h k

@@ -1,6 +1,7 @@
 -- How the standing of two shapes follows from that of their parts.
 use Rattle.std.proofs.Common.{◌≡◌, ◌↔◌, ◌<◌, ℕ, IsTrue, true, false, refl, subst, arith}
 use Rattle.behaviour_semantics.specs.Shape.{Shape, act, quit, inner_step, guarded, left_side, right_side, both_sides, hidden, enabled, passed, let_bound, with_value, at_gate, called, relabelled, Agree, agree_act, agree_quit, agree_inner, agree_guarded, agree_left, agree_right, agree_both, agree_hidden, agree_enabled, agree_passed, agree_enabled_passed, agree_passed_enabled, agree_let, agree_value, agree_gate, agree_called, agree_relabelled, Before, left_then_right, left_then_both, right_then_both, by_gate, in_guarded, in_left, in_right, in_first, in_second, in_hidden, in_enabled, in_passed, in_enabled_passed, in_passed_enabled, in_let, in_value, in_gate, in_called, in_relabelled}
+use Rattle.behaviour_semantics.proofs.OrderLemmas.{gate_parts, apart}
 use Rattle.behaviour_tree.specs.Standing.{Tells}
 use Rattle.behaviour_tree.specs.declared.order.Standing.{Standing}
 use Rattle.behaviour_tree.specs.declared.order.Standing.TheVariants as standing
@@ -147,47 +148,22 @@ gate_not_after : (j k : ℕ) (s t : Shape) → k < j → Before (at_gate j s) (a
 gate_not_after j k s t after (by_gate lt) = omega arith
 gate_not_after j k s t after (in_gate h) = omega arith
 
-gate_same : (j k : ℕ) (s t : Shape) → Agree (at_gate j s) (at_gate k t) → (j ≡ k) × Agree s t
-gate_same j k s t (agree_gate a) = (refl, a)
-
 pub tells_earlier : (j k : ℕ) (s t : Shape) → j < k → Tells standing.Before (at_gate j s) (at_gate k t)
 tells_earlier j k s t lt = by_gate lt
 
 pub tells_later : (j k : ℕ) (s t : Shape) → k < j → Tells standing.Otherwise (at_gate j s) (at_gate k t)
-tells_later j k s t after = (gate_not_after j k s t after, (λ a. let same : j ≡ k = (gate_same j k s t a).0 in omega arith))
+tells_later j k s t after = (gate_not_after j k s t after, (λ a. let same : j ≡ k = (gate_parts j k s t a).0 in omega arith))
 
 same_gate : (r : Standing) (k : ℕ) (s t : Shape) → Tells r s t → Tells r (at_gate k s) (at_gate k t)
 same_gate standing.Before k s t h = in_gate h
 same_gate standing.Agreeing k s t a = agree_gate a
 same_gate standing.Otherwise k s t never =
-    ((λ h. never.0 (gate_order k k s t h (λ lt. omega arith))), (λ a. never.1 (gate_same k k s t a).1))
+    ((λ h. never.0 (gate_order k k s t h (λ lt. omega arith))), (λ a. never.1 (gate_parts k k s t a).1))
 
 pub tells_gate : (r : Standing) (j k : ℕ) (s t : Shape) → (j < k → ⊥) → (k < j → ⊥) → Tells r s t
     → Tells r (at_gate j s) (at_gate k t)
 tells_gate r j k s t not_less not_more h =
     let same : j ≡ k = omega arith in subst (λ (m : ℕ). Tells r (at_gate j s) (at_gate m t)) same (same_gate r j s t h)
-
--- A shape that comes before another one does not agree with it.
-apart : {s t : Shape} → Before s t → Agree s t → ⊥
-apart left_then_right a = elim a [ ]
-apart left_then_both a = elim a [ ]
-apart right_then_both a = elim a [ ]
-apart (by_gate {j = j} {k = k} {s = s} {t = t} lt) a = let same : j ≡ k = (gate_same j k s t a).0 in omega arith
-apart (in_first h) (agree_both a b) = apart h a
-apart (in_second c h) (agree_both a b) = apart h b
-apart (in_gate {k = k} {s = s} {t = t} h) a = apart h (gate_same k k s t a).1
-apart (in_guarded h) (agree_guarded a) = apart h a
-apart (in_left h) (agree_left a) = apart h a
-apart (in_right h) (agree_right a) = apart h a
-apart (in_hidden h) (agree_hidden a) = apart h a
-apart (in_enabled h) (agree_enabled a) = apart h a
-apart (in_passed h) (agree_passed a) = apart h a
-apart (in_enabled_passed h) (agree_enabled_passed a) = apart h a
-apart (in_passed_enabled h) (agree_passed_enabled a) = apart h a
-apart (in_let h) (agree_let a) = apart h a
-apart (in_value h) (agree_value a) = apart h a
-apart (in_called h) (agree_called a) = apart h a
-apart (in_relabelled h) (agree_relabelled a) = apart h a
 
 -- Pairs of shapes: as the first ones, and where these agree as the second ones.
 pub tells_first : (s t u v : Shape) → Before s u → Tells standing.Before (both_sides s t) (both_sides u v)

@@ -30,7 +30,7 @@ environment_zip (x ∷ variables) (v ∷ values) =
     ap (λ (rest : List (ℕ × Term)). (x.number, term_in v) ∷ rest) (environment_zip variables values)
 
 -- The head of a ground value of a sort tells this sort.
-told_sort : (signature : Signature) (t : ProfiledTerm) (s : ℕ) → IsOf signature t → HasSort signature (bare t) s → head_sort t ≡ s
+pub told_sort : (signature : Signature) (t : ProfiledTerm) (s : ℕ) → IsOf signature t → HasSort signature (bare t) s → head_sort t ≡ s
 told_sort signature (profiled_variable n r) s of h = h.0
 told_sort signature (profiled_node f operation ts) s of h =
     ap (λ (o : Operation). o.result) (same_Some operation h.0 (sym of.0 ∙ h.1)) ∙ h.2

@@ -1,5 +1,7 @@
 -- The summary, part by part.
-use Rattle.std.proofs.Common.{◌≡◌, ℕ, List, [], ◌++◌, length, map, codes, decimal, Option, option_map, sym, ap, ◌∙◌, subst, append_assoc}
+use Rattle.std.proofs.Common.{◌≡◌, ℕ, List, [], ◌++◌, length, map, codes, decimal, Option, option_map, sym, ap, ◌∙◌, subst}
+use Rattle.session_log.proofs.ReplayLemmas.{over_same}
+use Rattle.lotos_base.proofs.Pieces.{two_pieces}
 use Rattle.lotos_base.specs.Equation.{Data}
 use Rattle.lotos_base.specs.Term.{Term}
 use Rattle.lotos_base.specs.Name.{spelling}
@@ -18,10 +20,7 @@ use Rattle.demo_walks.specs.DemoWalk.{WalkValues, AreWalkValues, GoesThrough, wa
 use Rattle.demo_walks.specs.DemoSummary.{IsSummary, entries_seen, sizes_line, summary_text, text_of_last}
 use Rattle.demo_walks.specs.WalkView.{IsOnWalk, reached, written_summary}
 use Rattle.demo_walks.specs.declared.tallies.Tally.{Tally}
-use Rattle.demo_walks.proofs.WalkLemmas.{over_same, over_same_spec}
-
-joined : (s0 s1 t first rest : List ℕ) → s1 ≡ s0 ++ first → t ≡ s1 ++ rest → t ≡ s0 ++ (first ++ rest)
-joined s0 s1 t first rest e f = f ∙ ap (λ (xs : List ℕ). xs ++ rest) e ∙ append_assoc s0 first rest
+use Rattle.demo_walks.proofs.WalkLemmas.{over_same_spec}
 
 -- a text that was made anew and then appended
 pub appended : (before after slice made fresh shown text : List ℕ) → after ≡ before ++ slice → slice ≡ made → made ≡ fresh ++ shown
@@ -29,13 +28,11 @@ pub appended : (before after slice made fresh shown text : List ℕ) → after �
 appended before after slice made fresh shown text e1 e2 e3 e4 e5 =
     e1 ∙ ap (λ (xs : List ℕ). before ++ xs) (e2 ∙ e3 ∙ ap (λ (xs : List ℕ). xs ++ shown) e4 ∙ e5)
 
-pub counted : (s t : List ℕ) (n m : ℕ) → t ≡ s ++ decimal n → n ≡ m → t ≡ s ++ decimal m
-counted s t n m is same = is ∙ ap (λ (k : ℕ). s ++ decimal k) same
-
 seven_joined : (s0 s1 s2 s3 s4 s5 s6 s7 a b c d e f g : List ℕ) → s1 ≡ s0 ++ a → s2 ≡ s1 ++ b → s3 ≡ s2 ++ c → s4 ≡ s3 ++ d
     → s5 ≡ s4 ++ e → s6 ≡ s5 ++ f → s7 ≡ s6 ++ g → s7 ≡ s0 ++ (a ++ b ++ c ++ d ++ e ++ f ++ g)
 seven_joined s0 s1 s2 s3 s4 s5 s6 s7 a b c d e f g e1 e2 e3 e4 e5 e6 e7 =
-    joined s0 s6 s7 _ g (joined s0 s5 s6 _ f (joined s0 s4 s5 _ e (joined s0 s3 s4 _ d (joined s0 s2 s3 _ c (joined s0 s1 s2 a b e1 e2)
+    two_pieces s0 s6 s7 _ g
+    (two_pieces s0 s5 s6 _ f (two_pieces s0 s4 s5 _ e (two_pieces s0 s3 s4 _ d (two_pieces s0 s2 s3 _ c (two_pieces s0 s1 s2 a b e1 e2)
     e3) e4) e5) e6) e7
 
 pub sizes_written : (s0 s1 s2 s3 s4 s5 s6 s7 : List ℕ) (data_ : Data) → s1 ≡ s0 ++ codes "data: "
@@ -52,7 +49,7 @@ pub summary_written : (s0 s1 s2 s3 s4 s5 s6 s7 s8 s9 s10 s11 : List ℕ) (data_ 
     → s10 ≡ s9 ++ text_of_last (signature_of data_.signature) (map spelling spec.gate_names.items) (option_map label_of tally.last)
     → s11 ≡ s10 ++ codes "\n" → s11 ≡ s0 ++ written_summary data_ spec cells tally
 summary_written s0 s1 s2 s3 s4 s5 s6 s7 s8 s9 s10 s11 data_ spec cells tally e1 e2 e3 e4 e5 e6 e7 e8 e9 e10 e11 =
-    joined s0 s10 s11 _ _ (joined s0 s9 s10 _ _ (joined s0 s8 s9 _ _ (joined s0 s7 s8 _ _
+    two_pieces s0 s10 s11 _ _ (two_pieces s0 s9 s10 _ _ (two_pieces s0 s8 s9 _ _ (two_pieces s0 s7 s8 _ _
     (seven_joined s0 s1 s2 s3 s4 s5 s6 s7 _ _ _ _ _ _ _ e1 e2 e3 e4 e5 e6 e7) e8) e9) e10) e11
 
 -- what was seen on a walk is what its session has come to

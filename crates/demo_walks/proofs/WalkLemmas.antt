@@ -1,5 +1,6 @@
 -- Walks, step by step.
 use Rattle.std.proofs.Common.{◌≡◌, ◌≤◌, ℕ, zero, suc, ◌+◌, ◌*◌, List, [], ◌∷◌, ◌++◌, length, map, Option, None, Some, option_map, refl, sym, ap, ◌∙◌, subst, arith, add-one}
+use Rattle.session_log.proofs.ReplayLemmas.{over_same}
 use Rattle.lotos_base.specs.Equation.{Data}
 use Rattle.lotos_base.specs.Term.{Term}
 use Rattle.behaviour_semantics.specs.Label.{Label}
@@ -77,11 +78,6 @@ one_more basis old new number values label h =
     })
 
 -- ---- Facts over data that stay the same
-
-pub over_same : (known other : Data) (canon another : Term → Term) (P : Data → (Term → Term) → Type 0) → other ≡ known
-    → another ≡ canon → P other another → P known canon
-over_same known other canon another P same same_canon h =
-    subst (λ (d : Data). P d canon) same (subst (λ (k : Term → Term). P other k) same_canon h)
 
 -- ---- A step of the code
 

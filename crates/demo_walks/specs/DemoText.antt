@@ -7,6 +7,11 @@ abbrev pub numeral : ℕ → List ℕ
 numeral zero = codes "0"
 numeral (suc value) = codes "Succ(" ++ numeral value ++ codes ")"
 
+-- a text so many times
+abbrev pub repeated : ℕ → List ℕ → List ℕ
+repeated zero text = []
+repeated (suc times) text = repeated times text ++ text
+
 -- the sign that joins a cell to those before it
 abbrev pub cell_sign : ℕ → List ℕ
 cell_sign zero = []

@@ -39,7 +39,7 @@ pub fn write_summary<M: MenuMaker>(
     alloc: Global,
     session: &mut Session<M>,
     book: &mut Book,
-    cells: u8,
+    cells: u32,
     into: &mut Vec<u8>,
 ) -> Result<(), NoMemory>
     requires lawful { IsLawfulSession M.suits (data_of book.old.flat) (book_canon book.old)
@@ -64,7 +64,7 @@ fn push_summary(
     spec: &Spec,
     tally: &Tally,
     data: &Flat,
-    cells: u8,
+    cells: u32,
     into: &mut Vec<u8>,
 ) -> Result<(), NoMemory>
     ensures { OnOk result (into.new.items ≡ into.old.items

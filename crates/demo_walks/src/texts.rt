@@ -1,6 +1,6 @@
 //! A specification of any number of cells that put numbers into one store.
 
-ghost use Rattle.demo_walks.specs.DemoText.{cell_line, cell_lines, demo_text, numeral};
+ghost use Rattle.demo_walks.specs.DemoText.{cell_line, cell_lines, demo_text, numeral, repeated};
 ghost use Rattle.std.specs.Prelude.{◌≡◌, ◌++◌, IfOk, OnOk};
 
 use lotos_base::NoMemory;
@@ -38,7 +38,7 @@ endspec
 /// not above it, again and again, and the store tells how often.
 ///
 /// Refused for want of memory alone. Without cells it is no specification.
-pub fn demo_text(alloc: Global, cells: u8) -> Result<Vec<u8>, NoMemory>
+pub fn demo_text(alloc: Global, cells: u32) -> Result<Vec<u8>, NoMemory>
     ensures { IfOk result (λ text. text.items ≡ demo_text cells) }
 {
     let mut text = Vec::new(alloc);
@@ -49,7 +49,7 @@ pub fn demo_text(alloc: Global, cells: u8) -> Result<Vec<u8>, NoMemory>
 }
 
 // Appends the lines of the cells.
-fn push_cells(into: &mut Vec<u8>, cells: u8) -> Result<(), NoMemory>
+fn push_cells(into: &mut Vec<u8>, cells: u32) -> Result<(), NoMemory>
     ensures { OnOk result (into.new.items ≡ into.old.items ++ cell_lines cells) }
 {
     for cell in 0..cells {
@@ -59,7 +59,7 @@ fn push_cells(into: &mut Vec<u8>, cells: u8) -> Result<(), NoMemory>
 }
 
 // Appends the line of a cell.
-fn push_cell(into: &mut Vec<u8>, cell: u8) -> Result<(), NoMemory>
+fn push_cell(into: &mut Vec<u8>, cell: u32) -> Result<(), NoMemory>
     ensures { OnOk result (into.new.items ≡ into.old.items ++ cell_line cell) }
 {
     if cell > 0 {
@@ -71,13 +71,21 @@ fn push_cell(into: &mut Vec<u8>, cell: u8) -> Result<(), NoMemory>
 }
 
 // Appends a number as a term.
-fn push_numeral(into: &mut Vec<u8>, value: u8) -> Result<(), NoMemory>
+fn push_numeral(into: &mut Vec<u8>, value: u32) -> Result<(), NoMemory>
     ensures { OnOk result (into.new.items ≡ into.old.items ++ numeral value) }
 {
-    if value == 0 {
-        return push_text(into, b"0");
+    push_repeated(into, b"Succ(", value)?;
+    push_text(into, b"0")?;
+    push_repeated(into, b")", value)
+}
+
+// Appends a text so many times.
+fn push_repeated(into: &mut Vec<u8>, text: &[u8], times: u32) -> Result<(), NoMemory>
+    ensures { OnOk result (into.new.items ≡ into.old.items ++ repeated times text.now) }
+{
+    for time in 0..times {
+        let _ = time;
+        push_text(into, text)?;
     }
-    push_text(into, b"Succ(")?;
-    push_numeral(into, value - 1)?;
-    push_text(into, b")")
+    Ok(())
 }

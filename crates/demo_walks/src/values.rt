@@ -53,7 +53,7 @@ impl CellValues {
     }
 
     /// The value of the cell with this number, from 0, alone in a list.
-    pub fn put_by(&self, alloc: Global, cell: u8) -> Result<Option<Vec<Sorted>>, NoMemory>
+    pub fn put_by(&self, alloc: Global, cell: u32) -> Result<Option<Vec<Sorted>>, NoMemory>
         ensures put { IfOk result (λ made. option_map (λ list. terms_of list.items) made
             ≡ option_map alone (value_of_cell (values_of self.now) cell)) }
         ensures given { (signature : PlainSignature) → AreGivenValues signature self.now
@@ -63,7 +63,7 @@ impl CellValues {
     }
 
     // The value of the cell with this number.
-    fn of(&self, cell: u8) -> &Option<Sorted>
+    fn of(&self, cell: u32) -> &Option<Sorted>
         ensures value { option_map term_in result.now ≡ value_of_cell (values_of self.now) cell }
         ensures given { (signature : PlainSignature) → AreGivenValues signature self.now
             → IsGivenIfAny signature result.now }

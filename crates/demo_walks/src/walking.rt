@@ -29,7 +29,7 @@ use std::alloc::Global;
 pub fn walk<M: MenuMaker, D: Deciding>(
     alloc: Global,
     values: &CellValues,
-    cells: u8,
+    cells: u32,
     session: &mut Session<M>,
     tally: &mut Tally,
     data: &mut D,
@@ -53,7 +53,7 @@ pub fn walk<M: MenuMaker, D: Deciding>(
 fn rounds<M: MenuMaker, D: Deciding>(
     alloc: Global,
     values: &CellValues,
-    cells: u8,
+    cells: u32,
     session: &mut Session<M>,
     tally: &mut Tally,
     data: &mut D,
@@ -80,7 +80,7 @@ fn rounds<M: MenuMaker, D: Deciding>(
 fn round<M: MenuMaker, D: Deciding>(
     alloc: Global,
     values: &CellValues,
-    cells: u8,
+    cells: u32,
     session: &mut Session<M>,
     tally: &mut Tally,
     data: &mut D,
@@ -106,7 +106,7 @@ fn round<M: MenuMaker, D: Deciding>(
 fn visit<M: MenuMaker, D: Deciding>(
     alloc: Global,
     values: &CellValues,
-    cell: u8,
+    cell: u32,
     session: &mut Session<M>,
     tally: &mut Tally,
     data: &mut D,

@@ -1,5 +1,5 @@
 -- What is below an environment, part by part, and the drafts of binders there.
-use Rattle.std.proofs.Common.{◌≡◌, ◌≤◌, ◌+◌, ℕ, zero, suc, max, List, [], ◌∷◌, ◌++◌, map, filter_map, length, zip, slice_get, Some, refl, ap, sym, ◌∙◌, subst, arith}
+use Rattle.std.proofs.Common.{◌≡◌, ◌≤◌, ◌+◌, ℕ, suc, max, List, [], ◌∷◌, ◌++◌, map, filter_map, length, zip, slice_get, Some, refl, ap, sym, ◌∙◌, subst, arith}
 use Rattle.std.proofs.lemmas.List.{append-nil, length-map}
 use Rattle.lotos_base.specs.Signature.{IsSort}
 use Rattle.lotos_base.specs.Term.{Term, variable}
@@ -13,6 +13,7 @@ use Rattle.behaviour_semantics.specs.WellFormed.{Every, AreTermsIn, IsBehaviour,
 use Rattle.behaviour_semantics.proofs.ListLemmas.{Every-at}
 use Rattle.behaviour_semantics.proofs.OptionLemmas.{some_value}
 use Rattle.behaviour_semantics.proofs.ReplacementLemmas.{let_variables-with}
+use Rattle.behaviour_semantics.proofs.InstanceLemmas.{above_at}
 use Rattle.draft_parts.proofs.NestedLemmas.{nested}
 use Rattle.draft_parts.specs.EnvironmentRaises.{GivesScope}
 use Rattle.draft_parts.specs.DraftRules.{valued_draft}
@@ -31,19 +32,6 @@ above_both limit (x ∷ first) second le more =
     let later : above_variables first ≤ limit = omega (arith, le) in
     let rest : above_variables (first ++ second) ≤ limit = above_both limit first second later more in
     omega (arith, here, rest)
-
-above_called : (processes : List Process) (k : ℕ) (process : Process) → slice_get processes k ≡ Some process
-    → max (above_variables process.parameters) (above process.body) ≤ above_processes processes
-above_called [] k process e = absurd (cc e)
-above_called (p ∷ processes) zero process e =
-    subst (λ (q : Process). max (above_variables q.parameters) (above q.body) ≤ above_processes (p ∷ processes)) (some_value e)
-    (let le : max (above_variables p.parameters) (above p.body)
-    ≤ max (max (above_variables p.parameters) (above p.body)) (above_processes processes) = omega arith in le)
-above_called (p ∷ processes) (suc k) process e =
-    let below : max (above_variables process.parameters) (above process.body) ≤ above_processes processes =
-    above_called processes k process e in
-    let le : max (above_variables process.parameters) (above process.body)
-    ≤ max (max (above_variables p.parameters) (above p.body)) (above_processes processes) = omega (arith, below) in le
 
 module _ (data_ : Data) (canon : Term → Term) (specification : Specification) (scope : List Variable) (pairs : List (ℕ × Term))
     (base next : ℕ) where
@@ -115,7 +103,7 @@ module _ (data_ : Data) (canon : Term → Term) (specification : Specification) 
       (some_value (sym h.formed.1.exists ∙ is)) h.formed.1.values in
       let whole : max (above_processes specification.processes) 0 ≤ base = h.apart in
       let bodies : max (above_variables process.parameters) (above process.body) ≤ above_processes specification.processes =
-      above_called specification.processes number process is in
+      above_at specification.processes number process is in
       let apart : max (above_processes specification.processes) (above process.body) ≤ base = omega (arith, whole, bodies) in
       let low : above_variables process.parameters ≤ base = omega (arith, whole, bodies) in
       let gives : GivesScope data_.signature base (base + next) (process.parameters ++ [])

@@ -21,10 +21,10 @@ use Rattle.behaviour_tree.specs.declared.behaviours.Offer.{Offer}
 use Rattle.behaviour_tree.specs.declared.behaviours.ExitValue.{ExitValue}
 use Rattle.behaviour_tree.specs.declared.behaviours.ExitValue.TheVariants as exit_value
 use Rattle.event_offers.specs.OfferView.{conditions_of}
+use Rattle.event_offers.proofs.ValueLemmas.{pairs_bare}
 use Rattle.draft_parts.specs.Environments.{ArePairsOf, AreResultsReady}
 use Rattle.draft_parts.specs.Offered.{asked_pairs, offered_at, open_leaves, results_at}
 use Rattle.draft_parts.specs.OpenDrafts.{pair_terms, acted, ended_with}
-use Rattle.draft_parts.proofs.PairLemmas.{pairs_bare}
 
 -- the terms without their profiles
 pub terms_bare : (terms : List Sorted) → terms_of terms ≡ map bare (profiles_of terms)

@@ -1,5 +1,6 @@
 -- The list of moves with higher leaves is the list of moves, with the variables raised.
 use Rattle.std.proofs.Common.{◌≡◌, ◌≤◌, ◌+◌, inl, inr, ℕ, List, [], ◌∷◌, length, map, Some, Option, option_map, refl, ap, sym, ◌∙◌, subst}
+use Rattle.lotos_base.proofs.Options.{mapped}
 use Rattle.lotos_base.specs.Term.{Term}
 use Rattle.lotos_base.specs.Equation.{Data, Variable}
 use Rattle.lotos_base.specs.Canon.{IsCanon}
@@ -11,33 +12,19 @@ use Rattle.behaviour_semantics.specs.Listing.{ShapedMove, IsAmong, listed_moves}
 use Rattle.behaviour_semantics.specs.Move.{Setting, Move, move_of}
 use Rattle.behaviour_semantics.specs.NumberingLaws.{AreOverLeaves}
 use Rattle.behaviour_semantics.specs.Replacement.{with_values, binding_of}
-use Rattle.behaviour_semantics.specs.Shape.{Shape, Before}
+use Rattle.behaviour_semantics.specs.Shape.{Shape}
 use Rattle.behaviour_semantics.specs.WellFormed.{Every, AreBinders, IsBehaviour, IsSpecification}
-use Rattle.behaviour_semantics.proofs.OptionLemmas.{mapped}
-use Rattle.behaviour_semantics.proofs.OrderLemmas.{Before-irrefl, Before-trans}
 use Rattle.behaviour_semantics.proofs.ListLemmas.{EachOf, Within, Every-among}
 use Rattle.behaviour_semantics.proofs.ListingLemmas.{listed}
 use Rattle.behaviour_semantics.proofs.ListingSoundness.{are_moves}
 use Rattle.behaviour_semantics.proofs.ListingOrder.{Earlier, Rising, RisingIn, moves_rise}
 use Rattle.behaviour_semantics.proofs.RaisedInside.{later_leaf_inside}
+use Rattle.behaviour_semantics.proofs.ListedOnce.{same_heads, behind}
 use Rattle.draft_parts.specs.HigherLists.{raised_move, HigherListsAreRaised}
 
 -- ---- Lists whose shapes rise and that have the same members are the same.
 abbrev Inside : List ShapedMove → List ShapedMove → Type 0
 Inside xs ys = (x : ShapedMove) → IsAmong x xs → IsAmong x ys
-
-same_heads : (x y : ShapedMove) (xs ys : List ShapedMove) → Rising (x ∷ xs) → Rising (y ∷ ys) → IsAmong x (y ∷ ys) → IsAmong y (x ∷ xs)
-    → x ≡ y
-same_heads x y xs ys h k (inl same) b = sym same
-same_heads x y xs ys h k (inr a) (inl same) = same
-same_heads x y xs ys h k (inr a) (inr b) =
-    absurd (Before-irrefl x.shape (Before-trans x.shape y.shape x.shape (Every-among (Earlier x) xs y h.0 b)
-    (Every-among (Earlier y) ys x k.0 a)))
-
-behind : (x y z : ShapedMove) (xs ys : List ShapedMove) → x ≡ y → Rising (x ∷ xs) → IsAmong z xs → IsAmong z (y ∷ ys) → IsAmong z ys
-behind x y z xs ys heads h a (inl same) =
-    absurd (Before-irrefl z.shape (subst (λ (w : ShapedMove). Before w.shape z.shape) (heads ∙ same) (Every-among (Earlier x) xs z h.0 a)))
-behind x y z xs ys heads h a (inr b) = b
 
 same_lists : (xs ys : List ShapedMove) → Rising xs → Rising ys → Inside xs ys → Inside ys xs → xs ≡ ys
 same_lists [] [] h k i j = refl

@@ -1,11 +1,12 @@
 -- Lists of drafts put together.
 use Rattle.std.proofs.Common.{◌≡◌, ◌<◌, ◌≤◌, ◌++◌, ℕ, suc, ◌+◌, List, [], ◌∷◌, map, filter_map, drop, length, get_or, Bool, true, false, if◌then◌else◌, refl, ap, ◌∙◌, subst, sym, append_assoc, add-one, arith, ◌-◌, append-nil}
-use Rattle.std.specs.Prelude.{Option, zip}
+use Rattle.std.specs.Prelude.{Option}
 use Rattle.std.proofs.Math.Dec.{eqb}
 use Rattle.std.proofs.Math.ListN.{drop_of_length-le}
 use Rattle.std.proofs.Math.Seq.{drop-cons}
 use Rattle.std.proofs.lemmas.Bool.{eqb-true, eqb-false}
 use Rattle.std.proofs.lemmas.List.{map-append, length-drop}
+use Rattle.lotos_base.proofs.Pieces.{zip-nil}
 use Rattle.lotos_base.specs.Signature.{Signature}
 use Rattle.behaviour_semantics.specs.Behaviour.{Relabelling, SynchronisationSet}
 use Rattle.behaviour_semantics.specs.Draft as plain
@@ -140,10 +141,6 @@ more_over signature made more copy m h k =
     (Every-append (HasTermsOf signature) made (copy ∷ []) h (k, tt))
 
 -- ---- The relabelling of a call, gate after gate.
-zip-nil : (xs ys : List ℕ) → ys ≡ [] → zip xs ys ≡ []
-zip-nil [] ys e = refl
-zip-nil (x ∷ xs) [] e = refl
-zip-nil (x ∷ xs) (y ∷ ys) e = absurd (cc e)
 
 pub pairs_turn : (formals actuals : List ℕ) (pairs made more : Relabelling) (i f a : ℕ) → i < length formals → i < length actuals
     → f ≡ get_or formals i f → a ≡ get_or actuals i a → more ≡ made ++ ((f, gate_under pairs a) ∷ [])

@@ -3,6 +3,7 @@ use Rattle.std.proofs.Common.{◌≡◌, ◌<◌, ◌≤◌, ◌++◌, ℕ, zero
 use Rattle.std.specs.List.{cons_option}
 use Rattle.std.proofs.Math.Seq.{drop-cons}
 use Rattle.std.proofs.lemmas.List.{map-append, reverse-append, reverse-reverse, length-map, drop-set-lt, length-set, drop_all}
+use Rattle.std.proofs.lemmas.Bool.{or_parts}
 use Rattle.lotos_base.specs.Signature.{Signature}
 use Rattle.lotos_base.specs.Substitution.{Substitution}
 use Rattle.behaviour_semantics.specs.Behaviour.{SynchronisationSet}
@@ -278,11 +279,6 @@ inner_unmet meet label d e = ap (λ (l : Label). if meet_told meet label l then 
     go (Gate g values) = refl
     go (Exit values) = refl
 
-or_parts : (a b : Bool) → (a || b) ≡ false → (a ≡ false) × (b ≡ false)
-or_parts false false e = (refl, refl)
-or_parts false true e = absurd (cc e)
-or_parts true b e = absurd (cc e)
-
 pub taken_same : (meet : SynchronisationSet) (right left_ : Draft) (later : List Draft) → left_.label ≡ Inner
     → is_met_by meet right.label later ≡ false → Every (IsSameFor meet right left_) later
 taken_same meet right left_ [] inner e = tt
@@ -373,10 +369,6 @@ last_over P rights rest last e h = go rest (subst (λ (ds : List Draft). Every P
     go : (ds : List Draft) → Every P (ds ++ last ∷ []) → Every P ds × P last
     go [] k = (tt, k.0)
     go (d ∷ ds) k = let others = go ds k.1 in ((k.0, others.0), others.1)
-
-pub one_less : {X : Type 0} (x : X) (before after : List X) (many fewer : ℕ) → before ≡ x ∷ after → fewer + 1 ≡ many → many ≡ length before
-    → fewer ≡ length after
-one_less x before after many fewer is gone counted = let short = ap length is in omega arith
 
 pub one_over : (signature : Signature) (made more : List Draft) (d : Draft) → more ≡ made ++ d ∷ [] → Every (HasTermsOf signature) made
     → HasTermsOf signature d → Every (HasTermsOf signature) more

@@ -1,20 +1,15 @@
 -- Terms of an environment put in: they are of the signature, and what is put in is the environment.
-use Rattle.std.proofs.Common.{◌≡◌, ◌++◌, ℕ, List, [], ◌∷◌, Bool, true, false, nat_eq, if◌then◌else◌, refl, ap, sym, ◌∙◌, subst}
-use Rattle.std.proofs.Math.Path.{fun_ext}
+use Rattle.std.proofs.Common.{◌≡◌, ◌++◌, ℕ, List, [], ◌∷◌, Bool, true, false, nat_eq, if◌then◌else◌, sym, subst}
 use Rattle.std.proofs.lemmas.List.{map-append}
 use Rattle.behaviour_semantics.proofs.ListLemmas.{Every-append}
 use Rattle.lotos_base.specs.Signature.{Signature, IsSort}
-use Rattle.lotos_base.specs.Term.{Term}
-use Rattle.lotos_base.specs.Substitution.{Substitution, substituted, binding}
-use Rattle.sort_terms.specs.ProfiledTerm.{ProfiledTerm, bare, IsOf}
-use Rattle.sort_terms.specs.SortedView.{profiled_in, term_in}
+use Rattle.sort_terms.specs.ProfiledTerm.{ProfiledTerm, IsOf}
+use Rattle.sort_terms.specs.SortedView.{profiled_in}
 use Rattle.sort_terms.specs.declared.sorted.Sorted.{Sorted}
-use Rattle.term_match.specs.ProfiledInstance.{profiled_instance, profiled_binding, bare_pairs}
-use Rattle.term_match.specs.SubstView.{profiled_pairs}
-use Rattle.term_match.proofs.InstanceLemmas.{binding_bare, instance_of}
+use Rattle.term_match.specs.ProfiledInstance.{profiled_instance, profiled_binding}
+use Rattle.term_match.proofs.InstanceLemmas.{instance_of}
 use Rattle.behaviour_tree.specs.BehaviourTerms.{profiles_of}
 use Rattle.behaviour_tree.specs.Over.{AreTermsOf}
-use Rattle.behaviour_tree.specs.StateView.{environment_of}
 use Rattle.event_offers.proofs.RenamingLemmas.{occurring_sort}
 use Rattle.draft_parts.specs.Environments.{ArePairsOf, IsReadyForPairs}
 
@@ -32,17 +27,6 @@ pub ready_of : (signature : Signature) (pairs : List (ℕ × ProfiledTerm)) (t :
 ready_of signature pairs t r =
     instance_of signature (profiled_binding pairs) t r.term
     (λ n s o. pairs_give signature pairs r.values n s (occurring_sort signature t r.term n s o))
-
-pub pairs_bare : (pairs : List (ℕ × Sorted)) → bare_pairs (profiled_pairs pairs) ≡ environment_of pairs
-pairs_bare [] = refl
-pairs_bare (pair ∷ pairs) = ap (λ (rest : List (ℕ × Term)). (pair.0, term_in pair.1) ∷ rest) (pairs_bare pairs)
-
--- what is put for each variable
-pub pairs_put : (pairs : List (ℕ × Sorted)) (t : Term)
-    → substituted (λ n s. bare (profiled_binding (profiled_pairs pairs) n s)) t ≡ substituted (binding (environment_of pairs)) t
-pairs_put pairs t =
-    ap (λ (v : Substitution). substituted v t) (fun_ext (λ n. fun_ext (λ s. binding_bare (profiled_pairs pairs) n s
-    ∙ ap (λ (ps : List (ℕ × Term)). binding ps n s) (pairs_bare pairs))))
 
 -- one more term of the signature
 pub more_of : (signature : Signature) (old more : List Sorted) (t : Sorted) → more ≡ old ++ t ∷ [] → AreTermsOf signature (profiles_of old)

@@ -1,7 +1,7 @@
 -- A draft of a move alone meets nothing, and one that may meet makes no move alone.
-use Rattle.std.proofs.Common.{◌≡◌, ◌++◌, ℕ, List, [], ◌∷◌, length, filter_map, Option, None, Some, Bool, true, false, ◌&&◌, not, nat_eq, if◌then◌else◌, refl, ap, sym, ◌∙◌}
+use Rattle.std.proofs.Common.{◌≡◌, ◌++◌, ℕ, List, [], ◌∷◌, length, filter_map, Option, None, Some, Bool, true, false, ◌&&◌, nat_eq, if◌then◌else◌, refl, ap, sym, ◌∙◌}
 use Rattle.std.specs.List.{cons_option}
-use Rattle.std.proofs.lemmas.Bool.{eqb-true}
+use Rattle.std.proofs.lemmas.Bool.{eqb-true, not-true}
 use Rattle.lotos_base.specs.Signature.{Signature}
 use Rattle.lotos_base.specs.Substitution.{Substitution}
 use Rattle.behaviour_semantics.specs.Behaviour.{SynchronisationSet}
@@ -19,17 +19,13 @@ use Rattle.draft_parts.specs.DraftRules.{alone_draft, draft_within}
 use Rattle.draft_parts.specs.Lists.{both_lists, meet_each, plain_drafts}
 use Rattle.draft_parts.specs.Parting.{alone_among, meeting_among}
 
-not_true : (b : Bool) → not b ≡ true → b ≡ false
-not_true true e = absurd (cc e)
-not_true false e = refl
-
 left_apart : (signature : Signature) (meet : SynchronisationSet) (l r : Label) → moves_alone meet l ≡ true
     → move_together signature meet l r ≡ false
 left_apart signature meet inner_event r e = refl
 left_apart signature meet (gate_event g us) inner_event e = refl
 left_apart signature meet (gate_event g us) (exit_event vs) e = refl
 left_apart signature meet (gate_event g us) (gate_event k vs) e =
-    ap (λ (b : Bool). nat_eq g k && b && have_same_sorts signature us vs) (not_true (synchronises meet g) e) ∙ go (nat_eq g k)
+    ap (λ (b : Bool). nat_eq g k && b && have_same_sorts signature us vs) (not-true (synchronises meet g) e) ∙ go (nat_eq g k)
   where
     go : (b : Bool) → (b && false && have_same_sorts signature us vs) ≡ false
     go true = refl
@@ -45,7 +41,7 @@ right_apart signature meet (gate_event g us) (gate_event k vs) e = go (nat_eq g 
   where
     go : (b : Bool) → nat_eq g k ≡ b → (b && synchronises meet g && have_same_sorts signature us vs) ≡ false
     go true is = ap (λ (c : Bool). true && c && have_same_sorts signature us vs)
-        (ap (synchronises meet) (eqb-true g k is) ∙ not_true (synchronises meet k) e)
+        (ap (synchronises meet) (eqb-true g k is) ∙ not-true (synchronises meet k) e)
     go false is = refl
 right_apart signature meet (exit_event us) inner_event e = refl
 right_apart signature meet (exit_event us) (gate_event k vs) e = refl

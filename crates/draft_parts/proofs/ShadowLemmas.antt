@@ -1,5 +1,5 @@
 -- Variables that a later one of the same number shadows may be left out of an environment.
-use Rattle.std.proofs.Common.{◌≡◌, ◌≤◌, ◌+◌, inl, ℕ, zero, suc, List, [], ◌∷◌, length, slice_get, Bool, true, false, nat_eq, if◌then◌else◌, Option, Some, refl, ap, sym, ◌∙◌, subst, arith, eqb-true, eq-eqb}
+use Rattle.std.proofs.Common.{◌≡◌, ◌≤◌, ◌+◌, inl, ℕ, zero, suc, List, [], ◌∷◌, length, slice_get, Bool, true, false, nat_eq, if◌then◌else◌, Option, Some, refl, ap, sym, ◌∙◌, subst, arith, eqb-true}
 use Rattle.std.proofs.Math.Path.{fun_ext}
 use Rattle.lotos_base.specs.Signature.{Signature, IsSort}
 use Rattle.lotos_base.specs.Term.{Term, variable}
@@ -14,6 +14,7 @@ use Rattle.behaviour_semantics.specs.WellFormed.{Every, AreDistinct, AreBinders,
 use Rattle.behaviour_semantics.proofs.OptionLemmas.{some_value}
 use Rattle.behaviour_semantics.proofs.PutTerms.{put_behaviour}
 use Rattle.behaviour_semantics.proofs.ReplacementLemmas.{unchanged}
+use Rattle.behaviour_semantics.proofs.LeftVariables.{listed_at}
 use Rattle.draft_parts.proofs.HigherLemmas.{higher_raised}
 use Rattle.draft_parts.specs.EnvironmentRaises.{GivesScope, EnvironmentsRaise}
 
@@ -121,16 +122,6 @@ apart_unshadowed : (bounds : List Bound) → Apart (numbers_in (unshadowed bound
 apart_unshadowed [] = tt
 apart_unshadowed (b ∷ bounds) =
     (gone_from_left b.0.number (unshadowed bounds), apart_left b.0.number (unshadowed bounds) (apart_unshadowed bounds))
-
-listed_at : (numbers : List ℕ) (k n : ℕ) → slice_get numbers k ≡ Some n → is_listed numbers n ≡ true
-listed_at [] k n at = absurd (cc at)
-listed_at (m ∷ numbers) zero n at =
-    ap (λ (c : Bool). if c then true else is_listed numbers n) (eq-eqb m n (some_value at))
-listed_at (m ∷ numbers) (suc k) n at = by (nat_eq m n) (listed_at numbers k n at)
-  where
-    by : (c : Bool) → is_listed numbers n ≡ true → (if c then true else is_listed numbers n) ≡ true
-    by true rest = refl
-    by false rest = rest
 
 not_behind : (m n : ℕ) (numbers : List ℕ) (j : ℕ) → is_listed numbers m ≡ false → Some m ≡ Some n → slice_get numbers j ≡ Some n → ⊥
 not_behind m n numbers j e same at =

@@ -1,9 +1,9 @@
 -- Drafts that the rules make have terms of the signature.
-use Rattle.std.proofs.Common.{◌≡◌, ◌++◌, List, [], ◌∷◌, map, sym, subst}
+use Rattle.std.proofs.Common.{◌≡◌, ◌++◌, [], map, sym, subst}
 use Rattle.std.specs.Prelude.{zip}
 use Rattle.lotos_base.specs.Signature.{Signature}
 use Rattle.behaviour_semantics.proofs.ListLemmas.{Every-append}
-use Rattle.sort_terms.specs.ProfiledTerm.{ProfiledTerm, IsOf}
+use Rattle.sort_terms.specs.ProfiledTerm.{IsOf}
 use Rattle.term_match.specs.ProfiledInstance.{profiled_instance}
 use Rattle.behaviour_tree.specs.BehaviourTerms.{profiles_of}
 use Rattle.behaviour_tree.specs.Over.{AreTermsOf}
@@ -13,13 +13,8 @@ use Rattle.event_offers.specs.Renaming.{pair_instance, profiled_renaming_of}
 use Rattle.event_offers.specs.declared.drafts.Draft.{Draft}
 use Rattle.event_offers.specs.declared.renaming.Renaming.{Renaming}
 use Rattle.event_offers.proofs.RenamingLemmas.{renamed_terms_of, renamed_pairs_of}
+use Rattle.event_offers.proofs.JoinLemmas.{zipped_of}
 use Rattle.draft_parts.specs.DraftTerms.{HasTermsOf}
-
-zipped_of : (signature : Signature) (ts us : List ProfiledTerm) → AreTermsOf signature ts → AreTermsOf signature us → AreConditionsOf
-    signature (zip ts us)
-zipped_of signature [] us h k = tt
-zipped_of signature (t ∷ ts) [] h k = tt
-zipped_of signature (t ∷ ts) (u ∷ us) h k = ((h.0, k.0), zipped_of signature ts us h.1 k.1)
 
 -- a copy
 pub copy_over : (signature : Signature) (draft made : Draft)

@@ -1,8 +1,8 @@
 -- The condition that solving uses next, found in a list.
-use Rattle.std.proofs.Common.{◌≡◌, ◌<◌, ◌+◌, ℕ, suc, List, [], ◌∷◌, length, get_or, drop, Option, None, Some, refl, ap, sym, ◌∙◌, subst, arith}
+use Rattle.std.proofs.Common.{◌≡◌, ◌<◌, ◌+◌, ℕ, List, [], length, get_or, drop, Option, None, Some, refl, ap, sym, ◌∙◌, subst}
 use Rattle.std.specs.Prelude.{IfSome}
 use Rattle.std.specs.Option.{option_map}
-use Rattle.std.proofs.Math.Seq.{drop-cons}
+use Rattle.lotos_base.proofs.Pieces.{next_member}
 use Rattle.lotos_base.specs.Signature.{Signature}
 use Rattle.lotos_base.specs.Term.{Term}
 use Rattle.behaviour_semantics.specs.Solving.{first_found, first_replacement, replacement_of}
@@ -13,26 +13,19 @@ use Rattle.event_offers.specs.Changing.{found_of}
 use Rattle.event_offers.specs.OfferView.{condition_profiles, conditions_of, condition_sides}
 use Rattle.event_offers.specs.Offers.{IsConditionOf, AreConditionsOf}
 
--- a list from a position on
-pub from_here : {X : Type 0} (items : List X) (i : ℕ) (x : X) → i < length items → x ≡ get_or items i x → drop i items ≡ x ∷ drop (i + 1)
-    items
-from_here items i x lt is =
-    drop-cons items i x lt ∙ ap (λ y. y ∷ drop (suc i) items) (sym is) ∙ ap (λ (n : ℕ). x ∷ drop n items) (let e : suc i ≡ i + 1 = omega
-    arith in e)
-
 pub pair_at : (signature : Signature) (items : List (Sorted × Sorted)) (i : ℕ) (x : Sorted × Sorted) → i < length items → x ≡ get_or items
     i x
     → AreConditionsOf signature (condition_profiles (drop i items))
     → IsConditionOf signature (condition_sides x) × AreConditionsOf signature (condition_profiles (drop (i + 1) items))
 pair_at signature items i x lt is h = subst (λ (ys : List (Sorted × Sorted)). AreConditionsOf signature (condition_profiles ys))
-    (from_here items i x lt is) h
+    (next_member items i x lt is) h
 
 pub none_given : (items : List (Sorted × Sorted)) (i : ℕ) (x : Sorted × Sorted) (first : Option (ℕ × Term)) → i < length items
     → x ≡ get_or items i x → None ≡ replacement_of (term_in x.0) (term_in x.1) → first_replacement (conditions_of (drop i items)) ≡ first
     → first_replacement (conditions_of (drop (i + 1) items)) ≡ first
 none_given items i x first lt is none so =
     ap (λ (o : Option (ℕ × Term)). first_found o (first_replacement (conditions_of (drop (i + 1) items)))) none
-    ∙ ap (λ (ys : List (Sorted × Sorted)). first_replacement (conditions_of ys)) (sym (from_here items i x lt is)) ∙ so
+    ∙ ap (λ (ys : List (Sorted × Sorted)). first_replacement (conditions_of ys)) (sym (next_member items i x lt is)) ∙ so
 
 pub gives_of : (given : Option (ℕ × Sorted)) (found : ℕ × Sorted) (first : Option (ℕ × Term)) → given ≡ Some found
     → option_map found_of given ≡ first → first ≡ Some (found_of found)

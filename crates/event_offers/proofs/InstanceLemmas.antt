@@ -2,6 +2,7 @@
 use Rattle.std.proofs.Common.{◌≡◌, ◌<◌, ◌+◌, length, get_or, drop, ℕ, zero, suc, List, [], ◌∷◌, map, slice_get, Option, None, Some, Bool, true, false, if◌then◌else◌, refl, ap, sym, ◌∙◌, subst}
 use Rattle.std.specs.Prelude.{◌↔◌}
 use Rattle.std.specs.Option.{option_map}
+use Rattle.lotos_base.proofs.Pieces.{next_member}
 use Rattle.lotos_base.specs.Signature.{Signature}
 use Rattle.lotos_base.specs.Term.{Term, variable}
 use Rattle.lotos_base.specs.Tests.{term_eq}
@@ -22,34 +23,26 @@ use Rattle.behaviour_semantics.specs.SolvingLaws.{IsTermOver}
 use Rattle.behaviour_semantics.specs.DraftOrder.{IsDraftTest}
 use Rattle.behaviour_semantics.specs.WellFormed.{Every}
 use Rattle.behaviour_semantics.proofs.OptionLemmas.{some_value}
+use Rattle.behaviour_semantics.proofs.SupplyLemmas.{value_at}
 use Rattle.sort_terms.specs.ProfiledTerm.{ProfiledTerm, bare, head_sort, IsOf}
 use Rattle.sort_terms.specs.SortedView.{profiled_in, term_in}
 use Rattle.sort_terms.specs.declared.sorted.Sorted.{Sorted}
 use Rattle.behaviour_tree.specs.BehaviourTerms.{profiles_of}
 use Rattle.behaviour_tree.specs.BehaviourView.{terms_of}
 use Rattle.behaviour_tree.specs.Over.{AreTermsOf}
+use Rattle.behaviour_tree.proofs.StartLemmas.{told_sort}
 use Rattle.event_offers.specs.Instances.{AreValuesOver, IsValued, IsValuedPair, unmet_among}
 use Rattle.event_offers.specs.OfferView.{condition_of, condition_profiles, conditions_of, plain_entry}
 use Rattle.event_offers.specs.Offers.{IsEntryOver, AreConditionsOf}
 use Rattle.event_offers.specs.Values.{profiled_listed}
 use Rattle.event_offers.specs.declared.drafts.Entry.{Entry}
-use Rattle.event_offers.proofs.FindingLemmas.{from_here}
-use Rattle.event_offers.proofs.SolvingWay.{head_sorted}
 
 values_sorted : (signature : Signature) (vars : List ℕ) (vs : List Sorted) → AreValues signature vars (terms_of vs)
     → AreTermsOf signature (profiles_of vs) → (n s : ℕ) → slice_get vars n ≡ Some s → head_sort (profiled_listed (profiles_of vs) n s) ≡ s
 values_sorted signature [] vs h k n s at = absurd (cc at)
 values_sorted signature (r ∷ vars) [] h k n s at = absurd h
-values_sorted signature (r ∷ vars) (v ∷ vs) h k zero s at = head_sorted signature (profiled_in v) r k.0 h.0.sorted ∙ some_value at
+values_sorted signature (r ∷ vars) (v ∷ vs) h k zero s at = told_sort signature (profiled_in v) r k.0 h.0.sorted ∙ some_value at
 values_sorted signature (r ∷ vars) (v ∷ vs) h k (suc n) s at = values_sorted signature vars vs h.1 k.1 n s at
-
--- the value of a variable
-value_at : (signature : Signature) (vars : List ℕ) (vs : List Term) → AreValues signature vars vs → (n s : ℕ) → slice_get vars n ≡ Some s
-    → IsGroundOf signature s (leaves_in vs n s)
-value_at signature [] vs h n s at = absurd (cc at)
-value_at signature (r ∷ vars) [] h n s at = absurd h
-value_at signature (r ∷ vars) (v ∷ vs) h zero s at = subst (λ (q : ℕ). IsGroundOf signature q v) (some_value at) h.0
-value_at signature (r ∷ vars) (v ∷ vs) h (suc n) s at = value_at signature vars vs h.1 n s at
 
 module _ (signature : Signature) (vars : List ℕ) (vs : List Sorted) (values : AreValuesOver signature vars vs) where
   valued : (t : ProfiledTerm) → IsOf signature t → IsTermOver vars (bare t) → IsValued signature vs t
@@ -132,7 +125,7 @@ unmet_here canon values items i x left right out lt is el er apart so =
     ≡ Some (record { left = canon (substituted values (term_in x.0)); right = canon (substituted values (term_in x.1)) }) = rw differ refl
     in
     (λ j. Some (record { left = el j; right = er j })) ∙ sym here
-    ∙ ap (λ (ys : List (Sorted × Sorted)). unmet_among canon values (conditions_of ys)) (sym (from_here items i x lt is)) ∙ so
+    ∙ ap (λ (ys : List (Sorted × Sorted)). unmet_among canon values (conditions_of ys)) (sym (next_member items i x lt is)) ∙ so
   where
     by : (b : Bool) → term_eq (canon (substituted values (term_in x.0))) (canon (substituted values (term_in x.1))) ≡ b → b ≡ false
     by true e = absurd (apart (el ∙ (Decides-term_eq (canon (substituted values (term_in x.0))) (canon (substituted values (term_in
@@ -150,14 +143,14 @@ met_here canon values items i x left right out lt is el er same so =
     let here : unmet_among canon values (conditions_of (x ∷ drop (i + 1) items)) ≡ unmet_among canon values (conditions_of (drop (i + 1)
     items)) =
     rw agree refl in
-    sym here ∙ ap (λ (ys : List (Sorted × Sorted)). unmet_among canon values (conditions_of ys)) (sym (from_here items i x lt is)) ∙ so
+    sym here ∙ ap (λ (ys : List (Sorted × Sorted)). unmet_among canon values (conditions_of ys)) (sym (next_member items i x lt is)) ∙ so
 
 pub valued_from : (signature : Signature) (vs : List Sorted) (items : List (Sorted × Sorted)) (i : ℕ) (x : Sorted × Sorted) → i < length
     items
     → x ≡ get_or items i x → Every (IsValuedPair signature vs) (condition_profiles (drop i items))
     → Every (IsValuedPair signature vs) (condition_profiles (drop (i + 1) items))
 valued_from signature vs items i x lt is h =
-    (subst (λ (ys : List (Sorted × Sorted)). Every (IsValuedPair signature vs) (condition_profiles ys)) (from_here items i x lt is) h).1
+    (subst (λ (ys : List (Sorted × Sorted)). Every (IsValuedPair signature vs) (condition_profiles ys)) (next_member items i x lt is) h).1
 
 -- what is unmet, as the code keeps it
 pub met_by : {A : Type 0} (o : Option (Sorted × Sorted)) (u : Option Test) → option_map condition_of o ≡ u → (u ≡ None) ↔ A → (o ≡ None) ↔ A

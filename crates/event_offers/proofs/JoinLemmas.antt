@@ -101,7 +101,7 @@ are_joined signature left right made e is h k =
     ∙ sym (ap (λ (b : Bool). if b then Some (both_drafts (plain_draft left) (draft_with (raised (length (terms_of left.leaves.items)))
     (plain_draft right))) else None) t)
 
-zipped_of : (signature : Signature) (ts us : List ProfiledTerm) → AreTermsOf signature ts → AreTermsOf signature us → AreConditionsOf
+pub zipped_of : (signature : Signature) (ts us : List ProfiledTerm) → AreTermsOf signature ts → AreTermsOf signature us → AreConditionsOf
     signature (zip ts us)
 zipped_of signature [] us h k = tt
 zipped_of signature (t ∷ ts) [] h k = tt

@@ -24,7 +24,7 @@ unlike_lengths (x ∷ xs) (y ∷ ys) apart = by (nat_eq (head_sort (profiled_in 
     by true rest = rest
     by false rest = refl
 
-pairwise_nothing : (ts : List Term) → pairwise ts [] ≡ []
+pub pairwise_nothing : (ts : List Term) → pairwise ts [] ≡ []
 pairwise_nothing [] = refl
 pairwise_nothing (t ∷ ts) = refl
 

@@ -1,8 +1,8 @@
 -- Terms without a variable stay when something is put for it.
 use Rattle.std.proofs.Common.{◌≡◌, ℕ, List, [], ◌∷◌, Bool, true, false, ◌&&◌, not, nat_eq, if◌then◌else◌, refl, ap, sym, eq-eqb, eqb-true}
+use Rattle.std.proofs.lemmas.Bool.{and_parts}
 use Rattle.lotos_base.specs.Term.{Term, variable, node, Terms, term_then, no_terms}
 use Rattle.lotos_base.specs.Substitution.{substituted, all_substituted, binding}
-use Rattle.behaviour_semantics.proofs.MoveToRule.{and_parts}
 use Rattle.event_offers.specs.Lacking.{lacks_number, all_lack_number}
 
 -- numbers are told apart either way round

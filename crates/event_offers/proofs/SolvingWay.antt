@@ -1,9 +1,9 @@
 -- The way from a draft to its outcome: each draft on it is what tidying makes of a draft in order.
 use Rattle.std.proofs.Common.{◌≡◌, ◌<◌, ◌≤◌, ◌++◌, ℕ, List, [], ◌∷◌, map, length, Option, None, Some, Bool, true, false, refl, ap, sym, ◌∙◌, subst, arith}
 use Rattle.std.proofs.lemmas.List.{length-map}
-use Rattle.lotos_base.specs.Signature.{Signature, Operation, IsOperation}
+use Rattle.lotos_base.specs.Signature.{Signature, IsOperation}
 use Rattle.lotos_base.specs.Term.{Term, variable}
-use Rattle.lotos_base.specs.Sorting.{HasSort, Occurs}
+use Rattle.lotos_base.specs.Sorting.{Occurs}
 use Rattle.lotos_base.specs.Equation.{Data}
 use Rattle.lotos_base.specs.Substitution.{substituted}
 use Rattle.lotos_base.specs.Canon.{IsCanon}
@@ -17,13 +17,12 @@ use Rattle.behaviour_semantics.specs.Rule.{label_values}
 use Rattle.behaviour_semantics.specs.WellFormed.{Every}
 use Rattle.behaviour_semantics.specs.DraftOrder.{IsLeaf, HasLeafVariables, IsDraftTerm, IsDraftTest, IsInOrder, LeavesMeet}
 use Rattle.behaviour_semantics.specs.DraftOrderLaws.{SolvingNamesNoBehaviour, IsSolvedFrom}
-use Rattle.behaviour_semantics.proofs.OptionLemmas.{some_value}
 use Rattle.behaviour_semantics.proofs.DraftsInOrder.{came_from, canon_changes, tidied_in_order, label_values-in}
 use Rattle.behaviour_semantics.proofs.ReplacementsInOrder.{put_for, Replaces, replacement_changes, rests_on, replaced_in_order, was_leaf, gone}
 use Rattle.behaviour_semantics.proofs.LeftVariables.{fewer, less}
 use Rattle.behaviour_semantics.proofs.SolvedForms.{Tidy, tidy_tests}
 use Rattle.behaviour_semantics.proofs.SolvingAnyDraft.{solving_any}
-use Rattle.sort_terms.specs.ProfiledTerm.{ProfiledTerm, profiled_variable, profiled_node, bare, head_sort, IsOf}
+use Rattle.sort_terms.specs.ProfiledTerm.{ProfiledTerm, bare, IsOf}
 use Rattle.sort_terms.specs.SortedView.{profiled_in, term_in}
 use Rattle.sort_terms.specs.declared.sorted.Sorted.{Sorted}
 use Rattle.behaviour_tree.specs.BehaviourTerms.{profiles_of}
@@ -32,6 +31,7 @@ use Rattle.behaviour_tree.specs.MoveView.{label_of, shape_of}
 use Rattle.behaviour_tree.specs.Over.{AreTermsOf}
 use Rattle.behaviour_tree.specs.declared.moves.Label.{Label}
 use Rattle.behaviour_tree.specs.declared.moves.Label.TheVariants.{Inner, Gate, Exit}
+use Rattle.behaviour_tree.proofs.StartLemmas.{told_sort}
 use Rattle.event_offers.specs.Changing.{found_of, put_of, changed_by, PutsSort, PutsWell, IsReadyForChange, AreReady, IsReadyPair, AreReadyPairs}
 use Rattle.event_offers.specs.OfferView.{condition_of, conditions_of, condition_profiles, label_profiles, plain_draft, plain_entry}
 use Rattle.event_offers.specs.Offers.{IsConditionOf, AreConditionsOf, IsDraftOver, IsOrderedEntry, IsEntryOver}
@@ -56,11 +56,6 @@ pub record IsReached (data_ : Data) (canon : Term → Term) (first : plain.Draft
   pub is : plain_draft now ≡ tidied canon before
   pub leads : (o : Option solving.Entry) → SolvesTo canon before o → SolvesTo canon first o
   pub terms : HasTermsOf data_.signature now
-
-pub head_sorted : (signature : Signature) (t : ProfiledTerm) (s : ℕ) → IsOf signature t → HasSort signature (bare t) s → head_sort t ≡ s
-head_sorted signature (profiled_variable n r) s h k = k.0
-head_sorted signature (profiled_node f operation ts) s h k =
-    ap (λ (o : Operation). o.result) (some_value (sym h.0 ∙ k.1)) ∙ k.2
 
 module _ (data_ : Data) (canon : Term → Term) (is_canon : IsCanon data_ canon) where
   -- before the first step nothing is put in
@@ -115,7 +110,7 @@ module _ (data_ : Data) (canon : Term → Term) (is_canon : IsCanon data_ canon)
 
       puts : (s : ℕ) (t : ProfiledTerm) → HasLeafVariables data_.signature (terms_of now.leaves.items) s (bare t) → PutsSort found t
       puts s t h r o =
-          head_sorted data_.signature (profiled_in found.1) rests.sort found_is_of rests.value.sorted
+          told_sort data_.signature (profiled_in found.1) rests.sort found_is_of rests.value.sorted
           ∙ order_now.one_sort found.0 rests.sort r (rests.is_variable.own found.0 rests.sort (refl, refl)) (h.own found.0 r o)
 
       ready_list : (items : List Sorted) → AreTermsOf data_.signature (profiles_of items)

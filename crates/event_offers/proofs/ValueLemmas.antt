@@ -1,19 +1,21 @@
 -- Terms with other terms put for their variables: they fit, and stay of their signature.
-use Rattle.std.proofs.Common.{rules, ◌≡◌, ◌<◌, ◌≤◌, ◌-◌, length, get_or, ap, arith, ℕ, zero, suc, List, [], ◌∷◌, Bool, true, false, nat_eq, slice_get, if◌then◌else◌, refl, sym, ◌∙◌, subst, eqb-true}
+use Rattle.std.proofs.Common.{◌≡◌, ◌<◌, ◌≤◌, ◌-◌, length, get_or, ap, arith, ℕ, zero, suc, List, [], ◌∷◌, Bool, true, false, nat_eq, slice_get, if◌then◌else◌, refl, sym, ◌∙◌, subst, eqb-true}
+use Rattle.std.proofs.Math.Path.{fun_ext}
 use Rattle.lotos_base.specs.Signature.{Signature, IsSort}
 use Rattle.lotos_base.specs.Sorting.{Occurs}
-use Rattle.lotos_base.specs.Substitution.{substituted, binding}
+use Rattle.lotos_base.specs.Substitution.{substituted, binding, Substitution}
+use Rattle.lotos_base.specs.Term.{Term}
 use Rattle.behaviour_semantics.specs.Derives.{leaves_in}
 use Rattle.sort_terms.specs.ProfiledTerm.{ProfiledTerm, profiled_variable, bare, head_sort, FitsProfiles, IsOf}
 use Rattle.sort_terms.specs.SortedView.{profiled_in, term_in}
-use Rattle.sort_terms.specs.TermView.{profiled_of}
-use Rattle.sort_terms.specs.declared.terms.Term.{Var, the_lemmas as term_lemmas}
 use Rattle.sort_terms.specs.declared.sorted.Sorted.{Sorted}
-use Rattle.term_match.specs.ProfiledInstance.{profiled_instance, profiled_binding}
-use Rattle.term_match.proofs.InstanceLemmas.{instance_bare, instance_fits, instance_of, binding_fits}
+use Rattle.term_match.specs.ProfiledInstance.{profiled_instance, profiled_binding, bare_pairs}
+use Rattle.term_match.proofs.InstanceLemmas.{instance_bare, instance_fits, instance_of, binding_fits, binding_bare}
+use Rattle.term_match.specs.SubstView.{profiled_pairs}
 use Rattle.behaviour_tree.specs.BehaviourTerms.{profiles_of}
 use Rattle.behaviour_tree.specs.BehaviourView.{terms_of}
 use Rattle.behaviour_tree.specs.Over.{AreTermsOf}
+use Rattle.behaviour_tree.specs.StateView.{environment_of}
 use Rattle.event_offers.specs.Changing.{put_of, PutsSort}
 use Rattle.event_offers.specs.Values.{profiled_listed, profiled_values, values_of, SuitsTerm}
 use Rattle.event_offers.specs.declared.valued.Values.{Values}
@@ -102,6 +104,12 @@ past_the_end (u ∷ values) (suc n) s le =
     ap (λ (m : ℕ). profiled_variable m s) (let e : suc n - suc (length values) ≡ n - length values = omega arith in e)
     ∙ past_the_end values n s (omega arith)
 
--- a variable of the code
-pub profiled_of-Var : (n s : ℕ) → profiled_of (Var n s) ≡ profiled_variable n s
-profiled_of-Var n s = search (rules, term_lemmas)
+pub pairs_bare : (pairs : List (ℕ × Sorted)) → bare_pairs (profiled_pairs pairs) ≡ environment_of pairs
+pairs_bare [] = refl
+pairs_bare (pair ∷ pairs) = ap (λ (rest : List (ℕ × Term)). (pair.0, term_in pair.1) ∷ rest) (pairs_bare pairs)
+
+pub pairs_put : (pairs : List (ℕ × Sorted)) (t : Term)
+    → substituted (λ n s. bare (profiled_binding (profiled_pairs pairs) n s)) t ≡ substituted (binding (environment_of pairs)) t
+pairs_put pairs t =
+    ap (λ (v : Substitution). substituted v t) (fun_ext (λ n. fun_ext (λ s. binding_bare (profiled_pairs pairs) n s
+    ∙ ap (λ (ps : List (ℕ × Term)). binding ps n s) (pairs_bare pairs))))

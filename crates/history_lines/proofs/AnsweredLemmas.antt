@@ -1,126 +1,73 @@
--- The lines that a server of sessions answers.
-use Rattle.std.proofs.Common.{◌≡◌, ℕ, ◌+◌, Bool, true, false, List, [], ◌∷◌, ◌++◌, Option, None, Some, refl, sym, subst, ◌∙◌, arith}
-use Rattle.std.proofs.lemmas.List.{append-nil}
-use Rattle.line_server.specs.Report.{ended, answers, last_text, end_of, state_behind, state_behind_last, complete, unfinished}
-use Rattle.line_server.specs.Machine.{by_chances, fault_count}
-use Rattle.line_server.specs.Fitting.{FitsSome, FitLines, UnlessQuits}
-use Rattle.line_server.specs.declared.ends.SessionEnd.TheVariants.{Finished}
+-- The lines that a server of sessions answered.
+use Rattle.std.proofs.Common.{◌≡◌, ◌⊎◌, inl, inr, ℕ, ◌<◌, ◌≤◌, Bool, true, false, List, [], ◌∷◌, ◌++◌, refl, sym, subst, ◌∙◌, arith}
+use Rattle.lotos_base.specs.Counts.{Rises, last_count}
+use Rattle.line_server.specs.Machine.{Reply}
+use Rattle.line_server.specs.Answered as served
+use Rattle.line_server.specs.Answered.{no_line, ended_by, behind_one}
 use Rattle.history_lines.specs.Standing.{Standing}
 use Rattle.history_lines.specs.Befallen.{Befallen}
-use Rattle.history_lines.specs.Answer.{LineComesTo}
-use Rattle.history_lines.specs.SessionMachine.{history_machine, met_fault}
+use Rattle.history_lines.specs.Serving.{ShelfCounts}
+use Rattle.history_lines.specs.SessionMachine.{SessionPoint, LineIs, history_machine}
 use Rattle.history_lines.specs.Beginning.{Beginning, CanBegin}
 use Rattle.history_lines.specs.Reached.{IsReached}
-use Rattle.history_lines.specs.Answered.{last_line, IsAnswered, AreAnswered, all_answered, last_answered, one_answered}
+use Rattle.history_lines.specs.Answered.{IsAnswered, AreAnswered, all_answered, last_answered, one_answered}
 use Rattle.history_lines.specs.ReportLaws.{LinesLeadOn, ServedLinesAreAnswered}
 
 -- ---- Faults
 
--- the first of chances of which none is a fault is none, and so are those behind it
-no_first : (chance : Option Befallen) (chances : List (Option Befallen)) → fault_count history_machine (chance ∷ chances) ≡ 0
-    → (met_fault chance ≡ false) × (fault_count history_machine chances ≡ 0)
-no_first chance chances none = by (met_fault chance) refl
-  where
-    by : (faulty : Bool) → met_fault chance ≡ faulty → (met_fault chance ≡ false) × (fault_count history_machine chances ≡ 0)
-    by true is =
-        let counted : fault_count history_machine (chance ∷ chances) ≡ fault_count history_machine chances + 1 = rw
-        (is, fault_count) refl in
-        absurd (omega (arith, counted, none))
-    by false is =
-        let counted : fault_count history_machine (chance ∷ chances) ≡ fault_count history_machine chances = rw (is, fault_count) refl in
-        (is, sym counted ∙ none)
+-- the count of the shelf never falls
+pub count_rises : (faulty : Bool) (before after : ℕ) → ShelfCounts faulty before after → before ≤ after
+count_rises true before after (inl h) = omega (arith, h)
+count_rises true before after (inr h) = omega (arith, h.0, h.1)
+count_rises false before after h = omega (arith, h)
 
--- ---- The end
+pub counts_rise : (before last : SessionPoint) (lines : List (List ℕ)) (text : List ℕ) (quits : Bool)
+    → served.Answered history_machine before lines text last quits → before.faults ≤ last.faults
+counts_rise before last lines text quits (no_line _) = omega arith
+counts_rise before last lines text quits (ended_by _ line rest reply comes ends) =
+    count_rises comes.it.faulty before.faults reply.next.faults comes.counted
+counts_rise before last lines text quits (behind_one _ _ line rest reply more _ comes stays later) =
+    omega (
+      arith,
+      count_rises comes.it.faulty before.faults reply.next.faults comes.counted,
+      counts_rise reply.next last rest more quits later,
+    )
 
--- a session whose input has ended ends of itself
-pub ends_finished : (stand : Standing × List (Option Befallen)) (lines : List (List ℕ))
-    → end_of (by_chances history_machine) stand lines ended ≡ Finished
-ends_finished stand [] = refl
-ends_finished stand (line ∷ lines) =
-    by (by_chances history_machine stand line).quits refl (ends_finished (by_chances history_machine stand line).next lines)
-  where
-    by : (quits : Bool) → (by_chances history_machine stand line).quits ≡ quits
-        → end_of (by_chances history_machine) (by_chances history_machine stand line).next lines ended ≡ Finished
-        → end_of (by_chances history_machine) stand (line ∷ lines) ended ≡ Finished
-    by true is rest = rw (is, end_of) refl
-    by false is rest = rw (is, end_of) rest
+-- where it is what it was in the end, and below its last value, no line met a fault
+no_fault : (faulty : Bool) (before between last : ℕ) → ShelfCounts faulty before between → between ≤ last → last ≡ before
+    → before < last_count → (faulty ≡ false) × (between ≡ before)
+no_fault true before between last (inl h) rises same below = absurd (omega (arith, h, rises, same))
+no_fault true before between last (inr h) rises same below = absurd (omega (arith, h.0, below))
+no_fault false before between last h rises same below = (refl, h)
 
 -- ---- The lines
 
 module _ (laws : LinesLeadOn) (begun : Beginning) (can : CanBegin begun) where
-  is_answered : (standing : Standing) (line : List ℕ) (it : Befallen) → IsReached begun standing → it.faulty ≡ false
-      → LineComesTo standing line it → IsAnswered begun standing line it
-  is_answered standing line it is steady comes =
-      record { comes = comes; steady = steady; reached = laws.goes_on begun standing line it can is comes }
+  is_answered : (before : SessionPoint) (line : List ℕ) (reply : Reply SessionPoint) (comes : LineIs before line reply)
+      → IsReached begun before.standing → comes.it.faulty ≡ false → IsAnswered begun before.standing line comes.it
+  is_answered before line reply comes is steady =
+      record { comes = comes.comes; steady = steady; reached = laws.goes_on begun before.standing line comes.it can is comes.comes }
 
-  -- one line alone
-  one_alone : (standing : Standing) (line : List ℕ) (it : Befallen) → IsAnswered begun standing line it
-      → AreAnswered begun standing (line ∷ []) it.reply.text it.reply.next
-  one_alone standing line it is = by it.reply.quits refl
-    where
-      by : (quits : Bool) → it.reply.quits ≡ quits → AreAnswered begun standing (line ∷ []) it.reply.text it.reply.next
-      by true quits = last_answered standing line [] it is quits
-      by false quits =
-          subst (λ (text : List ℕ). AreAnswered begun standing (line ∷ []) text it.reply.next) (append-nil it.reply.text)
-          (one_answered standing it.reply.next line [] it [] is quits (all_answered it.reply.next))
-
-  last_of : (standing : Standing) (chances : List (Option Befallen)) (last : List ℕ) → IsReached begun standing
-      → fault_count history_machine chances ≡ 0 → FitsSome history_machine true (standing, chances) last
-      → AreAnswered begun standing (last_line last) (last_text (by_chances history_machine) (standing, chances) last)
-      (state_behind_last (by_chances history_machine) (standing, chances) last).0
-  last_of standing chances [] is none fits = all_answered standing
-  last_of standing [] (byte ∷ bytes) is none fits = absurd fits
-  last_of standing (None ∷ later) (byte ∷ bytes) is none fits = absurd fits
-  last_of standing (Some it ∷ later) (byte ∷ bytes) is none fits =
-      one_alone standing (byte ∷ bytes) it (is_answered standing (byte ∷ bytes) it is (no_first (Some it) later none).0 fits)
-
-  -- one line, and those behind it unless it ends the session
-  more_of : (standing : Standing) (it : Befallen) (later : List (Option Befallen)) (line : List ℕ) (lines : List (List ℕ)) (last : List ℕ)
-      → IsAnswered begun standing line it
-      → UnlessQuits it.reply.quits (FitLines history_machine true (it.reply.next, later) lines last ended)
-      → (FitLines history_machine true (it.reply.next, later) lines last ended
-      → AreAnswered begun it.reply.next (lines ++ last_line last)
-      (answers (by_chances history_machine) (it.reply.next, later) lines last ended)
-      (state_behind (by_chances history_machine) (it.reply.next, later) lines last ended).0)
-      → AreAnswered begun standing (line ∷ (lines ++ last_line last))
-      (answers (by_chances history_machine) (standing, Some it ∷ later) (line ∷ lines) last ended)
-      (state_behind (by_chances history_machine) (standing, Some it ∷ later) (line ∷ lines) last ended).0
-  more_of standing it later line lines last here fits rest = by it.reply.quits refl
-    where
-      by : (quits : Bool) → it.reply.quits ≡ quits
-          → AreAnswered begun standing (line ∷ (lines ++ last_line last))
-          (answers (by_chances history_machine) (standing, Some it ∷ later) (line ∷ lines) last ended)
-          (state_behind (by_chances history_machine) (standing, Some it ∷ later) (line ∷ lines) last ended).0
-      by true quits =
-          rw (quits, answers, state_behind)
-          (subst (λ (text : List ℕ). AreAnswered begun standing (line ∷ (lines ++ last_line last)) text it.reply.next)
-          (sym (append-nil it.reply.text)) (last_answered standing line (lines ++ last_line last) it here quits))
-      by false quits =
-          rw (quits, answers, state_behind)
-          (one_answered standing (state_behind (by_chances history_machine) (it.reply.next, later) lines last ended).0 line
-          (lines ++ last_line last) it (answers (by_chances history_machine) (it.reply.next, later) lines last ended) here quits
-          (rest (rw quits at fits)))
-
-  pub all_of : (standing : Standing) (chances : List (Option Befallen)) (lines : List (List ℕ)) (last : List ℕ)
-      → IsReached begun standing → fault_count history_machine chances ≡ 0
-      → FitLines history_machine true (standing, chances) lines last ended
-      → AreAnswered begun standing (lines ++ last_line last)
-      (answers (by_chances history_machine) (standing, chances) lines last ended)
-      (state_behind (by_chances history_machine) (standing, chances) lines last ended).0
-  all_of standing chances [] last is none fits = last_of standing chances last is none fits
-  all_of standing [] (line ∷ lines) last is none fits = absurd fits.0
-  all_of standing (None ∷ later) (line ∷ lines) last is none fits = absurd fits.0
-  all_of standing (Some it ∷ later) (line ∷ lines) last is none fits =
-      more_of standing it later line lines last here fits.1 (λ fit. all_of it.reply.next later lines last here.reached clear.1 fit)
-    where
-      clear : (met_fault (Some it) ≡ false) × (fault_count history_machine later ≡ 0)
-      clear = no_first (Some it) later none
-
-      here : IsAnswered begun standing line it
-      here = is_answered standing line it is clear.0 fits.0
+  pub all_of : (before last : SessionPoint) (lines : List (List ℕ)) (text : List ℕ) (quits : Bool) → IsReached begun before.standing
+      → before.faults < last_count → last.faults ≡ before.faults
+      → served.Answered history_machine before lines text last quits
+      → AreAnswered begun before.standing lines text last.standing
+  all_of before last lines text quits is below same (no_line _) = all_answered before.standing
+  all_of before last lines text quits is below same (ended_by _ line rest reply comes ends) =
+      let steady = no_fault comes.it.faulty before.faults reply.next.faults last.faults comes.counted (omega arith) same below in
+      subst (λ (it : List ℕ). AreAnswered begun before.standing (line ∷ rest) it reply.next.standing) (sym comes.text)
+      (subst (λ (it : Standing). AreAnswered begun before.standing (line ∷ rest) comes.it.reply.text it) (sym comes.next)
+      (last_answered before.standing line rest comes.it (is_answered before line reply comes is steady.0) (sym comes.quits ∙ ends)))
+  all_of before last lines text quits is below same (behind_one _ _ line rest reply more _ comes stays later) =
+      let steady = no_fault comes.it.faulty before.faults reply.next.faults last.faults comes.counted
+      (counts_rise reply.next last rest more quits later) same below in
+      let here = is_answered before line reply comes is steady.0 in
+      let reached = subst (λ (it : Standing). IsReached begun it) (sym comes.next) here.reached in
+      let behind = all_of reply.next last rest more quits reached (omega (arith, steady.1, below)) (same ∙ sym steady.1) later in
+      subst (λ (it : List ℕ). AreAnswered begun before.standing (line ∷ rest) (it ++ more) last.standing) (sym comes.text)
+      (one_answered before.standing last.standing line rest comes.it more here (sym comes.quits ∙ stays)
+      (subst (λ (it : Standing). AreAnswered begun it rest more last.standing) comes.next behind))
 
 pub served_answered : LinesLeadOn → ServedLinesAreAnswered
-served_answered laws begun standing chances text can is none fits = (
-  ends_finished (standing, chances) (complete [] text),
-  all_of laws begun can standing chances (complete [] text) (unfinished [] text) is none fits,
-)
+served_answered laws begun before last lines text quits can is below same answered =
+    all_of laws begun can before last lines text quits is below same answered

@@ -1,17 +1,18 @@
 -- A line of a session comes to one thing at most.
 use Rattle.std.proofs.Common.{◌≡◌, ◌<◌, ◌≤◌, ℕ, Bool, true, false, List, [], ◌∷◌, ◌++◌, length, Option, None, Some, bytes_eq, refl, ap, sym, ◌∙◌, subst, arith}
 use Rattle.std.proofs.lemmas.Slice.Eq.{bytes_eq-Decides}
+use Rattle.session_log.proofs.CourseLemmas.{situation_now}
 use Rattle.lotos_base.specs.Outside.{Texts, Puts}
 use Rattle.line_server.specs.Request.{Request, skip, show_menu, show_behaviour, show_trace, undo, leave, no_request, take_step, save, replay, show_normal, compare}
 use Rattle.sentence_trees.specs.ReadingLaws.{TextsHaveOneOutcome}
 use Rattle.sort_terms.specs.ReadingLaws.{ReadingComesToOneThing}
 use Rattle.behaviour_semantics.proofs.OptionLemmas.{some_value}
-use Rattle.session_histories.specs.Session.{SessionBasis, Situation, PastStep, Progress, first_situation, HasUndone}
-use Rattle.session_histories.specs.Lawful.{IsSituation, LeadTo}
+use Rattle.session_histories.specs.Session.{PastStep, Progress, first_situation, HasUndone}
 use Rattle.session_histories.specs.Replay.{ReplayRefusal, LinesOutcome, goes_on, stops, ReplayIs}
 use Rattle.session_histories.specs.ReplayLaws.{ReplayIsExact}
 use Rattle.session_histories.specs.SessionLaws.{SessionsFollowDerivations, SessionsStayLawful}
 use Rattle.session_histories.specs.StepLaws.{StepsAreExact}
+use Rattle.session_histories.proofs.ReplayLemmas.{no_stop}
 use Rattle.session_lines.specs.Answer as questions
 use Rattle.session_lines.specs.Answer.{normal_text, comparison_text}
 use Rattle.session_lines.specs.AnswerLaws.{QuestionsHaveOneAnswer}
@@ -106,9 +107,6 @@ on progress = goes_on progress
 same_way : (one other : Progress) → on one ≡ on other → one ≡ other
 same_way one other e = cc e
 
-no_way : (new : Progress) (why : ReplayRefusal) → goes_on new ≡ stops why → ⊥
-no_way new why e = cc e
-
 module _ (exact : ReplayIsExact) (standing : Standing) (told : Texts) (name : List ℕ) (lawful : IsLawfulStanding standing)
     (tells : standing.texts ≡ Some told) where
   abbrev TextIs : List ℕ → LinesOutcome ReplayRefusal → Type 0
@@ -154,31 +152,25 @@ module _ (exact : ReplayIsExact) (standing : Standing) (told : Texts) (name : Li
       ap (λ (it : ReplayRefusal). says standing (refusal_in standing (no_replay it)))
       (same_stop refusal refusal' (come_once text text' (stops refusal) (stops refusal') stands stands' is is'))
   replay_once _ _ (is_refused text refusal stands short is) (is_replayed text' new stands' short' is') f g =
-      absurd (no_way new refusal (come_once text' text (goes_on new) (stops refusal) stands' stands is' is))
+      absurd (no_stop new refusal (come_once text' text (goes_on new) (stops refusal) stands' stands is' is))
   replay_once _ _ (is_replayed text new stands short is) is_failed f g = absurd (not_none g)
   replay_once _ _ (is_replayed text new stands short is) (is_missing missing) f g =
       absurd (not_missing standing.texts name text missing stands)
   replay_once _ _ (is_replayed text new stands short is) (is_long text' stands' long) f g =
       absurd (length_once text' text stands' stands long short)
   replay_once _ _ (is_replayed text new stands short is) (is_refused text' refusal stands' short' is') f g =
-      absurd (no_way new refusal (come_once text text' (goes_on new) (stops refusal) stands stands' is is'))
+      absurd (no_stop new refusal (come_once text text' (goes_on new) (stops refusal) stands stands' is is'))
   replay_once _ _ (is_replayed text new stands short is) (is_replayed text' other stands' short' is') f g =
       ap (λ (it : Progress). says (come_to standing it) (replayed_text standing.basis it))
       (same_way new other (come_once text text' (goes_on new) (goes_on other) stands stands' is is'))
 
 -- ---- All lines
 
--- the menu of the situation where the steps lead is its own
-last_situation : (basis : SessionBasis) (first last : Situation) (steps : List PastStep) → IsSituation basis first
-    → LeadTo basis first steps last → IsSituation basis last
-last_situation basis first last [] menu h = subst (IsSituation basis) h menu
-last_situation basis first last (step ∷ steps) menu h = last_situation basis h.1 last steps h.3 h.4
-
 ready : SessionsFollowDerivations → (standing : Standing) → IsLawfulStanding standing → IsReady standing.basis standing.progress
 ready follow standing h = record {
   over = follow.over standing.basis (first_situation standing.progress) standing.progress.situation standing.progress.steps h.over
       h.lawful.steps;
-  menu = last_situation standing.basis (first_situation standing.progress) standing.progress.situation standing.progress.steps
+  menu = situation_now standing.basis (first_situation standing.progress) standing.progress.situation standing.progress.steps
       h.lawful.start h.lawful.steps;
 }
 

@@ -1,5 +1,6 @@
 -- States that a line leads to.
-use Rattle.std.proofs.Common.{◌≡◌, ℕ, List, [], ◌∷◌, Option, refl, sym, ap, subst, ◌∙◌}
+use Rattle.std.proofs.Common.{◌≡◌, ℕ, List, [], Option, refl, sym, ap, subst, ◌∙◌}
+use Rattle.session_log.proofs.CourseLemmas.{situation_now}
 use Rattle.lotos_base.specs.Outside.{Texts}
 use Rattle.behaviour_semantics.specs.Alike.{Alike}
 use Rattle.behaviour_semantics.specs.Behaviour.{Behaviour}
@@ -18,12 +19,6 @@ use Rattle.history_lines.specs.ShelfAnswer.{SaveComesTo, is_too_long, is_unwritt
 use Rattle.history_lines.specs.Answer.{RequestComesTo, LineComesTo, after_step, UndoComesTo, is_undone, is_at_start}
 use Rattle.history_lines.specs.Beginning.{Beginning, CanBegin, standing_at}
 use Rattle.history_lines.specs.Reached.{IsDerivedStanding, IsReached}
-
--- the situation that lawful steps lead to has its exact menu
-menu_behind : (basis : SessionBasis) (first last : Situation) (steps : List PastStep) → IsSituation basis first
-    → LeadTo basis first steps last → IsSituation basis last
-menu_behind basis first last [] menu lead = subst (IsSituation basis) lead menu
-menu_behind basis first last (step ∷ steps) menu lead = menu_behind basis lead.1 last steps lead.3 lead.4
 
 -- ---- By lawful steps
 
@@ -51,7 +46,7 @@ reached : SessionsFollowDerivations → (begun : Beginning) (standing : Standing
     → IsReached begun standing
 reached follow begun standing can is =
     let menu : IsSituation begun.basis standing.progress.situation =
-    menu_behind begun.basis (first_situation standing.progress) standing.progress.situation standing.progress.steps is.lawful.start
+    situation_now begun.basis (first_situation standing.progress) standing.progress.situation standing.progress.steps is.lawful.start
     is.lawful.steps in
     record {
       basis = is.basis;

@@ -1,6 +1,6 @@
 -- Lines that were answered, request by request.
 use Rattle.std.proofs.Common.{◌≡◌, ◌⊎◌, inl, inr, ℕ, ◌+◌, ◌≤◌, Bool, true, false, List, [], ◌∷◌, ◌++◌, Option, Some, None, IfSome, Result, Ok, Err, IfOk, MatchResult, codes, refl, ap, sym, ◌∙◌, subst, arith}
-use Rattle.lotos_base.specs.Counts.{Rises, last_count}
+use Rattle.lotos_base.specs.Counts.{Rises}
 use Rattle.lotos_base.specs.Outside.{Texts}
 use Rattle.lotos_base.specs.Signature.{Signature}
 use Rattle.behaviour_semantics.specs.Label.{Label}
@@ -10,11 +10,11 @@ use Rattle.session_histories.specs.Session.{SessionBasis, HasUndone}
 use Rattle.history_lines.specs.Standing.{Standing}
 use Rattle.history_lines.specs.CommandRefusal.{CommandRefusal, command_refusal_text}
 use Rattle.history_lines.specs.Befallen.{Befallen, says, says_faulty, leaves, come_to}
-use Rattle.history_lines.specs.SessionMachine.{history_machine}
+use Rattle.history_lines.specs.Calls.{CallsShelf, MayCallShelf}
+use Rattle.history_lines.specs.SessionMachine.{SessionPoint, LineLeaves, history_machine}
 use Rattle.session_lines.specs.Answer.{IsNormalAnswer, IsComparison, normal_text, comparison_text}
 use Rattle.session_lines.specs.View.{AddsOutcome}
 use Rattle.session_log.specs.Courses.{IsUndone}
-use Rattle.line_server.specs.Machine.{Counted}
 use Rattle.line_server.specs.Serving.{ServesLine}
 use Rattle.line_server.specs.declared.lines.Answer.{Answer}
 use Rattle.history_lines.specs.StepAnswer.{took, declined, StepComesTo}
@@ -168,38 +168,35 @@ said_comparison before after faults terms start text none same adds =
 
 -- ---- Lines as the loop sees them
 
-rises_counts : (before after : ℕ) → Rises before after → (before + 1 ≤ after) ⊎ (last_count ≤ after)
-rises_counts before after (inl h) = inl (omega (arith, h))
-rises_counts before after (inr h) = inr (omega (arith, h.1))
-
-counts : (it : Befallen) (before after : ℕ) → ShelfCounts it.faulty before after
-    → (before ≤ after) × Counted history_machine before (Some it ∷ []) after
-counts it before after h = by it.faulty h
-  where
-    by : (faulty : Bool) → ShelfCounts faulty before after
-        → (before ≤ after) × ((before + elim faulty [ true ↦ 0 + 1 | false ↦ 0 ] ≤ after) ⊎ (last_count ≤ after))
-    by true (inl k) = (omega (arith, k), inl (omega (arith, k)))
-    by true (inr k) = (omega (arith, k.0, k.1), inr (omega (arith, k.1)))
-    by false k = (omega (arith, k), inl (omega (arith, k)))
-
-pub serves_line : (before after : Standing) (faults faults_after : ℕ) (line : List ℕ) (wanted : Request) (answer : Answer)
+pub serves_line : (before after : SessionPoint) (line : List ℕ) (wanted : Request) (answer : Answer)
     → wanted ≡ request_of line → answer.quits ≡ ends_session wanted
-    → GivesAnswer (moment_of before faults) wanted answer.text.items (moment_of after faults_after)
-    → ServesLine history_machine (before, faults) (after, faults_after) line answer
-serves_line before after faults faults_after line wanted answer is quits gives =
-    let counted = counts gives.it faults faults_after gives.counted in
-    record {
-      chance = Some gives.it;
-      may = subst (λ (it : Request). RequestComesTo before it gives.it) is gives.comes;
-      reply = record { text = gives.printed; next = gives.next; quits = quits ∙ sym gives.quits };
-      rises = counted.0;
-      counted = counted.1;
-    }
+    → GivesAnswer (moment_of before.standing before.faults) wanted answer.text.items (moment_of after.standing after.faults)
+    → CallsShelf before.standing wanted before.calls after.calls
+    → ServesLine history_machine before line after answer
+serves_line before after line wanted answer is quits gives calls = record {
+  reply = record { text = answer.text.items; next = after; quits = answer.quits };
+  comes = record {
+    it = gives.it;
+    comes = subst (λ (it : Request). RequestComesTo before.standing it gives.it) is gives.comes;
+    text = gives.printed;
+    next = gives.next;
+    quits = quits ∙ sym gives.quits;
+    counted = gives.counted;
+    called = subst (λ (it : Request). CallsShelf before.standing it before.calls after.calls) is calls;
+  };
+  text = refl;
+  next = refl;
+  quits = refl;
+}
 
-pub counts_after : (before after : Standing) (faults faults_after : ℕ) (wanted : Request)
-    → IsBeforeOrBehind (moment_of before faults) wanted (moment_of after faults_after) → faults ≤ faults_after
-counts_after before after faults faults_after wanted (inl as_before) = omega (arith, as_before.faults)
-counts_after before after faults faults_after wanted (inr behind) = (counts behind.1.it faults faults_after behind.1.counted).0
+pub leaves_line : (before after : SessionPoint) (line : List ℕ) (wanted : Request) → wanted ≡ request_of line
+    → IsBeforeOrBehind (moment_of before.standing before.faults) wanted (moment_of after.standing after.faults)
+    → MayCallShelf wanted before.calls after.calls → LineLeaves before line after
+leaves_line before after line wanted is leaves calls = record {
+  is = subst (λ (it : Request). IsBeforeOrBehind (moment_of before.standing before.faults) it (moment_of after.standing after.faults)) is
+      leaves;
+  called = subst (λ (it : Request). MayCallShelf it before.calls after.calls) is calls;
+}
 
 -- the same behind an equal moment
 pub at_moment : {T E : Type 0} (result : Result T E) (before after other : SessionMoment) (items : T → List ℕ) (wanted : Request)

@@ -1,33 +1,24 @@
 -- What the line of a step comes to.
-use Rattle.std.proofs.Common.{◌≡◌, ℕ, List, [], ◌∷◌, length, Option, Some, option_map, refl, ap, sym, ◌∙◌, subst}
-use Rattle.std.proofs.lemmas.Option.{none-some, slice_get-map}
+use Rattle.std.proofs.Common.{◌≡◌, ℕ, List, [], length, Option, Some, refl, ap, sym, ◌∙◌, subst}
+use Rattle.behaviour_semantics.proofs.SupplyLemmas.{length-values}
+use Rattle.session_log.proofs.ReplayLemmas.{read_values}
 use Rattle.lotos_base.specs.WrittenTerm.{WrittenTerm}
 use Rattle.sentence_trees.specs.Reading.{IsTermsFault}
 use Rattle.sentence_trees.specs.declared.fault.ReadFault.{ReadFault}
 use Rattle.sentence_trees.specs.declared.fault.ReadFault.TheVariants as fault
-use Rattle.lotos_base.specs.Signature.{Signature}
 use Rattle.lotos_base.specs.Term.{Term}
-use Rattle.sort_terms.specs.Reading.{IsScopeOver}
-use Rattle.sort_terms.proofs.ReadsLemmas.{reads_sorted}
-use Rattle.sort_terms.specs.ReadingOutcome.{IsReading}
 use Rattle.sort_terms.specs.SortedView.{term_in}
 use Rattle.behaviour_semantics.specs.Fault.{first_of_two}
 use Rattle.behaviour_semantics.specs.Rule.{AreValues}
 use Rattle.behaviour_semantics.specs.Solving.{Entry as PlainEntry}
-use Rattle.event_offers.specs.OfferView.{plain_entry}
-use Rattle.event_offers.specs.declared.drafts.Entry.{Entry}
-use Rattle.event_offers.specs.declared.menus.Menu.{Menu}
-use Rattle.menu_builder.specs.Menus.{entries_in}
 use Rattle.session_histories.specs.Session.{SessionBasis, Progress}
 use Rattle.session_histories.specs.Refusal as plain
 use Rattle.session_histories.specs.Refusal.{StepRefusal, entry_numbered, count_refusal, number_refusal, condition_refusal, value_refusal, step_refusal}
 use Rattle.session_histories.specs.Replay.{AreRead}
-use Rattle.session_histories.proofs.RefusalLemmas.{free_of_count, as_many, fit_sorts}
+use Rattle.session_histories.proofs.RefusalLemmas.{free_of_count, fit_sorts}
 use Rattle.session_lines.specs.Refusal.{bad_term, AreTerms}
-use Rattle.session_lines.proofs.QuestionLemmas.{read_ground, is_reading}
 use Rattle.session_lines.specs.declared.refusals.Refusal.{Refusal}
 use Rattle.session_lines.specs.declared.refusals.Refusal.TheVariants.{BadCommand, BadTerm, NoMemory}
-use Rattle.session_log.specs.Entries.{IsEntryAt}
 use Rattle.session_log.specs.RefusalView.{TellsStep}
 use Rattle.session_log.specs.declared.refusals.StepRefusal.{StepRefusal as CodeRefusal}
 use Rattle.session_log.specs.declared.refusals.StepRefusal.TheVariants as step
@@ -37,13 +28,6 @@ use Rattle.history_lines.specs.RefusalView.{declined_for_text}
 use Rattle.history_lines.specs.Serving.{Declines}
 use Rattle.history_lines.specs.Values.{TellsMisread}
 use Rattle.history_lines.specs.declared.refusals.Decline.TheVariants.{Terms, Step}
-
--- the entry with a number
-pub entry_there : (menu : Menu) (number : ℕ) (entry : Entry) → IsEntryAt menu number entry
-    → entry_numbered (entries_in menu) number ≡ Some (plain_entry entry)
-entry_there menu number entry h =
-    ap (entry_numbered (entries_in menu)) h.numbered
-    ∙ (slice_get-map plain_entry menu.entries.items h.position ∙ ap (option_map plain_entry) h.found)
 
 module _ (basis : SessionBasis) (progress : Progress) (number : ℕ) (text : List ℕ) where
   abbrev Comes : StepAnswer → Type 0
@@ -97,26 +81,6 @@ module _ (basis : SessionBasis) (progress : Progress) (number : ℕ) (text : Lis
 
 -- ---- Values that are read fit their variables
 
-no_scope : (signature : Signature) → IsScopeOver signature []
-no_scope signature i v e = absurd (none-some _ e)
-
-read_values : (signature : Signature) (sorts : List ℕ) (terms : List WrittenTerm) (values : List Term)
-    → AreRead signature sorts terms values → AreValues signature sorts values
-read_values signature [] [] [] h = tt
-read_values signature [] [] (value ∷ values) h = absurd h
-read_values signature [] (term ∷ terms) values h = absurd h
-read_values signature (sort ∷ sorts) [] values h = absurd h
-read_values signature (sort ∷ sorts) (term ∷ terms) [] h = absurd h
-read_values signature (sort ∷ sorts) (term ∷ terms) (value ∷ values) h =
-    let is : IsReading signature [] term (Some sort) (record { term = value; sort = sort }) =
-    is_reading _ _ (IsReading signature [] term (Some sort)) (record { term = value; sort = sort }) h.0 in (
-      record {
-        ground = read_ground signature term value sort is.0;
-        sorted = reads_sorted signature [] (no_scope signature) term value sort is.0;
-      },
-      read_values signature sorts terms values h.1,
-    )
-
 module _ (basis : SessionBasis) (progress : Progress) (number : ℕ) (text : List ℕ) (entry : PlainEntry) (values : List Term)
     (valued_ : AreStepValues basis progress.situation.menu number text entry values) where
   fitting : AreValues basis.data_.signature entry.variables values
@@ -129,7 +93,7 @@ module _ (basis : SessionBasis) (progress : Progress) (number : ℕ) (text : Lis
       (value_refusal basis.data_.signature basis.canon it values)) valued_.counted.listed
       ∙ (ap (λ (it : Option StepRefusal). first_of_two it (value_refusal basis.data_.signature basis.canon (Some entry) values))
       (free_of_count number (length progress.situation.menu) entry (length values)
-      (as_many basis.data_.signature entry.variables values fitting))
+      (length-values basis.data_.signature entry.variables values fitting))
       ∙ ap (λ (it : Option StepRefusal). first_of_two it (condition_refusal basis.canon entry values))
       (fit_sorts basis.data_.signature 0 entry.variables values fitting))
 

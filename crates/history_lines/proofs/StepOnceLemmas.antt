@@ -1,6 +1,6 @@
 -- The line of a step comes to one thing at most.
-use Rattle.std.proofs.Common.{◌≡◌, ◌⊎◌, inl, inr, ℕ, suc, List, [], ◌∷◌, length, Option, None, Some, refl, ap, sym, ◌∙◌, subst}
-use Rattle.list_laws.proofs.Options.{none_and_some}
+use Rattle.std.proofs.Common.{◌≡◌, ◌⊎◌, inl, inr, ℕ, List, [], ◌∷◌, length, Option, None, Some, refl, ap, sym, ◌∙◌, subst}
+use Rattle.lotos_base.proofs.Options.{none_and_some}
 use Rattle.lotos_base.specs.WrittenTerm.{WrittenTerm}
 use Rattle.sentence_trees.specs.ReadingLaws.{TextsHaveOneOutcome}
 use Rattle.sentence_trees.specs.declared.fault.ReadFault.TheVariants.{NoMemory}
@@ -8,7 +8,8 @@ use Rattle.lotos_base.specs.Signature.{Signature}
 use Rattle.lotos_base.specs.Term.{Term}
 use Rattle.sort_terms.specs.ReadingLaws.{ReadingComesToOneThing}
 use Rattle.sort_terms.specs.ReadingOutcome as reading
-use Rattle.sort_terms.specs.ReadingOutcome.{SortedTerm, answered}
+use Rattle.sort_terms.specs.ReadingOutcome.{SortedTerm}
+use Rattle.sort_terms.proofs.OutcomeLemmas.{same_answer, not_answered_and_refused}
 use Rattle.behaviour_semantics.specs.Label.{Label}
 use Rattle.behaviour_semantics.specs.Solving.{Entry}
 use Rattle.behaviour_semantics.proofs.OptionLemmas.{some_value}
@@ -61,26 +62,11 @@ module _ (texts : TextsHaveOneOutcome) (text : List ℕ) where
 
 -- ---- Readings of values
 
-same_answer : (one other : SortedTerm) → answered one ≡ answered other → one ≡ other
-same_answer one other e = cc e
-
 abbrev refused_term : reading.ReadingRefusal → reading.ReadingOutcome SortedTerm
 refused_term refusal = reading.refused refusal
 
 same_refusal : (one other : reading.ReadingRefusal) → refused_term one ≡ refused_term other → one ≡ other
 same_refusal one other e = cc e
-
-not_refused_too : (one : SortedTerm) (refusal : reading.ReadingRefusal) → answered one ≡ reading.refused refusal → ⊥
-not_refused_too one refusal e = cc e
-
-read_count : (signature : Signature) (sorts : List ℕ) (terms : List WrittenTerm) (values : List Term)
-    → AreRead signature sorts terms values → length terms ≡ length sorts
-read_count signature [] [] [] h = refl
-read_count signature [] [] (value ∷ values) h = absurd h
-read_count signature [] (term ∷ terms) values h = absurd h
-read_count signature (sort ∷ sorts) [] values h = absurd h
-read_count signature (sort ∷ sorts) (term ∷ terms) [] h = absurd h
-read_count signature (sort ∷ sorts) (term ∷ terms) (value ∷ values) h = ap suc (read_count signature sorts terms values h.1)
 
 module _ (readings : ReadingComesToOneThing) (signature : Signature) where
   read_once : (sorts : List ℕ) (terms : List WrittenTerm) (values others : List Term) → AreRead signature sorts terms values
@@ -104,7 +90,7 @@ module _ (readings : ReadingComesToOneThing) (signature : Signature) where
   not_misread (sort ∷ sorts) [] values why h k = k
   not_misread (sort ∷ sorts) (term ∷ terms) [] why h k = h
   not_misread (sort ∷ sorts) (term ∷ terms) (value ∷ values) why h (inl k) =
-      not_refused_too _ why (readings signature [] term (Some sort) _ _ h.0 k)
+      not_answered_and_refused _ why (readings signature [] term (Some sort) _ _ h.0 k)
   not_misread (sort ∷ sorts) (term ∷ terms) (value ∷ values) why h (inr k) = not_misread sorts terms values why h.1 k.2
 
   misread_once : (sorts : List ℕ) (terms : List WrittenTerm) (why other : reading.ReadingRefusal)
@@ -114,9 +100,9 @@ module _ (readings : ReadingComesToOneThing) (signature : Signature) where
   misread_once (sort ∷ sorts) (term ∷ terms) why other (inl h) (inl k) =
       same_refusal why other (readings signature [] term (Some sort) _ _ h k)
   misread_once (sort ∷ sorts) (term ∷ terms) why other (inl h) (inr k) =
-      absurd (not_refused_too k.0 why (readings signature [] term (Some sort) _ _ k.1 h))
+      absurd (not_answered_and_refused k.0 why (readings signature [] term (Some sort) _ _ k.1 h))
   misread_once (sort ∷ sorts) (term ∷ terms) why other (inr h) (inl k) =
-      absurd (not_refused_too h.0 other (readings signature [] term (Some sort) _ _ h.1 k))
+      absurd (not_answered_and_refused h.0 other (readings signature [] term (Some sort) _ _ h.1 k))
   misread_once (sort ∷ sorts) (term ∷ terms) why other (inr h) (inr k) = misread_once sorts terms why other h.2 k.2
 
 -- ---- The line of a step

@@ -1,12 +1,9 @@
 -- Texts that are written in pieces.
 use Rattle.std.proofs.Common.{◌≡◌, ℕ, List, [], ◌++◌, ap, ◌∙◌, append_assoc}
+use Rattle.lotos_base.proofs.Pieces.{in_three}
 
 pub in_two : (before a b one after : List ℕ) → one ≡ before ++ a → after ≡ one ++ b → after ≡ before ++ (a ++ b)
 in_two before a b one after p q = q ∙ (ap (λ (it : List ℕ). it ++ b) p ∙ append_assoc before a b)
-
-pub in_three : (before a b c one two after : List ℕ) → one ≡ before ++ a → two ≡ one ++ b → after ≡ two ++ c
-    → after ≡ before ++ (a ++ (b ++ c))
-in_three before a b c one two after p q r = in_two before a (b ++ c) one after p (in_two one b c two after q r)
 
 pub in_four : (before a b c d one two three after : List ℕ) → one ≡ before ++ a → two ≡ one ++ b → three ≡ two ++ c
     → after ≡ three ++ d → after ≡ before ++ (a ++ (b ++ (c ++ d)))

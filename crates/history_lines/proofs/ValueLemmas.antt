@@ -1,6 +1,8 @@
 -- The readings of the terms of a step.
-use Rattle.std.proofs.Common.{◌≡◌, inl, inr, ◌<◌, ◌≤◌, ◌+◌, ℕ, zero, suc, List, [], ◌∷◌, ◌++◌, drop, length, get_or, map, Some, refl, ap, sym, ◌∙◌, subst, arith, add-one, drop-cons, append-nil, append_assoc}
-use Rattle.std.proofs.lemmas.List.{map-append, length-map}
+use Rattle.std.proofs.Common.{◌≡◌, inl, inr, ◌<◌, ◌≤◌, ◌+◌, ℕ, List, [], ◌∷◌, ◌++◌, drop, length, get_or, map, Some, refl, ap, sym, ◌∙◌, subst, arith, append-nil, append_assoc}
+use Rattle.std.proofs.lemmas.List.{map-append, length-map, drop_all}
+use Rattle.lotos_base.proofs.Pieces.{next_member}
+use Rattle.lotos_base.proofs.Members.{read_map}
 use Rattle.lotos_base.specs.WrittenTerm.{WrittenTerm}
 use Rattle.lotos_base.specs.WrittenView.{written_term_of}
 use Rattle.lotos_base.specs.declared.written_terms.Written.{Written}
@@ -16,13 +18,13 @@ use Rattle.sort_terms.specs.SortedView.{profiled_in, term_in}
 use Rattle.sort_terms.specs.declared.sort_faults.SortFault.{SortFault}
 use Rattle.sort_terms.specs.declared.sort_faults.SortFault.TheVariants as sort_fault
 use Rattle.sort_terms.specs.declared.sorted.Sorted.{Sorted}
+use Rattle.sort_terms.proofs.OutcomeLemmas.{read_ground, is_reading}
 use Rattle.behaviour_semantics.proofs.ListLemmas.{Every-append}
 use Rattle.behaviour_tree.specs.BehaviourTerms.{profiles_of}
 use Rattle.behaviour_tree.specs.BehaviourView.{terms_of}
 use Rattle.behaviour_tree.specs.Over.{AreTermsOf}
 use Rattle.session_histories.specs.Replay.{AreRead}
 use Rattle.session_lines.specs.View.{refused_for_term}
-use Rattle.session_lines.proofs.QuestionLemmas.{read_ground, is_reading}
 use Rattle.session_log.specs.Entries.{AreGiven}
 use Rattle.history_lines.specs.StepAnswer.{IsFirstMisread}
 use Rattle.history_lines.specs.Values.{IsValueReadAt, IsTermRefused, TellsMisread}
@@ -71,13 +73,6 @@ tells_misread Is Other so NoMemory h = tt
 
 -- ---- Terms one after another
 
--- the members of a list from this one on
-from_here : {X : Type 0} (xs : List X) (index : ℕ) (x : X) → index < length xs → x ≡ get_or xs index x
-    → drop index xs ≡ x ∷ drop (index + 1) xs
-from_here xs index x below is =
-    drop-cons xs index x below
-    ∙ ((λ i. sym is i ∷ drop (suc index) xs) ∙ ap (λ (n : ℕ). x ∷ drop n xs) (sym (add-one index)))
-
 -- the terms so far are read, and what the rest comes to, the whole does
 pub record AreHalfRead (signature : Signature) (sorts : List ℕ) (terms : List WrittenTerm) (index : ℕ) (values : List Sorted) : Type 0 where
   pub read : (more : List Term) → AreRead signature (drop index sorts) (drop index terms) more
@@ -104,8 +99,8 @@ one_read : (signature : Signature) (sorts : List ℕ) (terms : List WrittenTerm)
     → sort ≡ get_or sorts index sort → AreHalfRead signature sorts terms index values → IsValueReadAt signature term sort value
     → AreHalfRead signature sorts terms (index + 1) (values ++ (value ∷ []))
 one_read signature sorts terms index values term sort value below is below_sorts is_sort half h =
-    let rest : drop index sorts ≡ sort ∷ drop (index + 1) sorts = from_here sorts index sort below_sorts is_sort in
-    let left : drop index terms ≡ term ∷ drop (index + 1) terms = from_here terms index term below is in
+    let rest : drop index sorts ≡ sort ∷ drop (index + 1) sorts = next_member sorts index sort below_sorts is_sort in
+    let left : drop index terms ≡ term ∷ drop (index + 1) terms = next_member terms index term below is in
     record {
       read = λ more k.
           subst (λ (it : List Term). AreRead signature sorts terms it)
@@ -133,15 +128,9 @@ one_misread : (signature : Signature) (sorts : List ℕ) (terms : List WrittenTe
     → IsTermRefused signature term sort why → IsFirstMisread signature sorts terms why
 one_misread signature sorts terms index values term sort why below is below_sorts is_sort half h =
     half.misread why
-    (subst (λ (it : List ℕ). IsFirstMisread signature it (drop index terms) why) (sym (from_here sorts index sort below_sorts is_sort))
+    (subst (λ (it : List ℕ). IsFirstMisread signature it (drop index terms) why) (sym (next_member sorts index sort below_sorts is_sort))
     (subst (λ (it : List WrittenTerm). IsFirstMisread signature (sort ∷ drop (index + 1) sorts) it why)
-    (sym (from_here terms index term below is)) (inl h)))
-
-none_left : {X : Type 0} (xs : List X) (index : ℕ) → length xs ≤ index → drop index xs ≡ []
-none_left [] zero h = refl
-none_left [] (suc index) h = refl
-none_left (x ∷ xs) zero h = absurd (omega (arith, h))
-none_left (x ∷ xs) (suc index) h = none_left xs index (omega (arith, h))
+    (sym (next_member terms index term below is)) (inl h)))
 
 all_read : (signature : Signature) (sorts : List ℕ) (terms : List WrittenTerm) (index : ℕ) (values : List Sorted)
     → length terms ≤ index → length sorts ≤ index → AreHalfRead signature sorts terms index values
@@ -149,16 +138,10 @@ all_read : (signature : Signature) (sorts : List ℕ) (terms : List WrittenTerm)
 all_read signature sorts terms index values past past_sorts half =
     subst (AreRead signature sorts terms) (append-nil (terms_of values))
     (half.read []
-    (subst (λ (it : List ℕ). AreRead signature it (drop index terms) []) (sym (none_left sorts index past_sorts))
-    (subst (λ (it : List WrittenTerm). AreRead signature [] it []) (sym (none_left terms index past)) tt)))
+    (subst (λ (it : List ℕ). AreRead signature it (drop index terms) []) (sym (drop_all index sorts past_sorts))
+    (subst (λ (it : List WrittenTerm). AreRead signature [] it []) (sym (drop_all index terms past)) tt)))
 
 -- ---- Terms of the code
-
-mapped_at : {X Y : Type 0} (f : X → Y) (xs : List X) (index : ℕ) (x : X) → get_or (map f xs) index (f x) ≡ f (get_or xs index x)
-mapped_at f [] zero x = refl
-mapped_at f [] (suc index) x = refl
-mapped_at f (y ∷ xs) zero x = refl
-mapped_at f (y ∷ xs) (suc index) x = mapped_at f xs index x
 
 module _ (signature : Signature) (sorts : List ℕ) (terms : List Written) (index : ℕ) (values : List Sorted)
     (counted : length terms ≡ length sorts) (half : AreHalfRead signature sorts (map written_term_of terms) index values) where
@@ -168,7 +151,7 @@ module _ (signature : Signature) (sorts : List ℕ) (terms : List Written) (inde
     below_mapped = omega (arith, below, length-map terms written_term_of)
 
     is_mapped : written_term_of term ≡ get_or (map written_term_of terms) index (written_term_of term)
-    is_mapped = ap written_term_of is ∙ sym (mapped_at written_term_of terms index term)
+    is_mapped = ap written_term_of is ∙ sym (read_map written_term_of terms index term)
 
     pub next_read : (value : Sorted) → IsValueReadAt signature (written_term_of term) sort value
         → AreHalfRead signature sorts (map written_term_of terms) (index + 1) (values ++ (value ∷ []))

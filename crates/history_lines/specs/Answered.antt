@@ -1,19 +1,10 @@
 -- The answers to the lines of a session, one after another.
 use Rattle.std.specs.Prelude.{◌≡◌, ℕ, true, false, List, [], ◌∷◌, ◌++◌}
-use Rattle.line_server.specs.Report.{complete, unfinished}
 use Rattle.history_lines.specs.Standing.{Standing}
 use Rattle.history_lines.specs.Befallen.{Befallen}
 use Rattle.history_lines.specs.Answer.{LineComesTo}
 use Rattle.history_lines.specs.Beginning.{Beginning}
 use Rattle.history_lines.specs.Reached.{IsReached}
-
--- the lines of a text: those that end with a line feed, and what stands behind the last of them, if it has a byte
-abbrev pub last_line : List ℕ → List (List ℕ)
-last_line [] = []
-last_line (byte ∷ bytes) = (byte ∷ bytes) ∷ []
-
-abbrev pub lines_in : List ℕ → List (List ℕ)
-lines_in text = complete [] text ++ last_line (unfinished [] text)
 
 -- A line comes to this, without a fault of the shelf, and leads to a state that is reached.
 pub record IsAnswered (begun : Beginning) (standing : Standing) (line : List ℕ) (it : Befallen) : Type 0 where

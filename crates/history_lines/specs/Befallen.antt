@@ -1,7 +1,7 @@
 -- What befalls a line: its answer, and whether it met a fault of the shelf.
 use Rattle.std.specs.Prelude.{ℕ, Bool, true, false, List, [], Option}
 use Rattle.lotos_base.specs.Outside.{Texts}
-use Rattle.line_server.specs.Report.{Reply}
+use Rattle.line_server.specs.Machine.{Reply}
 use Rattle.session_histories.specs.Session.{Progress}
 use Rattle.history_lines.specs.Standing.{Standing}
 

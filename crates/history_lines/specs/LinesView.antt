@@ -1,5 +1,5 @@
 -- Where the sessions of the code stand.
-use Rattle.std.specs.Prelude.{◌≡◌, Option}
+use Rattle.std.specs.Prelude.{◌≡◌, ℕ, Option}
 use Rattle.lotos_base.specs.Outside.{Texts}
 use Rattle.lotos_base.specs.Term.{Term}
 use Rattle.lotos_base.specs.Equation.{Data}
@@ -12,6 +12,7 @@ use Rattle.session_histories.specs.Session.{SessionBasis, Progress}
 use Rattle.session_log.specs.CourseView.{basis_over, progress_of}
 use Rattle.session_log.specs.Kept.{IsLawfulSession}
 use Rattle.history_lines.specs.Standing.{Standing}
+use Rattle.history_lines.specs.SessionMachine.{SessionPoint, point}
 use Rattle.history_lines.specs.declared.lines.HistoryLines.{HistoryLines}
 
 -- what the session goes over, and how far it has come
@@ -24,6 +25,10 @@ reached lines = progress_of lines.session.course
 -- where it stands beside a shelf with these texts
 abbrev pub standing_of : {M : Type 0} → HistoryLines M → Option Texts → Standing
 standing_of lines texts = record { basis = basis_of lines; progress = reached lines; texts = texts }
+
+-- beside a shelf that has counted so many faults and so many calls
+abbrev pub point_of : {M : Type 0} → HistoryLines M → Option Texts → ℕ → ℕ → SessionPoint
+point_of lines texts faults calls = point (standing_of lines texts) faults calls
 
 -- The session is lawful over the data of the book, whose signature is the one that terms are printed by and read over. `suits`
 -- says which makers of menus suit.

@@ -1,17 +1,15 @@
 -- What whole sessions obey.
-use Rattle.std.specs.Prelude.{◌≡◌, ℕ, true, List, [], Option}
+use Rattle.std.specs.Prelude.{◌≡◌, ℕ, ◌<◌, Bool, List, Option}
+use Rattle.lotos_base.specs.Counts.{last_count}
 use Rattle.lotos_base.specs.Outside.{Texts}
-use Rattle.line_server.specs.Report.{ended, report, status, last_state}
-use Rattle.line_server.specs.Machine.{by_chances, fault_count}
-use Rattle.line_server.specs.Fitting.{AllFit}
-use Rattle.line_server.specs.declared.ends.SessionEnd.TheVariants.{Finished}
+use Rattle.line_server.specs.Answered as served
 use Rattle.history_lines.specs.Standing.{Standing}
 use Rattle.history_lines.specs.Befallen.{Befallen}
 use Rattle.history_lines.specs.Answer.{LineComesTo}
-use Rattle.history_lines.specs.SessionMachine.{history_machine}
+use Rattle.history_lines.specs.SessionMachine.{SessionPoint, history_machine}
 use Rattle.history_lines.specs.Beginning.{Beginning, CanBegin, standing_at}
 use Rattle.history_lines.specs.Reached.{IsReached}
-use Rattle.history_lines.specs.Answered.{lines_in, AreAnswered}
+use Rattle.history_lines.specs.Answered.{AreAnswered}
 
 -- Whatever a line asks for, taken or refused, it leads from a state that is reached to one that is reached.
 pub record LinesLeadOn : Type 0 where
@@ -23,15 +21,14 @@ pub record LinesLeadOn : Type 0 where
       LineComesTo standing line it →
       IsReached begun it.reply.next
 
--- Where no chance of a line is a fault of the shelf, the report of a session over a whole text is the text of the answers to its
--- lines, the session stands where they lead, and it ends of itself.
+-- Lines that a server of sessions answered were answered one after another by what they come to, each from a state that is
+-- reached, where the shelf counted no fault from the first of them to the last.
 abbrev pub ServedLinesAreAnswered : Type 0
 ServedLinesAreAnswered =
-    (begun : Beginning) (standing : Standing) (chances : List (Option Befallen)) (text : List ℕ) →
+    (begun : Beginning) (before last : SessionPoint) (lines : List (List ℕ)) (text : List ℕ) (quits : Bool) →
     CanBegin begun →
-    IsReached begun standing →
-    fault_count history_machine chances ≡ 0 →
-    AllFit history_machine true (standing, chances) [] text ended →
-    (status (by_chances history_machine) (standing, chances) [] text ended ≡ Finished)
-    × AreAnswered begun standing (lines_in text) (report (by_chances history_machine) (standing, chances) [] text ended)
-    (last_state (by_chances history_machine) (standing, chances) [] text ended).0
+    IsReached begun before.standing →
+    before.faults < last_count →
+    last.faults ≡ before.faults →
+    served.Answered history_machine before lines text last quits →
+    AreAnswered begun before.standing lines text last.standing

@@ -166,7 +166,7 @@ fn code_of(why: &StepRefusal) -> Option<&'static [u8]>
 }
 
 // Appends the line for a line of another form.
-#[tactic(auto, using(crate::proofs::TextPieces::in_three))]
+#[tactic(auto, using(lotos_base::proofs::Pieces::in_three))]
 fn push_bad_line(line: u32, into: &mut Vec<u8>) -> Result<(), NoMemory>
     ensures { OnOk result (into.new.items ≡ into.old.items
         ++ codes "refused 810 BadLine line " ++ decimal line ++ codes "\n") }

@@ -1,12 +1,13 @@
 //! The trace, and its texts on a shelf.
 
+ghost use Rattle.history_lines.specs.Calls.{CallsShelf, MayCallShelf};
 ghost use Rattle.history_lines.specs.LinesView.{IsServing, basis_of, reached, standing_of};
 ghost use Rattle.history_lines.specs.Serving.{moment_of, GivesAnswer, IsBeforeOrBehind};
 ghost use Rattle.line_server.specs.Request.{save as save_trace};
 ghost use Rattle.lotos_base.specs.Counts.{next_count};
 ghost use Rattle.history_lines.specs.ShelfAnswer.{trace_limit};
 ghost use Rattle.history_lines.specs.Standing.{shown_trace};
-ghost use Rattle.std.specs.Prelude.{◌≡◌, ◌⊎◌, ◌≤◌, IfOk, MatchResult, length};
+ghost use Rattle.std.specs.Prelude.{◌≡◌, ◌≤◌, IfOk, MatchResult, length};
 
 use crate::lines::HistoryLines;
 use crate::texts::name_line;
@@ -49,8 +50,10 @@ impl<M: MenuMaker> HistoryLines<'_, M> {
             (moment_of (standing_of self.now (F.texts shelf.old)) (F.faults shelf.old))
             (save_trace name.now)
             (moment_of (standing_of self.now (F.texts shelf.new)) (F.faults shelf.new))) }
-        ensures called { (F.calls shelf.new ≡ F.calls shelf.old)
-            ⊎ (F.calls shelf.new ≡ next_count (F.calls shelf.old)) }
+        ensures called { MatchResult result
+            (λ _. CallsShelf (standing_of self.now (F.texts shelf.old)) (save_trace name.now)
+            (F.calls shelf.old) (F.calls shelf.new))
+            (λ _. MayCallShelf (save_trace name.now) (F.calls shelf.old) (F.calls shelf.new)) }
     {
         let trace = self.trace_lines(alloc)?;
         if trace.len() > TRACE_LIMIT {

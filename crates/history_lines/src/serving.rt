@@ -1,6 +1,6 @@
 //! The answers to the lines of a session.
 
-ghost use Rattle.history_lines.specs.Calls.{CallsShelf};
+ghost use Rattle.history_lines.specs.Calls.{CallsShelf, MayCallShelf};
 ghost use Rattle.history_lines.specs.LinesView.{IsServing, basis_of, reached, standing_of};
 ghost use Rattle.history_lines.specs.Serving.{moment_of, GivesAnswer, IsBeforeOrBehind, ends_session};
 ghost use Rattle.line_server.specs.Request.{compare, show_normal};
@@ -52,8 +52,10 @@ impl<M: MenuMaker> HistoryLines<'_, M> {
             (moment_of (standing_of self.old (F.texts shelf.old)) (F.faults shelf.old))
             (wants request.entry)
             (moment_of (standing_of self.new (F.texts shelf.new)) (F.faults shelf.new))) }
-        ensures called { CallsShelf (wants request.entry) (F.calls shelf.old)
-            (F.calls shelf.new) }
+        ensures called { MatchResult result
+            (λ _. CallsShelf (standing_of self.old (F.texts shelf.old)) (wants request.entry)
+            (F.calls shelf.old) (F.calls shelf.new))
+            (λ _. MayCallShelf (wants request.entry) (F.calls shelf.old) (F.calls shelf.new)) }
         ensures serving_after { IsServing M.suits self.new }
     {
         match request {
@@ -154,17 +156,12 @@ fn ends(request: &Request<'_>) -> bool
 }
 
 impl<M: MenuMaker> Lines for HistoryLines<'_, M> {
-    ghost use Rattle.history_lines.specs.LinesView.{IsServing, standing_of};
-    ghost use Rattle.history_lines.specs.Befallen.{Befallen};
-    ghost use Rattle.history_lines.specs.SessionMachine.{history_machine};
-    ghost use Rattle.history_lines.specs.Standing.{Standing};
-    ghost use Rattle.std.specs.Prelude.{Option};
+    ghost use Rattle.history_lines.specs.LinesView.{IsServing, point_of};
+    ghost use Rattle.history_lines.specs.SessionMachine.{SessionPoint, history_machine};
 
-    ghost State = { Standing };
+    ghost State = { SessionPoint };
 
-    ghost state = { standing_of };
-
-    ghost Chance = { Option Befallen };
+    ghost state = { point_of };
 
     ghost machine = { history_machine };
 

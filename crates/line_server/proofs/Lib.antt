@@ -1,14 +1,10 @@
 mod Pieces
-mod Bytes
-mod Fits
-mod Counts
-mod LineFeed
-mod Moments
-mod LastLine
-mod Reached
-mod Ended
-mod Completeness
-mod Seen
+pub mod Cuts
+mod WrittenTexts
+pub mod AnsweredLines
+mod ServedBytes
+mod TurnLemmas
+mod SessionTurns
 pub mod LineLemmas
 pub mod NumberLemmas
 pub mod RequestLemmas

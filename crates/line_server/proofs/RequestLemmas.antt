@@ -1,7 +1,8 @@
 -- What a request carries is no longer than its line.
-use Rattle.std.proofs.Common.{◌≡◌, ◌≢◌, ℕ, ◌≤◌, ◌-◌, Bool, true, false, if◌then◌else◌, List, [], ◌∷◌, take, drop, length, Option, None, Some, codes, refl, ap, sym, ◌∙◌, arith, length-drop, take_all}
+use Rattle.std.proofs.Common.{◌≡◌, ◌≢◌, ℕ, ◌≤◌, ◌-◌, Bool, true, false, if◌then◌else◌, List, [], ◌∷◌, take, drop, length, Option, None, Some, codes, refl, ap, sym, ◌∙◌, arith}
 use Rattle.std.specs.Str.{bytes_eq, is_utf8, IsUtf8}
 use Rattle.std.proofs.lemmas.Str.{IsUtf8-from_is_utf8, is_utf8-from_IsUtf8}
+use Rattle.std.proofs.lemmas.List.{take_rest}
 use Rattle.line_server.specs.Line.{behind_blanks, behind_spaces, first_word, behind_word, word_length, stripped}
 use Rattle.line_server.specs.Request.{Request, show_menu, show_behaviour, show_trace, undo, leave, save, replay, only, number_in, step_by, with_name, name_of, named, asked_with, requested_by, requested_in, request_of}
 use Rattle.line_server.specs.RequestLaws.{Carries}
@@ -61,10 +62,6 @@ request_within line =
 
 -- ---- What the code reads
 
--- the rest of a list, as a slice has it
-rest_is_whole : (count : ℕ) (xs : List ℕ) → take (length xs - count) (drop count xs) ≡ drop count xs
-rest_is_whole count xs = take_all (length xs - count) (drop count xs) (omega (arith, length-drop count xs))
-
 -- a line that is not empty, by its first word and what stands behind this
 pub asked_here : (line whole word rest : List ℕ) (count : ℕ) → whole ≡ stripped line → whole ≢ [] → count ≡ word_length whole
     → word ≡ take count whole → rest ≡ behind_spaces (take (length whole - count) (drop count whole))
@@ -73,7 +70,7 @@ asked_here line [] word rest count is some counted first more = absurd (some ref
 asked_here line (byte ∷ bytes) word rest count is some counted first more =
     ap (λ (it : List ℕ). requested_by it rest) (first ∙ ap (λ (n : ℕ). take n (byte ∷ bytes)) counted)
     ∙ (ap (requested_by (first_word (byte ∷ bytes)))
-    (more ∙ (ap behind_spaces (rest_is_whole count (byte ∷ bytes))
+    (more ∙ (ap behind_spaces (take_rest (byte ∷ bytes) count)
     ∙ ap (λ (n : ℕ). behind_spaces (drop n (byte ∷ bytes))) counted))
     ∙ ap requested_in is)
 

@@ -1,9 +1,10 @@
 pub mod Limits
-pub mod Report
+pub mod Cutting
 pub mod Machine
-pub mod Fitting
+pub mod Answered
 pub mod Writing
 pub mod Serving
+pub mod Turn
 pub mod Session
 pub mod Line
 pub mod Request

@@ -1,8 +1,13 @@
--- A text that is written whole, or in part, behind what was written.
-use Rattle.lotos_base.specs.Counts.{Rises}
-use Rattle.line_server.specs.declared.ends.SessionEnd.{SessionEnd}
-use Rattle.line_server.specs.declared.ends.SessionEnd.TheVariants.{OutputFailed, NoMemory}
+-- What a source or a sink tells, and texts that are written whole, or in part, behind what was written.
 use Rattle.std.specs.Prelude.{◌≡◌, ℕ, ◌<◌, List, ◌++◌, take, length, Option, Some, IfSome}
+
+-- what an input has left, or an output has written, where it tells it, and its count of faults
+pub record Stream : Type 0 where
+  pub bytes : Option (List ℕ)
+  pub faults : ℕ
+
+abbrev pub stream : Option (List ℕ) → ℕ → Stream
+stream bytes faults = record { bytes = bytes; faults = faults }
 
 -- the whole text is written behind what was written, where the output tells it
 abbrev pub WritesAll : Option (List ℕ) → Option (List ℕ) → List ℕ → Type 0
@@ -13,25 +18,7 @@ abbrev pub WritesBeginning : Option (List ℕ) → Option (List ℕ) → List �
 WritesBeginning before after text =
     (count : ℕ) × (count < length text) × IfSome before (λ written. after ≡ Some (written ++ take count text))
 
--- the answer is the session's end, and the output counted no fault; or the output failed and its count rose; or memory was
--- wanted
-abbrev pub IsSessionAnswer : SessionEnd → (faults_before faults_after : ℕ) → SessionEnd → Type 0
-IsSessionAnswer status before after OutputFailed = Rises before after
-IsSessionAnswer status before after NoMemory = after ≡ before
-IsSessionAnswer status before after answer = (status ≡ answer) × (after ≡ before)
-
--- the session's ends that come of themselves
-abbrev pub IsClosing : SessionEnd → Type 0
-IsClosing OutputFailed = ⊥
-IsClosing NoMemory = ⊥
-IsClosing _ = Unit {0}
-
--- a text with which another one begins is written
-abbrev pub WritesSome : Option (List ℕ) → Option (List ℕ) → List ℕ → Type 0
-WritesSome before after report = (text : List ℕ) × (rest : List ℕ) × (report ≡ text ++ rest) × WritesAll before after text
-
--- the whole report is written, or a beginning of it where the output failed or memory was wanted
-abbrev pub IsReportWritten : Option (List ℕ) → Option (List ℕ) → List ℕ → SessionEnd → Type 0
-IsReportWritten before after report OutputFailed = WritesBeginning before after report
-IsReportWritten before after report NoMemory = WritesSome before after report
-IsReportWritten before after report _ = WritesAll before after report
+-- a text is written whole, and of the one behind it the beginning, and not all of it
+abbrev pub WritesUpTo : Option (List ℕ) → Option (List ℕ) → (text more : List ℕ) → Type 0
+WritesUpTo before after text more =
+    (count : ℕ) × (count < length more) × IfSome before (λ written. after ≡ Some (written ++ (text ++ take count more)))

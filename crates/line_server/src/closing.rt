@@ -1,8 +1,9 @@
 //! The end of a session that no line ends.
 
-ghost use Rattle.line_server.specs.Report.{ended, end_by};
-ghost use Rattle.line_server.specs.Writing.{IsSessionAnswer, IsClosing, IsReportWritten};
-ghost use Rattle.line_server.specs.Serving.{moment, IsLine, SessionCloses};
+ghost use Rattle.line_server.specs.Cutting.{last_line};
+ghost use Rattle.line_server.specs.Serving.{IsLine, moment};
+ghost use Rattle.line_server.specs.Turn.{Closes, EndsWith};
+ghost use Rattle.line_server.specs.Writing.{stream};
 
 use crate::ends::SessionEnd;
 use crate::lines::Lines;
@@ -12,9 +13,8 @@ use std::alloc::Global;
 
 /// Writes the closing line, and answers how the session ends.
 pub fn close<K: Sink>(output: &mut K, text: &[u8], end: SessionEnd) -> SessionEnd
-    requires { IsClosing end }
-    ensures written { IsReportWritten (K.written output.old) (K.written output.new) text.now result }
-    ensures answered { IsSessionAnswer end (K.faults output.old) (K.faults output.new) result }
+    ensures { Closes text.now end (stream (K.written output.old) (K.faults output.old))
+        (stream (K.written output.new) (K.faults output.new)) result }
 {
     match write_whole(output, text) {
         Ok(()) => end,
@@ -32,20 +32,21 @@ pub fn finish<L: Lines, F: Shelf, K: Sink>(
 ) -> SessionEnd
     requires ready { L.is_ready lines.old }
     requires line { IsLine line.now }
-    ensures closed { SessionCloses
-        L.machine (moment (L.state lines.old (F.texts shelf.old)) line.now (F.faults shelf.old)
-        (K.written output.old))
-        ended
-        (moment (L.state lines.new (F.texts shelf.new)) line.now (F.faults shelf.new)
-        (K.written output.new)) result }
-    ensures answered { IsSessionAnswer (end_by ended) (K.faults output.old) (K.faults output.new) result }
+    ensures served { EndsWith L.machine (last_line line.now)
+        (moment (L.state lines.old (F.texts shelf.old) (F.faults shelf.old)
+        (F.calls shelf.old)) (K.written output.old) (K.faults output.old))
+        (moment (L.state lines.new (F.texts shelf.new) (F.faults shelf.new)
+        (F.calls shelf.new)) (K.written output.new) (K.faults output.new)) result }
     ensures ready { L.is_ready lines.new }
 {
     if line.is_empty() {
         return SessionEnd::Finished;
     }
     match lines.serve(alloc, line, shelf) {
-        Ok(answer) => close(output, answer.text.as_slice(), SessionEnd::Finished),
         Err(NoMemory) => SessionEnd::NoMemory,
+        Ok(answer) => match write_whole(output, answer.text.as_slice()) {
+            Ok(()) => SessionEnd::Finished,
+            Err(Failed) => SessionEnd::OutputFailed,
+        },
     }
 }

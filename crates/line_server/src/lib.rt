@@ -14,6 +14,7 @@ pub mod numbers;
 mod piece;
 pub mod requests;
 mod session;
+mod turn;
 mod words;
 mod writing;
 
@@ -22,4 +23,5 @@ pub use input::{INPUT_LIMIT, PIECE_LIMIT};
 pub use lines::{Answer, Lines};
 pub use requests::{Request, read_request};
 pub use session::serve_session;
+pub use turn::serve_turn;
 pub use writing::write_whole;

@@ -1,7 +1,7 @@
 //! One line of a session: it is answered, and the answer is written.
 
 ghost use Rattle.std.specs.Prelude.{◌≡◌, [], ◌∷◌, MatchResult, OnOk};
-ghost use Rattle.line_server.specs.Serving.{moment, IsLine, HasServed, Broke, StopCounts};
+ghost use Rattle.line_server.specs.Serving.{moment, IsLine, HasServed, StopsAt};
 
 use crate::ends::Stop;
 use crate::lines::Lines;
@@ -21,21 +21,17 @@ pub fn serve_line<L: Lines, F: Shelf, K: Sink>(
     requires ready { L.is_ready lines.old }
     requires plain { IsLine line.old.items }
     ensures served { MatchResult result
-        (λ quits. HasServed L.machine
-        (moment (L.state lines.old (F.texts shelf.old)) line.old.items (F.faults shelf.old)
-        (K.written output.old))
-        (10 ∷ []) (moment (L.state lines.new (F.texts shelf.new)) line.new.items
-        (F.faults shelf.new)
-        (K.written output.new)) quits)
-        (λ stop. Broke stop L.machine
-        (moment (L.state lines.old (F.texts shelf.old)) line.old.items (F.faults shelf.old)
-        (K.written output.old))
-        (10 ∷ []) (moment (L.state lines.new (F.texts shelf.new)) line.new.items
-        (F.faults shelf.new)
-        (K.written output.new))) }
-    ensures counts { MatchResult result
-        (λ _. K.faults output.new ≡ K.faults output.old)
-        (λ stop. StopCounts stop (K.faults output.old) (K.faults output.new)) }
+        (HasServed L.machine line.old.items
+        (moment (L.state lines.old (F.texts shelf.old) (F.faults shelf.old)
+        (F.calls shelf.old)) (K.written output.old) (K.faults output.old))
+        (10 ∷ [])
+        (moment (L.state lines.new (F.texts shelf.new) (F.faults shelf.new)
+        (F.calls shelf.new)) (K.written output.new) (K.faults output.new)))
+        (λ stop. StopsAt stop L.machine (line.old.items ∷ [])
+        (moment (L.state lines.old (F.texts shelf.old) (F.faults shelf.old)
+        (F.calls shelf.old)) (K.written output.old) (K.faults output.old))
+        (moment (L.state lines.new (F.texts shelf.new) (F.faults shelf.new)
+        (F.calls shelf.new)) (K.written output.new) (K.faults output.new))) }
     ensures cleared { OnOk result (line.new.items ≡ []) }
     ensures ready { L.is_ready lines.new }
 {

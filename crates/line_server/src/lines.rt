@@ -1,6 +1,6 @@
 //! A machine that answers lines.
 
-ghost use Rattle.std.specs.Prelude.{◌≡◌, ℕ, ◌≤◌, List, Option, OnErr, IfOk};
+ghost use Rattle.std.specs.Prelude.{ℕ, List, Option, MatchResult};
 ghost use Rattle.lotos_base.specs.Outside.{Texts};
 ghost use Rattle.line_server.specs.Machine.{Machine};
 ghost use Rattle.line_server.specs.Serving.{IsLine, ServesLine};
@@ -19,17 +19,15 @@ pub struct Answer {
 
 /// What answers the lines of a session, one after another.
 pub trait Lines {
-    // What the lines so far have come to, as a plain value. The texts of the shelf, where it tells
-    // them, may be a part of it.
+    // Where a session stands beside a shelf, as a plain value.
     ghost State: { Type 0 };
 
-    ghost state: { Self → Option Texts → State };
-
-    // What may befall a line beside its bytes, such as a fault of a shelf.
-    ghost Chance: { Type 0 };
+    // That of this one, beside a shelf that tells these texts and has counted so many faults and
+    // calls.
+    ghost state: { Self → Option Texts → ℕ → ℕ → State };
 
     // What a line comes to.
-    ghost machine: { Machine State Chance };
+    ghost machine: { Machine State };
 
     // What has to hold for a line to be answered. It holds after each line.
     ghost is_ready: { Self → Type 0 };
@@ -43,9 +41,12 @@ pub trait Lines {
     ) -> Result<Answer, NoMemory>
         requires ready { is_ready self.old }
         requires plain { IsLine line.now }
-        ensures served { IfOk result (ServesLine machine
-            (state self.old (F.texts shelf.old), F.faults shelf.old)
-            (state self.new (F.texts shelf.new), F.faults shelf.new) line.now) }
-        ensures counted { OnErr result (F.faults shelf.old ≤ F.faults shelf.new) }
+        ensures served { MatchResult result
+            (ServesLine machine
+            (state self.old (F.texts shelf.old) (F.faults shelf.old) (F.calls shelf.old)) line.now
+            (state self.new (F.texts shelf.new) (F.faults shelf.new) (F.calls shelf.new)))
+            (λ _. machine.leaves
+            (state self.old (F.texts shelf.old) (F.faults shelf.old) (F.calls shelf.old)) line.now
+            (state self.new (F.texts shelf.new) (F.faults shelf.new) (F.calls shelf.new))) }
         ensures ready { is_ready self.new };
 }

@@ -43,7 +43,7 @@ fn has_number_form(word: &[u8]) -> bool
 }
 
 // The number that the digits write.
-#[tactic(auto, using(crate::proofs::NumberLemmas::digit_read, crate::proofs::NumberLemmas::fits_ten, crate::proofs::NumberLemmas::one_digit_more))]
+#[tactic(auto, using(crate::proofs::NumberLemmas::digit_read, lotos_base::proofs::Digits::fits_ten, lotos_base::proofs::Digits::one_digit_more))]
 fn value_of(digits: &[u8]) -> u64
     requires digits { list_all is_ascii_digit digits.now ≡ true }
     requires short { length digits.now < 11 }

@@ -1,9 +1,16 @@
 //! A piece of an input: its lines are served in order.
 
-ghost use Rattle.std.specs.Prelude.{◌≡◌, ◌≢◌, ◌+◌, ◌≤◌, [], ◌∷◌, length, MatchResult, OnOk};
+ghost use Rattle.std.specs.Prelude.{◌≡◌, ◌≢◌, ◌+◌, ◌≤◌, [], ◌∷◌, length, IfOk, MatchResult, OnOk};
 ghost use Rattle.std.specs.List.{All};
+ghost use Rattle.line_server.specs.Cutting.{complete};
 ghost use Rattle.line_server.specs.Limits.{input_limit};
-ghost use Rattle.line_server.specs.Serving.{moment, IsLine, HasServed, Broke, StopCounts};
+ghost use Rattle.line_server.specs.Serving.{
+  Begins,
+  HasServed,
+  IsLine,
+  StopsAt,
+  moment,
+};
 
 use crate::ends::Stop;
 use crate::line::serve_line;
@@ -26,21 +33,18 @@ pub fn serve_piece<L: Lines, F: Shelf, K: Sink>(
     requires plain { All (λ byte. byte ≢ 10) line.old.items }
     requires short { length line.old.items + length piece.now ≤ input_limit }
     ensures served { MatchResult result
-        (λ quits. HasServed L.machine
-        (moment (L.state lines.old (F.texts shelf.old)) line.old.items (F.faults shelf.old)
-        (K.written output.old))
-        piece.now (moment (L.state lines.new (F.texts shelf.new)) line.new.items
-        (F.faults shelf.new)
-        (K.written output.new)) quits)
-        (λ stop. Broke stop L.machine
-        (moment (L.state lines.old (F.texts shelf.old)) line.old.items (F.faults shelf.old)
-        (K.written output.old))
-        piece.now (moment (L.state lines.new (F.texts shelf.new)) line.new.items
-        (F.faults shelf.new)
-        (K.written output.new))) }
-    ensures counts { MatchResult result
-        (λ _. K.faults output.new ≡ K.faults output.old)
-        (λ stop. StopCounts stop (K.faults output.old) (K.faults output.new)) }
+        (HasServed L.machine line.old.items
+        (moment (L.state lines.old (F.texts shelf.old) (F.faults shelf.old)
+        (F.calls shelf.old)) (K.written output.old) (K.faults output.old))
+        piece.now
+        (moment (L.state lines.new (F.texts shelf.new) (F.faults shelf.new)
+        (F.calls shelf.new)) (K.written output.new) (K.faults output.new)))
+        (λ stop. StopsAt stop L.machine (complete line.old.items piece.now)
+        (moment (L.state lines.old (F.texts shelf.old) (F.faults shelf.old)
+        (F.calls shelf.old)) (K.written output.old) (K.faults output.old))
+        (moment (L.state lines.new (F.texts shelf.new) (F.faults shelf.new)
+        (F.calls shelf.new)) (K.written output.new) (K.faults output.new))) }
+    ensures begins { IfOk result (λ quits. Begins quits line.old.items piece.now line.new.items) }
     ensures plain { OnOk result (All (λ byte. byte ≢ 10) line.new.items) }
     ensures short { OnOk result (length line.new.items ≤ length line.old.items + length piece.now) }
     ensures ready { L.is_ready lines.new }
@@ -67,21 +71,18 @@ fn serve_byte<L: Lines, F: Shelf, K: Sink>(
     requires ready { L.is_ready lines.old }
     requires line { IsLine line.old.items }
     ensures served { MatchResult result
-        (λ quits. HasServed L.machine
-        (moment (L.state lines.old (F.texts shelf.old)) line.old.items (F.faults shelf.old)
-        (K.written output.old))
-        (byte ∷ []) (moment (L.state lines.new (F.texts shelf.new)) line.new.items
-        (F.faults shelf.new)
-        (K.written output.new)) quits)
-        (λ stop. Broke stop L.machine
-        (moment (L.state lines.old (F.texts shelf.old)) line.old.items (F.faults shelf.old)
-        (K.written output.old))
-        (byte ∷ []) (moment (L.state lines.new (F.texts shelf.new)) line.new.items
-        (F.faults shelf.new)
-        (K.written output.new))) }
-    ensures counts { MatchResult result
-        (λ _. K.faults output.new ≡ K.faults output.old)
-        (λ stop. StopCounts stop (K.faults output.old) (K.faults output.new)) }
+        (HasServed L.machine line.old.items
+        (moment (L.state lines.old (F.texts shelf.old) (F.faults shelf.old)
+        (F.calls shelf.old)) (K.written output.old) (K.faults output.old))
+        (byte ∷ [])
+        (moment (L.state lines.new (F.texts shelf.new) (F.faults shelf.new)
+        (F.calls shelf.new)) (K.written output.new) (K.faults output.new)))
+        (λ stop. StopsAt stop L.machine (complete line.old.items (byte ∷ []))
+        (moment (L.state lines.old (F.texts shelf.old) (F.faults shelf.old)
+        (F.calls shelf.old)) (K.written output.old) (K.faults output.old))
+        (moment (L.state lines.new (F.texts shelf.new) (F.faults shelf.new)
+        (F.calls shelf.new)) (K.written output.new) (K.faults output.new))) }
+    ensures begins { IfOk result (λ quits. Begins quits line.old.items (byte ∷ []) line.new.items) }
     ensures plain { OnOk result (All (λ it. it ≢ 10) line.new.items) }
     ensures short { OnOk result (length line.new.items ≤ length line.old.items + 1) }
     ensures ready { L.is_ready lines.new }

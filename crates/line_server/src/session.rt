@@ -1,15 +1,16 @@
-//! The session: the loop over the pieces of the input.
+//! The session: turn after turn, up to its end.
 
 ghost use Rattle.std.specs.Prelude.{◌≡◌, length};
 ghost use Rattle.line_server.specs.Limits.{piece_limit};
-ghost use Rattle.line_server.specs.Session.{around, SessionCame, CompletesSession};
+ghost use Rattle.line_server.specs.Session.{IsServedInTurns, IsSessionServed};
+ghost use Rattle.line_server.specs.Turn.{around};
+ghost use Rattle.line_server.specs.Writing.{stream};
 
-use crate::closing::{close, finish};
-use crate::ends::{SessionEnd, Stop};
-use crate::input::{INPUT_LIMIT, PIECE_LIMIT, read_piece, room_at};
+use crate::ends::SessionEnd;
+use crate::input::PIECE_LIMIT;
 use crate::lines::Lines;
-use crate::piece::serve_piece;
-use lotos_base::{Failed, Shelf, Sink, Source};
+use crate::turn::serve_turn;
+use lotos_base::{Shelf, Sink, Source};
 use std::alloc::Global;
 
 /// Reads the input to its end in pieces, serves its lines in order, and writes each answer before
@@ -28,30 +29,28 @@ pub fn serve_session<L: Lines, F: Shelf, S: Source, K: Sink>(
     output: &mut K,
 ) -> SessionEnd
     requires ready { L.is_ready lines.old }
-    ensures came { SessionCame L.machine
-        (around (L.state lines.old (F.texts shelf.old), F.faults shelf.old)
-        (S.left input.old, S.faults input.old)
-        (K.written output.old, K.faults output.old))
-        (around (L.state lines.new (F.texts shelf.new), F.faults shelf.new)
-        (S.left input.new, S.faults input.new)
-        (K.written output.new, K.faults output.new))
-        result }
-    ensures complete { CompletesSession L.machine
-        (around (L.state lines.old (F.texts shelf.old), F.faults shelf.old)
-        (S.left input.old, S.faults input.old)
-        (K.written output.old, K.faults output.old))
-        (around (L.state lines.new (F.texts shelf.new), F.faults shelf.new)
-        (S.left input.new, S.faults input.new)
-        (K.written output.new, K.faults output.new))
-        result }
+    ensures turns { IsServedInTurns L.machine
+        (around (L.state lines.old (F.texts shelf.old) (F.faults shelf.old)
+        (F.calls shelf.old)) (stream (S.left input.old) (S.faults input.old))
+        (stream (K.written output.old) (K.faults output.old)))
+        (around (L.state lines.new (F.texts shelf.new) (F.faults shelf.new)
+        (F.calls shelf.new)) (stream (S.left input.new) (S.faults input.new))
+        (stream (K.written output.new) (K.faults output.new))) result }
+    ensures served { IsSessionServed L.machine
+        (around (L.state lines.old (F.texts shelf.old) (F.faults shelf.old)
+        (F.calls shelf.old)) (stream (S.left input.old) (S.faults input.old))
+        (stream (K.written output.old) (K.faults output.old)))
+        (around (L.state lines.new (F.texts shelf.new) (F.faults shelf.new)
+        (F.calls shelf.new)) (stream (S.left input.new) (S.faults input.new))
+        (stream (K.written output.new) (K.faults output.new))) result }
     ensures ready { L.is_ready lines.new }
 {
     let mut piece = [0u8; PIECE_LIMIT];
-    serve_pieces(alloc, lines, shelf, input, &mut piece, output)
+    serve_turns(alloc, lines, shelf, input, &mut piece, output)
 }
 
-/// Serves the whole input, piece by piece.
-fn serve_pieces<L: Lines, F: Shelf, S: Source, K: Sink>(
+/// Serves the whole input, turn by turn.
+fn serve_turns<L: Lines, F: Shelf, S: Source, K: Sink>(
     alloc: Global,
     lines: &mut L,
     shelf: &mut F,
@@ -61,34 +60,21 @@ fn serve_pieces<L: Lines, F: Shelf, S: Source, K: Sink>(
 ) -> SessionEnd
     requires ready { L.is_ready lines.old }
     requires piece { length piece.old ≡ piece_limit }
-    ensures { SessionCame L.machine
-        (around (L.state lines.old (F.texts shelf.old), F.faults shelf.old)
-        (S.left input.old, S.faults input.old)
-        (K.written output.old, K.faults output.old))
-        (around (L.state lines.new (F.texts shelf.new), F.faults shelf.new)
-        (S.left input.new, S.faults input.new)
-        (K.written output.new, K.faults output.new))
-        result
-        × L.is_ready lines.new }
+    ensures turns { IsServedInTurns L.machine
+        (around (L.state lines.old (F.texts shelf.old) (F.faults shelf.old)
+        (F.calls shelf.old)) (stream (S.left input.old) (S.faults input.old))
+        (stream (K.written output.old) (K.faults output.old)))
+        (around (L.state lines.new (F.texts shelf.new) (F.faults shelf.new)
+        (F.calls shelf.new)) (stream (S.left input.new) (S.faults input.new))
+        (stream (K.written output.new) (K.faults output.new))) result }
+    ensures ready { L.is_ready lines.new }
 {
     let mut line = Vec::new(alloc);
     let mut total = 0;
     loop {
-        let room = room_at(total);
-        match read_piece(input, piece, room) {
-            Err(Failed) => return close(output, b"input failed\n", SessionEnd::InputFailed),
-            Ok(0) => return finish(alloc, lines, shelf, line.as_slice(), output),
-            Ok(count) => {
-                if total == INPUT_LIMIT {
-                    return close(output, b"input too long\n", SessionEnd::InputTooLong);
-                }
-                match serve_piece(alloc, lines, shelf, &mut line, &piece[..count], output) {
-                    Ok(false) => total += count,
-                    Ok(true) => return SessionEnd::Finished,
-                    Err(Stop::OutputFailed) => return SessionEnd::OutputFailed,
-                    Err(Stop::NoMemory) => return SessionEnd::NoMemory,
-                }
-            }
+        match serve_turn(alloc, lines, shelf, input, piece, &mut line, total, output) {
+            Ok(count) => total += count,
+            Err(end) => return end,
         }
     }
 }

@@ -4,6 +4,9 @@ use Rattle.std.specs.Prelude.{Some, slice_get, ◌⊎◌}
 use Rattle.std.specs.List.{list_all}
 use Rattle.std.proofs.lemmas.List.{append-nil}
 use Rattle.std.proofs.lemmas.Bool.{or_cases, or_left, or_right, and_parts, and_from, both_ways, eqb-true, eq-eqb, ltb-true}
+use Rattle.std.proofs.lemmas.Map.Keys.{any_passes_from_place}
+use Rattle.lotos_base.proofs.Tests.{list_any-at}
+use Rattle.lotos_base.proofs.Members.{from_map, at_map}
 use Rattle.ll_engine.specs.declared.symbol.Symbol.{Symbol}
 use Rattle.ll_engine.specs.declared.symbol.Symbol.TheVariants.{Token, Part}
 use Rattle.ll_engine.specs.declared.symbol.Row.{Row}
@@ -14,7 +17,6 @@ use Rattle.ll_engine.specs.View.{is_in_range, production_of, productions}
 use Rattle.ll_engine.specs.Computed.{part_column, all_marked, begins, has_corner}
 use Rattle.ll_engine.specs.Related.{related, HasCells, RelationLeads, here, through, IsClosureOf}
 use Rattle.ll_engine.proofs.Forests.{beside, leaves-beside, Derives-beside}
-use Rattle.ll_engine.proofs.Lists.{list_any-at, list_any-from_at, slice_get-from_map, slice_get-to_map}
 use Rattle.ll_engine.proofs.Closure.{related-bounds, related-HasCells}
 use Rattle.ll_engine.proofs.Ranges.{RowsInRange, InRange, left-below, right-InRange, list_all-split, AllProductive, trees_of}
 use Rattle.ll_engine.proofs.Nullable.{DecidesNullable, IsNullable-all_marked}
@@ -56,11 +58,11 @@ module _ (rows : List Row) (parts tokens : ℕ) (nullable : ℕ → Bool) (none 
   base-from_row : (r : ℕ) (row : Production) (column : ℕ) → slice_get (productions rows) r ≡ Some row → column < part_column tokens parts →
       begins nullable none tokens column row.right ≡ true → related base row.left column ≡ true
   base-from_row r row column is c h =
-      let at = slice_get-from_map production_of rows r row is in
+      let at = from_map production_of rows r row is in
       let left : at.0.left ≡ row.left = ap (λ (x : Production). x.left) at.2 in
       let right : at.0.right.items ≡ row.right = ap (λ (x : Production). x.right) at.2 in
       related-base row.left column (left-below made.ranges r row is) c
-      ∙ list_any-from_at (λ (x : Row). (x.left == row.left) && begins nullable none tokens column x.right.items) rows r at.0 at.1
+      ∙ any_passes_from_place (λ (x : Row). (x.left == row.left) && begins nullable none tokens column x.right.items) rows r at.0 at.1
       (and_from (at.0.left == row.left) (begins nullable none tokens column at.0.right.items) (eq-eqb at.0.left row.left left) (ap (begins nullable none tokens column) right ∙ h))
 
   base-row : (part column : ℕ) → related base part column ≡ true →
@@ -72,7 +74,7 @@ module _ (rows : List Row) (parts tokens : ℕ) (nullable : ℕ → Bool) (none 
       let any = sym (related-base part column p c) ∙ h in
       let at = list_any-at (λ (x : Row). (x.left == part) && begins nullable none tokens column x.right.items) rows any in
       let both = and_parts (at.1.left == part) (begins nullable none tokens column at.1.right.items) at.3 in
-      (at.0, production_of at.1, slice_get-to_map production_of rows at.0 at.1 at.2, eqb-true at.1.left part both.0, both.1)
+      (at.0, production_of at.1, at_map production_of rows at.0 at.1 at.2, eqb-true at.1.left part both.0, both.1)
 
   -- a row that begins with a column: its part has the column
   pub first-row : (r : ℕ) (row : Production) (column : ℕ) → slice_get (productions rows) r ≡ Some row →

@@ -3,6 +3,9 @@ use Rattle.std.proofs.Common.{◌≡◌, ℕ, ◌<◌, ◌≤◌, ◌==◌, Bool
 use Rattle.std.specs.Prelude.{nat_lt, Some, slice_get}
 use Rattle.std.specs.List.{list_all, list_any}
 use Rattle.std.proofs.lemmas.Bool.{false≢true, or_cases, or_left, or_right, and_parts, and_from, eqb-true, eq-eqb, ltb-true, lt-ltb}
+use Rattle.std.proofs.lemmas.Map.Keys.{any_passes_from_place}
+use Rattle.lotos_base.proofs.Tests.{list_any-at}
+use Rattle.lotos_base.proofs.Members.{from_map, at_map}
 use Rattle.ll_engine.specs.declared.symbol.Symbol.{Symbol}
 use Rattle.ll_engine.specs.declared.symbol.Symbol.TheVariants.{Token, Part}
 use Rattle.ll_engine.specs.declared.symbol.Row.{Row}
@@ -12,7 +15,6 @@ use Rattle.ll_engine.specs.Prediction.{CanBeginWith, MayFollow, ends, before, be
 use Rattle.ll_engine.specs.View.{is_in_range, production_of, productions, grammar_of}
 use Rattle.ll_engine.specs.Computed.{part_column, all_marked, begins, continues, is_part, follows_in, has_follower}
 use Rattle.ll_engine.specs.Related.{related, HasCells, RelationLeads, here, through, IsClosureOf}
-use Rattle.ll_engine.proofs.Lists.{list_any-at, list_any-from_at, slice_get-from_map, slice_get-to_map}
 use Rattle.ll_engine.proofs.Closure.{related-bounds, related-HasCells}
 use Rattle.ll_engine.proofs.Ranges.{InRange, left-below, right-InRange, list_all-split, AllProductive, AreTokens-leaves}
 use Rattle.ll_engine.proofs.Nullable.{IsNullable-all_marked, all_marked-IsNullable}
@@ -69,7 +71,7 @@ module _ (rows : List Row) (parts tokens start : ℕ) (nullable : ℕ → Bool) 
       let all = right-InRange made.ranges r row is in
       let from_part = (list_all-split (is_in_range parts tokens) front (Part part ∷ back) (rw e at all)).1 in
       let p = ltb-true part parts (and_parts (nat_lt part parts) (list_all (is_in_range parts tokens) back) from_part).0 in
-      let at = slice_get-from_map production_of rows r row is in
+      let at = from_map production_of rows r row is in
       let left : at.0.left ≡ row.left = ap (λ (x : Production). x.left) at.2 in
       let right : at.0.right.items ≡ row.right = ap (λ (x : Production). x.right) at.2 in
       let found : follows_in nullable (related first) tokens at.0.left part column at.0.right.items ≡ true =
@@ -78,7 +80,8 @@ module _ (rows : List Row) (parts tokens start : ℕ) (nullable : ℕ → Bool) 
       ∙ follows_in-at nullable (related first) tokens row.left part column front back h in
       related-base part column p c
       ∙ or_right ((part == start) && (column == tokens)) (list_any (λ (x : Row). follows_in nullable (related first) tokens x.left part column x.right.items) rows)
-      (list_any-from_at (λ (x : Row). follows_in nullable (related first) tokens x.left part column x.right.items) rows r at.0 at.1 found)
+      (any_passes_from_place
+      (λ (x : Row). follows_in nullable (related first) tokens x.left part column x.right.items) rows r at.0 at.1 found)
 
   -- what the base holds, and why
   pub data Reason (part column : ℕ) : Type 0 where
@@ -98,7 +101,7 @@ module _ (rows : List Row) (parts tokens start : ℕ) (nullable : ℕ → Bool) 
         | inr in_some ↦
             let found = list_any-at (λ (x : Row). follows_in nullable (related first) tokens x.left part column x.right.items) rows in_some in
             let at = FollowsAt-follows_in nullable (related first) tokens found.1.left part column found.1.right.items found.3 in
-            in_row found.0 (production_of found.1) at.front at.back (slice_get-to_map production_of rows found.0 found.1 found.2) at.split at.goes_on
+            in_row found.0 (production_of found.1) at.front at.back (at_map production_of rows found.0 found.1 found.2) at.split at.goes_on
       ]
 
   back_in_range : (r : ℕ) (row : Production) (front back : List Symbol) (part : ℕ) → slice_get (productions rows) r ≡ Some row → row.right ≡ front ++ Part part ∷ back → InRange parts tokens back

@@ -3,6 +3,7 @@ use Rattle.std.proofs.Common.{◌≡◌, ◌≢◌, ◌∙◌, inl, inr, ℕ, ze
 use Rattle.std.specs.Prelude.{nat_lt, ◌==◌, Option, Some, None, slice_get}
 use Rattle.std.specs.List.{list_all}
 use Rattle.std.proofs.lemmas.Bool.{and_parts, and_from, or_cases, or_left, or_right, not-true, both_ways, cases_eq, ltb-true, lt-ltb, eqb-true, eq-eqb}
+use Rattle.lotos_base.proofs.Tests.{list_all-at}
 use Rattle.ll_engine.specs.declared.symbol.Symbol.{Symbol}
 use Rattle.ll_engine.specs.declared.symbol.Symbol.TheVariants.{Token, Part}
 use Rattle.ll_engine.specs.Derivation.{Production, Forest, empty, leaf, node, DerivesSymbols, leaves}
@@ -11,11 +12,6 @@ use Rattle.ll_engine.specs.Prediction.{IsPredictedBy, MayFollow, ends, before, b
 use Rattle.ll_engine.specs.PredictionSets.{Sets, has, within, apart, all_nullable, first_of, predicting, keeps_nullable, keeps_first, keeps_follow, falls, keeps, is_apart_from, all_apart, has_left, right_of, derives_by, all_below, Kept, PartSets, sets_of, tree_of, known_after, are_kept, is_predictive_after}
 
 -- membership
-pub list_all-at : {X : Type 0} (p : X → Bool) (xs : List X) (i : ℕ) (x : X) → list_all p xs ≡ true → slice_get xs i ≡ Some x → p x ≡ true
-list_all-at p [] i x h is = absurd (cc)
-list_all-at p (y ∷ ys) zero x h is = let e : y ≡ x = cc in ap p (sym e) ∙ (and_parts (p y) (list_all p ys) h).0
-list_all-at p (y ∷ ys) (suc i) x h is = list_all-at p ys i x (and_parts (p y) (list_all p ys) h).1 is
-
 pub all_has : (test : ℕ → Bool) (list : List ℕ) (t : ℕ) → list_all test list ≡ true → has list t ≡ true → test t ≡ true
 all_has test [] t all is = absurd (cc)
 all_has test (n ∷ ns) t all is =

@@ -1,38 +1,11 @@
 -- Lists of bits, and tests of the elements of a list.
 use Rattle.std.proofs.Common.{◌≡◌, ℕ, zero, suc, ◌+◌, ◌<◌, ◌≤◌, Bool, true, false, cond, ◌||◌, List, [], ◌∷◌, length, get_or, refl, ap, ◌∙◌, arith, count_by}
-use Rattle.std.specs.Prelude.{Some, slice_get, map}
-use Rattle.std.specs.List.{list_any}
-use Rattle.std.specs.Option.{option_map}
 use Rattle.std.proofs.Common.{inl, inr}
 use Rattle.std.proofs.lemmas.Bool.{false≢true, or_cases, or_left, or_right, cases_lt}
-use Rattle.std.proofs.lemmas.Option.{slice_get-map}
 use Rattle.std.proofs.lemmas.List.Sums.{count_by-le-length}
 use Rattle.std.proofs.lemmas.List.Recursion.{is_count_by}
 use Rattle.std.proofs.Common.{add-one}
 use Rattle.ll_engine.specs.Computed.{any_below}
-
--- a test that some element passes
-pub list_any-at : {X : Type 0} (p : X → Bool) (xs : List X) → list_any p xs ≡ true → (i : ℕ) × (x : X) × (slice_get xs i ≡ Some x) × (p x ≡ true)
-list_any-at p [] h = absurd (false≢true h)
-list_any-at p (x ∷ xs) h =
-    elim (or_cases (p x) (list_any p xs) h) [
-      | inl here ↦ (0, x, refl, here)
-      | inr later ↦ let at = list_any-at p xs later in (suc at.0, at.1, at.2, at.3)
-    ]
-
-pub list_any-from_at : {X : Type 0} (p : X → Bool) (xs : List X) (i : ℕ) (x : X) → slice_get xs i ≡ Some x → p x ≡ true → list_any p xs ≡ true
-list_any-from_at p [] i x is passes = absurd (cc)
-list_any-from_at p (y ∷ ys) zero x is passes = or_left (p y) (list_any p ys) (let e : y ≡ x = cc in ap p e ∙ passes)
-list_any-from_at p (y ∷ ys) (suc i) x is passes = or_right (p y) (list_any p ys) (list_any-from_at p ys i x is passes)
-
--- an element of a mapped list
-pub slice_get-from_map : {X Y : Type 0} (f : X → Y) (xs : List X) (i : ℕ) (y : Y) → slice_get (map f xs) i ≡ Some y → (x : X) × (slice_get xs i ≡ Some x) × (f x ≡ y)
-slice_get-from_map f [] i y h = absurd (cc)
-slice_get-from_map f (x ∷ xs) zero y h = (x, refl, cc)
-slice_get-from_map f (x ∷ xs) (suc i) y h = slice_get-from_map f xs i y h
-
-pub slice_get-to_map : {X Y : Type 0} (f : X → Y) (xs : List X) (i : ℕ) (x : X) → slice_get xs i ≡ Some x → slice_get (map f xs) i ≡ Some (f x)
-slice_get-to_map f xs i x h = slice_get-map f xs i ∙ ap (option_map f) h
 
 -- each bit that is set in the first list is set in the second
 abbrev pub IsWithin : List Bool → List Bool → Type 0

@@ -6,6 +6,9 @@ use Rattle.std.proofs.lemmas.Bool.{false≢true, or_cases, or_left, or_right, an
 use Rattle.std.proofs.Common.{inl, inr}
 use Rattle.std.proofs.lemmas.List.FromFn.{get_or-map-range_with_len, length-map-range_with_len}
 use Rattle.std.proofs.lemmas.List.{get_or_past, get_or-replicate, length-replicate}
+use Rattle.std.proofs.lemmas.Map.Keys.{any_passes_from_place}
+use Rattle.lotos_base.proofs.Tests.{list_any-at}
+use Rattle.lotos_base.proofs.Members.{from_map, at_map}
 use Rattle.ll_engine.specs.declared.symbol.Symbol.{Symbol}
 use Rattle.ll_engine.specs.declared.symbol.Symbol.TheVariants.{Token, Part}
 use Rattle.ll_engine.specs.declared.symbol.Row.{Row}
@@ -14,7 +17,7 @@ use Rattle.ll_engine.specs.View.{production_of, productions}
 use Rattle.ll_engine.specs.Computed.{is_marked, all_marked, has_marked_row, next_mark}
 use Rattle.ll_engine.specs.Answers.{DerivesPassing, AreDeriving, HasPartsBelow}
 use Rattle.ll_engine.proofs.Forests.{beside, leaves-beside, Derives-beside}
-use Rattle.ll_engine.proofs.Lists.{list_any-at, list_any-from_at, slice_get-from_map, slice_get-to_map, IsWithin, set_count, set_count-le, same_from_set_count}
+use Rattle.ll_engine.proofs.Lists.{IsWithin, set_count, set_count-le, same_from_set_count}
 
 -- two lists joined are empty only where both are
 pub append_nil : {X : Type 0} (xs ys : List X) → xs ++ ys ≡ [] → (xs ≡ []) × (ys ≡ [])
@@ -51,15 +54,15 @@ pub Row-has_marked_row : (rows : List Row) (marked : ℕ → Bool) (passing : Bo
 Row-has_marked_row rows marked passing part h =
     let at = list_any-at (λ (row : Row). (row.left == part) && all_marked marked passing row.right.items) rows h in
     let parts = and_parts (at.1.left == part) (all_marked marked passing at.1.right.items) at.3 in
-    (at.0, production_of at.1, slice_get-to_map production_of rows at.0 at.1 at.2, eqb-true at.1.left part parts.0, parts.1)
+    (at.0, production_of at.1, at_map production_of rows at.0 at.1 at.2, eqb-true at.1.left part parts.0, parts.1)
 
 pub has_marked_row-from_row : (rows : List Row) (marked : ℕ → Bool) (passing : Bool) (r : ℕ) (row : Production) →
     slice_get (productions rows) r ≡ Some row → all_marked marked passing row.right ≡ true → has_marked_row rows marked passing row.left ≡ true
 has_marked_row-from_row rows marked passing r row is h =
-    let at = slice_get-from_map production_of rows r row is in
+    let at = from_map production_of rows r row is in
     let left : at.0.left ≡ row.left = ap (λ (x : Production). x.left) at.2 in
     let right : at.0.right.items ≡ row.right = ap (λ (x : Production). x.right) at.2 in
-    list_any-from_at (λ (x : Row). (x.left == row.left) && all_marked marked passing x.right.items) rows r at.0 at.1
+    any_passes_from_place (λ (x : Row). (x.left == row.left) && all_marked marked passing x.right.items) rows r at.0 at.1
     (and_from (at.0.left == row.left) (all_marked marked passing at.0.right.items) (eq-eqb at.0.left row.left left) (ap (all_marked marked passing) right ∙ h))
 
 -- one round keeps the marks sound

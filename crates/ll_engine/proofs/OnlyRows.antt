@@ -4,6 +4,7 @@ use Rattle.std.specs.Prelude.{◌≢◌, ◌+◌, ◌*◌, ◌==◌, if◌then�
 use Rattle.std.proofs.Common.{Vec, Global, Bor}
 use Rattle.std.proofs.lemmas.Bool.{eqb-true, eq-eqb, false≢true}
 use Rattle.std.proofs.lemmas.Option.{none-some}
+use Rattle.lotos_base.proofs.Members.{at_map}
 use Rattle.ll_engine.specs.declared.symbol.Row.{Row}
 use Rattle.ll_engine.specs.declared.table.TheConstants.{NO_ROW}
 use Rattle.ll_engine.specs.declared.grammar.Rows.{Rows}
@@ -18,7 +19,6 @@ use Rattle.ll_engine.specs.Grammar.{viewed, IsTableOf}
 use Rattle.ll_engine.specs.Table.{width_of, row_of_entry, entry_at}
 use Rattle.ll_engine.specs.Walk.{IsOnlyRow}
 use Rattle.ll_engine.specs.WrittenTable.{written_production, written_productions, row_among, first_row, row_at, is_named, IsTableWritten}
-use Rattle.ll_engine.proofs.Lists.{slice_get-to_map}
 use Rattle.ll_engine.proofs.Walks.{one_row}
 
 -- what is known where the rows were checked, and where the table stands written
@@ -112,7 +112,7 @@ row_some g table part token written rows within = by_found (row_at table part to
         ap (slice_get table.rows.now) it.number_is ∙ slice_get-behind (first_row table part) table.rows.now it.place it.row it.is_row in
         record {
           row = written_production it.row;
-          is_row = ap (λ (list : List Production). slice_get list r) rows ∙ slice_get-to_map written_production table.rows.now r it.row at;
+          is_row = ap (λ (list : List Production). slice_get list r) rows ∙ at_map written_production table.rows.now r it.row at;
           left_is = it.left_is;
           only = λ number other is_other left predicted.
               let found = written.named_rows token number other within is_other predicted in

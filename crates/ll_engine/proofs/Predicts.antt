@@ -3,6 +3,7 @@ use Rattle.std.proofs.Common.{◌≡◌, ℕ, ◌+◌, ◌*◌, ◌/◌, ◌<◌
 use Rattle.std.specs.Prelude.{Some, slice_get, slice_index}
 use Rattle.std.proofs.lemmas.Bool.{or_cases, or_left, or_right, and_parts, and_from, both_ways, eqb-true, eq-eqb, cases_eq}
 use Rattle.std.proofs.lemmas.Nat.{div-mul-add, mod-mul-add}
+use Rattle.lotos_base.proofs.Members.{from_map, at_map}
 use Rattle.ll_engine.specs.declared.symbol.Row.{Row}
 use Rattle.ll_engine.specs.declared.table.TheConstants.{NO_ROW}
 use Rattle.ll_engine.specs.declared.relation.Relation.{Relation}
@@ -13,7 +14,6 @@ use Rattle.ll_engine.specs.Computed.{all_marked, begins, predicts, is_candidate,
 use Rattle.ll_engine.specs.Related.{related}
 use Rattle.ll_engine.specs.Table.{width_of, AreEntries}
 use Rattle.ll_engine.specs.Checked.{IsPrediction}
-use Rattle.ll_engine.proofs.Lists.{slice_get-from_map, slice_get-to_map}
 use Rattle.ll_engine.proofs.Ranges.{right-InRange, AllProductive}
 use Rattle.ll_engine.proofs.Nullable.{IsNullable-all_marked, all_marked-IsNullable}
 use Rattle.ll_engine.proofs.FirstSets.{IsFirstOf, begins-Begins, Begins-begins}
@@ -39,7 +39,7 @@ module _ (rows : List Row) (parts tokens start : ℕ) (nullable : ℕ → Bool) 
   IsPredictedBy-predicts r row token is le h =
       elim (or_cases (begins nullable (related first) tokens token row.right.items) (all_marked nullable false row.right.items && related follow row.left token) h) [
         | inl front ↦ inl (Begins-begins rows parts tokens nullable none corners first made productive row.right.items token
-            (right-InRange made.ranges r (production_of row) (slice_get-to_map production_of rows r row is)) le front)
+            (right-InRange made.ranges r (production_of row) (at_map production_of rows r row is)) le front)
         | inr behind ↦
             let both = and_parts (all_marked nullable false row.right.items) (related follow row.left token) behind in
             inr (
@@ -65,7 +65,7 @@ module _ (rows : List Row) (parts tokens start : ℕ) (nullable : ℕ → Bool) 
   passes : (part token : ℕ) (r : ℕ) (row : Production) → slice_get (productions rows) r ≡ Some row → row.left ≡ part →
       IsPredictedBy (grammar_of rows parts tokens start) row token → (x : Row) × (slice_get rows r ≡ Some x) × (test part token x ≡ true)
   passes part token r row is left p =
-      let at = slice_get-from_map production_of rows r row is in
+      let at = from_map production_of rows r row is in
       let e : at.0.left ≡ part = ap (λ (x : Production). x.left) at.2 ∙ left in (
         at.0,
         at.1,
@@ -90,8 +90,8 @@ module _ (rows : List Row) (parts tokens start : ℕ) (nullable : ℕ → Bool) 
         first_row = production_of s.first_row;
         second_row = production_of s.second_row;
         apart = s.apart;
-        is_first = slice_get-to_map production_of rows s.first s.first_row s.is_first;
-        is_second = slice_get-to_map production_of rows s.second s.second_row s.is_second;
+        is_first = at_map production_of rows s.first s.first_row s.is_first;
+        is_second = at_map production_of rows s.second s.second_row s.is_second;
         first_left = a.0;
         second_left = b.0;
         first_predicted = a.1;
@@ -117,5 +117,5 @@ module _ (rows : List Row) (parts tokens start : ℕ) (nullable : ℕ → Bool) 
     some = λ ne.
         let only = is.1 ne in
         let c = candidate part token entry only.row only.is_row le only.passes in
-        (production_of only.row, slice_get-to_map production_of rows entry only.row only.is_row, c.0, c.1);
+        (production_of only.row, at_map production_of rows entry only.row only.is_row, c.0, c.1);
   }

@@ -1,19 +1,15 @@
 -- Grammars whose numbers are in range: their trees have tokens in range, and where every part derives something, so does every list.
-use Rattle.std.proofs.Common.{◌≡◌, ℕ, zero, suc, ◌<◌, Bool, true, ◌&&◌, List, [], ◌∷◌, ◌++◌, refl, ap, sym, ◌∙◌}
+use Rattle.std.proofs.Common.{◌≡◌, ℕ, ◌<◌, Bool, true, ◌&&◌, List, [], ◌∷◌, ◌++◌, refl, ap, ◌∙◌}
 use Rattle.std.specs.Prelude.{nat_lt, Some, slice_get}
 use Rattle.std.specs.List.{list_all}
 use Rattle.std.proofs.lemmas.Bool.{and_parts, and_from, ltb-true}
+use Rattle.lotos_base.proofs.Tests.{list_all-at}
 use Rattle.ll_engine.specs.declared.symbol.Symbol.{Symbol}
 use Rattle.ll_engine.specs.declared.symbol.Symbol.TheVariants.{Token, Part}
 use Rattle.ll_engine.specs.Derivation.{Production, Forest, empty, leaf, node, DerivesSymbols, leaves}
 use Rattle.ll_engine.specs.Language.{ContextFree}
 use Rattle.ll_engine.specs.View.{is_in_range, is_row_in_range, is_well_formed}
 use Rattle.ll_engine.proofs.Forests.{beside, Derives-beside}
-
-pub list_all-at : {X : Type 0} (p : X → Bool) (xs : List X) (i : ℕ) (x : X) → list_all p xs ≡ true → slice_get xs i ≡ Some x → p x ≡ true
-list_all-at p [] i x h is = absurd (cc)
-list_all-at p (y ∷ ys) zero x h is = let e : y ≡ x = cc in ap p (sym e) ∙ (and_parts (p y) (list_all p ys) h).0
-list_all-at p (y ∷ ys) (suc i) x h is = list_all-at p ys i x (and_parts (p y) (list_all p ys) h).1 is
 
 pub list_all-split : {X : Type 0} (p : X → Bool) (xs ys : List X) → list_all p (xs ++ ys) ≡ true → (list_all p xs ≡ true) × (list_all p ys ≡ true)
 list_all-split p [] ys h = (refl, h)

@@ -3,14 +3,14 @@ use Rattle.std.proofs.Common.{◌≡◌, ◌∙◌, ℕ, Bool, true, false, not,
 use Rattle.std.specs.Prelude.{Option, Some, None, option_and_then, slice_get}
 use Rattle.std.specs.List.{list_all}
 use Rattle.std.proofs.lemmas.Bool.{and_parts, and_from, not-true}
-use Rattle.std.proofs.lemmas.List.{append-nil, reverse-append, length-map}
+use Rattle.std.proofs.lemmas.List.{append-nil, reverse-append, length-map, length-reverse}
 use Rattle.std.proofs.lemmas.List.Elements.{filter-append}
+use Rattle.lotos_base.proofs.Tests.{list_all-at}
 use Rattle.ll_engine.specs.declared.symbol.Symbol.{Symbol}
 use Rattle.ll_engine.specs.declared.symbol.Symbol.TheVariants.{Token, Part}
 use Rattle.ll_engine.specs.Derivation.{Production, Forest, empty, leaf, node, DerivesSymbols, leaves, leftmost}
-use Rattle.ll_engine.proofs.KeptSets.{list_all-at}
 use Rattle.ll_engine.specs.Fold.{is_dropped, kept_in_front, begins_kept, first_if, tree_begins_kept, in_front, folded, first_value, value_of_tree}
-use Rattle.ll_engine.specs.Run.{count_parts, Work, work, rest_if, step_of, run, kept_tokens}
+use Rattle.ll_engine.specs.Run.{count_parts, Work, work, rest_if, step_of, run, kept_tokens, from_last}
 use Rattle.ll_engine.proofs.Folding.{append_parts, Halves, halves, no_tokens, kept_one, kept_none, and_then_same, and_then_twice, length_folded, run-append, with_values, step-values, in_front-work}
 
 module _ {T A : Type 0} (value_of : ℕ → Option T → List A → Option A) (keeps : ℕ → Bool) (kind : T → ℕ) (rows : List Production) where
@@ -255,3 +255,7 @@ module _ {T A : Type 0} (value_of : ℕ → Option T → List A → Option A) (k
         ∙ and_then_twice (λ after. first_value after.values) (λ values. Some (with_values value_of keeps [] [] values)) (values_in tree own)
         ∙ and_then_same (λ values. first_value (values ++ [])) first_value (values_in tree own)
         (λ values are. ap first_value (append-nil values))
+
+pub length-from_last : {A B : Type 0} (f : A → B) (list : List A) → length (from_last f list) ≡ length list
+unfolding from_last
+length-from_last f list = length-reverse (map f list) ∙ length-map list f

@@ -11,7 +11,7 @@ use Rattle.ll_engine.specs.Values.{StandForTokens, nothing, token, part, IsKept,
 use Rattle.ll_engine.proofs.Folding.{append_parts, halves, no_tokens}
 
 -- a right side and its trees begin alike
-begin_alike : (keeps : ℕ → Bool) (rows : List Production) (trees : Forest) (symbols : List Symbol) → DerivesSymbols rows trees symbols
+pub begin_alike : (keeps : ℕ → Bool) (rows : List Production) (trees : Forest) (symbols : List Symbol) → DerivesSymbols rows trees symbols
     → tree_begins_kept keeps trees ≡ begins_kept keeps symbols
 begin_alike keeps rows empty [] d = refl
 begin_alike keeps rows empty (symbol ∷ symbols) d = absurd d

@@ -4,13 +4,14 @@ use Rattle.std.specs.Prelude.{nat_lt, nat_le, Option, Some, None, slice_get}
 use Rattle.std.specs.List.{list_all}
 use Rattle.std.proofs.lemmas.Bool.{and_parts, ltb-true, leb-true, eqb-true}
 use Rattle.std.proofs.lemmas.Option.{slice_get-get_or}
+use Rattle.lotos_base.proofs.Tests.{list_all-at}
 use Rattle.ll_engine.specs.declared.written.WrittenTable.{WrittenTable}
 use Rattle.ll_engine.specs.Derivation.{Production}
 use Rattle.ll_engine.specs.Language.{ContextFree}
 use Rattle.ll_engine.specs.PredictionSets.{Sets, has, predicting, PartSets, sets_of, tree_of, are_kept, known_after}
 use Rattle.ll_engine.specs.View.{is_well_formed}
 use Rattle.ll_engine.specs.WrittenTable.{written_grammar, row_among, first_row, row_at, IsTableWritten, is_number, names_rows, is_kept_and_named, is_sized, is_written_after}
-use Rattle.ll_engine.proofs.KeptSets.{list_all-at, all_has, predicted_sound, predictive, kept_of}
+use Rattle.ll_engine.proofs.KeptSets.{all_has, predicted_sound, predictive, kept_of}
 
 number_is : (number : ℕ) (found : Option ℕ) → is_number number found ≡ true → found ≡ Some number
 number_is number None is = absurd (cc)

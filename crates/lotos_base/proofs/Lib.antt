@@ -15,3 +15,11 @@ pub mod ExampleLemmas
 pub mod SignatureExampleLemmas
 pub mod EqualityExampleLemmas
 pub mod CanonExampleLemmas
+pub mod Truth
+pub mod Options
+pub mod Numbers
+pub mod Digits
+pub mod Bytes
+pub mod Members
+pub mod Tests
+pub mod Pieces

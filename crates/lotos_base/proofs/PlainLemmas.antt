@@ -151,7 +151,7 @@ arguments_of-set (x ∷ xs) zero y = refl
 arguments_of-set (x ∷ xs) (suc i) y = ap (λ ts. term_then (term_of x) ts) (arguments_of-set xs i y)
 
 -- a path with a first position
-path_parts : (path : List ℕ) → 1 ≤ length path → path ≡ get_or path 0 0 ∷ take (length path - 1) (drop 1 path)
+pub path_parts : (path : List ℕ) → 1 ≤ length path → path ≡ get_or path 0 0 ∷ take (length path - 1) (drop 1 path)
 path_parts [] h = absurd (omega arith)
 path_parts (k ∷ rest) h =
     let shorter : suc (length rest) - 1 ≡ length rest = omega arith in

@@ -1,10 +1,12 @@
-use Rattle.std.proofs.Common.{◌≡◌, ◌≢◌, ℕ, suc, ◌+◌, ◌<◌, List, [], ◌∷◌, ◌++◌, take, drop, length, get_or, Option, Some, None, Bool, true, false, cond, string_bytes, refl, sym, ap, ◌∙◌, set}
+use Rattle.std.proofs.Common.{◌≡◌, ◌≢◌, ℕ, suc, ◌+◌, ◌<◌, List, [], ◌∷◌, ◌++◌, take, drop, length, get_or, Option, Some, None, true, false, cond, string_bytes, refl, sym, ap, ◌∙◌, set}
 use Rattle.std.proofs.lemmas.Slice.Eq.{bytes_eq-Decides}
 use Rattle.std.proofs.lemmas.List.{take_more, set_split, take-append-drop}
 use Rattle.std.proofs.Math.Seq.{drop-cons}
 use Rattle.std.specs.Str.{bytes_eq}
+use Rattle.std.proofs.lemmas.Bool.{false_from_ne_true}
 use Rattle.lotos_base.specs.MemShelf.{File, text_under, IsFirstNamed}
 use Rattle.lotos_base.specs.Outside.{Puts}
+use Rattle.lotos_base.proofs.Bytes.{bytes_same}
 
 -- the first of two answers that is there
 abbrev pub first_of_two : Option (List ℕ) → Option (List ℕ) → Option (List ℕ)
@@ -18,15 +20,8 @@ text_under-append (file ∷ files) others name =
     elim (bytes_eq (string_bytes file.0) name) as (λ same. cond same (Some file.1.items) (text_under (files ++ others) name) ≡ first_of_two (cond same (Some file.1.items) (text_under files name)) (text_under others name))
     [ true ↦ refl | false ↦ text_under-append files others name ]
 
-bytes_eq-refl : (name : List ℕ) → bytes_eq name name ≡ true
-bytes_eq-refl name = (bytes_eq-Decides name name).1 refl
-
-false_unless : (test : Bool) → (test ≡ true → ⊥) → test ≡ false
-false_unless true never = absurd (never refl)
-false_unless false never = refl
-
 bytes_eq-other : (one other : List ℕ) → other ≢ one → bytes_eq one other ≡ false
-bytes_eq-other one other differs = false_unless (bytes_eq one other) (λ same. differs (sym ((bytes_eq-Decides one other).0 same)))
+bytes_eq-other one other differs = false_from_ne_true (bytes_eq one other) (λ same. differs (sym ((bytes_eq-Decides one other).0 same)))
 
 -- a list, split at the item at an index
 split_at_item : (files : List File) (index : ℕ) (file : File) → index < length files → files ≡ take index files ++ get_or files index file ∷ drop (suc index) files
@@ -58,7 +53,7 @@ text_under-first files index file name first item =
     let split : files ≡ take index files ++ file ∷ drop (suc index) files =
     split_at_item files index file first.within ∙ ap (λ it. take index files ++ it ∷ drop (suc index) files) (sym item) in
     let named : string_bytes file.0 ≡ name = ap (λ it. string_bytes it.0) item ∙ first.named file in
-    sym (ap (λ it. text_under it name) split ∙ text_under-here (take index files) (drop (suc index) files) file name first.none_before (rw named (bytes_eq-refl name)))
+    sym (ap (λ it. text_under it name) split ∙ text_under-here (take index files) (drop (suc index) files) file name first.none_before (rw named (bytes_same name name refl)))
 
 -- the texts by name after the first file with a name was replaced
 pub Puts-set : (files : List File) (index : ℕ) (name : List ℕ) (file : File) → IsFirstNamed files name index → string_bytes file.0 ≡ name
@@ -71,7 +66,7 @@ Puts-set files index name file first named =
     let split : files ≡ front ++ old ∷ back = split_at_item files index file first.within in
     let made : set files index file ≡ front ++ file ∷ back = set_split files index file first.within in
     record {
-      stored = ap (λ it. text_under it name) made ∙ text_under-here front back file name first.none_before (rw named (bytes_eq-refl name));
+      stored = ap (λ it. text_under it name) made ∙ text_under-here front back file name first.none_before (rw named (bytes_same name name refl));
       others = λ other differs.
           ap (λ it. text_under it other) made
           ∙ (text_under-other front back file old other (rw named (bytes_eq-other name other differs)) (rw old_named (bytes_eq-other name other differs))
@@ -86,7 +81,7 @@ first_of_two-None (Some text) = refl
 pub Puts-added : (files : List File) (name : List ℕ) (file : File) → text_under files name ≡ None → string_bytes file.0 ≡ name
     → Puts (text_under files) (text_under (files ++ file ∷ [])) name file.1.items
 Puts-added files name file none named = record {
-  stored = text_under-here files [] file name none (rw named (bytes_eq-refl name));
+  stored = text_under-here files [] file name none (rw named (bytes_same name name refl));
   others = λ other differs.
       let no : bytes_eq (string_bytes file.0) other ≡ false = rw named (bytes_eq-other name other differs) in
       text_under-append files (file ∷ []) other ∙ rw no (first_of_two-None (text_under files other));

@@ -1,7 +1,10 @@
 //! What every crate of `lotos` stands on: the outside (a source, a sink, a shelf of texts) as
 //! traits whose contracts say what each call does, the three objects in memory that meet them,
 //! places, names, written terms and the limit on texts, and the algebra of terms: signatures,
-//! terms, the equality that equations derive, and the laws of a canon.
+//! terms, the equality that equations derive, and the laws of a canon. Its `proofs/` also have the
+//! laws of lists, options, numbers and truth values that the standard library does not have and
+//! several crates need, a file a subject (`Truth`, `Options`, `Numbers`, `Digits`, `Bytes`,
+//! `Members`, `Tests`, `Pieces`).
 #![tactic(auto)]
 
 pub mod canons;

@@ -2,6 +2,8 @@ pub mod Readings
 pub mod ShelfLemmas
 pub mod ProgressLemmas
 pub mod NameLemmas
+pub mod MisreadTexts
 pub mod TextLemmas
 pub mod WalkLemmas
 pub mod OneOutcome
+pub mod WantedFiles

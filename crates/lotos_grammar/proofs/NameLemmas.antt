@@ -25,20 +25,13 @@ use Rattle.std.proofs.Common.{
 }
 use Rattle.std.specs.Prelude.{◌↔◌, IsTrue}
 use Rattle.std.specs.Str.{bytes_eq}
-use Rattle.std.proofs.Math.Seq.{drop-cons}
 use Rattle.std.proofs.Math.ListN.{drop_of_length-le}
 use Rattle.std.proofs.lemmas.Slice.Eq.{bytes_eq-Decides}
+use Rattle.lotos_base.proofs.Pieces.{next_member}
 use Rattle.lotos_base.specs.Name.{spelling, AreSame}
 use Rattle.lotos_base.specs.declared.names.Name.{Name}
 use Rattle.lotos_base.specs.Names.{folded}
 use Rattle.lotos_grammar.specs.Gathering.{is_read}
-
--- the next member of a list, and what follows it
-pub next_member : {A : Type 0} (items : List A) (i : ℕ) (x : A) → i < length items → x ≡ get_or items i x → drop i items ≡ x ∷ drop (i + 1)
-    items
-next_member items i x within is =
-    let next : suc i ≡ i + 1 = omega arith in
-    drop-cons items i x within ∙ ap (λ y. y ∷ drop (suc i) items) (sym is) ∙ ap (λ (j : ℕ). x ∷ drop j items) next
 
 same_name : (name other : Name) (b : Bool) → IsTrue b ↔ AreSame name other → b ≡ bytes_eq (folded (spelling name)) (folded (spelling other))
 same_name name other true told = sym ((bytes_eq-Decides (folded (spelling name)) (folded (spelling other))).1 (told.0 refl))

@@ -30,10 +30,11 @@ use Rattle.lotos_grammar.specs.Gathering.{
   nothing_waits,
   then,
   ends,
+  memory_ends,
 }
-use Rattle.lotos_grammar.specs.ShelfUse.{ShelfState, Gives, GivesAndLacks, KeepsCount}
-use Rattle.lotos_grammar.specs.Progress.{GatheringLeads, Ends, IsDone, GatheringEndsBy, IsMentionReplaced, StopsBy, IsGathered, FailsBy}
-use Rattle.lotos_grammar.proofs.ShelfLemmas.{gives_nothing, gives_then, gives_then_lacks, gives_then_keeps}
+use Rattle.lotos_grammar.specs.ShelfUse.{ShelfState, Gives, GivesAndLacks, GivesSome}
+use Rattle.lotos_grammar.specs.Progress.{GatheringLeads, Ends, IsDone, AsksFrom, GatheringEndsBy, IsMentionReplaced, AsksAt, StopsBy, IsGathered, AsksInAll, FailsBy}
+use Rattle.lotos_grammar.proofs.ShelfLemmas.{gives_nothing, gives_then, gives_then_lacks, gives_then_some, gives_some, some_within}
 
 leads_then : (a b c : Gathered) (v w : List Waiting) (f g : List GotFile) → GatheringLeads a v f b → GatheringLeads b w g c → GatheringLeads a (v ++ w) (f ++ g) c
 leads_then a b c v w f g first second = λ rest later outcome after.
@@ -65,24 +66,40 @@ done_then_ends a b c start middle now v w (TooMany place name) first (files, giv
   gives_then a b c first.files files first.given given,
   leads_then_ends start middle v w first.files files _ first.leads ends_,
 )
-done_then_ends a b c start middle now v w (Misread text fault) first (files, given, ends_) = (
+done_then_ends a b c start middle now v w (Misread text fault) first (files, given, (found, told, ends_)) = (
   first.files ++ files,
   gives_then a b c first.files files first.given given,
-  leads_then_ends start middle v w first.files files _ first.leads ends_,
+  (found, told, leads_then_ends start middle v w first.files files _ first.leads ends_),
 )
 done_then_ends a b c start middle now v w (Unread file) first (files, given, ends_) = (
   first.files ++ files,
   gives_then_lacks a b c first.files files _ first.given given,
   leads_then_ends start middle v w first.files files _ first.leads ends_,
 )
-done_then_ends a b c start middle now v w NoMemory first keeps = gives_then_keeps a b c first.files first.given keeps
+done_then_ends a b c start middle now v w NoMemory first (files, given, ends_) = (
+  first.files ++ files,
+  gives_then_some a b c first.files files (AsksFrom middle w files) (AsksFrom start (v ++ w) (first.files ++ files))
+      (λ asks. (asks.0, asks.1, leads_then_ends start middle v w first.files files _ first.leads asks.2)) first.given given,
+  leads_then_ends start middle v w first.files files _ first.leads ends_,
+)
 
 pub ends_before_more : (a b : ShelfState) (start now : Gathered) (v w : List Waiting) (fault : LibraryFault) →
     GatheringEndsBy a b start v now fault → GatheringEndsBy a b start (v ++ w) now fault
 ends_before_more a b start now v w (TooMany place name) (files, given, ends_) = (files, given, ends_more start v w files _ ends_)
-ends_before_more a b start now v w (Misread text fault) (files, given, ends_) = (files, given, ends_more start v w files _ ends_)
+ends_before_more a b start now v w (Misread text fault) (files, given, (found, told, ends_)) =
+    (files, given, (found, told, ends_more start v w files _ ends_))
 ends_before_more a b start now v w (Unread file) (files, given, ends_) = (files, given, ends_more start v w files _ ends_)
-ends_before_more a b start now v w NoMemory keeps = keeps
+ends_before_more a b start now v w NoMemory (files, given, ends_) = (
+  files,
+  some_within a b files (AsksFrom start v files) (AsksFrom start (v ++ w) files)
+      (λ asks. (asks.0, asks.1, ends_more start v w files _ asks.2)) given,
+  ends_more start v w files _ ends_,
+)
+
+-- memory was wanted, and nothing was got
+pub wants_nothing : (s : ShelfState) (start now : Gathered) (v : List Waiting) → GatheringEndsBy s s start v now NoMemory
+wants_nothing s start now v =
+    ([], gives_some s s [] (AsksFrom start v []) (gives_nothing s), λ rest. memory_ends start (v ++ rest))
 
 -- a mention, and what its items come to
 replaced_leads : (start middle now : Gathered) (at : PlacedName) (items : List WrittenItem) (f g : List GotFile) →
@@ -110,17 +127,22 @@ replaced_then_ends a b c start middle now at items (TooMany place name) first (f
   gives_then a b c first.files files first.given given,
   replaced_ends start middle at items first.files files _ first.mentioned ends_,
 )
-replaced_then_ends a b c start middle now at items (Misread text fault) first (files, given, ends_) = (
+replaced_then_ends a b c start middle now at items (Misread text fault) first (files, given, (found, told, ends_)) = (
   first.files ++ files,
   gives_then a b c first.files files first.given given,
-  replaced_ends start middle at items first.files files _ first.mentioned ends_,
+  (found, told, replaced_ends start middle at items first.files files _ first.mentioned ends_),
 )
 replaced_then_ends a b c start middle now at items (Unread file) first (files, given, ends_) = (
   first.files ++ files,
   gives_then_lacks a b c first.files files _ first.given given,
   replaced_ends start middle at items first.files files _ first.mentioned ends_,
 )
-replaced_then_ends a b c start middle now at items NoMemory first keeps = gives_then_keeps a b c first.files first.given keeps
+replaced_then_ends a b c start middle now at items NoMemory first (files, given, ends_) = (
+  first.files ++ files,
+  gives_then_some a b c first.files files (AsksFrom middle (map item items) files) (AsksFrom start (mention at ∷ []) (first.files ++ files))
+      (λ asks. (asks.0, asks.1, replaced_ends start middle at items first.files files _ first.mentioned asks.2)) first.given given,
+  replaced_ends start middle at items first.files files _ first.mentioned ends_,
+)
 
 pub replaced_answer : {T : Type 0} (a b c : ShelfState) (start middle now : Gathered) (at : PlacedName) (items : List WrittenItem) (answer :
     Result T LibraryFault) →
@@ -135,9 +157,15 @@ replaced_answer a b c start middle now at items (Err fault) first ends_ = replac
 pub stopped : (a b : ShelfState) (start now : Gathered) (at : PlacedName) (fault : LibraryFault) → StopsBy a b start at now fault →
     GatheringEndsBy a b start (mention at ∷ []) now fault
 stopped a b start now at (TooMany place name) (files, given, mentioned) = (files, given, λ rest. ends mentioned)
-stopped a b start now at (Misread text fault) (files, given, mentioned) = (files, given, λ rest. ends mentioned)
+stopped a b start now at (Misread text fault) (files, given, (found, told, mentioned)) =
+    (files, given, (found, told, λ rest. ends mentioned))
 stopped a b start now at (Unread file) (files, given, mentioned) = (files, given, λ rest. ends mentioned)
-stopped a b start now at NoMemory keeps = keeps
+stopped a b start now at NoMemory (files, given, mentioned) = (
+  files,
+  some_within a b files (AsksAt start at files) (AsksFrom start (mention at ∷ []) files)
+      (λ asks. (asks.0, asks.1, λ rest. ends asks.2)) given,
+  λ rest. ends mentioned,
+)
 
 -- the whole of a text
 whole_leads : (now : Gathered) (v : List Waiting) (f : List GotFile) → GatheringLeads nothing_yet v f now → Becomes nothing_yet v f (all_gathered
@@ -153,9 +181,14 @@ gathered a b now v done = record { files = done.files; given = done.given; becom
 fails : (a b : ShelfState) (now : Gathered) (v : List Waiting) (fault : LibraryFault) → GatheringEndsBy a b nothing_yet v now fault →
     FailsBy a b v now fault
 fails a b now v (TooMany place name) (files, given, ends_) = (files, given, whole_ends v files _ ends_)
-fails a b now v (Misread text fault) (files, given, ends_) = (files, given, whole_ends v files _ ends_)
+fails a b now v (Misread text fault) (files, given, (found, told, ends_)) =
+    (files, given, (found, told, whole_ends v files _ ends_))
 fails a b now v (Unread file) (files, given, ends_) = (files, given, whole_ends v files _ ends_)
-fails a b now v NoMemory keeps = keeps
+fails a b now v NoMemory (files, given, ends_) = (
+  files,
+  some_within a b files (AsksFrom nothing_yet v files) (AsksInAll v files) (λ asks. (asks.0, asks.1, whole_ends v files _ asks.2)) given,
+  whole_ends v files _ ends_,
+)
 
 pub whole_answer : {T : Type 0} (a b : ShelfState) (start now : Gathered) (v : List Waiting) (answer : Result T LibraryFault) → start ≡
     nothing_yet →

@@ -28,12 +28,15 @@ use Rattle.std.specs.declared.alloc.Global.{Global}
 use Rattle.lotos_base.specs.declared.places.Place.{Place}
 use Rattle.lotos_base.specs.declared.names.Name.{Name}
 use Rattle.lotos_base.specs.Name.{spelling}
+use Rattle.lotos_base.specs.WrittenTerm.{PlacedName}
 use Rattle.lotos_base.specs.WrittenView.{placed_name_of}
 use Rattle.lotos_library.specs.Library.{library_text}
 use Rattle.syntax_trees.specs.TreeViews.{item_of}
 use Rattle.syntax_trees.specs.WrittenItem.{WrittenItem}
 use Rattle.syntax_trees.specs.declared.items.ItemText.{ItemText}
-use Rattle.sentence_trees.specs.Reading.{IsTypesReading}
+use Rattle.sentence_trees.specs.Reading.{IsTypesReading, IsTypesFault}
+use Rattle.sentence_trees.specs.declared.fault.ReadFault.{ReadFault}
+use Rattle.sentence_trees.specs.declared.fault.ReadFault.TheVariants as cause
 use Rattle.lotos_grammar.specs.declared.faults.LibraryFault.{LibraryFault}
 use Rattle.lotos_grammar.specs.declared.faults.LibraryFault.TheVariants.{TooMany, Misread, Unread, NoMemory}
 use Rattle.lotos_grammar.specs.Gathering.{
@@ -48,6 +51,8 @@ use Rattle.lotos_grammar.specs.Gathering.{
   in_place,
   not_read,
   no_file,
+  wanted_before_text,
+  wanted_behind_text,
   MentionComesTo,
   goes_on,
   stops,
@@ -56,8 +61,31 @@ use Rattle.lotos_grammar.specs.Gathering.{
   without_file,
   IsMisread,
 }
-use Rattle.lotos_grammar.specs.ShelfUse.{ShelfState, Gives, GivesAndLacks, KeepsCount}
-use Rattle.lotos_grammar.specs.Progress.{IsMentionReplaced, StopsBy, FileFails, TextFails}
+use Rattle.lotos_grammar.specs.ShelfUse.{ShelfState, Gives, GivesAndLacks, GivesSome}
+use Rattle.lotos_grammar.specs.Progress.{IsMentionReplaced, AsksAt, StopsBy, FileFails, TextFails}
+use Rattle.lotos_grammar.proofs.MisreadTexts.{fault_told}
+use Rattle.lotos_grammar.proofs.ShelfLemmas.{gives_nothing, gives_some, some_within}
+
+-- the text is got, and memory is wanted behind it
+pub wants_behind : (a b : ShelfState) (start now : Gathered) (place : Place) (name : Name) (files : List GotFile) (text : List ℕ)
+    → IsNextLibrary start.read (spelling name) → TextOf (spelling name) files text → Gives a b files
+    → StopsBy a b start (placed_name_of (place, name)) now NoMemory
+wants_behind a b start now place name files text next text_is given = (
+  files,
+  gives_some a b files (AsksAt start (placed_name_of (place, name)) files) given,
+  wanted_behind_text next text_is,
+)
+
+-- nothing is got
+pub wants_before : (s : ShelfState) (start now : Gathered) (at : PlacedName) → StopsBy s s start at now NoMemory
+wants_before s start now at = ([], gives_some s s [] (AsksAt start at []) (gives_nothing s), wanted_before_text)
+
+-- a text that is not read has a plain fault
+pub text_fails : (number : ℕ) (text : List ℕ) (fault : ReadFault) → (fault ≡ cause.NoMemory → ⊥) → IsTypesFault number text fault
+    → TextFails number text (Misread number fault)
+text_fails number text fault other is =
+    let told = fault_told fault other in
+    (refl, (told.0, told.1, (fault, is, told.1)))
 
 -- the text is got, and its items are read or not
 pub text_items :
@@ -76,17 +104,23 @@ text_items a b start now place name files text number (Ok items) next text_is nu
       (in_place next text_is (subst (λ (n : ℕ). IsTypesReading n text (map item_of items.items)) number_is reading));
 }
 text_items a b start now place name files text number (Err (TooMany other one)) next text_is number_is given now_is fails = absurd fails
-text_items a b start now place name files text number (Err (Misread told fault)) next text_is number_is given now_is (told_is, misread_is) = (
-  files,
-  given,
-  subst (λ (g : Gathered). MentionComesTo start (placed_name_of (place, name)) files (stops (faulty g.read (misread told fault)))) (sym now_is)
-      (subst (λ (n : ℕ). MentionComesTo start (placed_name_of (place, name)) files
-      (stops (faulty (with_library (spelling name) start).read (misread n fault)))) (sym (told_is ∙ number_is))
-      (not_read next text_is (subst (λ (n : ℕ). IsMisread n text fault) number_is misread_is))),
-)
+text_items a b start now place name files text number (Err (Misread given_number fault)) next text_is number_is given now_is
+    (given_is, (found, told, misread_is)) = (
+      files,
+      given,
+      (
+        found,
+        told,
+        subst (λ (g : Gathered). MentionComesTo start (placed_name_of (place, name)) files
+            (stops (faulty g.read (misread given_number found)))) (sym now_is)
+            (subst (λ (n : ℕ). MentionComesTo start (placed_name_of (place, name)) files
+            (stops (faulty (with_library (spelling name) start).read (misread n found)))) (sym (given_is ∙ number_is))
+            (not_read next text_is (subst (λ (n : ℕ). IsMisread n text found) number_is misread_is))),
+      ),
+    )
 text_items a b start now place name files text number (Err (Unread file)) next text_is number_is given now_is fails = absurd fails
 text_items a b start now place name files text number (Err NoMemory) next text_is number_is given now_is fails =
-    record { texts = given.texts; faults = given.faults }
+    wants_behind a b start now place name files text next text_is given
 
 -- the same where the text was moved
 pub moved_items :
@@ -140,7 +174,12 @@ pub file_stops :
 file_stops a b start place name (TooMany other one) next none fails = absurd fails
 file_stops a b start place name (Misread told fault) next none fails = absurd fails
 file_stops a b start place name (Unread file) next none (file_is, lacks) = ([], rw file_is lacks, rw file_is (no_file next none))
-file_stops a b start place name NoMemory next none keeps = keeps
+file_stops a b start place name NoMemory next none gives = (
+  [],
+  some_within a b [] (Unit {0}) (AsksAt start (placed_name_of (place, name)) [])
+      (λ asked. (start.read, library_file (spelling name), no_file next none)) gives,
+  wanted_before_text,
+)
 
 pub stops_by_file :
     (a b : ShelfState) (start : Gathered) (place : Place) (name : Name) (fault : LibraryFault) (answer : Result (Vec ItemText Global)

@@ -28,6 +28,7 @@ use Rattle.std.proofs.Common.{
 }
 use Rattle.std.specs.Prelude.{MatchResult, Vec}
 use Rattle.std.specs.declared.alloc.Global.{Global}
+use Rattle.std.proofs.lemmas.List.{nil_from_length}
 use Rattle.lotos_base.specs.declared.places.Place.{Place}
 use Rattle.lotos_base.specs.declared.names.Name.{Name}
 use Rattle.lotos_base.specs.Name.{spelling}
@@ -62,8 +63,8 @@ use Rattle.lotos_grammar.specs.Gathering.{
   ends,
 }
 use Rattle.lotos_grammar.specs.ShelfUse.{ShelfState, Gives}
-use Rattle.lotos_grammar.specs.Progress.{GatheringLeads, Ends, IsDone, GatheringEndsBy, StopsBy}
-use Rattle.lotos_grammar.proofs.ShelfLemmas.{gives_nothing}
+use Rattle.lotos_grammar.specs.Progress.{GatheringLeads, Ends, IsDone, AsksFrom, GatheringEndsBy, StopsBy}
+use Rattle.lotos_grammar.proofs.ShelfLemmas.{gives_nothing, some_within}
 use Rattle.lotos_grammar.proofs.ProgressLemmas.{done_then, done_then_ends, ends_before_more, stopped}
 
 -- ---- What an iterator gave, and what it has left
@@ -76,16 +77,8 @@ pub whole_is : {X : Type 0} (yielded : List X) (x : X) (before after whole : Lis
     whole ≡ yielded ++ x ∷ after
 whole_is yielded x before after whole is all = sym all ∙ ap (λ rest. yielded ++ rest) is
 
-nothing_left : {X : Type 0} (xs : List X) → length xs ≡ 0 → xs ≡ []
-nothing_left [] h = refl
-nothing_left (x ∷ xs) h = absurd (omega arith)
-
 pub all_given : {X : Type 0} (yielded left whole : List X) → length left ≡ 0 → yielded ++ left ≡ whole → yielded ≡ whole
-all_given yielded left whole none all = sym (append-nil yielded) ∙ ap (λ rest. yielded ++ rest) (sym (nothing_left left none)) ∙ all
-
-pub one_less : {X : Type 0} (x : X) (before after : List X) (many fewer : ℕ) → before ≡ x ∷ after → fewer + 1 ≡ many → many ≡ length before
-    → fewer ≡ length after
-one_less x before after many fewer is gone counted = let short = ap length is in omega arith
+all_given yielded left whole none all = sym (append-nil yielded) ∙ ap (λ rest. yielded ++ rest) (sym (nil_from_length left none)) ∙ all
 
 -- ---- One member more
 
@@ -154,14 +147,18 @@ libraries_end a b start now place names (TooMany other name) (files, given, ends
   mentions_end start place names files _
       ends_,
 )
-libraries_end a b start now place names (Misread text fault) (files, given, ends_) = (
+libraries_end a b start now place names (Misread text fault) (files, given, (found, told, ends_)) = (
   files,
   given,
-  mentions_end start place names files _
-      ends_,
+  (found, told, mentions_end start place names files _ ends_),
 )
 libraries_end a b start now place names (Unread file) (files, given, ends_) = (files, given, mentions_end start place names files _ ends_)
-libraries_end a b start now place names NoMemory keeps = keeps
+libraries_end a b start now place names NoMemory (files, given, ends_) = (
+  files,
+  some_within a b files (AsksFrom start (map mention names) files) (AsksFrom start (item (libraries place names) ∷ []) files)
+      (λ asks. (asks.0, asks.1, mentions_end start place names files _ asks.2)) given,
+  mentions_end start place names files _ ends_,
+)
 
 at_libraries : {T : Type 0} (a b : ShelfState) (start now : Gathered) (place : _) (names : List PlacedName) (answer : Result T LibraryFault)
     →

@@ -1,7 +1,6 @@
 -- What the mentions of libraries in a text come to: its types with those of the libraries in their place, or what is wrong.
 use Rattle.std.specs.Prelude.{
   ◌≡◌,
-  ◌≢◌,
   ℕ,
   ◌+◌,
   ◌<◌,
@@ -29,8 +28,7 @@ use Rattle.lotos_base.specs.WrittenTerm.{PlacedName}
 use Rattle.lotos_library.specs.Library.{library_text}
 use Rattle.syntax_trees.specs.WrittenItem.{WrittenItem, WrittenTypeBody, libraries, type_declared}
 use Rattle.sentence_trees.specs.Reading.{IsTypesReading, IsTypesFault}
-use Rattle.sentence_trees.specs.declared.fault.ReadFault.{ReadFault}
-use Rattle.sentence_trees.specs.declared.fault.ReadFault.TheVariants as cause
+use Rattle.lotos_grammar.specs.TextFault.{TextFault, TextIsMisread}
 
 -- so many texts of libraries are read at most
 abbrev pub library_limit : ℕ
@@ -77,13 +75,15 @@ pub record GotFile : Type 0 where
 -- what is wrong: one text of a library too many is mentioned, or the text with the number is not read
 pub data Problem : Type 0 where
   too_many : (place : Place) (name : List ℕ) → Problem
-  misread : (text : ℕ) (fault : ReadFault) → Problem
+  misread : (text : ℕ) (fault : TextFault) → Problem
 
--- what becomes of a text: all is gathered; something is wrong, where these libraries were read; or the file could not be got
+-- what becomes of a text: all is gathered; something is wrong, where these libraries were read; the file could not be got; or
+-- memory was wanted
 pub data GatheringOutcome : Type 0 where
   all_gathered : Gathered → GatheringOutcome
   faulty : (read : List (List ℕ)) (problem : Problem) → GatheringOutcome
   without_file : (read : List (List ℕ)) (file : List ℕ) → GatheringOutcome
+  memory_wanted : GatheringOutcome
 
 -- the text of a library, where the shelf gives these files: the shipped one, or that of its file
 pub data TextOf (name : List ℕ) : List GotFile → List ℕ → Type 0 where
@@ -96,8 +96,8 @@ pub record IsNextLibrary (read : List (List ℕ)) (name : List ℕ) : Type 0 whe
   pub within : length read < library_limit
 
 -- the text is not read, for a reason of its own
-abbrev pub IsMisread : ℕ → List ℕ → ReadFault → Type 0
-IsMisread number text fault = (fault ≢ cause.NoMemory) × IsTypesFault number text fault
+abbrev pub IsMisread : ℕ → List ℕ → TextFault → Type 0
+IsMisread number text fault = TextIsMisread IsTypesFault number text fault
 
 -- what a mention comes to: these items stand in its place, and so much is gathered before they are looked at; or all ends
 pub data Step : Type 0 where
@@ -105,7 +105,7 @@ pub data Step : Type 0 where
   stops : GatheringOutcome → Step
 
 -- what a mention of a library comes to, where so much is gathered and the shelf gives these files. A library that was read
--- is passed over
+-- is passed over. Memory may be wanted before its text is there, and behind that
 pub data MentionComesTo (so_far : Gathered) (at : PlacedName) : List GotFile → Step → Type 0 where
   read_before : is_read so_far.read at.name ≡ true → MentionComesTo so_far at [] (goes_on so_far [])
   one_too_many :
@@ -116,15 +116,20 @@ pub data MentionComesTo (so_far : Gathered) (at : PlacedName) : List GotFile →
       IsNextLibrary so_far.read at.name → TextOf at.name files text → IsTypesReading (next_text so_far.read) text items →
       MentionComesTo so_far at files (goes_on (with_library at.name so_far) items)
   not_read :
-      {files : List GotFile} {text : List ℕ} {fault : ReadFault} →
+      {files : List GotFile} {text : List ℕ} {fault : TextFault} →
       IsNextLibrary so_far.read at.name → TextOf at.name files text → IsMisread (next_text so_far.read) text fault →
       MentionComesTo so_far at files (stops (faulty (with_library at.name so_far).read (misread (next_text so_far.read) fault)))
   no_file :
       IsNextLibrary so_far.read at.name → library_text at.name ≡ None →
       MentionComesTo so_far at [] (stops (without_file so_far.read (library_file at.name)))
+  wanted_before_text : MentionComesTo so_far at [] (stops memory_wanted)
+  wanted_behind_text :
+      {files : List GotFile} {text : List ℕ} →
+      IsNextLibrary so_far.read at.name → TextOf at.name files text → MentionComesTo so_far at files (stops memory_wanted)
 
 -- What becomes of what waits, where so much is gathered and the shelf gives these files one after another. The libraries
--- are read in the order of mention, those that a library mentions before the rest of what mentions it.
+-- are read in the order of mention, those that a library mentions before the rest of what mentions it. Memory may be wanted
+-- anywhere: the files are those that were given until then.
 pub data Becomes : Gathered → List Waiting → List GotFile → GatheringOutcome → Type 0 where
   nothing_waits : (so_far : Gathered) → Becomes so_far [] [] (all_gathered so_far)
   a_type :
@@ -146,3 +151,4 @@ pub data Becomes : Gathered → List Waiting → List GotFile → GatheringOutco
       {so_far : Gathered} {at : PlacedName} {rest : List Waiting} {files : List GotFile} {outcome : GatheringOutcome} →
       MentionComesTo so_far at files (stops outcome) →
       Becomes so_far (mention at ∷ rest) files outcome
+  memory_ends : (so_far : Gathered) (waiting : List Waiting) → Becomes so_far waiting [] memory_wanted

@@ -1,3 +1,4 @@
+pub mod TextFault
 pub mod Gathering
 pub mod GatheredView
 pub mod ShelfUse

@@ -39,10 +39,15 @@ pub record GivesAndLacks (before after : ShelfState) (files : List GotFile) (nam
       Rises before.faults after.faults ⊎ ((after.faults ≡ before.faults) × IsSomeAnd before.texts (λ texts. texts name ≡ None))
   pub calls : after.calls ≡ next_count (calls_after files before.calls)
 
--- memory was wanted: the shelf counted no fault
-pub record KeepsCount (before after : ShelfState) : Type 0 where
+-- Memory was wanted: the shelf gave the files, each in a call of its own, and counted no fault. It was called once more at most,
+-- and only where another file is asked for behind these.
+pub record GivesSome (before after : ShelfState) (files : List GotFile) (AsksMore : Type 0) : Type 0 where
   pub texts : after.texts ≡ before.texts
+  pub content : All (IsFileOf before.texts) files
   pub faults : after.faults ≡ before.faults
+  pub calls :
+      (after.calls ≡ calls_after files before.calls)
+      ⊎ (AsksMore × (after.calls ≡ next_count (calls_after files before.calls)))
 
 -- it gave the file of the name in one call
 pub record GivesFile (before after : ShelfState) (name bytes : List ℕ) : Type 0 where

@@ -28,7 +28,9 @@ use syntax_trees::{ItemBody, ItemText, Named};
 /// read, with its number and
 /// fault, and `Unread` exactly where the shelf's count of faults rose or it lacks the file,
 /// whichever comes first. After a
-/// fault `so_far` has the libraries that were read, the faulty one among them.
+/// fault `so_far` has the libraries that were read, the faulty one among them. Where it is
+/// `NoMemory`, the shelf gave the first ones of the files, once each, and was called once more at
+/// most, for the one behind them.
 pub fn gather_types<F: Shelf>(
     alloc: Global,
     items: Vec<ItemText>,

@@ -1,6 +1,5 @@
 use Rattle.std.proofs.Common.{◌≡◌, ℕ, zero, suc, ◌+◌, ◌-◌, ◌<◌, ◌≤◌, Bool, List, [], ◌∷◌, ◌++◌, take, drop, length, refl, sym, ap, ◌∙◌, arith}
-use Rattle.std.proofs.Math.Seq.{take-length}
-use Rattle.std.proofs.lemmas.List.{drop-drop, length-drop}
+use Rattle.std.proofs.lemmas.List.{drop-drop}
 use Rattle.lotos_base.specs.declared.places.Place.{Place}
 use Rattle.lotos_lexer.specs.declared.lexemes.Lexeme.{Lexeme}
 use Rattle.lotos_lexer.specs.declared.positions.Position.{Position}
@@ -86,7 +85,3 @@ step_on number text bytes count open_list position position' tokens tokens' open
     ap (λ it. with_tokens tokens' (cut number 0 open_list' position' it)) (sym behind_it)
     ∙ (ap (λ it. with_tokens tokens' (cut number 0 open_list' it (drop count bytes))) moved
     ∙ (sym exact ∙ ap (λ it. with_tokens tokens (cut number 0 open_list position it)) rest))
-
--- the bytes from an offset on, as the code takes them
-pub rest_from : (text : List ℕ) (offset : ℕ) → take (length text - offset) (drop offset text) ≡ drop offset text
-rest_from text offset = rw (sym (length-drop offset text)) (take-length (drop offset text))

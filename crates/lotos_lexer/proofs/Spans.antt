@@ -11,6 +11,7 @@ use Rattle.lotos_lexer.specs.Bytes.{begins_with, is_sign, IsSpan}
 use Rattle.lotos_lexer.specs.Spellings.{Spelling, reserved_words, reserved_runs, operators, single_signs}
 use Rattle.lotos_lexer.specs.declared.kinds.TheConstants.{NAME, DIGIT_NAME, SIGN_NAME, GATES_CLOSE}
 use Rattle.lotos_lexer.specs.Lexemes.{word_length, underscore_before, spelling_at, kind_in, word_kind_in, word, digit_name, operator, closing, run, lexeme_at}
+use Rattle.lotos_base.proofs.Bytes.{letter_or_digit, digit_or_letter}
 
 -- the lexeme, if there is one, spans some of the bytes
 abbrev pub LexemeSpans : Option Lexeme → List ℕ → Type 0
@@ -36,16 +37,6 @@ word_length-le (byte ∷ rest) =
       ]
     ]
 
-alphanumeric-letter : (byte : ℕ) → is_ascii_alphabetic byte ≡ true → is_ascii_alphanumeric byte ≡ true
-alphanumeric-letter byte letter = three (is_in_range 48 57 byte) (is_in_range 65 90 byte) (is_in_range 97 122 byte) letter
-  where
-    three : (digit upper lower : Bool) → (upper || lower) ≡ true → ((digit || upper) || lower) ≡ true
-    three true upper lower h = refl
-    three false upper lower h = h
-
-alphanumeric-digit : (byte : ℕ) → is_ascii_digit byte ≡ true → is_ascii_alphanumeric byte ≡ true
-alphanumeric-digit byte digit = rw digit refl
-
 -- a word begins with a letter or a digit, and has it
 word_length-spans : (byte : ℕ) (rest : List ℕ) → is_ascii_alphanumeric byte ≡ true → IsSpan (word_length (byte ∷ rest)) (byte ∷ rest)
 word_length-spans byte rest letter =
@@ -60,7 +51,7 @@ word-spans (byte ∷ rest) = go (is_ascii_alphabetic byte) refl
     found = record { kind = unwrap_or (word_kind_in reserved_words (take (word_length (byte ∷ rest)) (byte ∷ rest))) NAME; length = word_length (byte ∷ rest) }
 
     go : (letter : Bool) → is_ascii_alphabetic byte ≡ letter → LexemeSpans (cond letter (Some found) None) (byte ∷ rest)
-    go true same = word_length-spans byte rest (alphanumeric-letter byte same)
+    go true same = word_length-spans byte rest (letter_or_digit byte same)
     go false same = tt
 
 digit_name-spans : (bytes : List ℕ) → LexemeSpans (digit_name bytes) bytes
@@ -68,7 +59,7 @@ digit_name-spans [] = tt
 digit_name-spans (byte ∷ rest) = go (is_ascii_digit byte) refl
   where
     go : (digit : Bool) → is_ascii_digit byte ≡ digit → LexemeSpans (cond digit (Some (record { kind = DIGIT_NAME; length = word_length (byte ∷ rest) })) None) (byte ∷ rest)
-    go true same = word_length-spans byte rest (alphanumeric-digit byte same)
+    go true same = word_length-spans byte rest (digit_or_letter byte same)
     go false same = tt
 
 -- bytes that begin with a spelling are as many at least

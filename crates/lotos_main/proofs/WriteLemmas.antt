@@ -1,17 +1,8 @@
 -- What a writer holds after one more write.
-use Rattle.std.proofs.Common.{◌≡◌, ℕ, ◌+◌, ◌-◌, ◌≤◌, List, ◌++◌, take, drop, length, Option, Some, None, sym, ap, ◌∙◌, append_assoc, arith}
-use Rattle.std.proofs.Math.Seq.{take-add, take-length}
-use Rattle.std.proofs.lemmas.List.{length-drop}
+use Rattle.std.proofs.Common.{◌≡◌, ℕ, ◌+◌, ◌-◌, List, ◌++◌, take, drop, length, Option, Some, None, sym, ap, ◌∙◌, append_assoc}
+use Rattle.std.proofs.Math.Seq.{take-add}
+use Rattle.std.proofs.lemmas.List.{take_rest}
 use Rattle.std.specs.Io.KnownBytes.{Appends}
-
--- the rest of the bytes, as the code takes it
-rest_from : (bytes : List ℕ) (written : ℕ) → take (length bytes - written) (drop written bytes) ≡ drop written bytes
-rest_from bytes written = rw (sym (length-drop written bytes)) (take-length (drop written bytes))
-
--- a piece of the rest is within the bytes
-pub within_more : (bytes : List ℕ) (written more : ℕ) → written ≤ length bytes
-    → more ≤ length (take (length bytes - written) (drop written bytes)) → written + more ≤ length bytes
-within_more bytes written more within piece = omega (arith, ap length (rest_from bytes written), length-drop written bytes)
 
 -- the first bytes were appended, and then a piece of the rest
 pub appends_more : (start here now : Option (List ℕ)) (bytes : List ℕ) (written more : ℕ) → Appends start here (take written bytes)
@@ -20,6 +11,6 @@ appends_more None here now bytes written more so_far step = tt
 appends_more (Some held) None now bytes written more so_far step = absurd so_far
 appends_more (Some held) (Some held') None bytes written more so_far step = absurd step
 appends_more (Some held) (Some held') (Some held'') bytes written more so_far step =
-    let piece : held'' ≡ held' ++ take more (drop written bytes) = rw (rest_from bytes written) at step in
+    let piece : held'' ≡ held' ++ take more (drop written bytes) = rw (take_rest bytes written) at step in
     piece ∙ (ap (λ it. it ++ take more (drop written bytes)) so_far
     ∙ (append_assoc held (take written bytes) (take more (drop written bytes)) ∙ ap (λ it. held ++ it) (sym (take-add written more bytes))))

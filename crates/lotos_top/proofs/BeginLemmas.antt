@@ -16,8 +16,6 @@ use Rattle.equation_book.specs.BookCanon.{book_canon, book_chooses, book_is_cano
 use Rattle.equation_book.specs.declared.book.Book.{Book}
 use Rattle.menu_builder.specs.declared.makers.FreshMenus.{FreshMenus}
 use Rattle.spec_acceptance.specs.Acceptance.{Acceptance}
-use Rattle.spec_acceptance.specs.HandedOn.{ShelfState}
-use Rattle.spec_acceptance.specs.Part.{goes_on, Part}
 use Rattle.history_lines.specs.HandedOn.{Progress, Situation, first_situation}
 use Rattle.history_lines.specs.HandedOn.{IsSituation}
 use Rattle.history_lines.specs.HandedOn.{basis_over, progress_of, pasts_of}
@@ -26,10 +24,8 @@ use Rattle.history_lines.specs.HandedOn.{Past}
 use Rattle.history_lines.specs.HandedOn.{Session}
 use Rattle.history_lines.specs.Beginning.{CanBegin}
 use Rattle.spec_acceptance.specs.AcceptedView.{HoldsAccepted}
-use Rattle.spec_acceptance.specs.Doing.{Did, Failed}
 use Rattle.spec_acceptance.specs.declared.accepted.Accepted.{Accepted}
-use Rattle.spec_acceptance.specs.declared.not_accepted.NotAccepted.TheVariants.{NoMemory}
-use Rattle.lotos_top.specs.Outcome.{SessionBegins}
+use Rattle.lotos_top.specs.Opening.{SessionBegins}
 use Rattle.lotos_top.specs.Prepared.{begun, any_maker, IsLawfulAt}
 
 -- ---- What was accepted can be opened
@@ -84,7 +80,8 @@ can_begin accepted book session is =
       at_start = none;
     }
 
-pub begins_so : (acceptance : Acceptance) (accepted : Accepted) (book : Book) (session : Session FreshMenus) → HoldsAccepted acceptance accepted
+pub begins_so : (acceptance : Acceptance) (accepted : Accepted) (book : Book) (session : Session FreshMenus)
+    → HoldsAccepted acceptance accepted
     → IsOpenedAt accepted book session
     → SessionBegins acceptance (begun (record { session = session; book = book })) × IsLawfulAt (record { session = session; book = book })
 begins_so acceptance accepted book session holds is = (
@@ -108,8 +105,3 @@ begins_so acceptance accepted book session holds is = (
   },
   lawful_here accepted book session is,
 )
-
--- memory was wanted behind the acceptance
-pub failed_behind : {B : Type 0} (before after : ShelfState) (part : Part B) (b : B) → Did before after part (goes_on b)
-    → Failed before after part NoMemory
-failed_behind before after part b did = record { texts = did.1.texts; faults = did.1.faults }

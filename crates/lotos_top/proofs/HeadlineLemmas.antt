@@ -1,36 +1,40 @@
 -- A session of an accepted specification, where all is told and nothing outside fails.
-use Rattle.std.proofs.Common.{◌≡◌, ◌⊎◌, inl, inr, ℕ, ◌+◌, ◌≤◌, nat_lt, if◌then◌else◌, true, List, [], ◌++◌, take, length, Option, Some, refl, sym, ap, subst, ◌∙◌, append_assoc, arith}
-use Rattle.std.proofs.lemmas.List.{take_all}
-use Rattle.std.proofs.lemmas.Bool.{le-ltb}
-use Rattle.lotos_base.specs.Counts.{Rises}
+use Rattle.std.proofs.Common.{◌≡◌, ◌⊎◌, inl, inr, ℕ, ◌+◌, ◌<◌, ◌≤◌, Bool, true, List, [], ◌∷◌, ◌++◌, length, Option, None, Some, IfSome, refl, sym, ap, subst, ◌∙◌, append_assoc, arith, length-append}
+use Rattle.std.proofs.lemmas.List.{append-nil}
+use Rattle.lotos_base.specs.Counts.{Rises, last_count}
 use Rattle.lotos_base.specs.Outside.{Texts}
-use Rattle.spec_acceptance.specs.HandedOn.{ShelfState}
-use Rattle.spec_acceptance.specs.Acceptance.{Asked, Acceptance}
-use Rattle.spec_acceptance.specs.Part.{goes_on}
+use Rattle.spec_acceptance.specs.HandedOn.{ShelfState, GotFile}
+use Rattle.spec_acceptance.specs.Acceptance.{Asked, Acceptance, IsAccepted}
+use Rattle.spec_acceptance.specs.AcceptanceOutcomes.{ComesOver}
+use Rattle.spec_acceptance.specs.Doing.{Did}
+use Rattle.spec_acceptance.specs.Part.{Comes, goes_on, unread, stops, wants_memory}
+use Rattle.spec_acceptance.proofs.OneAnswer.{comes_over, outcomes_over_texts_are_one}
+use Rattle.refusal_lines.specs.HandedOn.{Refused}
+use Rattle.line_server.specs.Answered as served
+use Rattle.line_server.specs.Cutting.{complete, unfinished, last_line, lines_in}
 use Rattle.line_server.specs.Limits.{input_limit}
-use Rattle.line_server.specs.Machine.{by_chances, fault_count, Counted}
-use Rattle.line_server.specs.Fitting.{AllFit, is_whole}
-use Rattle.line_server.specs.Report.{Ending, ended, too_long, complete, report, status, last_state}
-use Rattle.line_server.specs.Serving.{IsLeftIn}
-use Rattle.line_server.specs.Session.{ending_of, EndsWith}
-use Rattle.line_server.specs.Writing.{WritesAll}
+use Rattle.line_server.specs.Session.{SessionCame, IsSessionServed, IsServedInTurns, finished, quit, input_failed, too_long, output_failed, closing_failed, wanted_memory}
+use Rattle.line_server.specs.Turn.{Surroundings, around, IsRead}
+use Rattle.line_server.specs.Writing.{Stream, WritesAll}
 use Rattle.line_server.specs.declared.ends.SessionEnd.{SessionEnd}
-use Rattle.line_server.specs.declared.ends.SessionEnd.TheVariants as end
+use Rattle.line_server.specs.declared.ends.SessionEnd.TheVariants as end_of
+use Rattle.line_server.proofs.Cuts.{complete-append}
+use Rattle.line_server.proofs.AnsweredLines.{answered_still}
+use Rattle.history_lines.specs.Answered.{AreAnswered}
 use Rattle.history_lines.specs.Standing.{Standing}
-use Rattle.history_lines.specs.Befallen.{Befallen}
-use Rattle.history_lines.specs.SessionMachine.{history_machine}
+use Rattle.history_lines.specs.SessionMachine.{SessionPoint, point, history_machine}
 use Rattle.history_lines.specs.Beginning.{Beginning, standing_at}
 use Rattle.history_lines.specs.Reached.{IsReached}
 use Rattle.history_lines.specs.ReportLaws.{LinesLeadOn, ServedLinesAreAnswered}
-use Rattle.history_lines.proofs.AnsweredLemmas.{ends_finished}
-use Rattle.spec_acceptance.specs.AcceptedView.{asked_for}
-use Rattle.lotos_top.specs.Outcome.{RunOutcome, no_line, unread, refused, accepted, files_of, SessionBegins, IsOutcome, opening_text}
-use Rattle.lotos_top.specs.Run.{Streams, ServesSession, in_part, whole, FollowsOutcome, IsOutcomeOf, Ran, ended_by}
 use Rattle.lotos_top.specs.Headline.{Stands, IsSteady, Simulates, Headline}
-use Rattle.lotos_top.specs.Words.{CommandLine, session, is_demonstration}
-use Rattle.lotos_top.proofs.RunLemmas.{settles, steady_before, follows_so}
+use Rattle.lotos_top.specs.Opening.{SessionBegins, opening_text}
+use Rattle.lotos_top.specs.Run.{Streams, ServesSession, in_front, in_want, behind, Follows, Ran, ended_by}
+use Rattle.lotos_top.specs.Words.{CommandLine, session}
+use Rattle.lotos_top.specs.Work.{Print, Finish, prints, serves, unread_printed, work_of}
+use Rattle.lotos_top.proofs.RunLemmas.{follows_rise, rises_on}
+use Rattle.lotos_top.proofs.WorkLemmas.{session_on, session_unread, session_stops, opened_on}
 use Rattle.lotos_top.specs.declared.ended.Ended.{Ended}
-use Rattle.lotos_top.specs.declared.ended.Ended.TheVariants.{NoMemory}
+use Rattle.lotos_top.specs.declared.ended.Ended.TheVariants.{Done, NoMemory}
 
 -- ---- Counts
 
@@ -41,144 +45,185 @@ no_rise before after stands = λ rises. by rises
     by (inl rose) = absurd (omega (arith, stands.0, rose))
     by (inr at_end) = absurd (omega (arith, stands.1, at_end.0))
 
-no_faults : (chances : List (Option Befallen)) (before after : ℕ) → Counted history_machine before chances after
-    → Stands before after → fault_count history_machine chances ≡ 0
-no_faults chances before after (inl counted) stands = omega (arith, counted, stands.0)
-no_faults chances before after (inr at_end) stands = absurd (omega (arith, at_end, stands.0, stands.1))
-
--- ---- Bytes within the limit
-
-ends_there : (limit : ℕ) (bytes : List ℕ) → length bytes ≤ limit
-    → (if nat_lt limit (length bytes) then too_long else ended) ≡ ended
-ends_there limit bytes within = rw (le-ltb limit (length bytes) within) refl
-
--- what a session over all these bytes came to
-abbrev pub CameOver : (standing last : Standing) → List (Option Befallen) → (written after : Option (List ℕ)) → SessionEnd → List ℕ → Ending
-    → Type 0
-CameOver standing last chances written after end_ bytes ending =
-    AllFit history_machine (is_whole end_) (standing, chances) [] bytes ending
-    × EndsWith (status (by_chances history_machine) (standing, chances) [] bytes ending)
-    (report (by_chances history_machine) (standing, chances) [] bytes ending) written after end_
-    × IsLeftIn end_ (last_state (by_chances history_machine) (standing, chances) [] bytes ending).0 last
-
-came_over : (standing last : Standing) (chances : List (Option Befallen)) (written after : Option (List ℕ)) (end_ : SessionEnd)
-    (bytes : List ℕ) → length bytes ≤ input_limit
-    → CameOver standing last chances written after end_ (take input_limit bytes) (ending_of bytes)
-    → CameOver standing last chances written after end_ bytes ended
-came_over standing last chances written after end_ bytes within came =
-    subst (λ (it : Ending). CameOver standing last chances written after end_ bytes it) (ends_there input_limit bytes within)
-    (subst (λ (it : List ℕ). CameOver standing last chances written after end_ it (ending_of bytes))
-    (take_all input_limit bytes within) came)
-
 -- ---- What is written
 
 written_after : (before between after : Option (List ℕ)) (written opening answers : List ℕ) → before ≡ Some written
     → WritesAll before between opening → WritesAll between after answers → after ≡ Some (written ++ (opening ++ answers))
-written_after before between after written opening answers told first then_ =
-    let here : between ≡ Some (written ++ opening) = rw told at first in
-    let last : after ≡ Some (written ++ opening ++ answers) = rw here at then_ in
+written_after before between after written opening answers is one two =
+    let middle : between ≡ Some (written ++ opening) = rw is at one in
+    let last : after ≡ Some (written ++ opening ++ answers) = rw middle at two in
     last ∙ ap (λ (it : List ℕ). Some it) (append_assoc written opening answers)
 
--- ---- A session
+-- ---- What was read
 
-module _ (served_lines : ServedLinesAreAnswered) (acceptance : Acceptance) (texts : Texts) (bytes written : List ℕ) where
-  simulates : (begun : Beginning) (last : Standing) (shelf_after : ShelfState) (before between after : Streams)
-      (chances : List (Option Befallen)) (end_ : SessionEnd) (answer : Ended) → last.texts ≡ shelf_after.texts → SessionBegins acceptance begun
-      → IsReached begun (standing_at begun (Some texts)) → before.written ≡ Some written
-      → WritesAll before.written between.written (opening_text begun) → answer ≡ ended_by end_
-      → fault_count history_machine chances ≡ 0
-      → CameOver (standing_at begun (Some texts)) last chances between.written after.written end_ bytes ended
+read_of : (before after : Option (List ℕ)) (bytes seen : List ℕ) → before ≡ Some bytes → IsRead before seen after
+    → (rest : List ℕ) × (bytes ≡ seen ++ rest) × (after ≡ Some rest)
+read_of before after bytes seen is read = rw is at read
+
+read_whole : (before after : Option (List ℕ)) (bytes seen : List ℕ) → before ≡ Some bytes → IsRead before seen after
+    → IfSome before (λ _. after ≡ Some []) → bytes ≡ seen
+read_whole before after bytes seen is read none =
+    let there = read_of before after bytes seen is read in
+    let nothing : after ≡ Some [] = rw is at none in
+    let rest : there.0 ≡ [] = cc (there.2, nothing) in
+    there.1 ∙ (ap (λ (it : List ℕ). seen ++ it) rest ∙ append-nil seen)
+
+-- the lines behind the bytes that were read
+lines_behind : (seen rest : List ℕ)
+    → lines_in (seen ++ rest)
+    ≡ complete [] seen ++ (complete (unfinished [] seen) rest ++ last_line (unfinished [] (seen ++ rest)))
+lines_behind seen rest =
+    ap (λ (it : List (List ℕ)). it ++ last_line (unfinished [] (seen ++ rest))) (complete-append [] seen rest)
+    ∙ append_assoc (complete [] seen) (complete (unfinished [] seen) rest) (last_line (unfinished [] (seen ++ rest)))
+
+-- ---- The session
+
+-- what a session came to, from where the specification begins
+module _ (answered : ServedLinesAreAnswered) (leads : LinesLeadOn) (acceptance : Acceptance) (texts : Texts) (begun : Beginning)
+    (begins : SessionBegins acceptance begun) (shelf shelf_after : ShelfState) (before after : Streams) (bytes written : List ℕ)
+    (told : shelf.texts ≡ Some texts) (left : before.input.bytes ≡ Some bytes) (within : length bytes ≤ input_limit)
+    (wrote : before.output.bytes ≡ Some written) (steady : IsSteady shelf shelf_after before after) where
+  start : SessionPoint
+  start = point (standing_at begun shelf.texts) shelf.faults shelf.calls
+
+  -- all its lines were answered
+  simulated : (between : Stream) (last : Standing) (lines : List (List ℕ)) (text : List ℕ) (quits : Bool) (answer : Ended)
+      → lines ≡ lines_in bytes → last.texts ≡ shelf_after.texts
+      → served.Answered history_machine start lines text (point last shelf_after.faults shelf_after.calls) quits
+      → WritesAll before.output.bytes between.bytes (opening_text begun) → WritesAll between.bytes after.output.bytes text
+      → answer ≡ Done → Simulates acceptance texts bytes written shelf_after after answer
+  unfolding start
+  simulated between last lines text quits answer are kept served_ opening rest done = record {
+    begun = begun;
+    begins = begins;
+    answers = text;
+    last = last;
+    answered = subst (λ (it : Option Texts). AreAnswered begun (standing_at begun it) (lines_in bytes) text last) told
+        (subst (λ (it : List (List ℕ)). AreAnswered begun (standing_at begun shelf.texts) it text last) are
+        (answered begun start (point last shelf_after.faults shelf_after.calls) lines text quits begins.can_begin
+        (leads.begins begun shelf.texts begins.can_begin) steady.shelf_stands.1 steady.shelf_stands.0 served_));
+    left = sym kept;
+    writes = written_after before.output.bytes between.bytes after.output.bytes written (opening_text begun) text wrote opening rest;
+    done = done;
+  }
+
+  came_so : (between : Stream) (last : Standing) (seen : List ℕ) (end : SessionEnd) (answer : Ended)
+      → WritesAll before.output.bytes between.bytes (opening_text begun) → between.faults ≡ before.output.faults
+      → last.texts ≡ shelf_after.texts
+      → SessionCame history_machine (around start before.input between)
+      (around (point last shelf_after.faults shelf_after.calls) after.input after.output) seen end
+      → answer ≡ ended_by end → (answer ≡ NoMemory) ⊎ Simulates acceptance texts bytes written shelf_after after answer
+  came_so between last seen end answer opening counts kept (finished text quits read none lines rest stand) is =
+      inr (simulated between last (lines_in seen) text quits answer
+      (ap (λ (it : List ℕ). lines_in it) (sym (read_whole before.input.bytes after.input.bytes bytes seen left read none))) kept lines
+      opening
+      rest is)
+  came_so between last seen end answer opening counts kept (quit text read lines rest stand) is =
+      let there = read_of before.input.bytes after.input.bytes bytes seen left read in
+      inr (simulated between last
+      (complete [] seen ++ (complete (unfinished [] seen) there.0 ++ last_line (unfinished [] (seen ++ there.0)))) text true answer
+      (sym (lines_behind seen there.0) ∙ ap (λ (it : List ℕ). lines_in it) (sym there.1)) kept
+      (answered_still history_machine start (point last shelf_after.faults shelf_after.calls) (complete [] seen)
+      (complete (unfinished [] seen) there.0 ++ last_line (unfinished [] (seen ++ there.0))) text true lines refl)
+      opening rest is)
+  came_so between last seen end answer opening counts kept (input_failed text read lines rest rises output) is =
+      absurd (no_rise before.input.faults after.input.faults steady.input_stands rises)
+  came_so between last seen end answer opening counts kept (too_long text byte whole read lines rest stand) is =
+      let there = read_of before.input.bytes after.input.bytes bytes (seen ++ byte ∷ []) left read in
+      absurd (omega (
+        arith,
+        ap length there.1,
+        length-append (seen ++ byte ∷ []) there.0,
+        length-append seen (byte ∷ []),
+        whole,
+        within,
+      ))
+  came_so between last seen end answer opening counts kept (output_failed read failed input rises) is =
+      absurd (no_rise before.output.faults after.output.faults steady.output_stands
+      (subst (λ (it : ℕ). Rises it after.output.faults) counts rises))
+  came_so between last seen end answer opening counts kept (closing_failed text closing fails lines rest rises) is =
+      absurd (no_rise before.output.faults after.output.faults steady.output_stands
+      (subst (λ (it : ℕ). Rises it after.output.faults) counts rises))
+  came_so between last seen end answer opening counts kept (wanted_memory read wanted stand) is = inl is
+
+  pub simulates : (answer : Ended) → ServesSession begun shelf shelf_after before after answer
       → (answer ≡ NoMemory) ⊎ Simulates acceptance texts bytes written shelf_after after answer
-  simulates begun last shelf_after before between after chances end_ answer left begins is told wrote answered none came = by came.1
-    where
-      standing : Standing
-      standing = standing_at begun (Some texts)
-
-      text : List ℕ
-      text = report (by_chances history_machine) (standing, chances) [] bytes ended
-
-      by : EndsWith (status (by_chances history_machine) (standing, chances) [] bytes ended) text between.written after.written end_
-          → (answer ≡ NoMemory) ⊎ Simulates acceptance texts bytes written shelf_after after answer
-      by (inl no_memory) = inl (answered ∙ ap ended_by no_memory)
-      by (inr (ends, writes)) =
-          let finished : end_ ≡ end.Finished = ends ∙ ends_finished (standing, chances) (complete [] bytes) in
-          let fits : AllFit history_machine true (standing, chances) [] bytes ended =
-          subst (λ (it : SessionEnd). AllFit history_machine (is_whole it) (standing, chances) [] bytes ended) finished came.0 in
-          inr (record {
-            begun = begun;
-            begins = begins;
-            answers = text;
-            last = (last_state (by_chances history_machine) (standing, chances) [] bytes ended).0;
-            answered = (served_lines begun standing chances bytes begins.can_begin is none fits).1;
-            left = sym left ∙ ap (λ (it : Standing). it.texts)
-                (subst (λ (it : SessionEnd). IsLeftIn it (last_state (by_chances history_machine)
-                (standing, chances) [] bytes ended).0 last)
-                finished came.2);
-            writes = written_after before.written between.written after.written written (opening_text begun) text told wrote writes;
-            done = answered ∙ ap ended_by finished;
-          })
-
-  serves_simulates : LinesLeadOn → (begun : Beginning) (shelf shelf_after : ShelfState) (before after : Streams) (answer : Ended)
-      → SessionBegins acceptance begun → shelf.texts ≡ Some texts → before.left ≡ Some bytes → length bytes ≤ input_limit
-      → before.written ≡ Some written → IsSteady shelf shelf_after before after
-      → ServesSession begun (opening_text begun) shelf shelf_after before after answer
-      → (answer ≡ NoMemory) ⊎ Simulates acceptance texts bytes written shelf_after after answer
-  serves_simulates laws begun shelf shelf_after before after answer begins texts_are left within told steady
-      (in_part kept leaves is wrote rises) =
-      absurd (no_rise before.output_faults after.output_faults steady.output_stands rises)
-  serves_simulates laws begun shelf shelf_after before after answer begins texts_are left within told steady
-      (whole between last end_ wrote texts_after came complete is) =
-      let ends = complete.whole bytes left (no_rise before.input_faults after.input_faults steady.input_stands)
-      (no_rise before.output_faults after.output_faults steady.output_stands) in
-      simulates begun last shelf_after before (record before { written = between }) after ends.chances end_ answer texts_after begins
-      (laws.begins begun (Some texts) begins.can_begin) told wrote is
-      (no_faults ends.chances shelf.faults shelf_after.faults ends.counted steady.shelf_stands)
-      (subst (λ (it : Option Texts). CameOver (standing_at begun it) last ends.chances between after.written end_ bytes ended) texts_are
-      (came_over (standing_at begun shelf.texts) last ends.chances between after.written end_ bytes within
-      (ends.fits, ends.ends, ends.left)))
+  unfolding start
+  simulates answer (in_front kept input is beginning rises) =
+      absurd (no_rise before.output.faults after.output.faults steady.output_stands rises)
+  simulates answer (in_want kept same is) = inl is
+  simulates answer (behind between last end opening counts kept session_ is) =
+      came_so between last session_.seen end answer opening counts kept session_.came is
 
 -- ---- The run
 
-came_simulates : ServedLinesAreAnswered → LinesLeadOn → (spec : List ℕ) (order : Option (List ℕ)) (values : List (List ℕ))
-    (texts : Texts) (acceptance : Acceptance) (bytes written : List ℕ) (shelf between shelf_after : ShelfState) (before after : Streams)
-    (answer : Ended) (outcome : RunOutcome) → shelf.texts ≡ Some texts → before.left ≡ Some bytes → length bytes ≤ input_limit
-    → before.written ≡ Some written → IsSteady shelf shelf_after before after
-    → IsOutcome (Some (asked_for spec order values)) shelf between outcome → IsOutcomeOf (goes_on acceptance) outcome
-    → FollowsOutcome (Some (session spec order values)) outcome between shelf_after before after answer
-    → (answer ≡ NoMemory) ⊎ Simulates acceptance texts bytes written shelf_after after answer
-came_simulates served_lines laws spec order values texts acceptance bytes written shelf between shelf_after before after answer no_line
-    told left within wrote steady possible of follows = absurd of
-came_simulates served_lines laws spec order values texts acceptance bytes written shelf between shelf_after before after answer
-    (unread name) told left within wrote steady possible of follows = absurd of
-came_simulates served_lines laws spec order values texts acceptance bytes written shelf between shelf_after before after answer
-    (refused r) told left within wrote steady possible of follows = absurd of
-came_simulates served_lines laws spec order values texts acceptance bytes written shelf between shelf_after before after answer
-    (accepted begun) told left within wrote steady possible of follows =
-    serves_simulates served_lines acceptance texts bytes written laws begun between shelf_after before after answer of
-    (possible.1.1.texts ∙ told) left within wrote
-    (record {
-      shelf_stands = subst (λ (n : ℕ). Stands n shelf_after.faults) (sym possible.1.1.faults) steady.shelf_stands;
-      input_stands = steady.input_stands;
-      output_stands = steady.output_stands;
-    }) follows
+-- what was accepted, or another thing where it was not
+abbrev accepted_or : Acceptance → Comes Refused Acceptance → Acceptance
+accepted_or other (goes_on acceptance) = acceptance
+accepted_or other (unread name) = other
+accepted_or other (stops r) = other
+accepted_or other wants_memory = other
 
-pub headline : ServedLinesAreAnswered → LinesLeadOn → (line : Option CommandLine) (shelf shelf_after : ShelfState)
-    (before after : Streams) (answer : Ended) → Ran line shelf shelf_after before after answer
-    → Headline line shelf shelf_after before after answer
-headline served_lines laws line shelf shelf_after before after answer (inl stopped) = λ spec order values texts acceptance bytes
-    written is told over left within wrote steady. inl stopped.is
-headline served_lines laws line shelf shelf_after before after answer (inr (inr shown)) = λ spec order values texts acceptance bytes
-    written is told over left within wrote steady. absurd (cc (ap is_demonstration (sym is ∙ shown.is)))
-headline served_lines laws line shelf shelf_after before after answer (inr (inl came)) = λ spec order values texts acceptance bytes
-    written is told over left within wrote steady.
-    let asked : Asked = asked_for spec order values in
-    let possible : IsOutcome (Some asked) shelf came.between came.outcome =
-    subst (λ (it : Option CommandLine). IsOutcome (files_of it) shelf came.between came.outcome) is came.possible in
-    let before_it : ¬ Rises shelf.faults came.between.faults =
-    steady_before line came.outcome shelf came.between shelf_after before after answer came.possible
-    (follows_so line came.outcome came.between shelf_after before after answer came.follows)
-    (no_rise shelf.faults shelf_after.faults steady.shelf_stands) in
-    came_simulates served_lines laws spec order values texts acceptance bytes written shelf came.between shelf_after before after answer
-    came.outcome told left within wrote steady possible
-    (settles asked texts shelf came.between (goes_on acceptance) came.outcome told over before_it possible)
-    (subst (λ (it : Option CommandLine). FollowsOutcome it came.outcome came.between shelf_after before after answer) is came.follows)
+goes_and_lacks : (comes : Comes Refused Acceptance) (acceptance : Acceptance) (name : List ℕ) → comes ≡ goes_on acceptance
+    → comes ≡ unread name → ⊥
+goes_and_lacks comes acceptance name one other = cc (one, other)
+
+goes_and_stops : (comes : Comes Refused Acceptance) (acceptance : Acceptance) (r : Refused) → comes ≡ goes_on acceptance → comes ≡ stops r
+    → ⊥
+goes_and_stops comes acceptance r one other = cc (one, other)
+
+module _ (answered : ServedLinesAreAnswered) (leads : LinesLeadOn) (asked : Asked) (texts : Texts) (acceptance : Acceptance)
+    (bytes written : List ℕ) (shelf between shelf_after : ShelfState) (before after : Streams) (answer : Ended)
+    (told : shelf.texts ≡ Some texts) (over : ComesOver texts asked (goes_on acceptance)) (left : before.input.bytes ≡ Some bytes)
+    (within : length bytes ≤ input_limit) (wrote : before.output.bytes ≡ Some written)
+    (steady : IsSteady shelf shelf_after before after) where
+  -- the count of the shelf stood
+  stood : between.faults ≤ shelf_after.faults → ¬ Rises shelf.faults between.faults
+  stood later rises = no_rise shelf.faults shelf_after.faults steady.shelf_stands
+      (rises_on shelf.faults between.faults shelf_after.faults later rises)
+
+  over_shelf : (comes : Comes Print Finish) → Did shelf between (work_of (Some (session asked))) comes
+      → Follows comes between shelf_after before after answer
+      → (answer ≡ NoMemory) ⊎ Simulates acceptance texts bytes written shelf_after after answer
+  over_shelf (goes_on finish) did follows =
+      let on = session_on asked did.0 finish did.2 in
+      let opened = opened_on (IsAccepted asked) did.0 on.0 on.2 in
+      let came : Did shelf between (IsAccepted asked) (goes_on opened.acceptance) = (did.0, did.1, opened.accepted) in
+      let same : goes_on acceptance ≡ goes_on opened.acceptance =
+      outcomes_over_texts_are_one texts asked (goes_on acceptance) (goes_on opened.acceptance) over
+      (comes_over texts asked shelf between (goes_on opened.acceptance) told
+      (λ rises. no_rise shelf.faults shelf_after.faults steady.shelf_stands
+      (rises_on shelf.faults between.faults shelf_after.faults
+      (follows_rise (goes_on finish) between shelf_after before after answer follows) rises)) tt came) in
+      let one : acceptance ≡ opened.acceptance = ap (λ (it : Comes Refused Acceptance). accepted_or acceptance it) same in
+      simulates answered leads acceptance texts on.0
+      (subst (λ (it : Acceptance). SessionBegins it on.0) (sym one) opened.begins) between shelf_after before after bytes written
+      (did.1.texts ∙ told) left within wrote
+      (record {
+        shelf_stands = (steady.shelf_stands.0 ∙ sym did.1.faults, omega (arith, did.1.faults, steady.shelf_stands.1));
+        input_stands = steady.input_stands;
+        output_stands = steady.output_stands;
+      })
+      answer (subst (λ (it : Finish). Follows (goes_on it) between shelf_after before after answer) on.1 follows)
+  over_shelf (unread name) did follows =
+      let came : Did shelf between (IsAccepted asked) (unread name) = (did.0, did.1, session_unread asked did.0 name did.2) in
+      absurd (goes_and_lacks (goes_on acceptance) acceptance name refl
+      (outcomes_over_texts_are_one texts asked (goes_on acceptance) (unread name) over
+      (comes_over texts asked shelf between (unread name) told
+      (stood (follows_rise (unread name) between shelf_after before after answer follows)) tt came)))
+  over_shelf (stops p) did follows =
+      let refused = session_stops asked did.0 p did.2 in
+      let came : Did shelf between (IsAccepted asked) (stops refused.0) = (did.0, did.1, refused.1) in
+      absurd (goes_and_stops (goes_on acceptance) acceptance refused.0 refl
+      (outcomes_over_texts_are_one texts asked (goes_on acceptance) (stops refused.0) over
+      (comes_over texts asked shelf between (stops refused.0) told
+      (stood (follows_rise (stops p) between shelf_after before after answer follows)) tt came)))
+  over_shelf wants_memory did follows = inl follows.is
+
+pub headline : ServedLinesAreAnswered → LinesLeadOn → (line : Option CommandLine) (shelf shelf_after : ShelfState) (before after : Streams)
+    (answer : Ended) → Ran line shelf shelf_after before after answer → Headline line shelf shelf_after before after answer
+headline answered leads line shelf shelf_after before after answer ran asked texts acceptance bytes written is told over left within wrote
+    steady =
+    over_shelf answered leads asked texts acceptance bytes written shelf ran.between shelf_after before after answer told over left within
+    wrote steady ran.comes
+    (subst (λ (it : Option CommandLine). Did shelf ran.between (work_of it) ran.comes) is ran.did) ran.follows

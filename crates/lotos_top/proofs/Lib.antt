@@ -1,9 +1,11 @@
 mod BeginLemmas
+mod CauseLemmas
+mod CutLemmas
 mod HeadLemmas
 mod HeadlineLemmas
 mod OpeningLemmas
-mod ReadyLemmas
 mod RunLemmas
 mod ServingLemmas
+mod SettledLemmas
 mod WordsLemmas
-mod ShelfLemmas
+mod WorkLemmas

@@ -1,142 +1,243 @@
 -- What is ready by what came of the acceptance.
-use Rattle.std.proofs.Common.{◌≡◌, inl, inr, ℕ, false, List, [], ◌∷◌, ◌++◌, map, Option, None, Some, IfSome, refl, sym, ap, ◌∙◌, subst, arith}
+use Rattle.std.proofs.Common.{◌≡◌, ◌≤◌, inl, inr, ℕ, zero, suc, List, [], ◌∷◌, map, All, Option, None, Some, IfSome, IsSomeAnd, codes, refl, sym, ap, ◌∙◌, subst, arith}
 use Rattle.std.proofs.lemmas.Option.{none-some}
-use Rattle.lotos_base.specs.Counts.{Rises}
+use Rattle.lotos_base.specs.MemShelf.{File, text_under, texts_of, faults_of, calls_of}
+use Rattle.lotos_base.specs.Outside.{Texts}
+use Rattle.lotos_base.specs.declared.memory_shelf.MemShelf.{MemShelf}
 use Rattle.demo_walks.specs.DemoSummary.{IsSummary}
+use Rattle.demo_walks.specs.DemoText.{demo_text}
 use Rattle.history_lines.specs.HandedOn.{past_of, progress_of}
 use Rattle.history_lines.specs.HandedOn.{Course}
 use Rattle.history_lines.specs.HandedOn.{Past}
-use Rattle.spec_acceptance.specs.AcceptanceOutcomes.{ComesOver}
-use Rattle.spec_acceptance.proofs.OneAnswer.{comes_over}
-use Rattle.spec_acceptance.specs.HandedOn.{ShelfState}
-use Rattle.spec_acceptance.specs.Acceptance.{Acceptance, Asked, IsAccepted}
-use Rattle.spec_acceptance.specs.Ending as ending
-use Rattle.spec_acceptance.specs.Part.{Comes, goes_on, stops, Part}
-use Rattle.refusal_lines.specs.RefusalText.{refusal_text}
-use Rattle.printed_texts.specs.ReportLines.{unread_text}
-use Rattle.spec_acceptance.specs.AcceptedView.{asked_for}
+use Rattle.history_lines.specs.Beginning.{Beginning}
+use Rattle.spec_acceptance.specs.HandedOn.{ShelfState, shelf_state, GotFile, IsFileOf}
+use Rattle.spec_acceptance.specs.Acceptance.{Acceptance, Asked, AcceptsText, IsAccepted}
+use Rattle.spec_acceptance.specs.Part.{Comes, goes_on, unread, stops, wants_memory, Part, Then, Has, Telling}
 use Rattle.spec_acceptance.specs.Doing.{Did, Failed}
 use Rattle.spec_acceptance.specs.declared.not_accepted.NotAccepted.{NotAccepted}
-use Rattle.spec_acceptance.specs.declared.not_accepted.NotAccepted.TheVariants.{File, Spec, NoMemory}
-use Rattle.lotos_top.specs.Words.{CommandLine, check, session, demonstration, is_demonstration}
-use Rattle.lotos_top.specs.Outcome.{RunOutcome, no_line, unread, refused, accepted, files_of, IsOutcome, text_of, status_of, opening_text, word_or_none}
-use Rattle.lotos_top.specs.Run.{Streams, LeavesInput, Prints, ServesSession, FollowsOutcome, demo_asked, demo_texts_of}
-use Rattle.lotos_top.specs.Prepared.{begun, IsAlone, IsLast, IsShown, IsServed, IsOpened, IsDemoShelf}
+use Rattle.spec_acceptance.specs.declared.not_accepted.NotAccepted.TheVariants.{File as Lacking, Spec, NoMemory}
+use Rattle.spec_acceptance.proofs.DoingLemmas.{did_then, has_done, wants_nothing, failed_first}
+use Rattle.refusal_lines.specs.HandedOn.{Refused, refused_of}
+use Rattle.refusal_lines.specs.RefusalText.{refusal_text}
+use Rattle.printed_texts.specs.ReportLines.{usage_text}
+use Rattle.lotos_top.specs.Opening.{SessionBegins, opening_text}
+use Rattle.lotos_top.specs.Prepared.{begun, IsLawfulAt, print_in, printed_by, CameTo, IsReady, IsFaultPrinted, FailsAlone}
+use Rattle.lotos_top.specs.Work.{Print, print, Finish, prints, serves, unread_printed, refusal_printed, word_or_none, Finds, Opens, OpensAsked, WithoutFiles, IsSummaryPrinted, Demonstrates, work_of}
+use Rattle.lotos_top.specs.Words.{CommandLine, check, session, demonstration}
 use Rattle.lotos_top.specs.declared.opening.Opened.{Opened}
 use Rattle.lotos_top.specs.declared.opening.Alone.{Alone}
+use Rattle.lotos_top.specs.declared.opening.Ready.TheVariants as ready
 use Rattle.lotos_top.specs.declared.ended.Ended.{Ended}
-use Rattle.lotos_top.specs.declared.ended.Ended.TheVariants.{Done, SpecRefused, WordsRefused, FileFault}
+use Rattle.lotos_top.specs.declared.ended.Ended.TheVariants.{Done, SpecRefused, WordsRefused}
+use Rattle.lotos_top.proofs.WorkLemmas.{gives_none, found, told, told_unread, told_stops, told_wants, ended_unread, ended_stops, want_first, opened_on}
 
--- no part changes a text
-pub did_texts : {B : Type 0} (before after : ShelfState) (part : Part B) (comes : Comes B) → Did before after part comes
-    → after.texts ≡ before.texts
-did_texts before after part (goes_on b) did = did.1.texts
-did_texts before after part (stops (ending.unread name)) did = did.1.texts
-did_texts before after part (stops (ending.refused r)) did = did.1.texts
+-- ---- What was accepted is opened
 
-pub failed_texts : {B : Type 0} (before after : ShelfState) (part : Part B) (fault : NotAccepted) → Failed before after part fault
-    → after.texts ≡ before.texts
-failed_texts before after part (File name) failed = did_texts before after part (stops (ending.unread name.items)) failed
-failed_texts before after part (Spec r) failed = did_texts before after part (stops (ending.refused failed.0)) failed.2
-failed_texts before after part NoMemory failed = failed.texts
+-- its session begins
+pub did_open : (a b : ShelfState) (accepts : Part Refused Acceptance) (acceptance : Acceptance) (begins : Beginning)
+    → Did a b accepts (goes_on acceptance) → SessionBegins acceptance begins → Did a b (Opens accepts) (goes_on begins)
+did_open a b accepts acceptance begins did is =
+    did_then a b b accepts (λ (it : Acceptance). Finds (SessionBegins it)) acceptance (goes_on begins) did
+    (found Refused b (SessionBegins acceptance) begins is)
 
-pub opened_texts : (asked : Asked) (before after : ShelfState) (opened : Opened) → IsOpened asked before after opened
-    → after.texts ≡ before.texts
-opened_texts asked before after opened is = did_texts before after (IsAccepted asked) (goes_on is.possible.0) is.possible.1
+-- memory was wanted for it
+pub want_to_open : (a b : ShelfState) (accepts : Part Refused Acceptance) (acceptance : Acceptance) → Did a b accepts (goes_on acceptance)
+    → Failed a b (Opens accepts) NoMemory
+want_to_open a b accepts acceptance did =
+    did_then a b b accepts (λ (it : Acceptance). Finds (SessionBegins it)) acceptance wants_memory did
+    (wants_nothing {E = Refused} b (Finds (SessionBegins acceptance)) refl)
 
--- a line behind whose outcome nothing comes
-follows_unread : (line : CommandLine) (name : List ℕ) (shelf : ShelfState) (first last : Streams) (answer : Ended)
-    → LeavesInput first last → Prints (text_of (files_of (Some line)) (unread name)) (status_of (unread name)) first last answer
-    → FollowsOutcome (Some line) (unread name) shelf shelf first last answer
-follows_unread (check spec order values) name shelf first last answer leaves prints = (refl, leaves, prints)
-follows_unread (session spec order values) name shelf first last answer leaves prints = (refl, leaves, prints)
-follows_unread (demonstration cells) name shelf first last answer leaves prints = (refl, leaves, prints)
+-- it was not accepted
+pub open_failed : (a b : ShelfState) (accepts : Part Refused Acceptance) (fault : NotAccepted) → Failed a b accepts fault
+    → Failed a b (Opens accepts) fault
+open_failed a b accepts fault failed = failed_first a b accepts (λ (it : Acceptance). Finds (SessionBegins it)) fault failed
 
-follows_refused : (line : CommandLine) (r : _) (shelf : ShelfState) (first last : Streams) (answer : Ended)
-    → LeavesInput first last → Prints (text_of (files_of (Some line)) (refused r)) (status_of (refused r)) first last answer
-    → FollowsOutcome (Some line) (refused r) shelf shelf first last answer
-follows_refused (check spec order values) r shelf first last answer leaves prints = (refl, leaves, prints)
-follows_refused (session spec order values) r shelf first last answer leaves prints = (refl, leaves, prints)
-follows_refused (demonstration cells) r shelf first last answer leaves prints = (refl, leaves, prints)
+-- ---- A print of the code
 
--- words that ask for files ask for no demonstration
-no_demo : (line : CommandLine) (asked : Asked) → files_of (Some line) ≡ Some asked → is_demonstration (Some line) ≡ false
-no_demo (check spec order values) asked asks = refl
-no_demo (session spec order values) asked asks = refl
-no_demo (demonstration cells) asked asks = absurd (none-some asked asks)
+pub print_is : (alone : Alone) (text : List ℕ) (status : Ended) → alone.text.items ≡ text → alone.ended ≡ status
+    → print_in alone ≡ print text status
+print_is alone text status t e = λ i. print (t i) (e i)
 
-pub last_unread : (line : CommandLine) (asked : Asked) (before after : ShelfState) (name : List ℕ) (alone : Alone)
-    → files_of (Some line) ≡ Some asked → Did before after (IsAccepted asked) (stops (ending.unread name))
-    → alone.text.items ≡ unread_text name → alone.ended ≡ FileFault → IsLast (Some line) before after alone
-last_unread line asked before after name alone asks did text ended = record {
-  no_demonstration = no_demo line asked asks;
-  is = record { outcome = unread name; possible = rw asks did; text = text; ended = ended };
-  follows = follows_unread line name after;
-}
+-- the line of a refusal
+pub some_print : (found_ : Option Refused) (alone : Alone) (spec : List ℕ) (order : Option (List ℕ)) (word : List ℕ)
+    → word ≡ word_or_none order
+    → IfSome found_ (λ it. alone.text.items ≡ refusal_text spec word it) → alone.ended ≡ SpecRefused
+    → IfSome found_ (λ it. print_in alone ≡ refusal_printed spec order it)
+some_print None alone spec order word same made ended = tt
+some_print (Some told_) alone spec order word same made ended =
+    print_is alone (refusal_text spec (word_or_none order) told_) SpecRefused (made ∙ ap (λ (it : List ℕ). refusal_text spec it told_) same)
+    ended
 
-pub last_refused : (line : CommandLine) (asked : Asked) (before after : ShelfState) (r : _) (alone : Alone)
-    → files_of (Some line) ≡ Some asked → Did before after (IsAccepted asked) (stops (ending.refused r))
-    → alone.text.items ≡ refusal_text asked.spec (word_or_none asked.order) r → alone.ended ≡ SpecRefused
-    → IsLast (Some line) before after alone
-last_refused line asked before after r alone asks did text ended = record {
-  no_demonstration = no_demo line asked asks;
-  is = record { outcome = refused r; possible = rw asks did; text = rw asks text; ended = ended };
-  follows = follows_refused line r after;
-}
+refused_print : (found_ : Option Refused) (told_ : Refused) (p : Print) (spec : List ℕ) (order : Option (List ℕ)) → found_ ≡ Some told_
+    → IfSome found_ (λ it. p ≡ refusal_printed spec order it) → p ≡ refusal_printed spec order told_
+refused_print found_ told_ p spec order is made = rw is at made
 
--- of a refusal whose line was made
-pub refused_line : (found : Option _) (r : _) (text : List ℕ) (spec order : List ℕ) → found ≡ Some r
-    → IfSome found (λ told. text ≡ refusal_text spec order told) → text ≡ refusal_text spec order r
-refused_line found r text spec order is made = rw is at made
+-- ---- The lines of words
 
--- `check` of what is accepted
-pub last_opened : (spec : List ℕ) (order : Option (List ℕ)) (values : List (List ℕ)) (before after : ShelfState) (opened : Opened)
-    (alone : Alone) → IsOpened (asked_for spec order values) before after opened → alone.text.items ≡ opening_text (begun opened)
-    → alone.ended ≡ Done → IsLast (Some (check spec order values)) before after alone
-last_opened spec order values before after opened alone is text ended = record {
-  no_demonstration = refl;
-  is = record { outcome = accepted (begun opened); possible = is.possible; text = text; ended = ended };
-  follows = λ first last answer leaves prints. (refl, leaves, prints);
-}
+-- what comes behind the opening of what is asked for
+module _ (asked : Asked) (next : Beginning → Part Print Finish) (before after : ShelfState) where
+  -- a fault is printed
+  pub fault_ready : (fault : NotAccepted) (p : Print) → Failed before after (Opens (IsAccepted asked)) fault
+      → IsFaultPrinted asked.spec asked.order fault p
+      → (comes : Comes Print Finish) × Did before after (Then (OpensAsked asked) next) comes × (printed_by comes ≡ Some p)
+  fault_ready (Lacking name) p failed is = (
+    unread name.items,
+    ended_unread before after (OpensAsked asked) next name.items
+        (told_unread before after (refusal_printed asked.spec asked.order) (Opens (IsAccepted asked)) name.items failed),
+    ap (λ (it : Print). Some it) (sym is),
+  )
+  fault_ready (Spec r) p failed is = (
+    stops (refusal_printed asked.spec asked.order failed.0),
+    ended_stops before after (OpensAsked asked) next (refusal_printed asked.spec asked.order failed.0)
+        (told_stops before after (refusal_printed asked.spec asked.order) (Opens (IsAccepted asked)) failed.0 failed.2),
+    ap (λ (it : Print). Some it) (sym (refused_print (refused_of r) failed.0 p asked.spec asked.order failed.1 is)),
+  )
+  fault_ready NoMemory p failed is = absurd is
 
--- `run` of what is accepted
-pub served_opened : (spec : List ℕ) (order : Option (List ℕ)) (values : List (List ℕ)) (before after : ShelfState) (opened : Opened)
-    → IsOpened (asked_for spec order values) before after opened → IsServed (Some (session spec order values)) before after opened
-served_opened spec order values before after opened is = record {
-  follows = λ shelf_after first last answer serves. serves;
-  no_demonstration = refl;
-  possible = is.possible;
-  lawful = is.lawful;
-}
+  -- and where it is not, for want of memory, it came
+  pub fault_came : (fault : NotAccepted) → Failed before after (Opens (IsAccepted asked)) fault
+      → (comes : Comes Print Finish) × Did before after (Then (OpensAsked asked) next) comes
+  fault_came (Lacking name) failed = (
+    unread name.items,
+    ended_unread before after (OpensAsked asked) next name.items
+        (told_unread before after (refusal_printed asked.spec asked.order) (Opens (IsAccepted asked)) name.items failed),
+  )
+  fault_came (Spec r) failed = (
+    stops (refusal_printed asked.spec asked.order failed.0),
+    ended_stops before after (OpensAsked asked) next (refusal_printed asked.spec asked.order failed.0)
+        (told_stops before after (refusal_printed asked.spec asked.order) (Opens (IsAccepted asked)) failed.0 failed.2),
+  )
+  fault_came NoMemory failed = (
+    wants_memory,
+    want_first before after (OpensAsked asked) next
+        (told_wants before after (refusal_printed asked.spec asked.order) (Opens (IsAccepted asked)) failed),
+  )
+
+-- `check` and `run` of what is accepted
+pub checked_came : (asked : Asked) (before after : ShelfState) (begins : Beginning)
+    → Did before after (Opens (IsAccepted asked)) (goes_on begins)
+    → Did before after (work_of (Some (check asked))) (goes_on (prints (print (opening_text begins) Done)))
+checked_came asked before after begins did =
+    did_then before after after (OpensAsked asked) (λ (it : Beginning). Has (prints (print (opening_text it) Done))) begins
+    (goes_on (prints (print (opening_text begins) Done)))
+    (told before after (refusal_printed asked.spec asked.order) (Opens (IsAccepted asked)) begins did)
+    (has_done Print after (prints (print (opening_text begins) Done)))
+
+pub checked_ready : (asked : Asked) (before after : ShelfState) (opened : Opened) (alone : Alone)
+    → Did before after (Opens (IsAccepted asked)) (goes_on (begun opened)) → alone.text.items ≡ opening_text (begun opened)
+    → alone.ended ≡ Done → IsReady (Some (check asked)) before after (ready.Alone alone)
+checked_ready asked before after opened alone did text ended = (
+  goes_on (prints (print (opening_text (begun opened)) Done)),
+  checked_came asked before after (begun opened) did,
+  ap (λ (it : Print). Some it) (sym (print_is alone (opening_text (begun opened)) Done text ended)),
+)
+
+pub session_came : (asked : Asked) (before after : ShelfState) (begins : Beginning)
+    → Did before after (Opens (IsAccepted asked)) (goes_on begins)
+    → Did before after (work_of (Some (session asked))) (goes_on (serves begins))
+session_came asked before after begins did =
+    did_then before after after (OpensAsked asked) (λ (it : Beginning). Has (serves it)) begins (goes_on (serves begins))
+    (told before after (refusal_printed asked.spec asked.order) (Opens (IsAccepted asked)) begins did)
+    (has_done Print after (serves begins))
 
 -- words that are no line
-pub last_unasked : (line : Option CommandLine) (now : ShelfState) (alone : Alone) → line ≡ None
-    → alone.text.items ≡ text_of None no_line → alone.ended ≡ WordsRefused → IsLast line now now alone
-last_unasked None now alone none text ended = record {
-  no_demonstration = refl;
-  is = record { outcome = no_line; possible = refl; text = text; ended = ended };
-  follows = λ first last answer leaves prints. (refl, leaves, prints);
-}
-last_unasked (Some line) now alone none text ended = absurd (none-some line (sym none))
+pub no_line_ready : (line : Option CommandLine) (now : ShelfState) (alone : Alone) → line ≡ None → alone.text.items ≡ usage_text
+    → alone.ended ≡ WordsRefused → IsReady line now now (ready.Alone alone)
+no_line_ready line now alone none text ended =
+    subst (λ (it : Option CommandLine). IsReady it now now (ready.Alone alone)) (sym none) (
+      goes_on (prints (print usage_text WordsRefused)),
+      has_done Print now (prints (print usage_text WordsRefused)),
+      ap (λ (it : Print). Some it) (sym (print_is alone usage_text WordsRefused text ended)),
+    )
+
+pub no_line_came : (line : Option CommandLine) (now : ShelfState) → line ≡ None → CameTo line now now
+no_line_came line now none =
+    subst (λ (it : Option CommandLine). CameTo it now now) (sym none)
+    (wants_memory, wants_nothing now (work_of None) refl)
 
 -- ---- A demonstration
 
--- the shelf of a demonstration counts no fault
-steady : ¬ Rises 0 0
-steady = λ rises. by rises
-  where
-    by : Rises 0 0 → ⊥
-    by (inl rose) = absurd (omega (arith, rose))
-    by (inr stands) = absurd (omega (arith, stands.0))
+-- a shelf that tells its texts and has none
+pub record HasNoFiles (shelf : ShelfState) : Type 0 where
+  pub texts : Texts
+  pub told : shelf.texts ≡ Some texts
+  pub none : (name : List ℕ) → texts name ≡ None
 
--- what came of the acceptance of its text
-came_of_demo : (cells : ℕ) (before after : ShelfState) (comes : Comes Acceptance) → IsDemoShelf cells before after
-    → Did before after (IsAccepted demo_asked) comes → ComesOver (demo_texts_of cells) demo_asked comes
-came_of_demo cells before after comes shelf did =
-    comes_over (demo_texts_of cells) demo_asked before after comes shelf.told
-    (λ rises. steady (subst (λ (n : ℕ). Rises n 0) shelf.none_before (subst (λ (n : ℕ). Rises before.faults n) shelf.none_after rises))) did
+-- such is one in memory that has no files
+pub no_files : (shelf : MemShelf) (files : List File) → texts_of shelf ≡ text_under files → files ≡ []
+    → HasNoFiles (shelf_state (Some (texts_of shelf)) (faults_of shelf) (calls_of shelf))
+no_files shelf files texts none = record {
+  texts = texts_of shelf;
+  told = refl;
+  none = λ name. ap (λ (f : Texts). f name) (texts ∙ ap text_under none);
+}
 
--- the session that begins has taken no step
+no_text : (text : Option (List ℕ)) (P : List ℕ → Type 0) → text ≡ None → IsSomeAnd text P → ⊥
+no_text None P none is = is
+no_text (Some text) P none is = none-some text (sym none)
+
+files_none : (shelf : ShelfState) (files : List GotFile) → HasNoFiles shelf → All (IsFileOf shelf.texts) files → files ≡ []
+files_none shelf [] has all = refl
+files_none shelf (file ∷ files) has all =
+    let there : IsFileOf (Some has.texts) file =
+    subst (λ (it : Option Texts). IsFileOf it file) has.told (all zero file (omega arith)) in
+    absurd (no_text (has.texts file.name) _ (has.none file.name) there)
+
+pub alone_on : {E B : Type 0} (before after : ShelfState) (part : Part E B) (b : B) → HasNoFiles before → Did before after part (goes_on b)
+    → part [] (goes_on b)
+alone_on before after part b has did =
+    subst (λ (it : List GotFile). part it (goes_on b)) (files_none before did.0 has did.1.content) did.2
+
+pub alone_failed : {B : Type 0} (before after : ShelfState) (part : Part Refused B) (fault : NotAccepted) → HasNoFiles before
+    → Failed before after part fault → FailsAlone part fault
+alone_failed before after part (Lacking name) has failed =
+    subst (λ (it : List GotFile). part it (unread name.items)) (files_none before failed.0 has failed.1.content) failed.2
+alone_failed before after part (Spec r) has failed = (
+  failed.0,
+  failed.1,
+  subst (λ (it : List GotFile). part it (stops failed.0)) (files_none before failed.2.0 has failed.2.1.content) failed.2.2,
+)
+alone_failed before after part NoMemory has failed = tt
+
+module _ (cells : ℕ) (now : ShelfState) where
+  abbrev Accepts : Part Refused Acceptance
+  Accepts = AcceptsText (demo_text cells) None []
+
+  pub demo_ready : (opened : Opened) (alone : Alone) → Opens Accepts [] (goes_on (begun opened))
+      → IsSummary (begun opened).basis (begun opened).progress.situation cells alone.text.items → alone.ended ≡ Done
+      → IsReady (Some (demonstration cells)) now now (ready.Alone alone)
+  demo_ready opened alone opens summary ended = (
+    goes_on (prints (print_in alone)),
+    (
+      [],
+      gives_none now,
+      (refl, inr (begun opened, [], [], opens, (refl, (summary, ended)), refl)),
+    ),
+    refl,
+  )
+
+  pub demo_fault : (fault : NotAccepted) (alone : Alone) → FailsAlone (Opens Accepts) fault
+      → IsFaultPrinted (codes "demo") None fault (print_in alone) → IsReady (Some (demonstration cells)) now now (ready.Alone alone)
+  demo_fault (Lacking name) alone failed is = (
+    stops (print_in alone),
+    ([], gives_none now, (refl, inr (name.items, inl failed, is))),
+    refl,
+  )
+  demo_fault (Spec r) alone failed is = (
+    stops (print_in alone),
+    (
+      [],
+      gives_none now,
+      (refl, inl (inl (failed.0, failed.2, refused_print (refused_of r) failed.0 (print_in alone) (codes "demo") None failed.1 is))),
+    ),
+    refl,
+  )
+  demo_fault NoMemory alone failed is = absurd is
+
+  pub demo_came : CameTo (Some (demonstration cells)) now now
+  demo_came = (wants_memory, wants_nothing now (work_of (Some (demonstration cells))) refl)
+
+-- the session of what was opened has taken no step
 no_history : (course : Course) → (progress_of course).steps ≡ [] → course.history.items ≡ []
 no_history course none = by course.history.items none
   where
@@ -144,60 +245,7 @@ no_history course none = by course.history.items none
     by [] e = refl
     by (past ∷ pasts) e = absurd (cc e)
 
-pub opened_at_start : (asked : Asked) (before after : ShelfState) (opened : Opened) → IsOpened asked before after opened
+pub opened_at_start : (accepts : Part Refused Acceptance) (opened : Opened) → Opens accepts [] (goes_on (begun opened))
     → opened.session.course.history.items ≡ []
-opened_at_start asked before after opened is = no_history opened.session.course is.possible.2.can_begin.at_start
-
-pub shown_accepted : (cells : ℕ) (before after now : ShelfState) (opened : Opened) (alone : Alone) → IsDemoShelf cells before after
-    → IsOpened demo_asked before after opened
-    → IsSummary (begun opened).basis (begun opened).progress.situation cells alone.text.items → alone.ended ≡ Done
-    → IsShown (Some (demonstration cells)) now now alone
-shown_accepted cells before after now opened alone shelf is summary ended = record {
-  cells = cells;
-  is = refl;
-  kept = refl;
-  comes = goes_on is.possible.0;
-  over = came_of_demo cells before after (goes_on is.possible.0) shelf is.possible.1;
-  outcome = accepted (begun opened);
-  is_outcome = is.possible.2;
-  prints = λ first last answer prints. (
-    alone.text.items,
-    summary,
-    subst (λ (e : Ended). Prints alone.text.items e first last answer) ended prints,
-  );
-}
-
-prints_so : (alone : Alone) (text : List ℕ) (status : Ended) (first last : Streams) (answer : Ended) → alone.text.items ≡ text
-    → alone.ended ≡ status → Prints alone.text.items alone.ended first last answer → Prints text status first last answer
-prints_so alone text status first last answer is ended prints =
-    subst (λ (t : List ℕ). Prints t status first last answer) is
-    (subst (λ (e : Ended). Prints alone.text.items e first last answer) ended prints)
-
-pub shown_unread : (cells : ℕ) (before after now : ShelfState) (name : List ℕ) (alone : Alone) → IsDemoShelf cells before after
-    → Did before after (IsAccepted demo_asked) (stops (ending.unread name)) → alone.text.items ≡ unread_text name
-    → alone.ended ≡ FileFault → IsShown (Some (demonstration cells)) now now alone
-shown_unread cells before after now name alone shelf did text ended = record {
-  cells = cells;
-  is = refl;
-  kept = refl;
-  comes = stops (ending.unread name);
-  over = came_of_demo cells before after (stops (ending.unread name)) shelf did;
-  outcome = unread name;
-  is_outcome = refl;
-  prints = λ first last answer prints. prints_so alone _ _ first last answer text ended prints;
-}
-
-pub shown_refused : (cells : ℕ) (before after now : ShelfState) (r : _) (alone : Alone) → IsDemoShelf cells before after
-    → Did before after (IsAccepted demo_asked) (stops (ending.refused r))
-    → alone.text.items ≡ refusal_text demo_asked.spec (word_or_none demo_asked.order) r → alone.ended ≡ SpecRefused
-    → IsShown (Some (demonstration cells)) now now alone
-shown_refused cells before after now r alone shelf did text ended = record {
-  cells = cells;
-  is = refl;
-  kept = refl;
-  comes = stops (ending.refused r);
-  over = came_of_demo cells before after (stops (ending.refused r)) shelf did;
-  outcome = refused r;
-  is_outcome = refl;
-  prints = λ first last answer prints. prints_so alone _ _ first last answer text ended prints;
-}
+opened_at_start accepts opened opens =
+    no_history opened.session.course (opened_on accepts [] (begun opened) opens).begins.can_begin.at_start

@@ -1,305 +1,183 @@
--- What came of a run, and that each answer comes where its cause stands.
-use Rattle.std.proofs.Common.{◌≡◌, ◌⊎◌, inl, inr, ℕ, ◌<◌, ◌≤◌, false, IsTrue, List, Option, None, Some, refl, sym, ap, subst, ◌∙◌, arith}
+-- What a run does with what came of its work.
+use Rattle.std.proofs.Common.{◌≡◌, ◌⊎◌, inl, inr, ℕ, ◌<◌, ◌≤◌, List, [], ◌∷◌, Option, None, Some, refl, sym, ap, subst, ◌∙◌, arith}
 use Rattle.std.proofs.lemmas.Bool.{cases_lt}
-use Rattle.std.proofs.lemmas.Option.{none-some}
+use Rattle.std.proofs.lemmas.Option.{same_Some, none-some}
 use Rattle.lotos_base.specs.Counts.{Rises, last_count}
-use Rattle.lotos_base.specs.Outside.{Texts}
 use Rattle.spec_acceptance.specs.HandedOn.{ShelfState}
-use Rattle.line_server.specs.Machine.{Counted}
-use Rattle.line_server.specs.Writing.{WritesAll}
-use Rattle.line_server.specs.declared.ends.SessionEnd.TheVariants as end
-use Rattle.spec_acceptance.specs.Acceptance.{Asked, Acceptance, IsAccepted}
-use Rattle.spec_acceptance.specs.Part.{Comes, goes_on, stops}
-use Rattle.spec_acceptance.specs.Ending as ending
-use Rattle.spec_acceptance.specs.AcceptanceOutcomes.{ComesOver}
-use Rattle.spec_acceptance.proofs.OneAnswer.{comes_over, outcomes_over_texts_are_one}
-use Rattle.history_lines.specs.SessionMachine.{history_machine}
+use Rattle.spec_acceptance.specs.Doing.{Did}
+use Rattle.spec_acceptance.specs.Part.{Comes, goes_on, unread, stops, wants_memory, Part}
+use Rattle.line_server.specs.Answered.{FailedAt, WantedAt, LeftAt}
+use Rattle.line_server.specs.Session.{SessionCame, IsSessionServed, finished, quit, input_failed, too_long, output_failed, closing_failed, wanted_memory}
+use Rattle.line_server.specs.Request.{request_of}
+use Rattle.line_server.specs.Turn.{Surroundings}
+use Rattle.line_server.specs.Writing.{Stream, WritesAll, WritesBeginning}
+use Rattle.line_server.specs.declared.ends.SessionEnd.{SessionEnd}
+use Rattle.history_lines.specs.Serving.{ShelfCounts, moment_of, IsBeforeOrBehind}
+use Rattle.history_lines.specs.SessionMachine.{SessionPoint, LineLeaves, history_machine}
 use Rattle.history_lines.specs.Beginning.{Beginning}
-use Rattle.lotos_top.specs.Words.{CommandLine, check, session, demonstration, is_demonstration}
-use Rattle.lotos_top.specs.Outcome.{RunOutcome, no_line, unread, refused, accepted, files_of, IsOutcome, text_of, status_of, opening_text}
-use Rattle.lotos_top.specs.Run.{Streams, LeavesInput, Prints, whole, in_part, ServesSession, FollowsOutcome, RunCame, Stopped, Demonstrated, PrintsFor, demo_asked, demo_texts_of, Ran, IsOutcomeOf, RunEndsBy, MetByLines, serves_session, CompletesRun, ended_by}
+use Rattle.history_lines.proofs.AnsweredLemmas.{counts_rise, count_rises}
+use Rattle.lotos_top.specs.Prepared.{begun, print_in, printed_by, CameTo, IsReady}
+use Rattle.lotos_top.specs.Run.{Streams, streams, Writes, whole, in_part, nothing, Prints, ServesSession, in_front, in_want, behind, Stops, Follows, Ran}
+use Rattle.lotos_top.specs.Words.{CommandLine}
+use Rattle.lotos_top.specs.Work.{Print, Finish, prints, serves, unread_printed, work_of}
 use Rattle.lotos_top.specs.declared.ended.Ended.{Ended}
-use Rattle.lotos_top.specs.declared.ended.Ended.TheVariants.{FileFault, InputFault, OutputFault, NoMemory}
-use Rattle.lotos_top.proofs.OpeningLemmas.{did_texts}
+use Rattle.lotos_top.specs.declared.ended.Ended.TheVariants.{NoMemory, OutputFault}
+use Rattle.lotos_top.specs.declared.opening.Alone.{Alone}
+use Rattle.lotos_top.specs.declared.opening.Opened.{Opened}
+use Rattle.lotos_top.specs.declared.opening.Ready.TheVariants as ready
 
--- ---- What a text that is printed tells
+-- ---- What follows
 
-prints_output : (text : List ℕ) (status : Ended) (before after : Streams) (answer : Ended) → Prints text status before after answer
-    → before.output_faults < after.output_faults → answer ≡ OutputFault
-prints_output text status before after answer (whole is wrote same) rose = absurd (omega (arith, same, rose))
-prints_output text status before after answer (in_part is wrote rises) rose = is
+-- a text was printed
+pub follows_printed : (comes : Comes Print Finish) (p : Print) (shelf shelf_after : ShelfState) (before after : Streams) (answer : Ended)
+    → printed_by comes ≡ Some p → Prints p shelf shelf_after before after answer → Follows comes shelf shelf_after before after answer
+follows_printed (goes_on (prints q)) p shelf shelf_after before after answer is done =
+    subst (λ (it : Print). Prints it shelf shelf_after before after answer) (sym (same_Some q p is)) done
+follows_printed (goes_on (serves begun)) p shelf shelf_after before after answer is done = absurd (none-some p is)
+follows_printed (unread name) p shelf shelf_after before after answer is done =
+    subst (λ (it : Print). Prints it shelf shelf_after before after answer) (sym (same_Some (unread_printed name) p is)) done
+follows_printed (stops q) p shelf shelf_after before after answer is done =
+    subst (λ (it : Print). Prints it shelf shelf_after before after answer) (sym (same_Some q p is)) done
+follows_printed wants_memory p shelf shelf_after before after answer is done = absurd (none-some p is)
 
-prints_steady : (text : List ℕ) (status : Ended) (before after : Streams) (answer : Ended) → Prints text status before after answer
-    → ¬ Rises before.output_faults after.output_faults → (answer ≡ status) × WritesAll before.written after.written text
-prints_steady text status before after answer (whole is wrote same) steady = (is, wrote)
-prints_steady text status before after answer (in_part is wrote rises) steady = absurd (steady rises)
+-- memory was wanted before anything was written
+printed_none : (p : Print) (shelf : ShelfState) (now : Streams) → Prints p shelf shelf now now NoMemory
+printed_none p shelf now = record { shelf_kept = refl; input_kept = refl; writes = nothing refl refl }
 
--- ---- What follows an outcome
+pub follows_want : (comes : Comes Print Finish) (shelf : ShelfState) (now : Streams) → Follows comes shelf shelf now now NoMemory
+follows_want (goes_on (prints p)) shelf now = printed_none p shelf now
+follows_want (goes_on (serves begun)) shelf now = in_want refl refl refl
+follows_want (unread name) shelf now = printed_none (unread_printed name) shelf now
+follows_want (stops p) shelf now = printed_none p shelf now
+follows_want wants_memory shelf now = record { is = refl; shelf_kept = refl; kept = refl }
 
--- a text alone, or a session
-abbrev pub FollowsSo : Option CommandLine → RunOutcome → (shelf shelf_after : ShelfState) → Streams → Streams → Ended → Type 0
-FollowsSo line outcome shelf shelf_after before after answer =
-    ((shelf_after ≡ shelf) × LeavesInput before after
-    × Prints (text_of (files_of line) outcome) (status_of outcome) before after answer)
-    ⊎ (IsTrue (serves_session line) × (begun : Beginning) × (outcome ≡ accepted begun)
-    × ServesSession begun (opening_text begun) shelf shelf_after before after answer)
+-- ---- What a run did
 
-pub follows_so : (line : Option CommandLine) (outcome : RunOutcome) (shelf shelf_after : ShelfState) (before after : Streams) (answer : Ended)
-    → FollowsOutcome line outcome shelf shelf_after before after answer → FollowsSo line outcome shelf shelf_after before after answer
-follows_so None outcome shelf shelf_after before after answer follows = inl follows
-follows_so (Some (check spec order values)) outcome shelf shelf_after before after answer follows = inl follows
-follows_so (Some (demonstration cells)) outcome shelf shelf_after before after answer follows = inl follows
-follows_so (Some (session spec order values)) no_line shelf shelf_after before after answer follows = inl follows
-follows_so (Some (session spec order values)) (unread name) shelf shelf_after before after answer follows = inl follows
-follows_so (Some (session spec order values)) (refused r) shelf shelf_after before after answer follows = inl follows
-follows_so (Some (session spec order values)) (accepted begun) shelf shelf_after before after answer follows =
-    inr (refl, begun, refl, follows)
-
-serves_output : (begun : Beginning) (text : List ℕ) (shelf shelf_after : ShelfState) (before after : Streams) (answer : Ended)
-    → ServesSession begun text shelf shelf_after before after answer → before.output_faults < after.output_faults → answer ≡ OutputFault
-serves_output begun text shelf shelf_after before after answer (in_part kept leaves is wrote rises) rose = is
-serves_output begun text shelf shelf_after before after answer (whole between last end_ wrote texts came complete is) rose =
-    is ∙ ap ended_by (complete.output rose)
-
-serves_input : (begun : Beginning) (text : List ℕ) (shelf shelf_after : ShelfState) (before after : Streams) (answer : Ended)
-    → ServesSession begun text shelf shelf_after before after answer → before.input_faults < after.input_faults
-    → ¬ Rises before.output_faults after.output_faults → (answer ≡ NoMemory) ⊎ (answer ≡ InputFault)
-serves_input begun text shelf shelf_after before after answer (in_part kept leaves is wrote rises) rose steady =
-    absurd (omega (arith, leaves.faults, rose))
-serves_input begun text shelf shelf_after before after answer (whole between last end_ wrote texts came complete is) rose steady =
-    by (complete.input rose steady)
-  where
-    by : (end_ ≡ end.NoMemory) ⊎ (end_ ≡ end.InputFailed) → (answer ≡ NoMemory) ⊎ (answer ≡ InputFault)
-    by (inl none) = inl (is ∙ ap ended_by none)
-    by (inr failed) = inr (is ∙ ap ended_by failed)
-
-follows_output : (line : Option CommandLine) (outcome : RunOutcome) (shelf shelf_after : ShelfState) (before after : Streams) (answer : Ended)
-    → FollowsSo line outcome shelf shelf_after before after answer → before.output_faults < after.output_faults → answer ≡ OutputFault
-follows_output line outcome shelf shelf_after before after answer (inl alone) rose = prints_output _ _ before after answer alone.2 rose
-follows_output line outcome shelf shelf_after before after answer (inr serves) rose =
-    serves_output serves.1 _ shelf shelf_after before after answer serves.3 rose
-
-follows_input : (line : Option CommandLine) (outcome : RunOutcome) (shelf shelf_after : ShelfState) (before after : Streams) (answer : Ended)
-    → FollowsSo line outcome shelf shelf_after before after answer → before.input_faults < after.input_faults
-    → ¬ Rises before.output_faults after.output_faults → (answer ≡ NoMemory) ⊎ (answer ≡ InputFault)
-follows_input line outcome shelf shelf_after before after answer (inl alone) rose steady =
-    absurd (omega (arith, alone.1.faults, rose))
-follows_input line outcome shelf shelf_after before after answer (inr serves) rose steady =
-    serves_input serves.1 _ shelf shelf_after before after answer serves.3 rose steady
-
--- an outcome behind which no session comes
-follows_alone : (line : Option CommandLine) (outcome other : RunOutcome) (shelf shelf_after : ShelfState) (before after : Streams)
-    (answer : Ended) → FollowsSo line outcome shelf shelf_after before after answer → outcome ≡ other
-    → ((begun : Beginning) → other ≡ accepted begun → ⊥) → ¬ Rises before.output_faults after.output_faults
-    → (answer ≡ status_of other) × WritesAll before.written after.written (text_of (files_of line) other)
-follows_alone line outcome other shelf shelf_after before after answer (inl alone) same none steady =
-    rw same at (prints_steady _ _ before after answer alone.2 steady)
-follows_alone line outcome other shelf shelf_after before after answer (inr serves) same none steady =
-    absurd (none serves.1 (sym same ∙ serves.2))
-
--- ---- What the shelf tells of an outcome
-
-shelf_rose : (asked : Option Asked) (shelf after : ShelfState) (outcome : RunOutcome) → IsOutcome asked shelf after outcome
-    → shelf.faults < after.faults → (name : List ℕ) × (outcome ≡ unread name)
-shelf_rose None shelf after no_line is rose = absurd (omega (arith, ap (λ (it : ShelfState). it.faults) is, rose))
-shelf_rose None shelf after (unread name) is rose = absurd is
-shelf_rose None shelf after (refused r) is rose = absurd is
-shelf_rose None shelf after (accepted begun) is rose = absurd is
-shelf_rose (Some asked) shelf after no_line is rose = absurd is
-shelf_rose (Some asked) shelf after (unread name) is rose = (name, refl)
-shelf_rose (Some asked) shelf after (refused r) is rose = absurd (omega (arith, is.1.faults, rose))
-shelf_rose (Some asked) shelf after (accepted begun) is rose = absurd (omega (arith, is.1.1.faults, rose))
-
--- an acceptance keeps the count
-accepted_keeps : (asked : Option Asked) (shelf between : ShelfState) (begun : Beginning)
-    → IsOutcome asked shelf between (accepted begun) → between.faults ≡ shelf.faults
-accepted_keeps None shelf between begun is = absurd is
-accepted_keeps (Some asked) shelf between begun is = is.1.1.faults
-
-outcome_texts : (asked : Option Asked) (shelf after : ShelfState) (outcome : RunOutcome) → IsOutcome asked shelf after outcome
-    → after.texts ≡ shelf.texts
-outcome_texts None shelf after no_line is = ap (λ (it : ShelfState). it.texts) is
-outcome_texts None shelf after (unread name) is = absurd is
-outcome_texts None shelf after (refused r) is = absurd is
-outcome_texts None shelf after (accepted begun) is = absurd is
-outcome_texts (Some asked) shelf after no_line is = absurd is
-outcome_texts (Some asked) shelf after (unread name) is = did_texts shelf after (IsAccepted asked) (stops (ending.unread name)) is
-outcome_texts (Some asked) shelf after (refused r) is = did_texts shelf after (IsAccepted asked) (stops (ending.refused r)) is
-outcome_texts (Some asked) shelf after (accepted begun) is = did_texts shelf after (IsAccepted asked) (goes_on is.0) is.1
-
-no_line_only : (line : Option CommandLine) (shelf after : ShelfState) (outcome : RunOutcome) → line ≡ None
-    → IsOutcome (files_of line) shelf after outcome → outcome ≡ no_line
-no_line_only line shelf after outcome none is = only outcome (rw none at is)
-  where
-    only : (it : RunOutcome) → IsOutcome None shelf after it → it ≡ no_line
-    only no_line is_it = refl
-    only (unread name) is_it = absurd is_it
-    only (refused r) is_it = absurd is_it
-    only (accepted begun) is_it = absurd is_it
-
--- ---- What had to come
-
-pub settles : (asked : Asked) (texts : Texts) (shelf after : ShelfState) (comes : Comes Acceptance) (outcome : RunOutcome)
-    → shelf.texts ≡ Some texts → ComesOver texts asked comes → ¬ Rises shelf.faults after.faults
-    → IsOutcome (Some asked) shelf after outcome → IsOutcomeOf comes outcome
-settles asked texts shelf after comes no_line told over steady is = absurd is
-settles asked texts shelf after comes (unread name) told over steady is =
-    subst (λ (c : Comes Acceptance). IsOutcomeOf c (unread name))
-    (outcomes_over_texts_are_one texts asked (stops (ending.unread name)) comes
-    (comes_over texts asked shelf after (stops (ending.unread name)) told steady is) over) refl
-settles asked texts shelf after comes (refused r) told over steady is =
-    subst (λ (c : Comes Acceptance). IsOutcomeOf c (refused r))
-    (outcomes_over_texts_are_one texts asked (stops (ending.refused r)) comes
-    (comes_over texts asked shelf after (stops (ending.refused r)) told steady is) over) refl
-settles asked texts shelf after comes (accepted begun) told over steady is =
-    subst (λ (c : Comes Acceptance). IsOutcomeOf c (accepted begun))
-    (outcomes_over_texts_are_one texts asked (goes_on is.0) comes
-    (comes_over texts asked shelf after (goes_on is.0) told steady is.1) over) is.2
-
--- a count that stands at its end, or is past where it was
-rises_over : (last n after : ℕ) → n ≡ last → last ≤ after → (n < after) ⊎ ((n ≡ last) × (after ≡ last))
-rises_over last n after is past = by (cases_lt last after)
-  where
-    by : (last < after) ⊎ (after ≤ last) → (n < after) ⊎ ((n ≡ last) × (after ≡ last))
-    by (inl more) = inl (omega (arith, is, more))
-    by (inr no_more) = inr (is, omega (arith, past, no_more))
-
--- no count falls while a session is served
-serves_counts : (begun : Beginning) (text : List ℕ) (shelf shelf_after : ShelfState) (before after : Streams) (answer : Ended)
-    → ServesSession begun text shelf shelf_after before after answer
-    → (shelf.faults ≤ shelf_after.faults) ⊎ (last_count ≤ shelf_after.faults)
-serves_counts begun text shelf shelf_after before after answer (in_part kept leaves is wrote rises) =
-    inl (omega (arith, ap (λ (it : ShelfState). it.faults) kept))
-serves_counts begun text shelf shelf_after before after answer (whole between last end_ wrote texts came complete is) = by came.counted
-  where
-    by : Counted history_machine shelf.faults came.chances shelf_after.faults
-        → (shelf.faults ≤ shelf_after.faults) ⊎ (last_count ≤ shelf_after.faults)
-    by (inl counted) = inl (omega (arith, counted))
-    by (inr at_end) = inr at_end
-
-rises_behind : (shelf between after : ℕ) → between ≡ shelf → (between ≤ after) ⊎ (last_count ≤ after) → Rises shelf between
-    → Rises shelf after
-rises_behind shelf between after same counts (inl rose) = absurd (omega (arith, same, rose))
-rises_behind shelf between after same (inl more) (inr stands) =
-    rises_over last_count shelf after stands.0 (omega (arith, more, stands.1))
-rises_behind shelf between after same (inr more) (inr stands) = rises_over last_count shelf after stands.0 more
-
--- where the shelf counted no fault in all, it counted none before the outcome was there
-pub steady_before : (line : Option CommandLine) (outcome : RunOutcome) (shelf between shelf_after : ShelfState) (before after : Streams)
-    (answer : Ended) → IsOutcome (files_of line) shelf between outcome → FollowsSo line outcome between shelf_after before after answer
-    → ¬ Rises shelf.faults shelf_after.faults → ¬ Rises shelf.faults between.faults
-steady_before line outcome shelf between shelf_after before after answer possible (inl alone) steady =
-    subst (λ (it : ShelfState). ¬ Rises shelf.faults it.faults) alone.0 steady
-steady_before line outcome shelf between shelf_after before after answer possible (inr serves) steady = λ rises.
-    steady (rises_behind shelf.faults between.faults shelf_after.faults
-    (accepted_keeps (files_of line) shelf between serves.1
-    (subst (λ (it : RunOutcome). IsOutcome (files_of line) shelf between it) serves.2 possible))
-    (serves_counts serves.1 _ between shelf_after before after answer serves.3) rises)
-
-came_settles : (line : Option CommandLine) (shelf shelf_after : ShelfState) (before after : Streams) (answer : Ended)
-    → RunCame line shelf shelf_after before after answer → (texts : Texts) (asked : Asked) (comes : Comes Acceptance)
-    → files_of line ≡ Some asked → shelf.texts ≡ Some texts → ComesOver texts asked comes
-    → ¬ Rises shelf.faults shelf_after.faults → RunEndsBy line comes shelf_after before after answer
-came_settles line shelf shelf_after before after answer came texts asked comes asks told over steady = inr (
-  came.outcome,
-  came.between,
-  settles asked texts shelf came.between comes came.outcome told over
-      (steady_before line came.outcome shelf came.between shelf_after before after answer came.possible
-      (follows_so line came.outcome came.between shelf_after before after answer came.follows) steady)
-      (subst (λ (files : Option Asked). IsOutcome files shelf came.between came.outcome) asks came.possible),
-  came.follows,
-)
-
--- a fault of the shelf
-came_files : (line : Option CommandLine) (outcome : RunOutcome) (shelf between shelf_after : ShelfState) (before after : Streams)
-    (answer : Ended) → IsOutcome (files_of line) shelf between outcome → FollowsSo line outcome between shelf_after before after answer
-    → shelf.faults < shelf_after.faults → ¬ Rises before.output_faults after.output_faults
-    → (answer ≡ NoMemory) ⊎ (answer ≡ FileFault) ⊎ MetByLines line shelf
-came_files line outcome shelf between shelf_after before after answer possible (inr serves) rose steady =
-    inr (inr (serves.0, serves.1, between, subst (λ (it : RunOutcome). IsOutcome (files_of line) shelf between it) serves.2 possible))
-came_files line outcome shelf between shelf_after before after answer possible (inl alone) rose steady =
-    let lost : (name : List ℕ) × (outcome ≡ unread name) = shelf_rose (files_of line) shelf between outcome possible
-    (subst (λ (it : ShelfState). shelf.faults < it.faults) alone.0 rose) in
-    inr (inl (follows_alone line outcome (unread lost.0) between shelf_after before after answer (inl alone) lost.1
-    (λ begun same. absurd (cc same)) steady).0)
-
--- the texts of the shelf
-came_texts : (line : Option CommandLine) (outcome : RunOutcome) (shelf between shelf_after : ShelfState) (before after : Streams)
-    (answer : Ended) → IsOutcome (files_of line) shelf between outcome → FollowsSo line outcome between shelf_after before after answer
-    → serves_session line ≡ false → shelf_after.texts ≡ shelf.texts
-came_texts line outcome shelf between shelf_after before after answer possible (inl alone) none =
-    ap (λ (it : ShelfState). it.texts) alone.0 ∙ outcome_texts (files_of line) shelf between outcome possible
-came_texts line outcome shelf between shelf_after before after answer possible (inr serves) none =
-    absurd (cc (sym none ∙ serves.0))
-
-came_completes : (line : Option CommandLine) (shelf shelf_after : ShelfState) (before after : Streams) (answer : Ended)
-    → RunCame line shelf shelf_after before after answer → CompletesRun line shelf shelf_after before after answer
-came_completes line shelf shelf_after before after answer came = record {
-  words = λ none steady.
-      let told = follows_alone line came.outcome no_line came.between shelf_after before after answer so
-      (no_line_only line shelf came.between came.outcome none came.possible) (λ begun same. absurd (cc same)) steady in
-      inr (told.0, told.1);
-  files = λ rose steady. came_files line came.outcome shelf came.between shelf_after before after answer came.possible so rose steady;
-  input = λ rose steady. follows_input line came.outcome came.between shelf_after before after answer so rose steady;
-  output = λ rose. follows_output line came.outcome came.between shelf_after before after answer so rose;
-  texts = λ none. came_texts line came.outcome shelf came.between shelf_after before after answer came.possible so none;
-  settled = came_settles line shelf shelf_after before after answer came;
-  demonstrated = λ cells comes is over. absurd (cc (sym came.no_demonstration ∙ ap is_demonstration is));
+pub ran_alone : (line : Option CommandLine) (shelf between : ShelfState) (alone : Alone) (before after : Streams) (answer : Ended)
+    → IsReady line shelf between (ready.Alone alone) → after.input ≡ before.input
+    → Writes (print_in alone) before.output after.output answer → Ran line shelf between before after answer
+ran_alone line shelf between alone before after answer is kept writes = record {
+  comes = is.0;
+  between = between;
+  did = is.1;
+  follows =
+      follows_printed is.0 (print_in alone) between between before after answer is.2
+      (record { shelf_kept = refl; input_kept = kept; writes = writes });
 }
+
+pub ran_served : (line : Option CommandLine) (shelf between shelf_after : ShelfState) (opened : Opened) (before after : Streams)
+    (answer : Ended) → IsReady line shelf between (ready.Session opened)
+    → ServesSession (begun opened) between shelf_after before after answer → Ran line shelf shelf_after before after answer
+ran_served line shelf between shelf_after opened before after answer is served =
+    record { comes = goes_on (serves (begun opened)); between = between; did = is.0; follows = served }
+
+pub ran_wanted : (line : Option CommandLine) (shelf between shelf_after : ShelfState) (opened : Opened) (before after : Streams)
+    → IsReady line shelf between (ready.Session opened) → shelf_after ≡ between → after ≡ before
+    → Ran line shelf shelf_after before after NoMemory
+ran_wanted line shelf between shelf_after opened before after is kept same =
+    ran_served line shelf between shelf_after opened before after NoMemory is (in_want kept same refl)
+
+pub ran_nothing : (line : Option CommandLine) (shelf between : ShelfState) (now : Streams) → CameTo line shelf between
+    → Ran line shelf between now now NoMemory
+ran_nothing line shelf between now came =
+    record { comes = came.0; between = between; did = came.1; follows = follows_want came.0 between now }
+
+-- a text was written
+pub wrote_whole : (p : Print) (before after : Stream) (text : List ℕ) → text ≡ p.text → WritesAll before.bytes after.bytes text
+    → after.faults ≡ before.faults → Writes p before after p.status
+wrote_whole p before after text same wrote counts =
+    whole refl (subst (λ (it : List ℕ). WritesAll before.bytes after.bytes it) same wrote) counts
+
+pub wrote_part : (p : Print) (before after : Stream) (text : List ℕ) → text ≡ p.text → WritesBeginning before.bytes after.bytes text
+    → Rises before.faults after.faults → Writes p before after OutputFault
+wrote_part p before after text same wrote rises =
+    in_part refl (subst (λ (it : List ℕ). WritesBeginning before.bytes after.bytes it) same wrote) rises
+
+-- ---- What the shelf tells
+
+pub did_texts : {E B : Type 0} (before after : ShelfState) (part : Part E B) (comes : Comes E B) → Did before after part comes
+    → after.texts ≡ before.texts
+did_texts before after part (goes_on b) did = did.1.texts
+did_texts before after part (unread name) did = did.1.texts
+did_texts before after part (stops e) did = did.1.texts
+did_texts before after part wants_memory did = did.1.texts
+
+-- the count of faults of the shelf, along a session that was served
+leaves_rise : (before after : SessionPoint) (line : List ℕ) → LineLeaves before line after → before.faults ≤ after.faults
+leaves_rise before after line leaves = by leaves.is
   where
-    so : FollowsSo line came.outcome came.between shelf_after before after answer
-    so = follows_so line came.outcome came.between shelf_after before after answer came.follows
+    by : IsBeforeOrBehind (moment_of before.standing before.faults) (request_of line) (moment_of after.standing after.faults)
+        → before.faults ≤ after.faults
+    by (inl same) = omega (arith, same.faults)
+    by (inr answered) = count_rises answered.1.it.faulty before.faults after.faults answered.1.counted
 
--- ---- A demonstration
+left_rise : (between after : SessionPoint) (later : List (List ℕ)) → LeftAt history_machine between later after
+    → between.faults ≤ after.faults
+left_rise between after [] left = omega (arith, ap (λ (it : SessionPoint). it.faults) left)
+left_rise between after (line ∷ later) (inl left) = omega (arith, ap (λ (it : SessionPoint). it.faults) left)
+left_rise between after (line ∷ later) (inr leaves) = leaves_rise between after line leaves
 
-shows_output : (cells : ℕ) (outcome : RunOutcome) (before after : Streams) (answer : Ended) → PrintsFor cells outcome before after answer
-    → before.output_faults < after.output_faults → answer ≡ OutputFault
-shows_output cells no_line before after answer prints rose = prints_output _ _ before after answer prints rose
-shows_output cells (unread name) before after answer prints rose = prints_output _ _ before after answer prints rose
-shows_output cells (refused r) before after answer prints rose = prints_output _ _ before after answer prints rose
-shows_output cells (accepted begun) before after answer prints rose = prints_output _ _ before after answer prints.2 rose
-
--- how many cells a line says
-abbrev cells_of : Option CommandLine → ℕ
-cells_of (Some (demonstration cells)) = cells
-cells_of _ = 0
-
-shown_settles : (line : Option CommandLine) (shelf shelf_after : ShelfState) (before after : Streams) (answer : Ended)
-    → Demonstrated line shelf shelf_after before after answer → (cells : ℕ) (comes : Comes Acceptance)
-    → line ≡ Some (demonstration cells) → ComesOver (demo_texts_of cells) demo_asked comes
-    → (shelf_after ≡ shelf) × (outcome : RunOutcome) × IsOutcomeOf comes outcome × PrintsFor cells outcome before after answer
-shown_settles line shelf shelf_after before after answer shown cells comes is over =
-    let same : shown.cells ≡ cells = ap cells_of (sym shown.is ∙ is) in
-    let one : shown.comes ≡ comes = outcomes_over_texts_are_one (demo_texts_of cells) demo_asked shown.comes comes
-    (subst (λ (n : ℕ). ComesOver (demo_texts_of n) demo_asked shown.comes) same shown.over) over in (
-      shown.kept,
-      shown.outcome,
-      subst (λ (it : Comes Acceptance). IsOutcomeOf it shown.outcome) one shown.is_outcome,
-      subst (λ (n : ℕ). PrintsFor n shown.outcome before after answer) same shown.prints,
+failed_rise : (before after : SessionPoint) (lines : List (List ℕ)) (written written_after : Option (List ℕ))
+    → FailedAt history_machine before lines written written_after after → before.faults ≤ after.faults
+failed_rise before after lines written written_after failed =
+    omega (
+      arith,
+      counts_rise before failed.between failed.answered.first failed.text _ failed.answered.answered,
+      count_rises failed.comes.it.faulty failed.between.faults failed.reply.next.faults failed.comes.counted,
+      ap (λ (it : SessionPoint). it.faults) failed.left,
     )
 
-shown_completes : (line : Option CommandLine) (shelf shelf_after : ShelfState) (before after : Streams) (answer : Ended)
-    → Demonstrated line shelf shelf_after before after answer → CompletesRun line shelf shelf_after before after answer
-shown_completes line shelf shelf_after before after answer shown = record {
-  words = λ none steady. absurd (none-some _ (sym none ∙ shown.is));
-  files = λ rose steady. absurd (omega (arith, ap (λ (it : ShelfState). it.faults) shown.kept, rose));
-  input = λ rose steady. absurd (omega (arith, shown.leaves.faults, rose));
-  output = λ rose. shows_output shown.cells shown.outcome before after answer shown.prints rose;
-  texts = λ none. ap (λ (it : ShelfState). it.texts) shown.kept;
-  settled = λ texts asked comes asks told over steady. absurd (none-some asked (sym (ap files_of shown.is) ∙ asks));
-  demonstrated = λ cells comes is over. inr (shown_settles line shelf shelf_after before after answer shown cells comes is over);
-}
+wanted_rise : (before after : SessionPoint) (lines : List (List ℕ)) (written written_after : Option (List ℕ))
+    → WantedAt history_machine before lines written written_after after → before.faults ≤ after.faults
+wanted_rise before after lines written written_after wanted =
+    omega (
+      arith,
+      counts_rise before wanted.between wanted.answered.first wanted.text _ wanted.answered.answered,
+      left_rise wanted.between after wanted.later wanted.left,
+    )
 
-pub completes : (line : Option CommandLine) (shelf shelf_after : ShelfState) (before after : Streams) (answer : Ended)
-    → Ran line shelf shelf_after before after answer → CompletesRun line shelf shelf_after before after answer
-completes line shelf shelf_after before after answer (inr (inl came)) = came_completes line shelf shelf_after before after answer came
-completes line shelf shelf_after before after answer (inr (inr shown)) = shown_completes line shelf shelf_after before after answer shown
-completes line shelf shelf_after before after answer (inl stopped) = record {
-  words = λ none steady. inl stopped.is;
-  files = λ rose steady. inl stopped.is;
-  input = λ rose steady. inl stopped.is;
-  output = λ rose. absurd (omega (arith, stopped.untouched.output, rose));
-  texts = λ none. stopped.texts;
-  settled = λ texts asked comes asks told over steady. inl stopped.is;
-  demonstrated = λ cells comes is over. inl stopped.is;
-}
+came_rises : (before after : Surroundings SessionPoint) (seen : List ℕ) (end : SessionEnd)
+    → SessionCame history_machine before after seen end → before.state.faults ≤ after.state.faults
+came_rises before after seen end (finished text quits read none answered wrote stand) =
+    counts_rise before.state after.state _ text quits answered
+came_rises before after seen end (quit text read answered wrote stand) = counts_rise before.state after.state _ text _ answered
+came_rises before after seen end (input_failed text read answered wrote rises output) =
+    counts_rise before.state after.state _ text _ answered
+came_rises before after seen end (too_long text byte whole_ read answered wrote stand) =
+    counts_rise before.state after.state _ text _ answered
+came_rises before after seen end (output_failed read failed input rises) = failed_rise before.state after.state _ _ _ failed
+came_rises before after seen end (closing_failed text closing fails answered wrote rises) =
+    counts_rise before.state after.state _ text _ answered
+came_rises before after seen end (wanted_memory read wanted stand) = wanted_rise before.state after.state _ _ _ wanted
+
+serves_rise : (begun : Beginning) (shelf shelf_after : ShelfState) (before after : Streams) (answer : Ended)
+    → ServesSession begun shelf shelf_after before after answer → shelf.faults ≤ shelf_after.faults
+serves_rise begun shelf shelf_after before after answer (in_front kept input is wrote rises) =
+    omega (arith, ap (λ (it : ShelfState). it.faults) kept)
+serves_rise begun shelf shelf_after before after answer (in_want kept same is) =
+    omega (arith, ap (λ (it : ShelfState). it.faults) kept)
+serves_rise begun shelf shelf_after before after answer (behind between last end wrote counts texts served is) =
+    came_rises _ _ served.seen end served.came
+
+-- it never falls behind the work
+pub follows_rise : (comes : Comes Print Finish) (shelf shelf_after : ShelfState) (before after : Streams) (answer : Ended)
+    → Follows comes shelf shelf_after before after answer → shelf.faults ≤ shelf_after.faults
+follows_rise (goes_on (prints p)) shelf shelf_after before after answer done =
+    omega (arith, ap (λ (it : ShelfState). it.faults) done.shelf_kept)
+follows_rise (goes_on (serves begun)) shelf shelf_after before after answer done =
+    serves_rise begun shelf shelf_after before after answer done
+follows_rise (unread name) shelf shelf_after before after answer done =
+    omega (arith, ap (λ (it : ShelfState). it.faults) done.shelf_kept)
+follows_rise (stops p) shelf shelf_after before after answer done =
+    omega (arith, ap (λ (it : ShelfState). it.faults) done.shelf_kept)
+follows_rise wants_memory shelf shelf_after before after answer done =
+    omega (arith, ap (λ (it : ShelfState). it.faults) done.shelf_kept)
+
+-- a count that rose before rose in all
+pub rises_on : (before between after : ℕ) → between ≤ after → Rises before between → Rises before after
+rises_on before between after later (inl rose) = inl (omega (arith, later, rose))
+rises_on before between after later (inr at_end) = by (cases_lt between after)
+  where
+    by : (between < after) ⊎ (after ≤ between) → Rises before after
+    by (inl more) = inl (omega (arith, at_end.0, at_end.1, more))
+    by (inr same) = inr (at_end.0, omega (arith, at_end.1, same, later))

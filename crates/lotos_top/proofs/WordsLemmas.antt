@@ -1,12 +1,14 @@
 -- The start values of a line are within the limits of the words.
 use Rattle.std.proofs.Common.{refl, ap, sym, ◌∙◌, ◌≡◌, subst, arith, add-one, ℕ, zero, suc, ◌+◌, ◌-◌, ◌<◌, ◌≤◌, decimal, List, [], ◌∷◌, length, Option, None, Some, IsTrue, Bool, true, false, ◌&&◌, le-leb}
-use Rattle.std.specs.Prelude.{nat_le, codes, if◌then◌else◌, option_map}
+use Rattle.std.specs.Prelude.{nat_le, if◌then◌else◌, option_map}
 use Rattle.std.specs.Str.{bytes_eq}
 use Rattle.std.proofs.lemmas.Bool.{and_parts, leb-true}
 use Rattle.std.proofs.lemmas.Option.{none-some, same_Some}
 use Rattle.refusal_lines.specs.HandedOn.{words_limit, word_bytes_limit, total_length, are_within}
 use Rattle.spec_acceptance.specs.Acceptance.{Asked}
-use Rattle.lotos_top.specs.Words.{CommandLine, check, session, demonstration, ends_names, behind_order, behind_spec, files_in, verb_line, verb_with, number_up_to, or_this, most_cells, cells_said, demo_line, words_line, command_line, values_in}
+use Rattle.lotos_top.specs.declared.commands.Task.{Task}
+use Rattle.lotos_top.specs.declared.commands.Task.TheVariants as task
+use Rattle.lotos_top.specs.Words.{CommandLine, Verb, check, session, demonstration, WordsBehind, words_behind, ends_files, file_before, cut_at_with, takes_words, asked_with, number_up_to, or_this, most_cells, cells_with, line_with, line_of, line_of_verb, verb_named, verbs, words_line, command_line, values_in}
 
 -- fewer words and bytes
 record IsPart (words more : List (List ℕ)) : Type 0 where
@@ -37,65 +39,75 @@ part_within words more is within =
     at_most : (a b c : ℕ) → a ≤ b → b ≤ c → a ≤ c
     at_most a b c one other = omega (arith, one, other)
 
--- ---- The words behind the names of files
+-- ---- The words behind a verb
 
-chosen : {A : Type 0} (b : Bool) (x y : Option A) (P : A → Type 0) → ((a : A) → x ≡ Some a → P a) → ((a : A) → y ≡ Some a → P a)
-    → (a : A) → (if b then x else y) ≡ Some a → P a
-chosen true x y P one other a is = one a is
-chosen false x y P one other a is = other a is
+cut_or : (b : Bool) (words more : List (List ℕ)) (cut : WordsBehind) → IsPart words more → IsPart cut.values more
+    → (word : List ℕ) → IsPart (if b then words_behind [] true words else file_before word cut).values more
+cut_or true words more cut one other word = one
+cut_or false words more cut one other word = other
 
-of_some : (made asked : Asked) (words : List (List ℕ)) → Some made ≡ Some asked → IsPart made.values words → IsPart asked.values words
-of_some made asked words same is = subst (λ (a : Asked). IsPart a.values words) (same_Some made asked same) is
-
-order_part : (spec order : List ℕ) (words : List (List ℕ)) (asked : Asked) → behind_order spec order words ≡ Some asked
-    → IsPart asked.values words
-order_part spec order [] asked is = of_some _ asked [] is (no_part [])
-order_part spec order (word ∷ values) asked is =
-    chosen (ends_names word) _ None (λ (a : Asked). IsPart a.values (word ∷ values))
-    (λ a same. of_some _ a (word ∷ values) same (behind values values word (same_part values))) (λ a none. absurd (none-some a none))
-    asked is
-
-spec_part : (spec : List ℕ) (words : List (List ℕ)) (asked : Asked) → behind_spec spec words ≡ Some asked → IsPart asked.values words
-spec_part spec [] asked is = of_some _ asked [] is (no_part [])
-spec_part spec (word ∷ words) asked is =
-    chosen (ends_names word) _ (behind_order spec word words) (λ (a : Asked). IsPart a.values (word ∷ words))
-    (λ a same. of_some _ a (word ∷ words) same (behind words words word (same_part words)))
-    (λ a same. behind a.values words word (order_part spec word words a same)) asked is
-
-files_part : (words : List (List ℕ)) (asked : Asked) → files_in words ≡ Some asked → IsPart asked.values words
-files_part [] asked is = absurd (none-some asked is)
-files_part (spec ∷ words) asked is =
-    chosen (ends_names spec) None (behind_spec spec words) (λ (a : Asked). IsPart a.values (spec ∷ words))
-    (λ a none. absurd (none-some a none)) (λ a same. behind a.values words spec (spec_part spec words a same)) asked is
+cut_part : (words : List (List ℕ)) → IsPart (cut_at_with words).values words
+cut_part [] = no_part []
+cut_part (word ∷ words) =
+    cut_or (ends_files word) words (word ∷ words) (cut_at_with words) (behind words words word (same_part words))
+    (behind (cut_at_with words).values words word (cut_part words)) word
 
 -- ---- Those of a line
 
-verb_part : (verb : List ℕ) (asked : Asked) (words : List (List ℕ)) (line : CommandLine) → IsPart asked.values words
-    → verb_line verb asked ≡ Some line → IsPart (values_in line) words
-verb_part verb asked words line part is =
-    chosen (bytes_eq verb (codes "check")) _ _ (λ (l : CommandLine). IsPart (values_in l) words)
-    (λ l same. subst (λ (it : CommandLine). IsPart (values_in it) words) (same_Some _ l same) part)
-    (chosen (bytes_eq verb (codes "run")) _ None (λ (l : CommandLine). IsPart (values_in l) words)
-    (λ l same. subst (λ (it : CommandLine). IsPart (values_in it) words) (same_Some _ l same) part)
-    (λ l none. absurd (none-some l none))) line is
+-- the start values that are asked for are those that are given
+asked_values : (files values : List (List ℕ)) (asked : Asked) → asked_with files values ≡ Some asked → asked.values ≡ values
+asked_values [] values asked is = absurd (none-some asked is)
+asked_values (spec ∷ []) values asked is = ap (λ (it : Asked). it.values) (sym (same_Some _ asked is))
+asked_values (spec ∷ order ∷ []) values asked is = ap (λ (it : Asked). it.values) (sym (same_Some _ asked is))
+asked_values (spec ∷ order ∷ more ∷ files) values asked is = absurd (none-some asked is)
 
-with_part : (verb : List ℕ) (found : Option Asked) (words : List (List ℕ)) (line : CommandLine)
-    → ((asked : Asked) → found ≡ Some asked → IsPart asked.values words) → verb_with verb found ≡ Some line
-    → IsPart (values_in line) words
-with_part verb None words line part is = absurd (none-some line is)
-with_part verb (Some asked) words line part is = verb_part verb asked words line (part asked refl) is
+-- a line that is made of what is asked has the start values of that
+of_asked : (make : Asked → CommandLine) (found : Option Asked) (values : List (List ℕ)) (line : CommandLine)
+    → ((asked : Asked) → values_in (make asked) ≡ asked.values)
+    → ((asked : Asked) → found ≡ Some asked → asked.values ≡ values) → option_map make found ≡ Some line → values_in line ≡ values
+of_asked make None values line kept are is = absurd (none-some line is)
+of_asked make (Some asked) values line kept are is =
+    ap (λ (it : CommandLine). values_in it) (sym (same_Some (make asked) line is)) ∙ kept asked ∙ are asked refl
 
 -- a demonstration has none
-cells_part : (cells : Option ℕ) (words : List (List ℕ)) (line : CommandLine) → option_map demonstration cells ≡ Some line
-    → IsPart (values_in line) words
-cells_part None words line is = absurd (none-some line is)
-cells_part (Some cells) words line is =
-    subst (λ (it : CommandLine). IsPart (values_in it) words) (same_Some (demonstration cells) line is) (no_part words)
+of_cells : (cells : Option ℕ) (line : CommandLine) → option_map demonstration cells ≡ Some line → values_in line ≡ []
+of_cells None line is = absurd (none-some line is)
+of_cells (Some cells) line is = ap (λ (it : CommandLine). values_in it) (sym (same_Some (demonstration cells) line is))
 
-demo_part : (words : List (List ℕ)) (line : CommandLine) → demo_line words ≡ Some line → IsPart (values_in line) words
-demo_part [] line is = absurd (none-some line is)
-demo_part (number ∷ []) line is = cells_part (cells_said number) (number ∷ []) line is
-demo_part (number ∷ word ∷ words) line is = absurd (none-some line is)
+with_part : (work : Task) (files values words : List (List ℕ)) (line : CommandLine) → IsPart values words
+    → line_with work files values ≡ Some line → IsPart (values_in line) words
+with_part task.Check files values words line part is =
+    subst (λ (vs : List (List ℕ)). IsPart vs words)
+    (sym (of_asked check (asked_with files values) values line (λ asked. refl) (asked_values files values) is)) part
+with_part task.Run files values words line part is =
+    subst (λ (vs : List (List ℕ)). IsPart vs words)
+    (sym (of_asked session (asked_with files values) values line (λ asked. refl) (asked_values files values) is)) part
+with_part task.Demo files values words line part is =
+    subst (λ (vs : List (List ℕ)). IsPart vs words) (sym (of_cells (cells_with files) line is)) (no_part words)
+
+-- what is there where a test holds
+where_true : {A : Type 0} (b : Bool) (x : Option A) (a : A) → (if b then x else None) ≡ Some a → (IsTrue b) × (x ≡ Some a)
+where_true true x a is = (refl, is)
+where_true false x a is = absurd (none-some a is)
+
+verb_part : (found : Option Verb) (words : List (List ℕ)) (line : CommandLine) → line_of_verb found words ≡ Some line
+    → IsPart (values_in line) words
+verb_part None words line is = absurd (none-some line is)
+verb_part (Some verb) words line is =
+    with_part verb.task_ (cut_at_with words).files (cut_at_with words).values words line (cut_part words)
+    (where_true (takes_words verb (cut_at_with words)) _ line is).1
+
+line_part : (words : List (List ℕ)) (line : CommandLine) → words_line words ≡ Some line → IsPart (values_in line) words
+line_part [] line is = absurd (none-some line is)
+line_part (word ∷ words) line is = behind (values_in line) words word (verb_part (verb_named word verbs) words line is)
+
+pub values_within : (words : List (List ℕ)) (line : CommandLine) → command_line words ≡ Some line
+    → IsTrue (are_within (values_in line))
+values_within words line is =
+    let found = where_true (are_within words) (words_line words) line is in
+    part_within (values_in line) words (line_part words line found.1) found.0
+
+-- ---- How many cells a word says
 
 most_is : 64 ≡ most_cells
 unfolding most_cells
@@ -107,24 +119,6 @@ below_most n below = subst (λ (m : ℕ). n < m) most_is below
 -- a word that says no number up to the most says none
 pub none_said : (word : List ℕ) (n : ℕ) → n ≡ 64 → number_up_to n word ≡ None → None ≡ number_up_to most_cells word
 none_said word n is none = sym (subst (λ (m : ℕ). number_up_to m word ≡ None) (is ∙ most_is) none)
-
-line_part : (words : List (List ℕ)) (line : CommandLine) → words_line words ≡ Some line → IsPart (values_in line) words
-line_part [] line is = absurd (none-some line is)
-line_part (verb ∷ words) line is =
-    behind (values_in line) words verb
-    (chosen (bytes_eq verb (codes "demo")) (demo_line words) (verb_with verb (files_in words)) (λ (l : CommandLine). IsPart (values_in l) words)
-    (λ l same. demo_part words l same)
-    (λ l same. with_part verb (files_in words) words l (λ asked files. files_part words asked files) same) line is)
-
-pub values_within : (words : List (List ℕ)) (line : CommandLine) → command_line words ≡ Some line
-    → IsTrue (are_within (values_in line))
-values_within words line is = go (are_within words) refl is
-  where
-    go : (b : Bool) → are_within words ≡ b → (if b then words_line words else None) ≡ Some line → IsTrue (are_within (values_in line))
-    go true within same = part_within (values_in line) words (line_part words line same) within
-    go false within none = absurd (none-some line none)
-
--- ---- How many cells a word says
 
 -- a number that is found is found up to each later one
 abbrev later : (more most : ℕ) → ℕ

@@ -3,15 +3,15 @@ use Rattle.std.specs.Prelude.{◌≡◌, ◌⊎◌, ℕ, ◌<◌, ◌≤◌, Lis
 use Rattle.lotos_base.specs.Counts.{last_count}
 use Rattle.lotos_base.specs.Outside.{Texts}
 use Rattle.spec_acceptance.specs.HandedOn.{ShelfState}
-use Rattle.spec_acceptance.specs.Acceptance.{Acceptance}
+use Rattle.spec_acceptance.specs.Acceptance.{Asked, Acceptance}
 use Rattle.spec_acceptance.specs.Part.{goes_on}
 use Rattle.spec_acceptance.specs.AcceptanceOutcomes.{ComesOver}
 use Rattle.line_server.specs.Limits.{input_limit}
 use Rattle.history_lines.specs.Beginning.{Beginning, standing_at}
 use Rattle.history_lines.specs.Standing.{Standing}
-use Rattle.history_lines.specs.Answered.{lines_in, AreAnswered}
-use Rattle.spec_acceptance.specs.AcceptedView.{asked_for}
-use Rattle.lotos_top.specs.Outcome.{SessionBegins, opening_text}
+use Rattle.line_server.specs.Cutting.{lines_in}
+use Rattle.history_lines.specs.Answered.{AreAnswered}
+use Rattle.lotos_top.specs.Opening.{SessionBegins, opening_text}
 use Rattle.lotos_top.specs.Run.{Streams}
 use Rattle.lotos_top.specs.Words.{CommandLine, session}
 use Rattle.lotos_top.specs.declared.ended.Ended.{Ended}
@@ -24,8 +24,8 @@ Stands before after = (after ≡ before) × (before < last_count)
 -- no fault of shelf, input and output was counted
 pub record IsSteady (shelf shelf_after : ShelfState) (before after : Streams) : Type 0 where
   pub shelf_stands : Stands shelf.faults shelf_after.faults
-  pub input_stands : Stands before.input_faults after.input_faults
-  pub output_stands : Stands before.output_faults after.output_faults
+  pub input_stands : Stands before.input.faults after.input.faults
+  pub output_stands : Stands before.output.faults after.output.faults
 
 -- The session begins as the acceptance says; the lines of the input are answered one after another, each by what it comes to in
 -- the state that is reached, and leads to a state that is reached; the head of the report, the menu and all answers are written;
@@ -38,20 +38,19 @@ pub record Simulates (acceptance : Acceptance) (texts : Texts) (bytes written : 
   pub last : Standing
   pub answered : AreAnswered begun (standing_at begun (Some texts)) (lines_in bytes) answers last
   pub left : shelf_after.texts ≡ last.texts
-  pub writes : after.written ≡ Some (written ++ (opening_text begun ++ answers))
+  pub writes : after.output.bytes ≡ Some (written ++ (opening_text begun ++ answers))
   pub done : answer ≡ Done
 
 -- For every specification that the texts of the shelf accept and every list of lines, the session is simulated, or memory was
 -- wanted.
 abbrev pub Headline : Option CommandLine → (shelf shelf_after : ShelfState) → (before after : Streams) → Ended → Type 0
 Headline line shelf shelf_after before after answer =
-    (spec : List ℕ) (order : Option (List ℕ)) (values : List (List ℕ)) (texts : Texts) (acceptance : Acceptance)
-    (bytes written : List ℕ) →
-    line ≡ Some (session spec order values) →
+    (asked : Asked) (texts : Texts) (acceptance : Acceptance) (bytes written : List ℕ) →
+    line ≡ Some (session asked) →
     shelf.texts ≡ Some texts →
-    ComesOver texts (asked_for spec order values) (goes_on acceptance) →
-    before.left ≡ Some bytes →
+    ComesOver texts asked (goes_on acceptance) →
+    before.input.bytes ≡ Some bytes →
     length bytes ≤ input_limit →
-    before.written ≡ Some written →
+    before.output.bytes ≡ Some written →
     IsSteady shelf shelf_after before after →
     (answer ≡ NoMemory) ⊎ Simulates acceptance texts bytes written shelf_after after answer

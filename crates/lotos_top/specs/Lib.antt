@@ -1,7 +1,9 @@
-pub mod Outcome
-pub mod Prepared
-pub mod Run
-pub mod Headline
-pub mod Status
 pub mod Words
-pub mod TextShelf
+pub mod Opening
+pub mod Work
+pub mod Run
+pub mod Causes
+pub mod Settled
+pub mod Headline
+pub mod Prepared
+pub mod Status

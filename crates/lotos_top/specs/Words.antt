@@ -1,57 +1,78 @@
--- The lines of words that the program takes.
-use Rattle.std.specs.Prelude.{ℕ, zero, suc, Bool, true, false, List, [], ◌∷◌, codes, decimal, if◌then◌else◌, Option, Some, None, option_map}
+-- The lines of words that the program takes: the table of verbs, and what a verb asks for with the words behind it.
+use Rattle.std.specs.Prelude.{ℕ, zero, suc, Bool, true, false, not, ◌&&◌, ◌||◌, List, [], ◌∷◌, length, nat_le, codes, decimal, if◌then◌else◌, Option, Some, None, option_map}
 use Rattle.std.specs.Str.{bytes_eq}
 use Rattle.refusal_lines.specs.HandedOn.{words_of, are_within}
 use Rattle.spec_acceptance.specs.Acceptance.{Asked}
 use Rattle.spec_acceptance.specs.AcceptedView.{asked_for}
 use Rattle.lotos_top.specs.declared.commands.Command.{Command}
-use Rattle.lotos_top.specs.declared.commands.Files.{Files}
 use Rattle.lotos_top.specs.declared.commands.Command.TheVariants.{Check, Run, Demo}
+use Rattle.lotos_top.specs.declared.commands.Behind.{Behind}
+use Rattle.lotos_top.specs.declared.commands.Files.{Files}
+use Rattle.lotos_top.specs.declared.commands.Task.{Task}
+use Rattle.lotos_top.specs.declared.commands.Task.TheVariants as task
+use Rattle.lotos_top.specs.declared.commands.Verb.{Verb as CodeVerb}
 
 -- a line of words
 pub data CommandLine : Type 0 where
-  check : (spec : List ℕ) (order : Option (List ℕ)) (values : List (List ℕ)) → CommandLine
-  session : (spec : List ℕ) (order : Option (List ℕ)) (values : List (List ℕ)) → CommandLine
+  check : Asked → CommandLine
+  session : Asked → CommandLine
   demonstration : (cells : ℕ) → CommandLine
 
--- what a command of the code is as a line
-abbrev pub line_of : Command → CommandLine
-line_of (Check spec order values) = check spec.now (option_map (λ name. name.now) order) (words_of values.now)
-line_of (Run spec order values) = session spec.now (option_map (λ name. name.now) order) (words_of values.now)
-line_of (Demo cells) = demonstration cells
+-- A verb: the first word of a line. It has its word, the fewest and the most words that may stand behind it up to `with`, whether
+-- `with` and start values may stand behind these, and its task.
+pub record Verb : Type 0 where
+  pub word : List ℕ
+  pub least : ℕ
+  pub most : ℕ
+  pub takes_values : Bool
+  pub task_ : Task
 
--- what names of files and start values of the code ask for
-abbrev pub asked_by : Files → Asked
-asked_by files = asked_for files.spec.now (option_map (λ name. name.now) files.order) (words_of files.values.now)
+abbrev pub verb_row : (word : List ℕ) (least most : ℕ) (takes_values : Bool) (task_ : Task) → Verb
+verb_row word least most takes_values task_ =
+    record { word = word; least = least; most = most; takes_values = takes_values; task_ = task_ }
 
--- `with` ends the names of files
-abbrev pub ends_names : List ℕ → Bool
-ends_names word = bytes_eq word (codes "with")
+-- the table of the verbs
+abbrev pub verbs : List Verb
+verbs =
+    verb_row (codes "check") 1 2 true task.Check
+    ∷ verb_row (codes "run") 1 2 true task.Run
+    ∷ verb_row (codes "demo") 1 1 false task.Demo
+    ∷ []
 
--- The names of the specification and of the order file, if there is one, and the words behind `with`. Behind the names of files
--- either nothing stands, or `with` and the start values
-abbrev pub behind_order : (spec order : List ℕ) → List (List ℕ) → Option Asked
-behind_order spec order [] = Some (asked_for spec (Some order) [])
-behind_order spec order (word ∷ values) = if ends_names word then Some (asked_for spec (Some order) values) else None
+-- ---- The words behind a verb
 
-abbrev pub behind_spec : (spec : List ℕ) → List (List ℕ) → Option Asked
-behind_spec spec [] = Some (asked_for spec None [])
-behind_spec spec (word ∷ words) = if ends_names word then Some (asked_for spec None words) else behind_order spec word words
+-- the words up to `with`, whether it is there, and the start values behind it
+pub record WordsBehind : Type 0 where
+  pub files : List (List ℕ)
+  pub has_with : Bool
+  pub values : List (List ℕ)
 
-abbrev pub files_in : List (List ℕ) → Option Asked
-files_in [] = None
-files_in (spec ∷ words) = if ends_names spec then None else behind_spec spec words
+abbrev pub words_behind : List (List ℕ) → Bool → List (List ℕ) → WordsBehind
+words_behind files has_with values = record { files = files; has_with = has_with; values = values }
 
--- `check` or `run` with these files and start values
-abbrev pub verb_line : (verb : List ℕ) → Asked → Option CommandLine
-verb_line verb asked =
-    if bytes_eq verb (codes "check") then Some (check asked.spec asked.order asked.values)
-    else if bytes_eq verb (codes "run") then Some (session asked.spec asked.order asked.values)
-    else None
+-- a word before those that are cut, or `with`
+abbrev pub ends_files : List ℕ → Bool
+ends_files word = bytes_eq word (codes "with")
 
-abbrev pub verb_with : (verb : List ℕ) → Option Asked → Option CommandLine
-verb_with verb None = None
-verb_with verb (Some asked) = verb_line verb asked
+abbrev pub file_before : List ℕ → WordsBehind → WordsBehind
+file_before word behind = words_behind (word ∷ behind.files) behind.has_with behind.values
+
+abbrev pub cut_at_with : List (List ℕ) → WordsBehind
+cut_at_with [] = words_behind [] false []
+cut_at_with (word ∷ words) = if ends_files word then words_behind [] true words else file_before word (cut_at_with words)
+
+-- the verb has so many words behind it as it may have, and start values only where it takes them
+abbrev pub takes_words : Verb → WordsBehind → Bool
+takes_words verb behind =
+    nat_le verb.least (length behind.files) && nat_le (length behind.files) verb.most && (verb.takes_values || not behind.has_with)
+
+-- ---- What a verb asks for
+
+-- the names of the specification's file and of the order file, if there is one, and the start values
+abbrev pub asked_with : (files values : List (List ℕ)) → Option Asked
+asked_with (spec ∷ []) values = Some (asked_for spec None values)
+asked_with (spec ∷ order ∷ []) values = Some (asked_for spec (Some order) values)
+asked_with files values = None
 
 -- the number up to this one whose decimal form the word is, from 1
 abbrev pub or_this : Option ℕ → ℕ → List ℕ → Option ℕ
@@ -69,19 +90,36 @@ most_cells = 64
 abbrev pub cells_said : List ℕ → Option ℕ
 cells_said word = number_up_to most_cells word
 
--- `demo` with a number of cells, behind which nothing stands
-abbrev pub cells_line : (number : List ℕ) → List (List ℕ) → Option CommandLine
-cells_line number [] = option_map demonstration (cells_said number)
-cells_line number (word ∷ words) = None
+-- the number of cells that is said by the one word there is
+abbrev pub cells_with : (files : List (List ℕ)) → Option ℕ
+cells_with (word ∷ []) = cells_said word
+cells_with files = None
 
-abbrev pub demo_line : List (List ℕ) → Option CommandLine
-demo_line [] = None
-demo_line (number ∷ words) = cells_line number words
+-- the line of a task with these files and start values
+abbrev pub line_with : Task → (files values : List (List ℕ)) → Option CommandLine
+line_with task.Check files values = option_map check (asked_with files values)
+line_with task.Run files values = option_map session (asked_with files values)
+line_with task.Demo files values = option_map demonstration (cells_with files)
+
+-- ---- The line
+
+-- the verb with this word
+abbrev pub verb_named : List ℕ → List Verb → Option Verb
+verb_named word [] = None
+verb_named word (verb ∷ verbs) = if bytes_eq word verb.word then Some verb else verb_named word verbs
+
+-- the line of a verb with the words behind it, if it takes them
+abbrev pub line_of_cut : Verb → WordsBehind → Option CommandLine
+line_of_cut verb behind = if takes_words verb behind then line_with verb.task_ behind.files behind.values else None
+
+abbrev pub line_of_verb : Option Verb → List (List ℕ) → Option CommandLine
+line_of_verb None words = None
+line_of_verb (Some verb) words = line_of_cut verb (cut_at_with words)
 
 -- the line that the words are, if they are one
 abbrev pub words_line : List (List ℕ) → Option CommandLine
 words_line [] = None
-words_line (verb ∷ words) = if bytes_eq verb (codes "demo") then demo_line words else verb_with verb (files_in words)
+words_line (word ∷ words) = line_of_verb (verb_named word verbs) words
 
 -- the line that the words of a command are, if they are one and within the limits
 abbrev pub command_line : List (List ℕ) → Option CommandLine
@@ -89,11 +127,31 @@ command_line words = if are_within words then words_line words else None
 
 -- the start values of a line
 abbrev pub values_in : CommandLine → List (List ℕ)
-values_in (check spec order values) = values
-values_in (session spec order values) = values
+values_in (check asked) = asked.values
+values_in (session asked) = asked.values
 values_in (demonstration cells) = []
 
 -- whether a line is that of a demonstration
 abbrev pub is_demonstration : Option CommandLine → Bool
 is_demonstration (Some (demonstration cells)) = true
 is_demonstration _ = false
+
+-- ---- What the code has
+
+-- what names of files and start values of the code ask for
+abbrev pub asked_by : Files → Asked
+asked_by files = asked_for files.spec.now (option_map (λ name. name.now) files.order) (words_of files.values.now)
+
+-- what a verb of the code is
+abbrev pub verb_of : CodeVerb → Verb
+verb_of verb = verb_row verb.word.now verb.least verb.most verb.takes_values verb.task
+
+-- what a command of the code is as a line
+abbrev pub line_of : Command → CommandLine
+line_of (Check spec order values) = check (asked_for spec.now (option_map (λ name. name.now) order) (words_of values.now))
+line_of (Run spec order values) = session (asked_for spec.now (option_map (λ name. name.now) order) (words_of values.now))
+line_of (Demo cells) = demonstration cells
+
+-- the words behind a verb of the code
+abbrev pub behind_by : Behind → WordsBehind
+behind_by behind = words_behind (words_of behind.files.now) behind.has_with (words_of behind.values.now)

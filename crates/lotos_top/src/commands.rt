@@ -2,20 +2,26 @@
 
 ghost use Rattle.lotos_top.specs.Words.{
   asked_by,
-  behind_order,
-  behind_spec,
+  asked_with,
+  behind_by,
   cells_said,
+  cells_with,
+  check,
   command_line,
-  demo_line,
+  cut_at_with,
   demonstration,
-  ends_names,
-  files_in,
+  ends_files,
   line_of,
-  verb_line,
-  verb_with,
+  line_of_cut,
+  line_with,
+  session,
+  takes_words,
+  verb_named,
+  verb_of,
+  verbs,
 };
 ghost use Rattle.refusal_lines.specs.HandedOn.{words_of};
-ghost use Rattle.std.specs.Prelude.{◌≡◌, None, Some, MatchOption, codes, decimal, option_map};
+ghost use Rattle.std.specs.Prelude.{◌≡◌, None, Some, MatchOption, decimal, map, option_map};
 ghost use Rattle.std.specs.Str.{bytes_eq};
 
 use itoa::Buffer;
@@ -45,8 +51,86 @@ pub enum Command<'a> {
     /// Make a specification of so many cells and walk it.
     Demo {
         /// How many cells, from 1 to 64.
-        cells: u8,
+        cells: u32,
     },
+}
+
+/// The names of files and the start values that words have.
+#[derive(Clone, Copy, Debug)]
+pub struct Files<'a> {
+    /// The name of the specification's file.
+    pub spec: &'a str,
+    /// The name of the order file, if there is one.
+    pub order: Option<&'a str>,
+    /// The start values.
+    pub values: &'a [String],
+}
+
+/// What a verb does.
+#[derive(Clone, Copy, Debug)]
+pub enum Task {
+    /// What `Command::Check` asks for.
+    Check,
+    /// What `Command::Run` asks for.
+    Run,
+    /// What `Command::Demo` asks for.
+    Demo,
+}
+
+/// A verb: the first word of a command line, and what may stand behind it.
+#[derive(Clone, Copy, Debug)]
+pub struct Verb {
+    /// The word.
+    pub word: &'static str,
+    /// The fewest words behind it, up to `with`.
+    pub least: usize,
+    /// The most words behind it, up to `with`.
+    pub most: usize,
+    /// Whether `with` and start values may stand behind these.
+    pub takes_values: bool,
+    /// What it does.
+    pub task: Task,
+}
+
+/// The verbs.
+pub const VERBS: [Verb; 3] = [
+    Verb {
+        word: "check",
+        least: 1,
+        most: 2,
+        takes_values: true,
+        task: Task::Check,
+    },
+    Verb {
+        word: "run",
+        least: 1,
+        most: 2,
+        takes_values: true,
+        task: Task::Run,
+    },
+    Verb {
+        word: "demo",
+        least: 1,
+        most: 1,
+        takes_values: false,
+        task: Task::Demo,
+    },
+];
+
+/// The usage line: what may stand behind each verb.
+pub const USAGE: &[u8] = b"usage: lotos check SPEC [ORDER] [with TERM...] \
+    | run SPEC [ORDER] [with TERM...] \
+    | demo N\n";
+
+/// The words behind a verb.
+#[derive(Clone, Copy, Debug)]
+pub struct Behind<'a> {
+    /// Those up to `with`.
+    pub files: &'a [String],
+    /// Whether `with` is there.
+    pub has_with: bool,
+    /// The start values behind it.
+    pub values: &'a [String],
 }
 
 /// What the words ask for, and `None` exactly where they are no line that is built.
@@ -62,52 +146,165 @@ pub fn parse_command(words: &[String]) -> Option<Command<'_>>
     if !are_within_limits(words) {
         return None;
     }
-    let [verb, rest @ ..] = words else {
+    let [word, rest @ ..] = words else {
         return None;
     };
-    if is_demo(verb.as_str()) {
-        return demonstration(rest);
+    match find_verb(word.as_str()) {
+        Some(verb) => with_verb(verb, rest),
+        None => None,
     }
-    with_files(verb.as_str(), rest)
 }
 
-// Whether the verb is `demo`.
-fn is_demo(verb: &str) -> bool
-    ensures { result ≡ bytes_eq verb.now (codes "demo") }
+// The verb with this word.
+fn find_verb(word: &str) -> Option<Verb>
+    ensures { option_map verb_of result ≡ verb_named word.now verbs }
 {
-    verb == "demo"
+    verb_among(word, &VERBS)
 }
 
-// The demonstration that the words behind `demo` ask for.
-fn demonstration(words: &[String]) -> Option<Command<'_>>
-    ensures { MatchOption result (demo_line (words_of words.now) ≡ None)
-        (λ command. demo_line (words_of words.now) ≡ Some (line_of command)) }
+// The first of the verbs with this word.
+fn verb_among(word: &str, among: &[Verb]) -> Option<Verb>
+    ensures { option_map verb_of result ≡ verb_named word.now (map verb_of among.now) }
 {
-    let [number, rest @ ..] = words else {
-        return None;
-    };
-    let [_, ..] = rest else {
-        return with_cells(number.as_str());
-    };
+    for verb in among {
+        if word == verb.word {
+            return Some(*verb);
+        }
+    }
     None
 }
 
-// The demonstration of as many cells as the word says.
-fn with_cells(word: &str) -> Option<Command<'_>>
-    ensures { MatchOption result (option_map demonstration (cells_said word.now) ≡ None)
-        (λ command. option_map demonstration (cells_said word.now) ≡ Some (line_of command)) }
+// What the verb asks for with the words behind it.
+fn with_verb(verb: Verb, words: &[String]) -> Option<Command<'_>>
+    ensures { option_map line_of result
+        ≡ line_of_cut (verb_of verb) (cut_at_with (words_of words.now)) }
 {
-    match cells_in(word) {
+    let behind = behind_verb(words);
+    if !takes(verb, behind) {
+        return None;
+    }
+    with_task(verb.task, behind.files, behind.values)
+}
+
+// The words behind a verb, cut at `with`.
+fn behind_verb(words: &[String]) -> Behind<'_>
+    ensures { behind_by result ≡ cut_at_with (words_of words.now) }
+{
+    for index in 0..words.len() {
+        if ends(words[index].as_str()) {
+            return Behind {
+                files: &words[..index],
+                has_with: true,
+                values: &words[index + 1..],
+            };
+        }
+    }
+    Behind {
+        files: words,
+        has_with: false,
+        values: &[],
+    }
+}
+
+// Whether the word ends the names of files.
+fn ends(word: &str) -> bool
+    ensures { result ≡ ends_files word.now }
+{
+    word == "with"
+}
+
+// Whether the verb takes the words behind it.
+fn takes(verb: Verb, behind: Behind<'_>) -> bool
+    ensures { result ≡ takes_words (verb_of verb) (behind_by behind.entry) }
+{
+    let given = behind.files.len();
+    verb.least <= given && given <= verb.most && (verb.takes_values || !behind.has_with)
+}
+
+// What the task asks for with these files and start values.
+fn with_task<'a>(task: Task, files: &'a [String], values: &'a [String]) -> Option<Command<'a>>
+    ensures { option_map line_of result
+        ≡ line_with task (words_of files.now) (words_of values.now) }
+{
+    match task {
+        Task::Check => checked(named_files(files, values)),
+        Task::Run => served(named_files(files, values)),
+        Task::Demo => demonstrated(number_of_cells(files)),
+    }
+}
+
+// The names of files, and the start values.
+fn named_files<'a>(files: &'a [String], values: &'a [String]) -> Option<Files<'a>>
+    ensures { option_map asked_by result ≡ asked_with (words_of files.now) (words_of values.now) }
+{
+    match files {
+        [spec] => Some(Files {
+            spec: spec.as_str(),
+            order: None,
+            values,
+        }),
+        [spec, order] => Some(Files {
+            spec: spec.as_str(),
+            order: Some(order.as_str()),
+            values,
+        }),
+        _ => None,
+    }
+}
+
+// The command that reads the files.
+fn checked(files: Option<Files<'_>>) -> Option<Command<'_>>
+    ensures { option_map line_of result ≡ option_map check (option_map asked_by files.entry) }
+{
+    match files {
+        Some(files) => Some(Command::Check {
+            spec: files.spec,
+            order: files.order,
+            values: files.values,
+        }),
+        None => None,
+    }
+}
+
+// The command that serves a session of the files.
+fn served(files: Option<Files<'_>>) -> Option<Command<'_>>
+    ensures { option_map line_of result ≡ option_map session (option_map asked_by files.entry) }
+{
+    match files {
+        Some(files) => Some(Command::Run {
+            spec: files.spec,
+            order: files.order,
+            values: files.values,
+        }),
+        None => None,
+    }
+}
+
+// The demonstration of so many cells.
+fn demonstrated(cells: Option<u32>) -> Option<Command<'static>>
+    ensures { option_map line_of result ≡ option_map demonstration cells }
+{
+    match cells {
         Some(cells) => Some(Command::Demo { cells }),
         None => None,
     }
 }
 
+// How many cells the one word there is says.
+fn number_of_cells(files: &[String]) -> Option<u32>
+    ensures { result ≡ cells_with (words_of files.now) }
+{
+    match files {
+        [word] => cells_in(word.as_str()),
+        _ => None,
+    }
+}
+
 // How many cells the word says: a number from 1 to 64 in decimal.
-fn cells_in(word: &str) -> Option<u8>
+fn cells_in(word: &str) -> Option<u32>
     ensures { result ≡ cells_said word.now }
 {
-    for below in 0..64u8 {
+    for below in 0..64u32 {
         if is_decimal_of(word, below + 1) {
             return Some(below + 1);
         }
@@ -116,125 +313,9 @@ fn cells_in(word: &str) -> Option<u8>
 }
 
 // Whether the word is the number in decimal.
-fn is_decimal_of(word: &str, number: u8) -> bool
+fn is_decimal_of(word: &str, number: u32) -> bool
     ensures { result ≡ bytes_eq word.now (decimal number) }
 {
     let mut buffer = Buffer::new();
     word == buffer.format(number as u128)
-}
-
-// What the verb asks for with the words behind it, where they name files.
-fn with_files<'a>(verb: &str, words: &'a [String]) -> Option<Command<'a>>
-    ensures { MatchOption result (verb_with verb.now (files_in (words_of words.now)) ≡ None)
-        (λ command. verb_with verb.now (files_in (words_of words.now))
-        ≡ Some (line_of command)) }
-{
-    match named_files(words) {
-        Some(files) => by_verb(verb, files),
-        None => None,
-    }
-}
-
-/// The names of files and the start values that words have.
-#[derive(Clone, Copy, Debug)]
-pub struct Files<'a> {
-    /// The name of the specification's file.
-    pub spec: &'a str,
-    /// The name of the order file, if there is one.
-    pub order: Option<&'a str>,
-    /// The start values.
-    pub values: &'a [String],
-}
-
-// The names of files, up to `with`, and what stands behind it.
-fn named_files(words: &[String]) -> Option<Files<'_>>
-    ensures { MatchOption result (files_in (words_of words.now) ≡ None)
-        (λ files. files_in (words_of words.now) ≡ Some (asked_by files)) }
-{
-    let [spec, rest @ ..] = words else {
-        return None;
-    };
-    if ends(spec.as_str()) {
-        return None;
-    }
-    files_behind(spec.as_str(), rest)
-}
-
-// The same, behind the name of the specification's file.
-fn files_behind<'a>(spec: &'a str, words: &'a [String]) -> Option<Files<'a>>
-    ensures { MatchOption result (behind_spec spec.now (words_of words.now) ≡ None)
-        (λ files. behind_spec spec.now (words_of words.now) ≡ Some (asked_by files)) }
-{
-    let [order, rest @ ..] = words else {
-        return Some(Files {
-            spec,
-            order: None,
-            values: words,
-        });
-    };
-    if ends(order.as_str()) {
-        return Some(Files {
-            spec,
-            order: None,
-            values: rest,
-        });
-    }
-    values_behind(spec, order.as_str(), rest)
-}
-
-// The same, behind the name of the order file.
-fn values_behind<'a>(spec: &'a str, order: &'a str, words: &'a [String]) -> Option<Files<'a>>
-    ensures { MatchOption result (behind_order spec.now order.now (words_of words.now) ≡ None)
-        (λ files. behind_order spec.now order.now (words_of words.now)
-        ≡ Some (asked_by files)) }
-{
-    let [word, rest @ ..] = words else {
-        return Some(Files {
-            spec,
-            order: Some(order),
-            values: words,
-        });
-    };
-    if !ends(word.as_str()) {
-        return None;
-    }
-    Some(Files {
-        spec,
-        order: Some(order),
-        values: rest,
-    })
-}
-
-// Whether the word ends the names of files.
-fn ends(word: &str) -> bool
-    ensures { result ≡ ends_names word.now }
-{
-    word == "with"
-}
-
-// What the verb asks for with these files and start values.
-fn by_verb<'a>(verb: &str, files: Files<'a>) -> Option<Command<'a>>
-    ensures { MatchOption result (verb_line verb.now (asked_by files.entry) ≡ None)
-        (λ command. verb_line verb.now (asked_by files.entry) ≡ Some (line_of command)) }
-{
-    let Files {
-        spec,
-        order,
-        values,
-    } = files;
-    if verb == "check" {
-        return Some(Command::Check {
-            spec,
-            order,
-            values,
-        });
-    }
-    if verb == "run" {
-        return Some(Command::Run {
-            spec,
-            order,
-            values,
-        });
-    }
-    None
 }

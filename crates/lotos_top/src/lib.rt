@@ -5,7 +5,6 @@ pub mod commands;
 mod ended;
 mod opening;
 mod running;
-mod text_shelf;
 
 pub use commands::{Command, parse_command};
 pub use ended::Ended;

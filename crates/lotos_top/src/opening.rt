@@ -1,28 +1,26 @@
 //! What is made ready before anything is written: the specification with its first menu, or the line
 //! that says why there is none.
 
-ghost use Rattle.spec_acceptance.specs.Acceptance.{IsAccepted};
 ghost use Rattle.demo_walks.specs.DemoSummary.{IsSummary};
-ghost use Rattle.spec_acceptance.specs.HandedOn.{ShelfState, shelf_state};
-ghost use Rattle.lotos_top.specs.Outcome.{files_of, opening_text, word_or_none};
-ghost use Rattle.lotos_top.specs.Prepared.{
-  IsDemoShelf,
-  IsLast,
-  IsLawfulAt,
-  IsOpened,
-  AreWordsReady,
-  IsShown,
-  begun,
-};
-ghost use Rattle.lotos_top.specs.Run.{demo_asked};
-ghost use Rattle.lotos_top.specs.Words.{CommandLine, check, command_line, demonstration, session};
-ghost use Rattle.sort_terms.specs.EquationView.{data_of};
-ghost use Rattle.sort_terms.specs.SignatureView.{signature_of};
-ghost use Rattle.spec_acceptance.specs.AcceptedView.{HoldsAccepted, asked_for};
-ghost use Rattle.spec_acceptance.specs.Doing.{Failed};
-ghost use Rattle.spec_acceptance.specs.Acceptance.{Acceptance};
 ghost use Rattle.lotos_base.specs.Name.{spelling};
-ghost use Rattle.lotos_top.specs.Outcome.{SessionBegins};
+ghost use Rattle.lotos_top.specs.Opening.{SessionBegins, opening_text};
+ghost use Rattle.lotos_top.specs.Prepared.{
+  CameTo,
+  FailsAlone,
+  IsFaultPrinted,
+  IsLawfulAt,
+  IsReady,
+  begun,
+  print_in,
+};
+ghost use Rattle.lotos_top.specs.Words.{
+  CommandLine,
+  check,
+  command_line,
+  demonstration,
+  session,
+};
+ghost use Rattle.lotos_top.specs.Work.{Opens, word_or_none};
 ghost use Rattle.lotos_top.specs.declared.ended.Ended.TheVariants.{
   Done as done,
   FileFault as file_fault,
@@ -30,15 +28,19 @@ ghost use Rattle.lotos_top.specs.declared.ended.Ended.TheVariants.{
   WordsRefused as words_refused,
 };
 ghost use Rattle.printed_texts.specs.ReportLines.{head_text, unread_text, usage_text};
+ghost use Rattle.refusal_lines.specs.HandedOn.{are_within, refused_of, words_of};
 ghost use Rattle.refusal_lines.specs.RefusalText.{refusal_text};
-ghost use Rattle.refusal_lines.specs.HandedOn.{refused_of};
-ghost use Rattle.refusal_lines.specs.HandedOn.{are_within, words_of};
+ghost use Rattle.sort_terms.specs.EquationView.{data_of};
+ghost use Rattle.sort_terms.specs.SignatureView.{signature_of};
+ghost use Rattle.spec_acceptance.specs.Acceptance.{Acceptance, AcceptsText, IsAccepted};
+ghost use Rattle.spec_acceptance.specs.AcceptedView.{HoldsAccepted, asked_for};
+ghost use Rattle.spec_acceptance.specs.Doing.{Did, Failed};
+ghost use Rattle.spec_acceptance.specs.HandedOn.{ShelfState, shelf_state};
+ghost use Rattle.spec_acceptance.specs.Part.{goes_on};
 ghost use Rattle.std.specs.Prelude.{
   ◌≡◌,
   ◌++◌,
   [],
-  ℕ,
-  List,
   None,
   Option,
   Some,
@@ -50,14 +52,13 @@ ghost use Rattle.std.specs.Prelude.{
   option_map,
 };
 
-use crate::commands::{Command, parse_command};
+use crate::commands::{Command, USAGE, parse_command};
 use crate::ended::Ended;
-use crate::text_shelf::TextShelf;
 use behaviour_tree::Spec;
 use demo_walks::{demo_text, write_summary};
 use equation_book::Book;
 use history_lines::Session;
-use lotos_base::{NoMemory, Shelf};
+use lotos_base::{MemShelf, NoMemory, Shelf};
 use menu_builder::FreshMenus;
 use printed_texts::brackets::{push_number, push_text};
 use printed_texts::menu_text;
@@ -105,10 +106,13 @@ pub enum Ready {
 
 /// Makes ready what the words ask for.
 pub fn prepare<F: Shelf>(alloc: Global, words: &[String], shelf: &mut F) -> Result<Ready, NoMemory>
-    ensures ready { IfOk result (AreWordsReady (command_line (words_of words.now))
+    ensures { MatchResult result
+        (IsReady (command_line (words_of words.now))
+        (shelf_state (F.texts shelf.old) (F.faults shelf.old) (F.calls shelf.old))
+        (shelf_state (F.texts shelf.new) (F.faults shelf.new) (F.calls shelf.new)))
+        (λ _. CameTo (command_line (words_of words.now))
         (shelf_state (F.texts shelf.old) (F.faults shelf.old) (F.calls shelf.old))
         (shelf_state (F.texts shelf.new) (F.faults shelf.new) (F.calls shelf.new))) }
-    ensures texts { F.texts shelf.new ≡ F.texts shelf.old }
 {
     match parse_command(words) {
         Some(
@@ -139,12 +143,15 @@ fn checked<F: Shelf>(
     shelf: &mut F,
 ) -> Result<Ready, NoMemory>
     requires { IsTrue (are_within (words_of values.now)) }
-    ensures ready { IfOk result
-        (AreWordsReady (Some (check spec.now (option_map (λ word. word.now) order.entry)
-        (words_of values.now)))
+    ensures { MatchResult result
+        (IsReady (Some (check (asked_for spec.now (option_map (λ word. word.now) order.entry)
+        (words_of values.now))))
+        (shelf_state (F.texts shelf.old) (F.faults shelf.old) (F.calls shelf.old))
+        (shelf_state (F.texts shelf.new) (F.faults shelf.new) (F.calls shelf.new)))
+        (λ _. CameTo (Some (check (asked_for spec.now (option_map (λ word. word.now) order.entry)
+        (words_of values.now))))
         (shelf_state (F.texts shelf.old) (F.faults shelf.old) (F.calls shelf.old))
         (shelf_state (F.texts shelf.new) (F.faults shelf.new) (F.calls shelf.new))) }
-    ensures texts { F.texts shelf.new ≡ F.texts shelf.old }
 {
     match open(alloc, spec, order, values, shelf) {
         Ok(opened) => Ok(Ready::Alone(opened_alone(alloc, &opened)?)),
@@ -161,12 +168,15 @@ fn served<F: Shelf>(
     shelf: &mut F,
 ) -> Result<Ready, NoMemory>
     requires { IsTrue (are_within (words_of values.now)) }
-    ensures ready { IfOk result
-        (AreWordsReady (Some (session spec.now (option_map (λ word. word.now) order.entry)
-        (words_of values.now)))
+    ensures { MatchResult result
+        (IsReady (Some (session (asked_for spec.now (option_map (λ word. word.now) order.entry)
+        (words_of values.now))))
+        (shelf_state (F.texts shelf.old) (F.faults shelf.old) (F.calls shelf.old))
+        (shelf_state (F.texts shelf.new) (F.faults shelf.new) (F.calls shelf.new)))
+        (λ _. CameTo (Some (session (asked_for spec.now (option_map (λ word. word.now) order.entry)
+        (words_of values.now))))
         (shelf_state (F.texts shelf.old) (F.faults shelf.old) (F.calls shelf.old))
         (shelf_state (F.texts shelf.new) (F.faults shelf.new) (F.calls shelf.new))) }
-    ensures texts { F.texts shelf.new ≡ F.texts shelf.old }
 {
     match open(alloc, spec, order, values, shelf) {
         Ok(opened) => Ok(Ready::Session(opened)),
@@ -184,16 +194,29 @@ pub fn open<F: Shelf>(
 ) -> Result<Opened, NotAccepted>
     requires { IsTrue (are_within (words_of values.now)) }
     ensures { MatchResult result
-        (IsOpened (asked_for spec.now (option_map (λ word. word.now) order.entry)
-        (words_of values.now))
-        (shelf_state (F.texts shelf.old) (F.faults shelf.old) (F.calls shelf.old))
-        (shelf_state (F.texts shelf.new) (F.faults shelf.new) (F.calls shelf.new)))
+        (λ opened. Did (shelf_state (F.texts shelf.old) (F.faults shelf.old) (F.calls shelf.old))
+        (shelf_state (F.texts shelf.new) (F.faults shelf.new) (F.calls shelf.new))
+        (Opens (IsAccepted (asked_for spec.now (option_map (λ word. word.now) order.entry)
+        (words_of values.now))))
+        (goes_on (begun opened)) × IsLawfulAt opened)
         (Failed (shelf_state (F.texts shelf.old) (F.faults shelf.old) (F.calls shelf.old))
         (shelf_state (F.texts shelf.new) (F.faults shelf.new) (F.calls shelf.new))
-        (IsAccepted (asked_for spec.now (option_map (λ word. word.now) order.entry)
-        (words_of values.now)))) }
+        (Opens (IsAccepted (asked_for spec.now (option_map (λ word. word.now) order.entry)
+        (words_of values.now))))) }
 {
     let accepted = Accepted::read(alloc, spec, order, values, shelf)?;
+    Ok(begin(alloc, accepted)?)
+}
+
+// The same of a specification with this text, where there is no file.
+fn open_text(alloc: Global, text: &[u8]) -> Result<Opened, NotAccepted>
+    ensures { MatchResult result
+        (λ opened. Opens (AcceptsText text.now None []) [] (goes_on (begun opened))
+        × IsLawfulAt opened)
+        (FailsAlone (Opens (AcceptsText text.now None []))) }
+{
+    let mut no_files = MemShelf::new(Vec::new(alloc), Vec::new(alloc));
+    let accepted = Accepted::of_text(alloc, text, None, &[], &mut no_files)?;
     Ok(begin(alloc, accepted)?)
 }
 
@@ -277,14 +300,8 @@ pub fn failed_alone(
     order: Option<&str>,
     fault: &NotAccepted,
 ) -> Result<Alone, NoMemory>
-    ensures { IfOk result (λ alone. (line : CommandLine) (words : List (List ℕ))
-        (before after : ShelfState)
-        → files_of (Some line)
-        ≡ Some (asked_for spec.now (option_map (λ word. word.now) order.entry) words)
-        → Failed before after
-        (IsAccepted (asked_for spec.now (option_map (λ word. word.now) order.entry) words))
-        fault.now
-        → IsLast (Some line) before after alone) }
+    ensures { IfOk result (λ alone. IsFaultPrinted spec.now
+        (option_map (λ word. word.now) order.entry) fault.now (print_in alone)) }
 {
     match fault {
         NotAccepted::File { name } => unread_alone(alloc, name.as_slice()),
@@ -337,34 +354,21 @@ fn refused_alone(
     })
 }
 
-// Makes ready what `demo` prints. Nothing is asked of the shelf: the text stands on one of its own.
-fn demonstrated(alloc: Global, cells: u8) -> Result<Ready, NoMemory>
-    ensures { IfOk result (λ ready. (now : ShelfState)
-        → AreWordsReady (Some (demonstration cells)) now now ready) }
+// Makes ready what `demo` prints. Nothing is asked of the shelf.
+fn demonstrated(alloc: Global, cells: u32) -> Result<Ready, NoMemory>
+    ensures { (now : ShelfState) → MatchResult result
+        (IsReady (Some (demonstration cells)) now now)
+        (λ _. CameTo (Some (demonstration cells)) now now) }
 {
-    let mut shelf = TextShelf::of(alloc, "demo", demo_text(alloc, cells)?)?;
-    match open(alloc, "demo", None, &[], &mut shelf) {
+    let text = demo_text(alloc, cells)?;
+    match open_text(alloc, text.as_slice()) {
         Ok(opened) => Ok(Ready::Alone(summary_alone(alloc, opened, cells)?)),
-        Err(fault) => Ok(Ready::Alone(unsummed_alone(alloc, &fault)?)),
-    }
-}
-
-// What is printed for a demonstration whose text is not accepted.
-fn unsummed_alone(alloc: Global, fault: &NotAccepted) -> Result<Alone, NoMemory>
-    ensures { IfOk result (λ alone. (cells : ℕ) (now before after : ShelfState)
-        → IsDemoShelf cells before after
-        → Failed before after (IsAccepted demo_asked) fault.now
-        → IsShown (Some (demonstration cells)) now now alone) }
-{
-    match fault {
-        NotAccepted::File { name } => unread_alone(alloc, name.as_slice()),
-        NotAccepted::Spec(refused) => refused_alone(alloc, "demo", "", refused),
-        NotAccepted::NoMemory => Err(NoMemory),
+        Err(fault) => Ok(Ready::Alone(failed_alone(alloc, "demo", None, &fault)?)),
     }
 }
 
 // What is printed for a demonstration whose text is accepted.
-fn summary_alone(alloc: Global, opened: Opened, cells: u8) -> Result<Alone, NoMemory>
+fn summary_alone(alloc: Global, opened: Opened, cells: u32) -> Result<Alone, NoMemory>
     requires lawful { IsLawfulAt opened }
     requires at_start { opened.session.course.history.items ≡ [] }
     ensures { IfOk result (λ alone. IsSummary (begun opened).basis
@@ -387,8 +391,8 @@ fn summary_alone(alloc: Global, opened: Opened, cells: u8) -> Result<Alone, NoMe
 
 // Makes ready the usage line, for words that are no line.
 fn usage_ready(alloc: Global) -> Result<Ready, NoMemory>
-    ensures { IfOk result (λ ready. (line : Option CommandLine) (now : ShelfState)
-        → line ≡ None → AreWordsReady line now now ready) }
+    ensures { (line : Option CommandLine) (now : ShelfState) → line ≡ None → MatchResult result
+        (IsReady line now now) (λ _. CameTo line now now) }
 {
     Ok(Ready::Alone(usage_alone(alloc)?))
 }
@@ -399,10 +403,7 @@ pub fn usage_alone(alloc: Global) -> Result<Alone, NoMemory>
         (λ alone. (alone.text.items ≡ usage_text) × (alone.ended ≡ words_refused)) }
 {
     Ok(Alone {
-        text: Vec::from_slice(
-            alloc,
-            b"usage: lotos check SPEC [ORDER] [with TERM...] | run SPEC [ORDER] [with TERM...] | demo N\n",
-        )?,
+        text: Vec::from_slice(alloc, USAGE)?,
         ended: Ended::WordsRefused,
     })
 }

@@ -1,23 +1,18 @@
 //! The whole program over any outside.
 
 ghost use Rattle.history_lines.specs.LinesView.{IsServing};
-ghost use Rattle.spec_acceptance.specs.HandedOn.{shelf_state};
+ghost use Rattle.line_server.specs.Writing.{stream};
+ghost use Rattle.lotos_top.specs.Causes.{AnswersHaveCauses};
 ghost use Rattle.lotos_top.specs.Headline.{Headline};
-ghost use Rattle.lotos_top.specs.Outcome.{opening_text};
-ghost use Rattle.lotos_top.specs.Prepared.{IsLawfulAt, any_maker, beginning_of, begun};
-ghost use Rattle.lotos_top.specs.Run.{
-  CompletesRun,
-  Prints,
-  Ran,
-  ServesSession,
-  Untouched,
-  ended_by,
-  streams,
-};
+ghost use Rattle.lotos_top.specs.Opening.{opening_text};
+ghost use Rattle.lotos_top.specs.Prepared.{IsLawfulAt, any_maker, beginning_of, begun, print_in};
+ghost use Rattle.lotos_top.specs.Run.{Ran, ServesSession, Writes, ended_by, streams};
+ghost use Rattle.lotos_top.specs.Settled.{IsSettled};
 ghost use Rattle.lotos_top.specs.Words.{command_line};
-ghost use Rattle.sort_terms.specs.SignatureView.{signature_of};
 ghost use Rattle.refusal_lines.specs.HandedOn.{words_of};
-ghost use Rattle.std.specs.Prelude.{◌≡◌, ℕ, List, MatchResult, Option};
+ghost use Rattle.sort_terms.specs.SignatureView.{signature_of};
+ghost use Rattle.spec_acceptance.specs.HandedOn.{shelf_state};
+ghost use Rattle.std.specs.Prelude.{◌≡◌, MatchResult};
 
 use crate::ended::Ended;
 use crate::opening::{Alone, Front, Opened, Ready, front_of, prepare};
@@ -53,25 +48,59 @@ pub fn run<F: Shelf, S: Source, K: Sink>(
     ensures ran { Ran (command_line (words_of words.now))
         (shelf_state (F.texts shelf.old) (F.faults shelf.old) (F.calls shelf.old))
         (shelf_state (F.texts shelf.new) (F.faults shelf.new) (F.calls shelf.new))
-        (streams (S.left input.old, S.faults input.old) (K.written output.old, K.faults output.old))
-        (streams (S.left input.new, S.faults input.new) (K.written output.new, K.faults output.new))
+        (streams (stream (S.left input.old) (S.faults input.old))
+        (stream (K.written output.old) (K.faults output.old)))
+        (streams (stream (S.left input.new) (S.faults input.new))
+        (stream (K.written output.new) (K.faults output.new)))
         result }
-    ensures complete { CompletesRun (command_line (words_of words.now))
+    ensures causes { AnswersHaveCauses (command_line (words_of words.now))
         (shelf_state (F.texts shelf.old) (F.faults shelf.old) (F.calls shelf.old))
         (shelf_state (F.texts shelf.new) (F.faults shelf.new) (F.calls shelf.new))
-        (streams (S.left input.old, S.faults input.old) (K.written output.old, K.faults output.old))
-        (streams (S.left input.new, S.faults input.new) (K.written output.new, K.faults output.new))
+        (streams (stream (S.left input.old) (S.faults input.old))
+        (stream (K.written output.old) (K.faults output.old)))
+        (streams (stream (S.left input.new) (S.faults input.new))
+        (stream (K.written output.new) (K.faults output.new)))
+        result }
+    ensures settled { IsSettled (command_line (words_of words.now))
+        (shelf_state (F.texts shelf.old) (F.faults shelf.old) (F.calls shelf.old))
+        (shelf_state (F.texts shelf.new) (F.faults shelf.new) (F.calls shelf.new))
+        (streams (stream (S.left input.old) (S.faults input.old))
+        (stream (K.written output.old) (K.faults output.old)))
+        (streams (stream (S.left input.new) (S.faults input.new))
+        (stream (K.written output.new) (K.faults output.new)))
         result }
     ensures headline { Headline (command_line (words_of words.now))
         (shelf_state (F.texts shelf.old) (F.faults shelf.old) (F.calls shelf.old))
         (shelf_state (F.texts shelf.new) (F.faults shelf.new) (F.calls shelf.new))
-        (streams (S.left input.old, S.faults input.old) (K.written output.old, K.faults output.old))
-        (streams (S.left input.new, S.faults input.new) (K.written output.new, K.faults output.new))
+        (streams (stream (S.left input.old) (S.faults input.old))
+        (stream (K.written output.old) (K.faults output.old)))
+        (streams (stream (S.left input.new) (S.faults input.new))
+        (stream (K.written output.new) (K.faults output.new)))
         result }
 {
-    // (These two do nothing. They carry the laws that the headline stands on.)
+    // (These two do nothing. They carry the laws that the clauses stand on.)
     lines_lead_on();
     served_lines_are_answered();
+    run_over(alloc, words, shelf, input, output)
+}
+
+// Does what the words ask for.
+fn run_over<F: Shelf, S: Source, K: Sink>(
+    alloc: Global,
+    words: &[String],
+    shelf: &mut F,
+    input: &mut S,
+    output: &mut K,
+) -> Ended
+    ensures { Ran (command_line (words_of words.now))
+        (shelf_state (F.texts shelf.old) (F.faults shelf.old) (F.calls shelf.old))
+        (shelf_state (F.texts shelf.new) (F.faults shelf.new) (F.calls shelf.new))
+        (streams (stream (S.left input.old) (S.faults input.old))
+        (stream (K.written output.old) (K.faults output.old)))
+        (streams (stream (S.left input.new) (S.faults input.new))
+        (stream (K.written output.new) (K.faults output.new)))
+        result }
+{
     match prepare(alloc, words, shelf) {
         Ok(Ready::Alone(alone)) => print(&alone, output),
         Ok(Ready::Session(opened)) => match serve(alloc, opened, shelf, input, output) {
@@ -84,9 +113,8 @@ pub fn run<F: Shelf, S: Source, K: Sink>(
 
 // Prints a text with nothing behind it.
 fn print<K: Sink>(alone: &Alone, output: &mut K) -> Ended
-    ensures { (input : Option (List ℕ) × ℕ) → Prints alone.now.text.items alone.now.ended
-        (streams input (K.written output.old, K.faults output.old))
-        (streams input (K.written output.new, K.faults output.new)) result }
+    ensures { Writes (print_in alone.now) (stream (K.written output.old) (K.faults output.old))
+        (stream (K.written output.new) (K.faults output.new)) result }
 {
     match write_whole(output, alone.text.as_slice()) {
         Ok(()) => alone.ended,
@@ -94,7 +122,7 @@ fn print<K: Sink>(alone: &Alone, output: &mut K) -> Ended
     }
 }
 
-// ServesSession the session of an accepted specification. Where memory is wanted before its first line,
+// Serves the session of an accepted specification. Where memory is wanted before its first line,
 // nothing is written.
 fn serve<F: Shelf, S: Source, K: Sink>(
     alloc: Global,
@@ -105,22 +133,25 @@ fn serve<F: Shelf, S: Source, K: Sink>(
 ) -> Result<Ended, NoMemory>
     requires lawful { IsLawfulAt opened }
     ensures { MatchResult result
-        (ServesSession (begun opened) (opening_text (begun opened))
+        (ServesSession (begun opened)
         (shelf_state (F.texts shelf.old) (F.faults shelf.old) (F.calls shelf.old))
         (shelf_state (F.texts shelf.new) (F.faults shelf.new) (F.calls shelf.new))
-        (streams (S.left input.old, S.faults input.old) (K.written output.old, K.faults output.old))
-        (streams (S.left input.new, S.faults input.new)
-        (K.written output.new, K.faults output.new)))
-        (λ _. (F.texts shelf.new ≡ F.texts shelf.old) × Untouched
-        (streams (S.left input.old, S.faults input.old) (K.written output.old, K.faults output.old))
-        (streams (S.left input.new, S.faults input.new)
-        (K.written output.new, K.faults output.new))) }
+        (streams (stream (S.left input.old) (S.faults input.old))
+        (stream (K.written output.old) (K.faults output.old)))
+        (streams (stream (S.left input.new) (S.faults input.new))
+        (stream (K.written output.new) (K.faults output.new))))
+        (λ _. ((shelf_state (F.texts shelf.new) (F.faults shelf.new) (F.calls shelf.new))
+        ≡ (shelf_state (F.texts shelf.old) (F.faults shelf.old) (F.calls shelf.old)))
+        × ((streams (stream (S.left input.new) (S.faults input.new))
+        (stream (K.written output.new) (K.faults output.new)))
+        ≡ (streams (stream (S.left input.old) (S.faults input.old))
+        (stream (K.written output.old) (K.faults output.old))))) }
 {
     let front = front_of(alloc, &opened)?;
     serve_front(alloc, &front, opened, shelf, input, output)
 }
 
-// ServesSession the session behind its front.
+// Serves the session behind its front.
 fn serve_front<F: Shelf, S: Source, K: Sink>(
     alloc: Global,
     front: &Front,
@@ -129,19 +160,23 @@ fn serve_front<F: Shelf, S: Source, K: Sink>(
     input: &mut S,
     output: &mut K,
 ) -> Result<Ended, NoMemory>
+    requires text { front.now.text.items ≡ opening_text (begun opened) }
     requires over { signature_of front.now.signature ≡ signature_of opened.book.flat.signature }
     requires lawful { IsLawfulAt opened }
     ensures { MatchResult result
-        (ServesSession (begun opened) front.now.text.items
+        (ServesSession (begun opened)
         (shelf_state (F.texts shelf.old) (F.faults shelf.old) (F.calls shelf.old))
         (shelf_state (F.texts shelf.new) (F.faults shelf.new) (F.calls shelf.new))
-        (streams (S.left input.old, S.faults input.old) (K.written output.old, K.faults output.old))
-        (streams (S.left input.new, S.faults input.new)
-        (K.written output.new, K.faults output.new)))
-        (λ _. (F.texts shelf.new ≡ F.texts shelf.old) × Untouched
-        (streams (S.left input.old, S.faults input.old) (K.written output.old, K.faults output.old))
-        (streams (S.left input.new, S.faults input.new)
-        (K.written output.new, K.faults output.new))) }
+        (streams (stream (S.left input.old) (S.faults input.old))
+        (stream (K.written output.old) (K.faults output.old)))
+        (streams (stream (S.left input.new) (S.faults input.new))
+        (stream (K.written output.new) (K.faults output.new))))
+        (λ _. ((shelf_state (F.texts shelf.new) (F.faults shelf.new) (F.calls shelf.new))
+        ≡ (shelf_state (F.texts shelf.old) (F.faults shelf.old) (F.calls shelf.old)))
+        × ((streams (stream (S.left input.new) (S.faults input.new))
+        (stream (K.written output.new) (K.faults output.new)))
+        ≡ (streams (stream (S.left input.old) (S.faults input.old))
+        (stream (K.written output.old) (K.faults output.old))))) }
 {
     let reader = Reader::of(alloc, &front.signature)?;
     let Opened { session, book } = opened;
@@ -170,12 +205,15 @@ fn serve_behind<F: Shelf, S: Source, K: Sink>(
     input: &mut S,
     output: &mut K,
 ) -> Ended
+    requires text { text.now ≡ opening_text (beginning_of lines.old) }
     requires serving { IsServing any_maker lines.old }
-    ensures { ServesSession (beginning_of lines.old) text.now
+    ensures { ServesSession (beginning_of lines.old)
         (shelf_state (F.texts shelf.old) (F.faults shelf.old) (F.calls shelf.old))
         (shelf_state (F.texts shelf.new) (F.faults shelf.new) (F.calls shelf.new))
-        (streams (S.left input.old, S.faults input.old) (K.written output.old, K.faults output.old))
-        (streams (S.left input.new, S.faults input.new) (K.written output.new, K.faults output.new))
+        (streams (stream (S.left input.old) (S.faults input.old))
+        (stream (K.written output.old) (K.faults output.old)))
+        (streams (stream (S.left input.new) (S.faults input.new))
+        (stream (K.written output.new) (K.faults output.new)))
         result }
 {
     match write_whole(output, text) {

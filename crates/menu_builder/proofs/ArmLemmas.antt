@@ -194,9 +194,6 @@ other_relabels (ChooseGate' g gates _ next) still other renamed = refl
 other_relabels (ParGate' g gates meet _ next) still other renamed = refl
 other_relabels (Call place process gates values) still other renamed = absurd (other place process gates values refl)
 
-pub same_less : (x : ℕ) → x ≤ x
-same_less x = omega arith
-
 -- ---- The leaf of a value choice.
 pub value_sort : (basis : Basis) (first : ℕ) (pairs : List (ℕ × ProfiledTerm)) (x : code_variable.Variable) (b : Behaviour)
     (terms : List ProfiledTerm) → IsPlaced basis first (choose_value (variable_of x) b) terms pairs

@@ -6,7 +6,6 @@ use Rattle.lotos_base.specs.Signature.{Signature}
 use Rattle.lotos_base.specs.Term.{Term}
 use Rattle.lotos_base.specs.Substitution.{substituted, binding}
 use Rattle.behaviour_semantics.specs.Behaviour.{let_variables, let_terms}
-use Rattle.behaviour_semantics.specs.WellFormed.{Every}
 use Rattle.behaviour_semantics.proofs.ListLemmas.{Every-append}
 use Rattle.sort_terms.specs.ProfiledTerm.{ProfiledTerm, IsOf}
 use Rattle.sort_terms.specs.SortedView.{profiled_in, term_in}
@@ -18,15 +17,6 @@ use Rattle.behaviour_tree.specs.StateView.{environment_of, pair_of}
 use Rattle.draft_parts.specs.Environments.{ArePairsOf}
 use Rattle.draft_parts.proofs.TurnLemmas.{one_turn, pushed}
 use Rattle.draft_parts.specs.BelowLaws.{binder_pairs}
-
--- the member at an index, and those behind it
-pub every_turn : {X : Type 0} (P : X → Type 0) (items : List X) (i : ℕ) (x : X) → i < length items → x ≡ get_or items i x
-    → Every P (drop i items) → P x × Every P (drop (i + 1) items)
-every_turn {X = X} P items i x within is h =
-    let here : drop i items ≡ x ∷ drop (suc i) items =
-    drop-cons items i x within ∙ ap (λ (y : X). y ∷ drop (suc i) items) (sym is) in
-    let both : Every P (x ∷ drop (suc i) items) = subst (Every P) here h in
-    (both.0, subst (λ (j : ℕ). Every P (drop j items)) (sym (add-one i)) both.1)
 
 -- one more pair of the signature
 pub more_of : (signature : Signature) (pairs more : List (ℕ × Sorted)) (n : ℕ) (value : Sorted) → more ≡ pairs ++ ((n, value) ∷ [])

@@ -23,11 +23,11 @@ use Rattle.behaviour_tree.specs.StateView.{environment_of, node_profiles, pair_p
 use Rattle.behaviour_tree.specs.declared.behaviours.Beh.{Beh}
 use Rattle.behaviour_tree.specs.declared.states.Node.{Node, Stop, Part, Call, Parallel', Hide', Enable', Disable', Relabel'}
 use Rattle.event_offers.specs.declared.drafts.Draft.{Draft}
+use Rattle.event_offers.proofs.ValueLemmas.{pairs_bare}
 use Rattle.draft_parts.specs.DraftRules.{hidden_draft, enable_draft}
 use Rattle.draft_parts.specs.DraftTerms.{HasTermsOf}
 use Rattle.draft_parts.specs.Lists.{plain_drafts}
 use Rattle.draft_parts.specs.Environments.{ArePairsOf}
-use Rattle.draft_parts.proofs.PairLemmas.{pairs_bare}
 use Rattle.draft_parts.specs.HasDrafts.{HasDrafts, Raises, all_relabelled, either_drafts, beside_drafts}
 use Rattle.draft_parts.proofs.FormLemmas.{forms}
 use Rattle.draft_parts.proofs.ShadowLemmas.{raises}
@@ -75,9 +75,6 @@ left_most x y = omega arith
 
 pub right_most : (x y : ℕ) → y ≤ max x y
 right_most x y = omega arith
-
-pub same_most : (x : ℕ) → x ≤ x
-same_most x = omega arith
 
 module _ (basis : Basis) (base : ℕ) where
   abbrev pub Over : Node → Type 0

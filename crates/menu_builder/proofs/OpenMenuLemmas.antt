@@ -1,5 +1,6 @@
 -- Whatever number above all variables the leaves begin at, the drafts with their variables numbered from 0 are the same.
 use Rattle.std.proofs.Common.{◌≡◌, ◌≤◌, inl, inr, ℕ, List, [], ◌∷◌, map, Some, option_map, refl, ap, sym, ◌∙◌, subst}
+use Rattle.lotos_base.proofs.Options.{mapped}
 use Rattle.lotos_base.specs.Term.{Term}
 use Rattle.lotos_base.specs.Equation.{Data}
 use Rattle.behaviour_semantics.specs.Behaviour.{Behaviour, Specification}
@@ -10,13 +11,12 @@ use Rattle.behaviour_semantics.specs.Listing.{ShapedMove, IsAmong, ShapesRise, A
 use Rattle.behaviour_semantics.specs.Move.{Setting, Move, move_of}
 use Rattle.behaviour_semantics.specs.Shape.{Shape, Before}
 use Rattle.behaviour_semantics.specs.WellFormed.{Every, AreOver}
-use Rattle.behaviour_semantics.proofs.OptionLemmas.{mapped}
 use Rattle.behaviour_semantics.proofs.OrderLemmas.{Before-irrefl, Before-trans}
 use Rattle.behaviour_semantics.proofs.ListLemmas.{EachOf, Within, Every-among}
 use Rattle.behaviour_semantics.proofs.ListingLemmas.{listed}
 use Rattle.behaviour_semantics.proofs.ListingSoundness.{are_moves}
 use Rattle.behaviour_semantics.proofs.ListingOrder.{shapes_rise}
-use Rattle.behaviour_semantics.proofs.ListedDrafts.{sound_drafts, complete_drafts, drafts_rise}
+use Rattle.behaviour_semantics.proofs.ListedDrafts.{sound_drafts, complete_drafts, drafts_rise, among_map, map_among}
 use Rattle.behaviour_semantics.proofs.ListedMenus.{exact_list}
 use Rattle.behaviour_semantics.proofs.GuardedLists.{guarded_list}
 use Rattle.behaviour_semantics.proofs.DraftFineness.{FineDraft, fine_draft}
@@ -58,16 +58,6 @@ same_lists (x ∷ xs) (y ∷ ys) h k i j =
     (λ z a. behind y x z ys xs (sym heads) k a (j z (inr a))) in
     ap (λ (z : Draft). z ∷ xs) heads ∙ ap (λ (zs : List Draft). y ∷ zs) tails
 
-from_one : {X Y : Type 0} (f : X → Y) (xs : List X) (y : Y) → IsAmong y (map f xs) → (x : X) × IsAmong x xs × (f x ≡ y)
-from_one f [] y a = absurd a
-from_one f (x ∷ xs) y (inl same) = (x, inl refl, same)
-from_one f (x ∷ xs) y (inr a) = let p : _ = from_one f xs y a in (p.0, inr p.1, p.2)
-
-among_mapped : {X Y : Type 0} (f : X → Y) (xs : List X) (x : X) → IsAmong x xs → IsAmong (f x) (map f xs)
-among_mapped f [] x a = absurd a
-among_mapped f (y ∷ xs) x (inl same) = inl (ap f same)
-among_mapped f (y ∷ xs) x (inr a) = inr (among_mapped f xs x a)
-
 map_twice : {X Y Z : Type 0} (f : X → Y) (g : Y → Z) (h : X → Z) → ((x : X) → g (f x) ≡ h x) → (xs : List X) → map g (map f xs) ≡ map h xs
 map_twice f g h same [] = refl
 map_twice {Z = Z} f g h same (x ∷ xs) =
@@ -107,12 +97,12 @@ module _ (data_ : Data) (canon : Term → Term) (specification : Specification) 
         let here : IsAmong (record { shape = d.shape; move = p.0 }) moves =
         subst (Within (record { shape = d.shape; move = p.0 })) is (listed setting (leaves_from base) depth d.shape 0 b p.0 p.1) in
         subst (λ (e : Draft). IsAmong e (drafts_by base moves)) p.2
-        (among_mapped (λ (x : ShapedMove). draft_by x.shape base x.move) moves (record { shape = d.shape; move = p.0 }) here)
+        (map_among (λ (x : ShapedMove). draft_by x.shape base x.move) moves (record { shape = d.shape; move = p.0 }) here)
 
     from_moves : Inside (drafts_by base moves) drafts
     from_moves d a =
         let p : (x : ShapedMove) × IsAmong x moves × (draft_by x.shape base x.move ≡ d) =
-        from_one (λ (x : ShapedMove). draft_by x.shape base x.move) moves d a in
+        among_map (λ (x : ShapedMove). draft_by x.shape base x.move) moves d a in
         let move : move_of setting (leaves_from base) p.0.shape 0 b ≡ Some p.0.move =
         Every-among (λ (y : ShapedMove). move_of setting (leaves_from base) y.shape 0 b ≡ Some y.move) moves p.0
         (subst (EachOf (λ (y : ShapedMove). move_of setting (leaves_from base) y.shape 0 b ≡ Some y.move)) is

@@ -2,9 +2,7 @@
 use Rattle.std.proofs.Common.{◌≡◌, ◌≤◌, ℕ, suc, ◌+◌, List, [], ◌∷◌, ◌++◌, map, length, Bool, true, false, nat_eq, if◌then◌else◌, Option, None, Some, option_map, refl, ap, sym, ◌∙◌, arith}
 use Rattle.lotos_base.specs.Signature.{Signature}
 use Rattle.lotos_base.specs.Term.{variable}
-use Rattle.lotos_base.specs.Sorting.{HasSort}
 use Rattle.lotos_base.specs.Equation.{Variable}
-use Rattle.lotos_base.proofs.SortLemmas.{sort_of_sorted}
 use Rattle.behaviour_semantics.specs.Behaviour.{asked_variables, let_variables, let_terms}
 use Rattle.behaviour_semantics.specs.WellFormed.{Every, sort_in, IsTermIn, AreTermsIn, IsTestOption, IsOffer, IsExitValue}
 use Rattle.behaviour_semantics.proofs.OptionLemmas.{some_value}
@@ -22,7 +20,7 @@ use Rattle.behaviour_tree.specs.declared.behaviours.Offer.{Offer}
 use Rattle.behaviour_tree.specs.declared.behaviours.Offer.TheVariants.{Give, Ask}
 use Rattle.behaviour_tree.specs.declared.behaviours.ExitValue.{ExitValue}
 use Rattle.behaviour_tree.specs.declared.behaviours.ExitValue.TheVariants as exit_value
-use Rattle.event_offers.proofs.JoinLemmas.{sort_told}
+use Rattle.behaviour_tree.proofs.StartLemmas.{told_sort}
 use Rattle.draft_parts.specs.EnvironmentRaises.{GivesScope}
 use Rattle.draft_parts.proofs.GivenLemmas.{with_leaf}
 use Rattle.draft_parts.specs.Environments.{ArePairsOf, IsReadyForPairs, Suits, SuitsTest, AreOffersReady, AreResultsReady}
@@ -39,10 +37,6 @@ module _ {X : Type 0} (P : X → Type 0) where
   pub second_part : (xs ys : List X) → Every P (xs ++ ys) → Every P ys
   second_part [] ys h = h
   second_part (x ∷ xs) ys h = second_part xs ys h.1
-
--- the head of a term tells its sort
-pub told : (signature : Signature) (t : ProfiledTerm) (s : ℕ) → IsOf signature t → HasSort signature (bare t) s → head_sort t ≡ s
-told signature t s h k = some_value (sym (sort_told signature t h) ∙ sort_of_sorted signature (bare t) s k)
 
 module _ (signature : Signature) (base limit : ℕ) where
   -- its head tells the sort of the variable
@@ -65,7 +59,7 @@ module _ (signature : Signature) (base limit : ℕ) where
           → head_sort (if nat_eq pair.0 n then pair.1 else profiled_binding pairs n s) ≡ s
       by true is rest =
           ap (λ (d : Bool). head_sort (if d then pair.1 else profiled_binding pairs n s)) (at true is)
-          ∙ (told signature pair.1 x.sort k.0 g.2.sorted ∙ some_value (found true is))
+          ∙ (told_sort signature pair.1 x.sort k.0 g.2.sorted ∙ some_value (found true is))
       by false is rest =
           ap (λ (d : Bool). head_sort (if d then pair.1 else profiled_binding pairs n s)) (at false is) ∙ rest (found false is)
 

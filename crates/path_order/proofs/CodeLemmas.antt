@@ -11,12 +11,12 @@ use Rattle.lotos_base.specs.Tests.{term_eq}
 use Rattle.lotos_base.specs.Path.{argument_at}
 use Rattle.termination_theory.specs.Precedence.{Precedence, from_left}
 use Rattle.termination_theory.specs.OrderTest.{same_length, is_greater}
-use Rattle.sort_terms.specs.Operations.{operation_of}
-use Rattle.sort_terms.specs.ProfiledTerm.{profiled_variable, profiled_node, bare}
-use Rattle.sort_terms.specs.TermView.{term_of, terms_of, profiled_of, all_profiled}
+use Rattle.sort_terms.specs.ProfiledTerm.{bare}
+use Rattle.sort_terms.specs.TermView.{term_of, terms_of}
 use Rattle.sort_terms.specs.declared.operations.Op.{Op}
-use Rattle.sort_terms.specs.declared.terms.Term.{Term, Var, Node as TermNode, the_lemmas as term_lemmas}
+use Rattle.sort_terms.specs.declared.terms.Term.{Term, Var, Node as TermNode}
 use Rattle.sort_terms.proofs.TermListLemmas.{with_last, terms_of-append}
+use Rattle.sort_terms.proofs.BuiltLists.{profiled_Node, profiled_Var}
 use Rattle.path_order.specs.Comparison.{Table, Tables, table_leaf, table_node, no_tables, table_then, compared, all_compared, each_compared, table_at, part_in, equals_in, exceeds_in, exceeds_all_in, some_reaches_in}
 use Rattle.path_order.specs.ComparedView.{table_of, all_tables}
 use Rattle.path_order.proofs.TableLemmas.{equal_whole, greater_whole, some_over_variable}
@@ -102,18 +102,11 @@ alike f g xs ys same =
 
 -- ---- What terms of the code stand for
 
-profiled_of-Var : (n s : ℕ) → profiled_of (Var n s) ≡ profiled_variable n s
-profiled_of-Var n s = search (rules, term_lemmas)
-
-profiled_of-Node : (f : ℕ) (profile : Rc Op Global) (ts : Vec Term Global)
-    → profiled_of (TermNode f profile ts) ≡ profiled_node f (operation_of profile.value) (all_profiled ts.items)
-profiled_of-Node f profile ts = search (rules, term_lemmas)
-
 pub term_of-Var : (n s : ℕ) → term_of (Var n s) ≡ variable n s
-term_of-Var n s = ap bare (profiled_of-Var n s)
+term_of-Var n s = ap bare (profiled_Var n s)
 
 pub term_of-Node : (f : ℕ) (profile : Rc Op Global) (ts : Vec Term Global) → term_of (TermNode f profile ts) ≡ node f (terms_of ts.items)
-term_of-Node f profile ts = ap bare (profiled_of-Node f profile ts)
+term_of-Node f profile ts = ap bare (profiled_Node f profile ts)
 
 -- ---- Whole tables
 

@@ -2,6 +2,7 @@
 use Rattle.std.proofs.Common.{◌≡◌, ℕ, zero, suc, ◌+◌, ◌-◌, ◌<◌, ◌≤◌, List, [], ◌∷◌, ◌++◌, length, get_or, map, refl, ap, sym, ◌∙◌, subst, inl, inr, arith, Bool, true, false, ltb-true, ltb-false}
 use Rattle.std.specs.Prelude.{Some, slice_get, ◌⊎◌, nat_lt}
 use Rattle.std.proofs.lemmas.Option.{same_Some, slice_get_within}
+use Rattle.lotos_base.proofs.Members.{from_map, at_map}
 use Rattle.lotos_base.specs.Name.{spelling}
 use Rattle.lotos_base.specs.WrittenTerm.{ListedOperation}
 use Rattle.lotos_base.specs.Names.{folded}
@@ -12,7 +13,6 @@ use Rattle.sort_terms.specs.SignatureView.{signature_of}
 use Rattle.sort_terms.specs.declared.operations.Op.{Op}
 use Rattle.sort_terms.specs.declared.signatures.Signature.{Signature as CodeSignature}
 use Rattle.sort_terms.proofs.PositionMembers.{position_is}
-use Rattle.sort_terms.proofs.ScopeLemmas.{mapped_member, member_mapped}
 use Rattle.path_order.specs.Added.{IsSuitable, IsAddedIf}
 use Rattle.path_order.specs.Listed.{SuitsItem, IsListedBy, AreListedBy}
 use Rattle.path_order.proofs.Numbers.{joined_member, first_joined, second_joined}
@@ -29,8 +29,8 @@ pub record AreNamed (signature : Signature) (item : ListedOperation) (numbers : 
 op_name_at : (ops : List Op) (f : ℕ) (operation : Operation) → slice_get (map operation_of ops) f ≡ Some operation
     → slice_get (map (λ (o : Op). spelling o.name) ops) f ≡ Some operation.name
 op_name_at ops f operation at =
-    let from = mapped_member operation_of ops f operation at in
-    member_mapped (λ (o : Op). spelling o.name) ops f from.0 from.1 ∙ ap (λ (o : Operation). Some o.name) from.2
+    let from = from_map operation_of ops f operation at in
+    at_map (λ (o : Op). spelling o.name) ops f from.0 from.1 ∙ ap (λ (o : Operation). Some o.name) from.2
 
 pub positions_named : (signature : CodeSignature) (item : ListedOperation) (numbers : List ℕ)
     → numbers ≡ positions_of (folded item.name) (map (λ (o : Op). spelling o.name) signature.ops.items)
@@ -196,7 +196,7 @@ pub operation_at : (signature : CodeSignature) (ops : List Op) (number : ℕ) (o
     → number < length signature.ops.items → op ≡ get_or ops number op
     → IsOperation (signature_of signature) number (operation_of op)
 operation_at signature ops number op are within is =
-    member_mapped operation_of signature.ops.items number op
+    at_map operation_of signature.ops.items number op
     (there signature.ops.items number op within (is ∙ ap (λ (xs : List Op). get_or xs number op) are))
   where
     there : (xs : List Op) (k : ℕ) (x : Op) → k < length xs → x ≡ get_or xs k x → slice_get xs k ≡ Some x

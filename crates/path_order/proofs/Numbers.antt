@@ -2,30 +2,23 @@
 use Rattle.std.proofs.Common.{◌≡◌, ℕ, zero, suc, ◌+◌, ◌<◌, ◌≤◌, List, [], ◌∷◌, ◌++◌, length, get_or, take, Bool, true, false, nat_eq, refl, ap, sym, ◌∙◌, subst, inl, inr, arith, ◌≢◌, set}
 use Rattle.std.specs.Prelude.{Some, None, slice_get, ◌||◌, ◌⊎◌}
 use Rattle.std.proofs.lemmas.List.{get_or-set_same, get_or-set_other, length-set}
-use Rattle.std.proofs.lemmas.Grind.{get_or_default_zero}
 use Rattle.std.proofs.lemmas.Option.{same_Some, slice_get_within}
-use Rattle.std.proofs.lemmas.Bool.Decides.{Decides-eqb}
+use Rattle.std.proofs.lemmas.Bool.{eq-eqb, eqb-true}
 use Rattle.path_order.specs.Contains.{contains, flag_at, IsOnce}
 use Rattle.path_order.specs.Listing.{IsNumberIn}
 use Rattle.path_order.specs.Steps.{HasCommon}
-
-eq_true : (g f : ℕ) → g ≡ f → nat_eq g f ≡ true
-eq_true g f = (Decides-eqb g f).1
-
-eq_same : (g f : ℕ) → nat_eq g f ≡ true → g ≡ f
-eq_same g f = (Decides-eqb g f).0
 
 pub contains_in : (f : ℕ) (xs : List ℕ) → contains f xs ≡ true → IsNumberIn xs f
 contains_in f [] e = cc
 contains_in f (g ∷ xs) e = go (nat_eq g f) refl e (λ h. contains_in f xs h)
   where
     go : (b : Bool) → nat_eq g f ≡ b → (b || contains f xs) ≡ true → (contains f xs ≡ true → IsNumberIn xs f) → IsNumberIn (g ∷ xs) f
-    go true same h later = (0, ap (λ (n : ℕ). Some n) (eq_same g f same))
+    go true same h later = (0, ap (λ (n : ℕ). Some n) (eqb-true g f same))
     go false differ h later = let at = later h in (suc at.0, at.1)
 
 pub in_contains : (f : ℕ) (xs : List ℕ) (j : ℕ) → slice_get xs j ≡ Some f → contains f xs ≡ true
 in_contains f [] j at = cc
-in_contains f (g ∷ xs) zero at = ap (λ (b : Bool). b || contains f xs) (eq_true g f (same_Some g f at))
+in_contains f (g ∷ xs) zero at = ap (λ (b : Bool). b || contains f xs) (eq-eqb g f (same_Some g f at))
 in_contains f (g ∷ xs) (suc j) at = go (nat_eq g f) (in_contains f xs j at)
   where
     go : (b : Bool) → contains f xs ≡ true → (b || contains f xs) ≡ true
@@ -108,30 +101,6 @@ once_more xs g once new i j f one two =
 
 -- ---- the first so many of a list
 
-split_last : (k i : ℕ) → k < i + 1 → (k < i) ⊎ (k ≡ i)
-split_last zero zero h = inr refl
-split_last zero (suc i) h = inl (omega arith)
-split_last (suc k) zero h = absurd (omega (arith, h))
-split_last (suc k) (suc i) h = go (split_last k i (omega (arith, h)))
-  where
-    go : (k < i) ⊎ (k ≡ i) → (suc k < suc i) ⊎ (suc k ≡ suc i)
-    go (inl less) = inl (omega (arith, less))
-    go (inr same) = inr (ap (λ (n : ℕ). suc n) same)
-
-get_at : (xs : List ℕ) (i x m : ℕ) → x ≡ get_or xs i x → slice_get xs i ≡ Some m → x ≡ m
-get_at [] i x m is at = cc
-get_at (y ∷ ys) zero x m is at = is ∙ same_Some y m at
-get_at (y ∷ ys) (suc i) x m is at = get_at ys i x m is at
-
-pub numbers_more : (P : ℕ → Type 0) (xs : List ℕ) (i x : ℕ) → x ≡ get_or xs i x
-    → ((k m : ℕ) → k < i → slice_get xs k ≡ Some m → P m) → P x
-    → (k m : ℕ) → k < i + 1 → slice_get xs k ≡ Some m → P m
-numbers_more P xs i x is so_far one k m before at = go (split_last k i before)
-  where
-    go : (k < i) ⊎ (k ≡ i) → P m
-    go (inl less) = so_far k m less at
-    go (inr same) = subst P (get_at xs i x m is (ap (λ (j : ℕ). slice_get xs j) (sym same) ∙ at)) one
-
 pub member_at : (xs : List ℕ) (i x : ℕ) → i < length xs → x ≡ get_or xs i x → slice_get xs i ≡ Some x
 member_at [] i x within is = absurd (omega arith)
 member_at (y ∷ ys) zero x within is = ap (λ (n : ℕ). Some n) (sym is)
@@ -157,10 +126,6 @@ next_is_new old found now i x are within is once apart =
     go (inr taken) =
         let at = taken_member found i taken.0 x taken.1 in
         let same = once taken.0 i x at.1 here in omega (arith, at.0, same)
-
--- a number as the code reads it
-pub read_at : (xs : List ℕ) (i : ℕ) → i < length xs → get_or xs i 0 ≡ get_or xs i (get_or xs i 0)
-read_at xs i within = sym (get_or_default_zero xs i (get_or xs i 0) within)
 
 -- nothing is common to both lists where no number of the second one is in the first one
 pub none_common : (one other : List ℕ) (n : ℕ) → length other ≤ n
@@ -189,11 +154,11 @@ flag_more flags old op f within inside told = go (nat_eq op f) refl
 
     go : (b : Bool) → nat_eq op f ≡ b → flag_at f (set flags op true) ≡ contains f (old ++ op ∷ [])
     go true same =
-        let e : op ≡ f = eq_same op f same in
+        let e : op ≡ f = eqb-true op f same in
         ap (λ (k : ℕ). flag_at k (set flags op true)) (sym e) ∙ get_or-set_same flags op true false within
         ∙ sym (both (contains f old)) ∙ ap (λ (b : Bool). contains f old || b) (sym same) ∙ sym (contains-append f op old)
     go false differ =
-        let apart : f ≢ op = λ e. let clash : true ≡ false = sym (eq_true op f (sym e)) ∙ differ in cc in
+        let apart : f ≢ op = λ e. let clash : true ≡ false = sym (eq-eqb op f (sym e)) ∙ differ in cc in
         get_or-set_other flags op f true false apart ∙ told f (omega (arith, inside, long))
         ∙ sym (none (contains f old)) ∙ ap (λ (b : Bool). contains f old || b) (sym differ) ∙ sym (contains-append f op old)
 

@@ -3,6 +3,7 @@ use Rattle.std.proofs.Common.{◌≡◌, ◌≢◌, ℕ, zero, suc, ◌+◌, ◌
 use Rattle.std.specs.Prelude.{Some, slice_get, true}
 use Rattle.std.proofs.lemmas.List.{take_more, length-map, length-take-le, map-append}
 use Rattle.std.proofs.lemmas.Option.{same_Some}
+use Rattle.lotos_base.proofs.Members.{at_map}
 use Rattle.lotos_base.specs.Signature.{Signature}
 use Rattle.lotos_base.specs.Equation.{Equation as PlainEquation, Data}
 use Rattle.lotos_base.specs.Equality.{Direction, forward, backward, old_side, new_side}
@@ -17,7 +18,6 @@ use Rattle.sort_terms.specs.SortedView.{profiled_in, term_in}
 use Rattle.sort_terms.specs.declared.equations.Equation.{Equation}
 use Rattle.sort_terms.specs.declared.equations.Flat.{Flat}
 use Rattle.sort_terms.proofs.ProfiledTermLemmas.{sorted_fits}
-use Rattle.sort_terms.proofs.ScopeLemmas.{member_mapped}
 use Rattle.path_order.specs.declared.rule.Rule.{Rule}
 use Rattle.path_order.specs.declared.orient_fault.OrientFault.{OrientFault}
 use Rattle.path_order.specs.declared.orient_fault.OrientFault.TheVariants.{Unorientable, NoMemory}
@@ -119,7 +119,7 @@ pub equation_is_of : (flat : Flat) (i : ℕ) (equation : Equation) → IsSortedF
 equation_is_of flat i equation sorted within is =
     let at : slice_get flat.equations.items i ≡ Some equation = member_at flat.equations.items i equation within is in
     let plain : slice_get (map equation_of flat.equations.items) i ≡ Some (equation_of equation) =
-    member_mapped equation_of flat.equations.items i equation at in
+    at_map equation_of flat.equations.items i equation at in
     let is_of = sorted.sides i equation at in
     let one = sorted.data_.sides (equation_of equation) (i, plain) in
     let numbers = sorted.data_.numbers (equation_of equation) (i, plain) in
@@ -161,7 +161,7 @@ first_fault : (p : Precedence) (xs : List Equation) (x : Equation) (i : ℕ) (ru
     → IsFirstUnorientable p (map equation_of xs) i
 first_fault p xs x i rules within is so_far stuck = record {
   equation = equation_of x;
-  is_at = member_mapped equation_of xs i x (member_at xs i x within is);
+  is_at = at_map equation_of xs i x (member_at xs i x within is);
   unorientable = stuck;
   none_before = λ k earlier before at. given_orientable so_far k earlier (taken_at xs i k earlier before at);
 }

@@ -3,15 +3,11 @@ use Rattle.std.proofs.Common.{◌≡◌, ℕ, zero, suc, ◌+◌, ◌<◌, ◌�
 use Rattle.std.specs.Prelude.{Some, slice_get}
 use Rattle.std.specs.Str.{bytes_eq}
 use Rattle.std.proofs.lemmas.Option.{none-some, same_Some}
+use Rattle.lotos_base.proofs.Bytes.{bytes_same}
 use Rattle.lotos_base.specs.Names.{folded}
 use Rattle.sort_terms.specs.Positions.{positions_from}
-use Rattle.sort_terms.proofs.NameIndexLemmas.{key_eq}
 use Rattle.sort_terms.proofs.PositionLemmas.{one_if}
-use Rattle.sort_terms.proofs.PositionMembers.{position_is}
-
-above_first : (first : ℕ) (key : List ℕ) (names : List (List ℕ)) (j p : ℕ) → slice_get (positions_from first key names) j ≡ Some p
-    → first ≤ p
-above_first first key names j p found = let at = position_is first key names j p found in let is : p ≡ first + at.0 = at.2 in omega arith
+use Rattle.sort_terms.proofs.PositionMembers.{above_first}
 
 pub positions_rise : (first : ℕ) (key : List ℕ) (names : List (List ℕ)) (i j p q : ℕ)
     → slice_get (positions_from first key names) i ≡ Some p
@@ -37,7 +33,7 @@ pub place_there : (first : ℕ) (key : List ℕ) (names : List (List ℕ)) (i : 
     → key ≡ folded name → (j : ℕ) × (slice_get (positions_from first key names) j ≡ Some (first + i))
 place_there first key [] i name found is = absurd (none-some name found)
 place_there first key (one ∷ names) zero name found is =
-    let same : bytes_eq key (folded one) ≡ true = key_eq key (folded one) (is ∙ ap folded (sym (same_Some one name found))) in
+    let same : bytes_eq key (folded one) ≡ true = bytes_same key (folded one) (is ∙ ap folded (sym (same_Some one name found))) in
     let here : first ≡ first + 0 = omega arith in
     (0, ap (λ (b : Bool). slice_get (one_if b first ++ positions_from (suc first) key names) 0) same ∙ ap (λ (n : ℕ). Some n) here)
 place_there first key (one ∷ names) (suc i) name found is =

@@ -1,7 +1,7 @@
 -- The test of given rules.
 use Rattle.std.proofs.Common.{◌≡◌, ◌≢◌, ℕ, suc, List, [], ◌∷◌, Bool, true, false, nat_eq, refl, ap, ◌∙◌, inl, inr}
 use Rattle.std.specs.Prelude.{◌&&◌, ◌||◌, ◌⊎◌, if◌then◌else◌}
-use Rattle.std.proofs.lemmas.Bool.{and_parts}
+use Rattle.std.proofs.lemmas.Bool.{and_parts, or_cases, and_from, or_left, or_right}
 use Rattle.std.proofs.lemmas.Bool.Decides.{Decides-eqb}
 use Rattle.lotos_base.specs.Tests.{term_eq}
 use Rattle.lotos_base.specs.Equation.{Equation}
@@ -15,13 +15,6 @@ use Rattle.termination_theory.specs.PathOrder.{IsGreater}
 use Rattle.termination_theory.proofs.OrderLemmas.{greater_decided}
 use Rattle.termination_theory.proofs.OrientationLemmas.{unlike}
 use Rattle.path_order.specs.RuleTest.{is_turned_so, next_gives, gives_rules}
-
-or_parts : (x y : Bool) → (x || y) ≡ true → (x ≡ true) ⊎ (y ≡ true)
-or_parts true y e = inl refl
-or_parts false y e = inr e
-
-both : (x y : Bool) → x ≡ true → y ≡ true → (x && y) ≡ true
-both x y ex ey = λ i. ex i && ey i
 
 -- the rule is the equation in this direction
 turned_by : (direction : Direction) (equation : Equation) (rule : Rule)
@@ -37,7 +30,7 @@ turned_by direction equation rule e =
 test_of_turned : (direction : Direction) (equation : Equation) (rule : Rule) → IsTurned direction equation rule
     → (term_eq rule.left (old_side direction equation) && term_eq rule.right (new_side direction equation)) ≡ true
 test_of_turned direction equation rule turned =
-    both (term_eq rule.left (old_side direction equation)) (term_eq rule.right (new_side direction equation))
+    and_from (term_eq rule.left (old_side direction equation)) (term_eq rule.right (new_side direction equation))
     ((Decides-term_eq rule.left (old_side direction equation)).1 turned.left)
     ((Decides-term_eq rule.right (new_side direction equation)).1 turned.right)
 
@@ -47,7 +40,7 @@ turns_by_test p equation rule e =
     let forth = term_eq rule.left equation.left && term_eq rule.right equation.right in
     let back = term_eq rule.left equation.right && term_eq rule.right equation.left in
     let parts = and_parts (forth || back) (is_greater p rule.left rule.right) e in
-    go (or_parts forth back parts.0) ((greater_decided p rule.left rule.right).0 parts.1)
+    go (or_cases forth back parts.0) ((greater_decided p rule.left rule.right).0 parts.1)
   where
     go : ((term_eq rule.left equation.left && term_eq rule.right equation.right) ≡ true)
         ⊎ ((term_eq rule.left equation.right && term_eq rule.right equation.left) ≡ true)
@@ -55,25 +48,18 @@ turns_by_test p equation rule e =
     go (inl so) greater = (forward, record { turned = turned_by forward equation rule so; greater = greater })
     go (inr so) greater = (backward, record { turned = turned_by backward equation rule so; greater = greater })
 
-or_first : (x y : Bool) → x ≡ true → (x || y) ≡ true
-or_first x y e = ap (λ (b : Bool). b || y) e
-
-or_second : (x y : Bool) → y ≡ true → (x || y) ≡ true
-or_second true y e = refl
-or_second false y e = e
-
 test_of_turns : (p : Precedence) (direction : Direction) (equation : Equation) (rule : Rule) → TurnsToSmaller p direction equation rule
     → is_turned_so p equation rule ≡ true
 test_of_turns p forward equation rule turns =
-    both ((term_eq rule.left equation.left && term_eq rule.right equation.right)
+    and_from ((term_eq rule.left equation.left && term_eq rule.right equation.right)
     || (term_eq rule.left equation.right && term_eq rule.right equation.left)) (is_greater p rule.left rule.right)
-    (or_first (term_eq rule.left equation.left && term_eq rule.right equation.right)
+    (or_left (term_eq rule.left equation.left && term_eq rule.right equation.right)
     (term_eq rule.left equation.right && term_eq rule.right equation.left) (test_of_turned forward equation rule turns.turned))
     ((greater_decided p rule.left rule.right).1 turns.greater)
 test_of_turns p backward equation rule turns =
-    both ((term_eq rule.left equation.left && term_eq rule.right equation.right)
+    and_from ((term_eq rule.left equation.left && term_eq rule.right equation.right)
     || (term_eq rule.left equation.right && term_eq rule.right equation.left)) (is_greater p rule.left rule.right)
-    (or_second (term_eq rule.left equation.left && term_eq rule.right equation.right)
+    (or_right (term_eq rule.left equation.left && term_eq rule.right equation.right)
     (term_eq rule.left equation.right && term_eq rule.right equation.left) (test_of_turned backward equation rule turns.turned))
     ((greater_decided p rule.left rule.right).1 turns.greater)
 
@@ -116,6 +102,6 @@ given_passes {p = p} (turned_next {n = n} {equation = equation} {equations = equ
     rest) =
     ap (λ (b : Bool). if b then gives_rules p (suc n) equations (first ∷ rules)
     else next_gives p n equation (gives_rules p (suc n) equations) (first ∷ rules)) (differing equation ne)
-    ∙ both (nat_eq first.equation n && is_turned_so p equation first.rule) (gives_rules p (suc n) equations rules)
-    (both (nat_eq first.equation n) (is_turned_so p equation first.rule) ((Decides-eqb first.equation n).1 en)
+    ∙ and_from (nat_eq first.equation n && is_turned_so p equation first.rule) (gives_rules p (suc n) equations rules)
+    (and_from (nat_eq first.equation n) (is_turned_so p equation first.rule) ((Decides-eqb first.equation n).1 en)
     (test_of_turns p direction equation first.rule t)) (given_passes rest)

@@ -2,16 +2,16 @@
 use Rattle.std.proofs.Common.{◌≡◌, ℕ, zero, suc, ◌+◌, ◌<◌, ◌≤◌, List, [], ◌∷◌, length, get_or, drop, map, refl, ap, sym, ◌∙◌, subst, arith, Bool, true, false, ltb, ltb-true, ltb-false}
 use Rattle.std.specs.Prelude.{◌↔◌, Some, slice_get, IsTrue}
 use Rattle.std.proofs.Math.ListN.{drop_of_length-le}
-use Rattle.std.proofs.Math.Seq.{drop-cons}
 use Rattle.std.proofs.lemmas.List.{length-map}
 use Rattle.std.proofs.lemmas.Option.{same_Some, slice_get_within}
+use Rattle.lotos_base.proofs.Pieces.{next_member}
+use Rattle.lotos_base.proofs.Members.{at_map}
 use Rattle.lotos_base.specs.Name.{spelling}
 use Rattle.lotos_base.specs.declared.names.Name.{Name}
 use Rattle.lotos_base.specs.Names.{folded, AreOneName}
 use Rattle.lotos_base.specs.Signature.{Signature, Sort}
 use Rattle.sort_terms.specs.Operations.{sort_of}
 use Rattle.sort_terms.specs.declared.operations.Sort.{Sort as CodeSort}
-use Rattle.sort_terms.proofs.ScopeLemmas.{member_mapped}
 use Rattle.sort_terms.specs.Reading.{IsSortNamed}
 use Rattle.path_order.specs.Listed.{AreSortsNamed}
 
@@ -23,18 +23,13 @@ IsNamedIn sorts i name = (s : Sort) × (slice_get sorts i ≡ Some s) × AreOneN
 abbrev pub AreLeftNamed : Signature → List ℕ → List Name → ℕ → Type 0
 AreLeftNamed signature sorts names i = AreSortsNamed signature (drop i sorts) (map spelling (drop i names))
 
-opened : {A : Type 0} (xs : List A) (i : ℕ) (x : A) → i < length xs → x ≡ get_or xs i x → drop i xs ≡ x ∷ drop (i + 1) xs
-opened xs i x within is =
-    let next : suc i ≡ i + 1 = omega arith in
-    drop-cons xs i x within ∙ (λ j. sym is j ∷ drop (next j) xs)
-
 pub named_now : (signature : Signature) (sorts : List ℕ) (names : List Name) (i s : ℕ) (name : Name) → i < length sorts
     → i < length names → s ≡ get_or sorts i s → name ≡ get_or names i name
     → AreLeftNamed signature sorts names i ↔ (IsSortNamed signature s (spelling name) × AreLeftNamed signature sorts names (i + 1))
 named_now signature sorts names i s name in_sorts in_names s_is name_is =
     let P = λ (ss : List ℕ) (ns : List Name). AreSortsNamed signature ss (map spelling ns) in
-    let one = opened sorts i s in_sorts s_is in
-    let two = opened names i name in_names name_is in (
+    let one = next_member sorts i s in_sorts s_is in
+    let two = next_member names i name in_names name_is in (
       (λ h. subst (λ (ns : List Name). P (s ∷ drop (i + 1) sorts) ns) two (subst (λ (ss : List ℕ). P ss (drop i names)) one h)),
       (λ h. subst (λ (ss : List ℕ). P ss (drop i names)) (sym one)
           (subst (λ (ns : List Name). P (s ∷ drop (i + 1) sorts) ns) (sym two) h)),
@@ -60,7 +55,7 @@ pub sort_named_at : (sorts : List CodeSort) (i : ℕ) (x : CodeSort) (name : Lis
     → x ≡ get_or sorts i x → (IsTrue b ↔ AreOneName (spelling x.name) name) → IsTrue b ↔ IsNamedIn (map sort_of sorts) i name
 sort_named_at sorts i x name b some is same =
     let at : slice_get (map sort_of sorts) i ≡ Some (sort_of x) =
-    member_mapped sort_of sorts i x (sort_at sorts i x (ltb-true i (length sorts) (sym some)) is) in (
+    at_map sort_of sorts i x (sort_at sorts i x (ltb-true i (length sorts) (sym some)) is) in (
       (λ t. (sort_of x, at, same.0 t)),
       (λ there. same.1 (ap (λ (s : Sort). folded s.name) (same_Some (sort_of x) there.0 (sym at ∙ there.1)) ∙ there.2)),
     )

@@ -2,6 +2,8 @@
 use Rattle.std.proofs.Common.{◌≡◌, ℕ, zero, suc, Bool, true, false, nat_eq, refl, ap, sym, ◌∙◌}
 use Rattle.std.specs.Prelude.{Some, ◌&&◌, ◌||◌, nat_lt}
 use Rattle.std.specs.Option.{option_map}
+use Rattle.std.proofs.lemmas.Bool.{and_right, or_from}
+use Rattle.std.proofs.Math.Bool.{or-false, or_assoc}
 use Rattle.lotos_base.specs.Term.{Term, variable, node, Terms, no_terms, term_then}
 use Rattle.lotos_base.specs.Path.{argument_at}
 use Rattle.lotos_base.specs.Tests.{term_eq, terms_eq, occurs, occurs_among}
@@ -72,10 +74,6 @@ and_true : (b c : Bool) → c ≡ true → (b && c) ≡ b
 and_true true c e = e
 and_true false c e = refl
 
-and_false : (b c : Bool) → c ≡ false → (b && c) ≡ false
-and_false true c e = e
-and_false false c e = refl
-
 equals_of : (p : Precedence) (ts us : Terms) (g k : ℕ) (vs : Terms) → dropped k vs ≡ us → same_length ts us ≡ true
     → equals_in k (each_compared p ts (node g vs)) ≡ terms_eq ts us
 equals_of p no_terms no_terms g k vs e same = refl
@@ -97,19 +95,15 @@ unequal_lengths : (ts us : Terms) → same_length ts us ≡ false → terms_eq t
 unequal_lengths no_terms no_terms e = cc
 unequal_lengths no_terms (term_then u us) e = refl
 unequal_lengths (term_then t ts) no_terms e = refl
-unequal_lengths (term_then t ts) (term_then u us) e = and_false (term_eq t u) (terms_eq ts us) (unequal_lengths ts us e)
-
-or_false : (b c : Bool) → b ≡ false → c ≡ false → (b || c) ≡ false
-or_false true c e d = cc
-or_false false c e d = d
+unequal_lengths (term_then t ts) (term_then u us) e = and_right (term_eq t u) (terms_eq ts us) (unequal_lengths ts us e)
 
 no_length_exceeds : (p : Precedence) (ts us : Terms) → same_length ts us ≡ false → list_exceeds p from_left ts us ≡ false
 no_length_exceeds p no_terms us e = refl
 no_length_exceeds p (term_then t ts) no_terms e = refl
 no_length_exceeds p (term_then t ts) (term_then u us) e =
-    or_false (is_greater p t u && same_length ts us) (term_eq t u && list_exceeds p from_left ts us)
-    (and_false (is_greater p t u) (same_length ts us) e)
-    (and_false (term_eq t u) (list_exceeds p from_left ts us) (no_length_exceeds p ts us e))
+    or_from (is_greater p t u && same_length ts us) (term_eq t u && list_exceeds p from_left ts us)
+    (and_right (is_greater p t u) (same_length ts us) e)
+    (and_right (term_eq t u) (list_exceeds p from_left ts us) (no_length_exceeds p ts us e))
 
 and_under : (a b x y : Bool) → (b ≡ true → x ≡ y) → (b ≡ false → y ≡ false) → ((a && b) && x) ≡ (a && y)
 and_under true true x y held failed = held refl
@@ -144,16 +138,8 @@ greater_whole p f g ts us left =
 
 -- ---- Over a variable
 
-or_right_false : (b : Bool) → (b || false) ≡ b
-or_right_false true = refl
-or_right_false false = refl
-
-or_assoc : (a b c : Bool) → (a || (b || c)) ≡ ((a || b) || c)
-or_assoc true b c = refl
-or_assoc false b c = refl
-
 occurs_or_is : (p : Precedence) (t : Term) (n s : ℕ) → (term_eq t (variable n s) || is_greater p t (variable n s)) ≡ occurs n s t
-occurs_or_is p (variable m r) n s = or_right_false (nat_eq m n && nat_eq r s)
+occurs_or_is p (variable m r) n s = or-false (nat_eq m n && nat_eq r s)
 occurs_or_is p (node f ts) n s = refl
 
 pub some_over_variable : (p : Precedence) (ts : Terms) (n s : ℕ)
@@ -161,5 +147,5 @@ pub some_over_variable : (p : Precedence) (ts : Terms) (n s : ℕ)
 some_over_variable p no_terms n s = refl
 some_over_variable p (term_then t ts) n s =
     (λ i. term_eq t (variable n s) || (is_greater p t (variable n s) || some_over_variable p ts n s i))
-    ∙ or_assoc (term_eq t (variable n s)) (is_greater p t (variable n s)) (occurs_among n s ts)
+    ∙ sym (or_assoc (term_eq t (variable n s)) (is_greater p t (variable n s)) (occurs_among n s ts))
     ∙ ap (λ b. b || occurs_among n s ts) (occurs_or_is p t n s)

@@ -12,12 +12,14 @@ use Rattle.lotos_rows.specs.Words.{Optional, left_out, there}
 use Rattle.lotos_rows.specs.Names.{place_of, spelled}
 use Rattle.lotos_rows.specs.Behaviours.{IsSelection, selection, AreOperands, hiding, letting, choosing_values, choosing_gates, parallel_over_gates, inner_prefix, guarding, acting, offering, last_operand, before_sign, before_first, IsAtom, stopping, exiting, calling, in_brackets, IsBehaviour, grouped_operands}
 use Rattle.behaviour_semantics.specs.WellFormed.{Every}
+use Rattle.behaviour_semantics.proofs.RaisedDrafts.{every_map}
+use Rattle.behaviour_semantics.proofs.EveryLemmas.{every_front, every_back}
 use Rattle.scope_parts.specs.ScopeFault.{stands_before}
 use Rattle.scope_parts.specs.Order.{IsOneOf, StandWhollyBefore, InTurn, joined}
 use Rattle.scope_parts.specs.TermPlaces.{name_places, premiss_places}
 use Rattle.scope_parts.specs.PartPlaces.{exit_places, value_places, let_places, variable_places, choice_places, sign_places, SignFollows, offers_places, OffersFollowOn}
 use Rattle.scope_parts.specs.BehaviourPlaces.{test_places, behaviour_places, Follows}
-use Rattle.place_laws.proofs.TokenOrder.{At, Rises, Within, AllWithin, rises_front, rises_back, nothing_within, here_within, in_left, in_right, in_rest, both_within, more_within, joined_within, one_left, one_right, before_parts, before_first as before_rest, before_all, before_third, first_before, before_joined, nothing_after, nothing_before, in_front, rises_two, every_map, every_front, every_back, all_in_right}
+use Rattle.place_laws.proofs.TokenOrder.{At, Rises, Within, AllWithin, rises_front, rises_back, nothing_within, here_within, in_left, in_right, in_rest, both_within, more_within, joined_within, one_left, one_right, before_parts, before_first as before_rest, before_all, before_third, first_before, before_joined, nothing_after, nothing_before, in_front, rises_two, all_in_right}
 use Rattle.place_laws.proofs.TermPlaceLemmas.{optional_gates_in, optional_gates_rise, values_in, values_turn, premiss_in}
 use Rattle.place_laws.proofs.PartPlaceLemmas.{variables_in, variables_follow, exit_values_in, exit_values_turn, let_in, let_follows, offers_in, offers_follow_on, choices_in, choices_follow, parallel_sign_in, parallel_sign_follows, sign_in, sign_follows}
 

@@ -1,21 +1,23 @@
 -- The lists of gates in a text.
-use Rattle.std.proofs.Common.{refl, ap, sym, ◌≡◌, ◌≢◌, subst, ℕ, List, [], ◌∷◌, flat_map}
-use Rattle.place_laws.proofs.TokenOrder.{every_both, every_front, every_back}
+use Rattle.std.proofs.Common.{sym, ◌≡◌, ◌≢◌, subst, ℕ, List, [], ◌∷◌, flat_map}
 use Rattle.lotos_base.specs.WrittenTerm.{PlacedName}
 use Rattle.lotos_lexer.specs.declared.kinds.TheConstants.{COMMA}
 use Rattle.lotos_lexer.specs.declared.tokens.Token.{Token}
 use Rattle.syntax_trees.specs.WrittenBehaviour.{WrittenGateChoice, WrittenBehaviour}
-use Rattle.syntax_trees.specs.WrittenDefinition.{WrittenInner, WrittenInners, inner_item, process, no_inner, inner_then, list_of_inners, inners_of, WrittenSpecification}
+use Rattle.syntax_trees.specs.WrittenDefinition.{WrittenInner, WrittenInners, inner_item, process, no_inner, inner_then, inners_of, WrittenSpecification}
 use Rattle.syntax_trees.specs.TakenItems.{process_then as with_process, processes_of}
 use Rattle.syntax_trees.specs.Strength.{PlacedSign, strength_of, joined}
 use Rattle.syntax_trees.specs.Grouping.{IsGrouped, alone, split}
+use Rattle.syntax_trees.proofs.TakingItems.{listed-again}
 use Rattle.lotos_rows.specs.Words.{Separated, last, before_more, between}
 use Rattle.lotos_rows.specs.Names.{AreNames, AreWrittenGates}
 use Rattle.lotos_rows.specs.Behaviours.{gate_choices_among, AreGateChoicesAmong, among, AreGateChoices, gate_choices, before_first, AreOperands, hiding, letting, choosing_values, choosing_gates, parallel_over_gates, inner_prefix, guarding, acting, offering, last_operand, before_sign, IsAtom, stopping, exiting, calling, in_brackets, IsBehaviour, grouped_operands}
 use Rattle.lotos_rows.specs.Definitions.{IsProcess, a_process, IsWhere, no_where, a_where, AreInner, no_more_inner, item_then, process_then}
 use Rattle.lotos_rows.specs.Starts.{IsWrittenSpecification, a_specification}
 use Rattle.behaviour_semantics.specs.WellFormed.{Every}
+use Rattle.behaviour_semantics.proofs.EveryLemmas.{every_front, every_back}
 use Rattle.scope_parts.specs.GateLists.{HaveGates, HasGateLists, InnerHasGateLists, InnersHaveGateLists, TextHasGateLists}
+use Rattle.scope_parts.proofs.FormedDefinitions.{every_both}
 use Rattle.place_laws.specs.ReadGateLists.{ReadTextsHaveGateLists, GateListsStay}
 
 -- ---- Lists
@@ -130,13 +132,9 @@ mutual
   inners_keep no_inner have = tt
   inners_keep (inner_then first others) have = first_keeps first (processes_of others) have.0 (inners_keep others have.1)
 
-listed_again : (inners : WrittenInners) → inners_of (list_of_inners inners) ≡ inners
-listed_again no_inner = refl
-listed_again (inner_then inner inners) = ap (λ (rest : WrittenInners). inner_then inner rest) (listed_again inners)
-
 pub gate_lists_stay : GateListsStay
 gate_lists_stay tree has = (
   has.0,
-  subst (λ (inners : WrittenInners). InnersHaveGateLists inners) (sym (listed_again (processes_of (inners_of tree.inner))))
+  subst (λ (inners : WrittenInners). InnersHaveGateLists inners) (sym (listed-again (processes_of (inners_of tree.inner))))
       (inners_keep (inners_of tree.inner) has.1),
 )

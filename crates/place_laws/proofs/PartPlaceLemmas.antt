@@ -19,7 +19,8 @@ use Rattle.scope_parts.specs.Choices.{placed_choices}
 use Rattle.scope_parts.specs.Order.{IsOneOf, StandWhollyBefore, Rising, InTurn, joined}
 use Rattle.scope_parts.specs.TermPlaces.{name_places, term_places}
 use Rattle.scope_parts.specs.PartPlaces.{sort_places, variable_places, SortsFollow, VariablesFollow, exit_value_places, exit_places, binding_places, bindings_places, let_places, LetFollows, offer_places, offered_places, offers_places, OfferFollows, OffersInTurn, OffersFollowOn, choice_places, AmongFollow, ChoicesFollow, sign_places, SignFollows}
-use Rattle.place_laws.proofs.TokenOrder.{Rises, Within, AllWithin, rises_front, rises_back, nothing_within, here_within, in_left, in_right, in_rest, both_within, more_within, joined_within, before_parts, before_all, nothing_after, rising_both, every_both, all_in_left, all_in_right, all_in_rest}
+use Rattle.scope_parts.proofs.FormedDefinitions.{every_both}
+use Rattle.place_laws.proofs.TokenOrder.{Rises, Within, AllWithin, rises_front, rises_back, nothing_within, here_within, in_left, in_right, in_rest, both_within, more_within, joined_within, before_parts, before_all, nothing_after, rising_both, all_in_left, all_in_right, all_in_rest}
 use Rattle.place_laws.proofs.TermPlaceLemmas.{names_in, names_rise, optional_names_in, optional_names_rise, gates_in, gates_rise, term_in}
 
 -- ---- variables

@@ -11,10 +11,12 @@ use Rattle.lotos_rows.specs.Names.{place_of, named, a_name, AreNames, AreOptiona
 use Rattle.lotos_rows.specs.Terms.{of_sort, infix_term, applied, IsTerm, grouped_factors, AreFactors, one_factor, more_factors, IsFactor, without_sort, with_sort, IsBase, without_arguments, with_arguments, bracketed, AreTerms, one_term, more_terms, AreArguments, no_arguments, some_arguments}
 use Rattle.lotos_rows.specs.Equations.{IsPremiss, true_term, equal_terms}
 use Rattle.behaviour_semantics.specs.WellFormed.{Every}
+use Rattle.behaviour_semantics.proofs.RaisedDrafts.{every_map}
+use Rattle.behaviour_semantics.proofs.EveryLemmas.{every_front, every_back}
 use Rattle.scope_parts.specs.Order.{IsOneOf, Rising, InTurn}
 use Rattle.scope_parts.specs.TermPlaces.{name_places, term_places, terms_places, premiss_places}
 use Rattle.scope_parts.specs.PartPlaces.{value_places}
-use Rattle.place_laws.proofs.TokenOrder.{At, Rises, Within, AllWithin, rises_front, rises_back, nothing_within, here_within, in_left, in_right, in_rest, both_within, more_within, before_parts, before_all, every_map, every_front, every_back, all_in_left, all_in_right, all_in_rest}
+use Rattle.place_laws.proofs.TokenOrder.{At, Rises, Within, AllWithin, rises_front, rises_back, nothing_within, here_within, in_left, in_right, in_rest, both_within, more_within, before_parts, before_all, all_in_left, all_in_right, all_in_rest}
 
 -- ---- names
 

@@ -1,5 +1,5 @@
 -- The places of definitions in texts.
-use Rattle.std.proofs.Common.{◌≡◌, ℕ, List, [], ◌∷◌, ◌++◌, refl, ap, sym, subst, inl, inr}
+use Rattle.std.proofs.Common.{ℕ, List, [], ◌∷◌, ◌++◌, sym, subst, inl, inr}
 use Rattle.std.specs.Prelude.{◌⊎◌, Option}
 use Rattle.scope_parts.proofs.OrderLemmas.{before_both, both_before, in_either}
 use Rattle.lotos_base.specs.Equation.{Place}
@@ -8,8 +8,9 @@ use Rattle.lotos_lexer.specs.declared.kinds.TheConstants.{LEFT_PARENTHESIS, RIGH
 use Rattle.lotos_lexer.specs.declared.tokens.Token.{Token}
 use Rattle.syntax_trees.specs.WrittenVariable.{WrittenVariable}
 use Rattle.syntax_trees.specs.WrittenBehaviour.{WrittenBehaviour}
-use Rattle.syntax_trees.specs.WrittenDefinition.{WrittenHeading, WrittenInner, WrittenInners, inner_item, process, no_inner, inner_then, inners_of, list_of_inners, WrittenSpecification}
+use Rattle.syntax_trees.specs.WrittenDefinition.{WrittenHeading, WrittenInner, WrittenInners, inner_item, process, no_inner, inner_then, inners_of, WrittenSpecification}
 use Rattle.syntax_trees.specs.TakenItems.{processes_of, without_items}
+use Rattle.syntax_trees.proofs.TakingItems.{listed-again}
 use Rattle.lotos_rows.specs.Words.{Optional, left_out, there, Between, between}
 use Rattle.lotos_rows.specs.Names.{AreNames}
 use Rattle.lotos_rows.specs.Definitions.{IsWrittenFunctionality, no_exit, exit_of, IsHeading, heading, IsProcess, a_process, IsWhere, no_where, a_where, AreInner, no_more_inner, item_then, process_then}
@@ -300,10 +301,6 @@ kept_follow (inner_then (process head body inner) others) h = (
   kept_follow others h.2,
 )
 
-listed_back : (inners : WrittenInners) → inners_of (list_of_inners inners) ≡ inners
-listed_back no_inner = refl
-listed_back (inner_then first others) = ap (λ rest. inner_then first rest) (listed_back others)
-
 abbrev RisesWith : WrittenSpecification → WrittenInners → Type 0
 RisesWith tree inners =
     InTurn (definition_places tree.heading tree.body ∷ inners_places inners ∷ []) × DefinitionFollows tree.heading tree.body
@@ -313,7 +310,7 @@ pub places_stay : (tree : WrittenSpecification) → PlacesRise tree → PlacesRi
 places_stay tree h =
     let inners = inners_of tree.inner in
     let places = definition_places tree.heading tree.body in
-    subst (λ (own : WrittenInners). RisesWith tree own) (sym (listed_back (processes_of inners))) (
+    subst (λ (own : WrittenInners). RisesWith tree own) (sym (listed-again (processes_of inners))) (
       two_turn places (inners_places (processes_of inners))
           (sub_before places places (inners_places (processes_of inners)) (inners_places inners) (same_sub places) (kept_places inners)
           h.0.0.0),

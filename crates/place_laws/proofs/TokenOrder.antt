@@ -8,6 +8,7 @@ use Rattle.lotos_rows.specs.Names.{place_of}
 use Rattle.scope_parts.specs.ScopeFault.{stands_before}
 use Rattle.behaviour_semantics.specs.WellFormed.{Every}
 use Rattle.scope_parts.specs.Order.{IsOneOf, StandWhollyBefore, Rising, InTurn, joined}
+use Rattle.scope_parts.proofs.FormedDefinitions.{every_both}
 
 -- The place is that of one of the tokens.
 abbrev pub At : Place → List Token → Type 0
@@ -142,22 +143,6 @@ pub before_third : (ps qs : List Place) (xs ys zs : List Token) → Rises (xs ++
 before_third ps qs xs ys zs h one other p q here there = apart_third xs ys zs h p q (one p here) (other q there)
 
 -- ---- lists of parts
-
-pub every_map : {X : Type 0} (P Q : X → Type 0) → ((x : X) → P x → Q x) → (xs : List X) → Every P xs → Every Q xs
-every_map P Q onward [] all = tt
-every_map P Q onward (x ∷ xs) all = (onward x all.0, every_map P Q onward xs all.1)
-
-pub every_both : {X : Type 0} (P : X → Type 0) (xs ys : List X) → Every P xs → Every P ys → Every P (xs ++ ys)
-every_both P [] ys first second = second
-every_both P (x ∷ xs) ys first second = (first.0, every_both P xs ys first.1 second)
-
-pub every_front : {X : Type 0} (P : X → Type 0) (xs ys : List X) → Every P (xs ++ ys) → Every P xs
-every_front P [] ys all = tt
-every_front P (x ∷ xs) ys all = (all.0, every_front P xs ys all.1)
-
-pub every_back : {X : Type 0} (P : X → Type 0) (xs ys : List X) → Every P (xs ++ ys) → Every P ys
-every_back P [] ys all = all
-every_back P (x ∷ xs) ys all = every_back P xs ys all.1
 
 -- each of the parts is within the tokens
 abbrev pub AllWithin : List (List Place) → List Token → Type 0

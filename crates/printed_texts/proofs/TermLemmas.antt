@@ -1,4 +1,4 @@
-use Rattle.std.proofs.Common.{rules, ◌≡◌, ℕ, suc, List, [], ◌∷◌, ◌++◌, ◌||◌, Bool, true, false, not, nat_eq, codes, map, length, get_or, slice_get, Some, refl, sym, ◌∙◌, ap, append_assoc, arith}
+use Rattle.std.proofs.Common.{◌≡◌, ℕ, suc, List, [], ◌∷◌, ◌++◌, ◌||◌, Bool, true, false, not, nat_eq, codes, map, length, get_or, slice_get, Some, refl, sym, ◌∙◌, ap, append_assoc, arith}
 use Rattle.std.proofs.lemmas.List.{append-nil}
 use Rattle.std.specs.Prelude.{Vec}
 use Rattle.std.specs.declared.rc.Rc.{Rc}
@@ -8,12 +8,13 @@ use Rattle.lotos_base.specs.Twins.{has_twin}
 use Rattle.sort_terms.specs.Operations.{operation_of}
 use Rattle.sort_terms.specs.SignatureView.{signature_of}
 use Rattle.sort_terms.specs.EquationView.{variable_of}
-use Rattle.sort_terms.specs.TermView.{term_of, terms_of, profiled_of, all_profiled}
-use Rattle.sort_terms.specs.ProfiledTerm.{profiled_node, bare}
+use Rattle.sort_terms.specs.TermView.{term_of, terms_of}
+use Rattle.sort_terms.specs.ProfiledTerm.{bare}
 use Rattle.sort_terms.specs.declared.equations.Variable.{Variable}
 use Rattle.sort_terms.specs.declared.operations.Op.{Op}
 use Rattle.sort_terms.specs.declared.signatures.Signature.{Signature as KeptSignature}
-use Rattle.sort_terms.specs.declared.terms.Term.{Term, Node as TermNode, the_lemmas as term_lemmas}
+use Rattle.sort_terms.specs.declared.terms.Term.{Term, Node as TermNode}
+use Rattle.sort_terms.proofs.BuiltLists.{profiled_Node}
 use Rattle.printed_texts.proofs.BracketLemmas.{closed_text}
 use Rattle.printed_texts.specs.Brackets.{bracketed, round, opening, closed, commas}
 use Rattle.printed_texts.specs.TermText.{Phrase, phrase_text, phrase_of, phrases_of, operand_text, operator_text, arguments_text, prefix_phrase, infix_phrase, application_phrase, node_phrase, between_text, of_text, shown}
@@ -148,16 +149,11 @@ node_before s names number op ts operand found before =
     ∙ ap (shown operand) (before_is (signature_of s) (operation_of op) (operation_of op).form (phrases_in s names ts) same)
     ∙ shown_before operand (signature_of s) (operation_of op) (phrases_in s names ts)
 
--- an operation with its arguments
-profiled_of-Node : (f : ℕ) (profile : Rc Op Global) (ts : Vec Term Global)
-    → profiled_of (TermNode f profile ts) ≡ profiled_node f (operation_of profile.value) (all_profiled ts.items)
-profiled_of-Node f profile ts = search (rules, term_lemmas)
-
 pub node_is :
     (s : KeptSignature) (names : List Variable) (f : ℕ) (profile : Rc Op Global) (ts : Vec Term Global) →
     phrase_in s names (TermNode f profile ts)
     ≡ node_phrase (signature_of s) (slice_get (signature_of s).operations f) (phrases_in s names ts.items)
-node_is s names f profile ts = ap (λ t. phrase_of (signature_of s) (map variable_of names) (bare t)) (profiled_of-Node f profile ts)
+node_is s names f profile ts = ap (λ t. phrase_of (signature_of s) (map variable_of names) (bare t)) (profiled_Node f profile ts)
 
 -- whether a list has members, by its length
 pub empty_list : {X : Type 0} (xs : List X) (number : ℕ) → number ≡ length xs → not (nat_eq number 0) ≡ false → xs ≡ []

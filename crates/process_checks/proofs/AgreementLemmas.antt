@@ -1,7 +1,8 @@
 -- Lists of sorts that are the same, and what is wrong where they are not.
-use Rattle.std.proofs.Common.{◌≡◌, ◌≢◌, ◌<◌, ◌+◌, ◌↔◌, ℕ, List, [], ◌∷◌, drop, length, get_or, nat_eq, ◌&&◌, Bool, true, false, if◌then◌else◌, None, Some, refl, ap, sym, ◌∙◌, eqb-true, arith, add-one}
+use Rattle.std.proofs.Common.{◌≡◌, ◌≢◌, ◌<◌, ◌+◌, ◌↔◌, ℕ, List, [], ◌∷◌, drop, length, get_or, nat_eq, ◌&&◌, Bool, true, false, if◌then◌else◌, None, Some, refl, ap, sym, ◌∙◌, eqb-true, add-one}
 use Rattle.std.proofs.Math.Seq.{drop-cons}
 use Rattle.std.proofs.lemmas.Option.{same_Some}
+use Rattle.std.proofs.lemmas.Bool.{eq-eqb}
 use Rattle.lotos_base.specs.declared.places.Place.{Place}
 use Rattle.process_checks.specs.Functionality.{Functionality, Disagreement, are_same, at_sign}
 use Rattle.process_checks.specs.FunctionalityLaws.{SignsAgree, DefinitionsAgree}
@@ -16,12 +17,9 @@ same_lists (s ∷ ss) (t ∷ ts) h = by (nat_eq s t) refl (same_lists ss ts) h
     by true here rest h = ap (λ (n : ℕ). n ∷ ss) (eqb-true s t here) ∙ ap (λ (ns : List ℕ). t ∷ ns) (rest h)
     by false here rest h = let f : false ≡ true = h in absurd (cc f)
 
-same_number : (n : ℕ) → nat_eq n n ≡ true
-same_number n = grind arith
-
 pub same_list : (ss : List ℕ) → are_same ss ss ≡ true
 same_list [] = refl
-same_list (s ∷ ss) = ap (λ (b : Bool). b && are_same ss ss) (same_number s) ∙ same_list ss
+same_list (s ∷ ss) = ap (λ (b : Bool). b && are_same ss ss) (eq-eqb s s refl) ∙ same_list ss
 
 -- Lists of other lengths are not the same.
 pub other_lengths : (ss ts : List ℕ) → length ss ≢ length ts → are_same ss ts ≡ false

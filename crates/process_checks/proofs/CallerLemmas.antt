@@ -2,10 +2,11 @@
 use Rattle.std.proofs.Common.{◌≡◌, ◌≢◌, ◌<◌, ◌≤◌, ◌⊎◌, inl, inr, ℕ, zero, suc, ◌+◌, List, [], ◌∷◌, ◌++◌, replicate, length, length-set, slice_get, Some, refl, ap, sym, ◌∙◌, subst, arith}
 use Rattle.std.proofs.lemmas.List.{get_or-set_same, get_or-set_other, get_or-replicate, length-replicate}
 use Rattle.std.proofs.lemmas.Option.{same_Some, none-some}
+use Rattle.lotos_base.proofs.Members.{at_front}
 use Rattle.process_checks.specs.Graph.{calls_at}
 use Rattle.process_checks.specs.Ways.{AreCallers, Calls, IsListed}
 use Rattle.process_checks.specs.Distances.{with_caller, with_calls}
-use Rattle.process_checks.proofs.ListLemmas.{same_or_other, in_longer, stays, stands_last}
+use Rattle.process_checks.proofs.ListLemmas.{same_or_other, in_longer, stands_last}
 
 -- One caller more.
 long_with_caller : (caller process : ℕ) (callers : List (List ℕ)) → length (with_caller caller process callers) ≡ length callers
@@ -31,7 +32,7 @@ there_then caller process other x callers calls = by (same_or_other other proces
           calls.0,
           ap (λ (n : ℕ). slice_get (calls_at (with_caller caller process callers) n) calls.0) same
               ∙ ap (λ (ns : List ℕ). slice_get ns calls.0) e
-              ∙ stays (calls_at callers process) (caller ∷ []) calls.0 x
+              ∙ at_front (calls_at callers process) (caller ∷ []) calls.0 x
               (ap (λ (n : ℕ). slice_get (calls_at callers n) calls.0) (sym same) ∙ calls.1),
         )
     by (inr apart) = (

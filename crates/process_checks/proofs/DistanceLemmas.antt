@@ -2,13 +2,14 @@
 use Rattle.std.proofs.Common.{◌≡◌, ◌≢◌, ◌<◌, ◌≤◌, ◌⊎◌, inl, inr, ℕ, zero, suc, ◌+◌, List, [], ◌∷◌, ◌++◌, set, length, length-set, length-append, slice_get, Option, None, Some, refl, ap, sym, ◌∙◌, subst, arith}
 use Rattle.std.proofs.lemmas.List.{get_or-set_same, get_or-set_other, length-replicate}
 use Rattle.std.proofs.lemmas.Option.{same_Some, none-some}
+use Rattle.lotos_base.proofs.Members.{at_front}
 use Rattle.process_checks.specs.Distances.{Reach, reach_of, marked, marked_by, all_marked, callers_marked, far_ones, none_known}
 use Rattle.process_checks.specs.Graph.{calls_at}
 use Rattle.process_checks.specs.Ways.{AreCallers, AreDistances, Calls, IsListed, IsWay, distance_in}
-use Rattle.process_checks.proofs.ListLemmas.{same_or_other, within, in_longer, stays, stands_last}
+use Rattle.process_checks.proofs.ListLemmas.{same_or_other, within, in_longer, stands_last}
 use Rattle.process_checks.proofs.WayLemmas.{calls_within}
 
--- From one reach to a later one at a level: what is known stays, what is new is of the level, has a way of this many calls,
+-- From one reach to a later one at a level: what is known at_front, what is new is of the level, has a way of this many calls,
 -- and is listed.
 pub record AreMore (graph : List (List ℕ)) (to level : ℕ) (before after : Reach) : Type 0 where
   pub sized : length after.distances ≡ length before.distances
@@ -126,7 +127,7 @@ module _ (graph : List (List ℕ)) (to level q : ℕ) (r : Reach) (way : IsWay g
     sized = length-set r.distances q (Some level);
     kept = kept_put;
     new = new_put;
-    still = λ p h. (h.0, stays r.level_listed (q ∷ []) h.0 p h.1);
+    still = λ p h. (h.0, at_front r.level_listed (q ∷ []) h.0 p h.1);
     near = near_put;
     count =
         let longer : length (r.level_listed ++ q ∷ []) ≡ length r.level_listed + 1 = length-append r.level_listed (q ∷ []) in

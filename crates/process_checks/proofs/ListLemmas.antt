@@ -25,12 +25,7 @@ in_longer (z ∷ xs) y (suc i) x at = later (in_longer xs y i x at)
     later (inl h) = inl h
     later (inr h) = inr (ap suc h.0, h.1)
 
--- Entries stay where one is appended, which stands last.
-pub stays : {X : Type 0} (xs ys : List X) (i : ℕ) (x : X) → slice_get xs i ≡ Some x → slice_get (xs ++ ys) i ≡ Some x
-stays [] ys i x at = absurd (none-some x at)
-stays (z ∷ xs) ys zero x at = at
-stays (z ∷ xs) ys (suc i) x at = stays xs ys i x at
-
+-- An entry that is appended stands last.
 pub stands_last : {X : Type 0} (xs : List X) (y : X) → slice_get (xs ++ y ∷ []) (length xs) ≡ Some y
 stands_last [] y = refl
 stands_last (z ∷ xs) y = stands_last xs y

@@ -2,12 +2,14 @@
 use Rattle.std.proofs.Common.{◌≡◌, ◌≢◌, ◌<◌, ◌≤◌, ◌⊎◌, inl, inr, ℕ, zero, suc, ◌+◌, List, [], ◌∷◌, ◌++◌, set, replicate, map, length, length-append, length-set, get_or, slice_get, Some, refl, ap, sym, ◌∙◌, subst, arith}
 use Rattle.std.proofs.lemmas.List.{get_or-set_same, get_or-set_other, get_or-replicate, get_or_past, length-replicate, length-map}
 use Rattle.std.proofs.lemmas.Option.{none-some, slice_get_within}
+use Rattle.std.proofs.lemmas.Bool.{cases_lt}
+use Rattle.lotos_base.proofs.Members.{at_front}
 use Rattle.process_checks.specs.Graph.{IsCallAt}
 use Rattle.process_checks.specs.Ways.{Calls, IsListed, CallsHaveCycle, RanksOf}
 use Rattle.process_checks.specs.Search.{status_at, IsRanked, new_ones, rank_of, CallsReach, IsSearch}
 use Rattle.process_checks.specs.declared.search.Status.{Status}
 use Rattle.process_checks.specs.declared.search.Status.TheVariants as status
-use Rattle.process_checks.proofs.ListLemmas.{same_or_other, within, in_longer, stays, stands_last}
+use Rattle.process_checks.proofs.ListLemmas.{same_or_other, within, in_longer, stands_last}
 use Rattle.process_checks.proofs.WayLemmas.{way_further, calls_within}
 
 -- The statuses after one is set.
@@ -28,19 +30,15 @@ all_new_ones : (n : ℕ) → new_ones (replicate n status.New) ≡ n
 all_new_ones zero = refl
 all_new_ones (suc n) = ap suc (all_new_ones n)
 
--- one of two: below a number or not
-pub below_or_past : (p n : ℕ) → (p < n) ⊎ (n ≤ p)
-below_or_past p n = grind arith
-
 ranked_first : (n p rank : ℕ) → status_at (replicate n status.New) p ≡ status.Ranked rank → (n ≤ p) × (rank ≡ 0)
-ranked_first n p rank is = by (below_or_past p n)
+ranked_first n p rank is = by (cases_lt p n)
   where
     by : (p < n) ⊎ (n ≤ p) → (n ≤ p) × (rank ≡ 0)
     by (inl there) = let new : _ ≡ _ = all_new n p there in absurd (cc (new, is))
     by (inr past) = let old : _ ≡ _ = not_new n p past in (past, cc (old, is))
 
 open_never : (n p position : ℕ) → status_at (replicate n status.New) p ≡ status.Open position → ⊥
-open_never n p position is = by (below_or_past p n)
+open_never n p position is = by (cases_lt p n)
   where
     by : (p < n) ⊎ (n ≤ p) → ⊥
     by (inl there) = let new : _ ≡ _ = all_new n p there in absurd (cc (new, is))
@@ -188,7 +186,7 @@ module _ (graph : List (List ℕ)) (statuses : List Status) (chain : List ℕ) (
       by (inl same) = (length chain, stands_last chain q ∙ ap (λ (n : ℕ). Some n) (sym same))
       by (inr apart) =
           let h : IsListed chain p = s.waiting p position (sym (set_there statuses q p (status.Open 0) apart) ∙ is) in
-          (h.0, stays chain (q ∷ []) h.0 p h.1)
+          (h.0, at_front chain (q ∷ []) h.0 p h.1)
 
   not_on_chain : (i : ℕ) → slice_get chain i ≡ Some q → ⊥
   not_on_chain i at =
@@ -260,7 +258,7 @@ module _ (graph : List (List ℕ)) (statuses : List Status) (chain : List ℕ) (
       (h.0, (ranked_on other h.0 h.1.0, h.1.1))
 
   earlier_or_not : (j : ℕ) → (j < i) ⊎ (i ≤ j)
-  earlier_or_not j = below_or_past j i
+  earlier_or_not j = cases_lt j i
 
   settled_on : (q position j other : ℕ) → status_at moved q ≡ status.Open position → j < position → IsCallAt graph q j other
       → IsRanked moved other
@@ -380,13 +378,13 @@ module _ (graph : List (List ℕ)) (statuses : List Status) (rest : List ℕ) (n
   not_p : (j q : ℕ) → slice_get rest j ≡ Some q → q ≢ p
   not_p j q at same =
       let e : j ≡ length rest =
-      s.distinct j (length rest) q (stays rest (p ∷ []) j q at) (stands_last rest p ∙ ap (λ (n : ℕ). Some n) (sym same)) in
+      s.distinct j (length rest) q (at_front rest (p ∷ []) j q at) (stands_last rest p ∙ ap (λ (n : ℕ). Some n) (sym same)) in
       let w : j < length rest = slice_get_within rest j q at in
       absurd (omega (arith, e, w))
 
   opened_yet : (j q : ℕ) → slice_get rest j ≡ Some q → (position : ℕ) × (status_at closed_ q ≡ status.Open position)
   opened_yet j q at =
-      let h : (position : ℕ) × (status_at statuses q ≡ status.Open position) = s.opened j q (stays rest (p ∷ []) j q at) in
+      let h : (position : ℕ) × (status_at statuses q ≡ status.Open position) = s.opened j q (at_front rest (p ∷ []) j q at) in
       (h.0, set_there statuses p q (status.Ranked next) (not_p j q at) ∙ h.1)
 
   waiting_yet : (q position : ℕ) → status_at closed_ q ≡ status.Open position → IsListed rest q
@@ -409,8 +407,8 @@ module _ (graph : List (List ℕ)) (statuses : List Status) (rest : List ℕ) (n
     settled = settled_yet;
     opened = opened_yet;
     waiting = waiting_yet;
-    distinct = λ j k q at_j at_k. s.distinct j k q (stays rest (p ∷ []) j q at_j) (stays rest (p ∷ []) k q at_k);
-    linked = λ j k q other le at_j at_k. s.linked j k q other le (stays rest (p ∷ []) j q at_j) (stays rest (p ∷ []) k other at_k);
+    distinct = λ j k q at_j at_k. s.distinct j k q (at_front rest (p ∷ []) j q at_j) (at_front rest (p ∷ []) k q at_k);
+    linked = λ j k q other le at_j at_k. s.linked j k q other le (at_front rest (p ∷ []) j q at_j) (at_front rest (p ∷ []) k other at_k);
     room =
         let longer : length (rest ++ p ∷ []) ≡ length rest + 1 = length-append rest (p ∷ []) in
         let same : new_ones (set statuses p (status.Ranked next)) ≡ new_ones statuses =

@@ -1,6 +1,7 @@
 -- The steps of the walk that gives ranks, as the code takes them.
 use Rattle.std.proofs.Common.{◌≡◌, ◌≢◌, ◌<◌, ◌≤◌, ◌⊎◌, inl, inr, ℕ, suc, ◌+◌, List, [], ◌∷◌, ◌++◌, set, map, replicate, length, length-append, slice_get, Some, refl, ap, sym, ◌∙◌, subst, arith}
 use Rattle.std.proofs.lemmas.Option.{none-some, slice_get_within}
+use Rattle.std.proofs.lemmas.Bool.{cases_lt}
 use Rattle.process_checks.specs.Graph.{IsCallAt}
 use Rattle.process_checks.specs.Ways.{CallsHaveCycle, RanksOf}
 use Rattle.process_checks.specs.Search.{status_at, IsRanked, new_ones, position_of, rank_of, CallsReach, IsSearch, IsLatest, IsPending, IsSoundSearch, left_in, AreKept, IsStep, IsRoundFrom}
@@ -10,7 +11,7 @@ use Rattle.process_checks.specs.declared.search.Status.{Status}
 use Rattle.process_checks.specs.declared.search.Status.TheVariants as status
 use Rattle.process_checks.proofs.ListLemmas.{same_or_other, stands_last}
 use Rattle.process_checks.proofs.WayLemmas.{reaches_further}
-use Rattle.process_checks.proofs.SearchLemmas.{begun_search, ranks_fall, entered, saved, closed, open_call, set_here, set_there, open_not_new, ranked_not_new, new_not_open, new_not_ranked, unranked_within, one_less_new, as_many_new, below_or_past}
+use Rattle.process_checks.proofs.SearchLemmas.{begun_search, ranks_fall, entered, saved, closed, open_call, set_here, set_there, open_not_new, ranked_not_new, new_not_open, new_not_ranked, unranked_within, one_less_new, as_many_new}
 
 -- The latest process of a chain is open.
 latest_open : (graph : List (List ℕ)) (statuses : List Status) (rest : List ℕ) (next p : ℕ)
@@ -141,7 +142,7 @@ ranked graph before after p s latest settled_from statuses_are chain_was next_is
     open_ = latest_open graph before.statuses.items after.chain.items before.next p here
 
     all_settled : (j other : ℕ) → IsCallAt graph p j other → IsRanked before.statuses.items other
-    all_settled j other at = by (below_or_past j open_.0)
+    all_settled j other at = by (cases_lt j open_.0)
       where
         by : (j < open_.0) ⊎ (open_.0 ≤ j) → IsRanked before.statuses.items other
         by (inl early) = s.settled p open_.0 j other open_.1 early at

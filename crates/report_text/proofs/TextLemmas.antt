@@ -1,17 +1,8 @@
 -- Texts that are written piece by piece, and the texts of parts.
-use Rattle.std.proofs.Common.{◌≡◌, ◌++◌, ℕ, List, ap, ◌∙◌, append_assoc}
+use Rattle.std.proofs.Common.{◌≡◌, ◌++◌, ℕ, List, ap, ◌∙◌}
 use Rattle.lotos_base.specs.Equation.{Variable}
 use Rattle.behaviour_semantics.specs.Behaviour.{Behaviour}
 use Rattle.printed_texts.specs.BehaviourText.{Naming, behaviour_text, unit_text}
-
--- two and three pieces one behind another
-pub two_pieces : (start mid end first second : List ℕ) → mid ≡ start ++ first → end ≡ mid ++ second → end ≡ start ++ (first ++ second)
-two_pieces start mid end first second m e = e ∙ (ap (λ (xs : List ℕ). xs ++ second) m ∙ append_assoc start first second)
-
-pub three_pieces : (start one two end first second third : List ℕ) → one ≡ start ++ first → two ≡ one ++ second → end ≡ two ++ third
-    → end ≡ start ++ (first ++ second ++ third)
-three_pieces start one two end first second third o t e =
-    two_pieces start two end (first ++ second) third (two_pieces start one two first second o t) e
 
 -- the text of a part, where the behaviour and the variables in scope are known by equations
 pub part_text : (naming : Naming) (mid end : List ℕ) (names known : List Variable) (b c : Behaviour) → names ≡ known → b ≡ c

@@ -183,3 +183,9 @@ first_unjoined_once rules pairs n m t u v w well one two =
       chosen_one well (subst (λ (p : CriticalPair). Chosen rules p.left t) pair one.unjoined.is_left) two.unjoined.is_left,
       chosen_one well (subst (λ (p : CriticalPair). Chosen rules p.right u) pair one.unjoined.is_right) two.unjoined.is_right,
     )
+
+pub decided : (rules : List Rule) (pairs : List CriticalPair) → AreWellFormedRules rules → Terminates rules → AreCriticalPairs rules pairs
+    → NoneUnjoined rules pairs ⊎ SomeUnjoined rules pairs → AreConfluent rules ⊎ (¬ AreConfluent rules)
+decided rules pairs well ends are (inl none) = inl (none_unjoined_confluent rules pairs well ends are none)
+decided rules pairs well ends are (inr (number, left, right, first)) =
+    inr (unjoined_not_confluent rules first.pair left right well (are.critical number first.pair first.is_pair) first.unjoined)

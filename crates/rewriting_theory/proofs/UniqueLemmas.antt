@@ -4,7 +4,7 @@ use Rattle.std.proofs.Common.{◌≡◌, ◌<◌, ℕ, zero, suc, List, [], ◌�
 use Rattle.std.specs.Prelude.{◌⊎◌, Some, slice_get}
 use Rattle.std.proofs.lemmas.Option.{same_Some}
 use Rattle.std.proofs.lemmas.List.{map-append}
-use Rattle.list_laws.proofs.Members.{from_map, at_map}
+use Rattle.lotos_base.proofs.Members.{from_map, at_map}
 use Rattle.lotos_base.specs.Signature.{Signature}
 use Rattle.lotos_base.specs.Term.{Term, variable, node, Terms, no_terms, term_then}
 use Rattle.lotos_base.specs.Sorting.{HasSort, Occurs, OccursAmong}

@@ -1,8 +1,8 @@
 -- What an answer of the code says of a part of a text, from what the calls in it say of smaller parts.
-use Rattle.std.proofs.Common.{◌≡◌, ℕ, suc, ◌+◌, ◌<◌, ◌≤◌, length, drop, get_or, arith, List, [], ◌∷◌, ◌++◌, inl, inr, refl, ap, sym, ◌∙◌, subst}
+use Rattle.std.proofs.Common.{◌≡◌, ℕ, ◌+◌, ◌<◌, ◌≤◌, length, drop, get_or, List, [], ◌∷◌, ◌++◌, inl, inr, refl, ap, sym, ◌∙◌, subst}
 use Rattle.std.specs.Prelude.{Option, None, Some, Result, Ok, Err, IsErrAnd, IfOk, option_map}
-use Rattle.std.proofs.Math.Seq.{drop-cons}
 use Rattle.std.proofs.Math.ListN.{drop_of_length-le}
+use Rattle.lotos_base.proofs.Pieces.{next_member}
 use Rattle.lotos_base.specs.declared.places.Place.{Place}
 use Rattle.lotos_base.specs.declared.names.Name.{Name}
 use Rattle.lotos_base.specs.WrittenView.{placed_name_of}
@@ -68,13 +68,6 @@ prefixed_all xs = ap resolved (append_none xs)
 pub prefixed_one : {A : Type 0} (xs : List A) (x : A) (r : Resolution (List A)) → prefixed xs (put_in_front x r) ≡ prefixed (xs ++ x ∷ []) r
 prefixed_one xs x (resolved ys) = ap resolved (append_one xs x ys)
 prefixed_one xs x (faulty f) = refl
-
--- the next member of a list, and what follows it
-pub next_member : {A : Type 0} (items : List A) (i : ℕ) (x : A) → i < length items → x ≡ get_or items i x
-    → drop i items ≡ x ∷ drop (i + 1) items
-next_member items i x within is =
-    let next : suc i ≡ i + 1 = omega arith in
-    drop-cons items i x within ∙ ap (λ y. y ∷ drop (suc i) items) (sym is) ∙ ap (λ (j : ℕ). x ∷ drop j items) next
 
 -- a list whose members are looked at one by one: what the first one comes to stands in front of what the others come to
 abbrev pub ByMembers : {A B : Type 0} → (List A → Resolution (List B)) → (List A → Resolution (List B)) → (A → Resolution B) → Type 0

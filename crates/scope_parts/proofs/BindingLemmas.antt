@@ -5,8 +5,9 @@ use Rattle.std.specs.declared.alloc.Global.{Global}
 use Rattle.std.specs.Map.{KeepsOthers, IsKeyTest, AreApart}
 use Rattle.std.specs.Str.{bytes_eq}
 use Rattle.std.proofs.lemmas.List.{reverse-append, map-append, length-drop}
-use Rattle.std.proofs.lemmas.Slice.Eq.{bytes_eq-Decides}
 use Rattle.std.proofs.lemmas.Option.{none-some}
+use Rattle.lotos_base.proofs.Bytes.{same_bytes, bytes_same, bytes_differ, differing_bytes}
+use Rattle.lotos_base.proofs.Pieces.{same_heads, same_tails}
 use Rattle.scope_parts.specs.Scope.{Binding, bound_to}
 use Rattle.scope_parts.specs.Bindings.{bound_as, bindings_of, hidden_by, hidden_in, kept_under}
 use Rattle.scope_parts.specs.declared.bound.Bound.{Bound}
@@ -21,22 +22,6 @@ is_key key = λ known. bytes_eq key known.items
 abbrev pub KeepsOtherKeys : List ℕ → Entries → Entries → Type 0
 KeepsOtherKeys key old new = KeepsOthers (λ (a b : Vec ℕ Global). bytes_eq a.items b.items) (is_key key) old new
 
-pub same_key : (one other : List ℕ) → bytes_eq one other ≡ true → one ≡ other
-same_key one other = (bytes_eq-Decides one other).0
-
-pub key_eq : (one other : List ℕ) → one ≡ other → bytes_eq one other ≡ true
-key_eq one other = (bytes_eq-Decides one other).1
-
-false_unless : (test : Bool) → (test ≡ true → ⊥) → test ≡ false
-false_unless true never = absurd (never refl)
-false_unless false never = refl
-
-pub other_key : (one other : List ℕ) → ¬ (one ≡ other) → bytes_eq one other ≡ false
-other_key one other differ = false_unless (bytes_eq one other) (λ same. differ (same_key one other same))
-
-pub differing_keys : (one other : List ℕ) → bytes_eq one other ≡ false → ¬ (one ≡ other)
-differing_keys one other test same = let both : true ≡ false = sym (key_eq one other same) ∙ test in cc
-
 -- what stands under a name once one name was given something or nothing
 pub put_under : (old new : Entries) (here key : List ℕ) (w : Option ℕ) → kept_under new here ≡ w → KeepsOtherKeys here old new
     → kept_under new key ≡ (if bytes_eq key here then w else kept_under old key)
@@ -44,13 +29,13 @@ unfolding KeepsOthers
 put_under old new here key w found keeps = go (bytes_eq key here) refl
   where
     go : (b : Bool) → bytes_eq key here ≡ b → kept_under new key ≡ (if b then w else kept_under old key)
-    go true same = ap (kept_under new) (same_key key here same) ∙ found
+    go true same = ap (kept_under new) (same_bytes key here same) ∙ found
     go false differ =
-        let apart : ¬ (key ≡ here) = differing_keys key here differ in
+        let apart : ¬ (key ≡ here) = differing_bytes key here differ in
         let test : IsKeyTest (λ (a b : Vec ℕ Global). bytes_eq a.items b.items) (is_key key) =
-        λ x y passes. ap (λ (k : List ℕ). bytes_eq k y.items) (same_key key x.items passes) in
+        λ x y passes. ap (λ (k : List ℕ). bytes_eq k y.items) (same_bytes key x.items passes) in
         let others : AreApart (is_key here) (is_key key) =
-        λ k passes. other_key key k.items (λ same. apart (same ∙ sym (same_key here k.items passes))) in
+        λ k passes. bytes_differ key k.items (λ same. apart (same ∙ sym (same_bytes here k.items passes))) in
         keeps (is_key key) test others
 
 -- the bindings with one more entry
@@ -85,12 +70,6 @@ hiding_pushed entries after last are here others =
     ∙ ap hidden_by (sym (bindings_pushed entries last))
     ∙ ap (λ (es : List Bound). hidden_by (bindings_of es)) (sym are)
 
-same_first : {A : Type 0} (x y : A) (xs ys : List A) → x ∷ xs ≡ y ∷ ys → x ≡ y
-same_first x y xs ys e = cc
-
-same_others : {A : Type 0} (x y : A) (xs ys : List A) → x ∷ xs ≡ y ∷ ys → xs ≡ ys
-same_others x y xs ys e = cc
-
 hides : (before entries : List Bound) (last : Bound) → before ≡ entries ++ last ∷ [] → hidden_in before ≡ hidden_by (bindings_of before)
     → last.hidden ∷ hidden_in entries ≡ bound_to (bindings_of entries) last.key.items ∷ hidden_by (bindings_of entries)
 hides before entries last are hiding =
@@ -106,7 +85,7 @@ drop_twice (suc k) (x ∷ xs) =
 -- a table with the last binding taken off knows what the others hide, and is indexed
 pub hiding_popped : (before entries : List Bound) (last : Bound) → before ≡ entries ++ last ∷ []
     → hidden_in before ≡ hidden_by (bindings_of before) → hidden_in entries ≡ hidden_by (bindings_of entries)
-hiding_popped before entries last are hiding = same_others _ _ _ _ (hides before entries last are hiding)
+hiding_popped before entries last are hiding = same_tails _ _ _ _ (hides before entries last are hiding)
 
 pub indexed_popped : (old new : Entries) (before entries : List Bound) (last : Bound) (here : List ℕ) → here ≡ last.key.items
     → before ≡ entries ++ last ∷ []
@@ -121,8 +100,8 @@ indexed_popped old new before entries last here same are found keeps indexed hid
     go : (b : Bool) → bytes_eq key last.key.items ≡ b
         → (if b then last.hidden else kept_under old key) ≡ bound_to (bindings_of entries) key
     go true at =
-        same_first _ _ _ _ (hides before entries last are hiding)
-        ∙ ap (bound_to (bindings_of entries)) (sym (same_key key last.key.items at))
+        same_heads _ _ _ _ (hides before entries last are hiding)
+        ∙ ap (bound_to (bindings_of entries)) (sym (same_bytes key last.key.items at))
     go false at =
         indexed key ∙ ap (λ (es : List Bound). bound_to (bindings_of es) key) are
         ∙ ap (λ (bs : List Binding). bound_to bs key) (bindings_pushed entries last)
@@ -135,7 +114,7 @@ last_is_there old before entries last are indexed none =
     none-some last.number (sym none ∙ indexed last.key.items
     ∙ ap (λ (es : List Bound). bound_to (bindings_of es) last.key.items) are
     ∙ ap (λ (bs : List Binding). bound_to bs last.key.items) (bindings_pushed entries last)
-    ∙ rw (key_eq last.key.items last.key.items refl) refl)
+    ∙ rw (bytes_same last.key.items last.key.items refl) refl)
 
 -- where an error cannot be, what is promised otherwise holds
 pub surely : {T E X Y : Type 0} (r : Result T E) → OnErr r X → ¬ X → OnOk r Y → Y

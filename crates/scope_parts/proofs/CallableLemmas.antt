@@ -4,13 +4,12 @@ use Rattle.std.specs.Prelude.{Option, None, Some, slice_get, reverse, if◌then�
 use Rattle.std.specs.Str.{bytes_eq}
 use Rattle.std.proofs.Math.Seq.{drop-append_seam}
 use Rattle.std.proofs.lemmas.List.{reverse-append, map-append, take-append-drop, length-drop, length-map, length-reverse, reverse-reverse}
-use Rattle.std.proofs.lemmas.Option.{none-some}
+use Rattle.lotos_base.proofs.Members.{at_front, at_end, from_map}
 use Rattle.lotos_base.specs.Name.{spelling}
 use Rattle.lotos_base.specs.Names.{folded}
 use Rattle.scope_parts.specs.Scope.{Binding, Callable, bind, bound_to, callable_named}
 use Rattle.scope_parts.specs.CallablesView.{callable_in, callables_of, process_positions}
 use Rattle.scope_parts.specs.declared.callable.Callable as code
-use Rattle.scope_parts.proofs.VisibleLemmas.{map_at}
 
 length_positions : (ps : List Callable) → length (process_positions ps) ≡ length ps
 length_positions [] = refl
@@ -69,15 +68,6 @@ positions_cut before after table smaller size within are here is =
 
 -- ---- Looking a name up
 
-at_front : {A : Type 0} (xs ys : List A) (i : ℕ) (x : A) → slice_get xs i ≡ Some x → slice_get (xs ++ ys) i ≡ Some x
-at_front [] ys i x at = absurd (none-some x at)
-at_front (z ∷ xs) ys zero x at = at
-at_front (z ∷ xs) ys (suc i) x at = at_front xs ys i x at
-
-at_end : {A : Type 0} (xs : List A) (x : A) (ys : List A) → slice_get (xs ++ x ∷ ys) (length xs) ≡ Some x
-at_end [] x ys = refl
-at_end (z ∷ xs) x ys = at_end xs x ys
-
 -- the process at the position found is the one of the name
 abbrev pub Found : List Callable → List ℕ → Option ℕ → Type 0
 Found ps name None = None ≡ callable_named ps name
@@ -118,7 +108,8 @@ found_callable entries table name p are found =
     subst (Found (callables_of entries) name) (ap (λ (bs : List Binding). bound_to bs (folded name)) (sym are) ∙ found)
     (found_at (callables_of entries) name) in
     let at =
-    map_at callable_in entries p h.0 (ap (λ (qs : List Callable). slice_get qs p) (sym (reverse-reverse (map callable_in entries))) ∙ h.1) in
+    from_map callable_in entries p h.0
+    (ap (λ (qs : List Callable). slice_get qs p) (sym (reverse-reverse (map callable_in entries))) ∙ h.1) in
     (at.0, at.1, sym h.2 ∙ ap Some (sym at.2))
 
 pub found_no_callable : (entries : List code.Callable) (table : List Binding) (name : List ℕ)

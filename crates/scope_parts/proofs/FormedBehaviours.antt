@@ -262,7 +262,7 @@ two_parts first xs ys names room =
     let both : length (xs ++ ys) ≡ length xs + length ys = length-append xs ys in
     (omega (arith, room, both), omega (arith, room, both))
 
-length_names : (gates : List WrittenGateChoice) → length (choice_names gates) ≡ length gates
+pub length_names : (gates : List WrittenGateChoice) → length (choice_names gates) ≡ length gates
 length_names [] = refl
 length_names (g ∷ gates) = ap suc (length_names gates)
 

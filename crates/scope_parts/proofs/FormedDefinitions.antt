@@ -93,7 +93,7 @@ append_nothing : {A : Type 0} (xs : List A) → xs ++ [] ≡ xs
 append_nothing [] = refl
 append_nothing (x ∷ xs) = ap (λ ys. x ∷ ys) (append_nothing xs)
 
-length_spelled : (names : List PlacedName) → length (spelled names) ≡ length names
+pub length_spelled : (names : List PlacedName) → length (spelled names) ≡ length names
 length_spelled [] = refl
 length_spelled (name ∷ names) = ap suc (length_spelled names)
 
@@ -289,7 +289,7 @@ callables_called signature all front back visible before numbers (inner_then (pr
 
 -- ---- All processes
 
-every_both : {A : Type 0} (P : A → Type 0) (xs ys : List A) → Every P xs → Every P ys → Every P (xs ++ ys)
+pub every_both : {A : Type 0} (P : A → Type 0) (xs ys : List A) → Every P xs → Every P ys → Every P (xs ++ ys)
 every_both P [] ys h k = k
 every_both P (x ∷ xs) ys h k = (h.0, every_both P xs ys h.1 k)
 

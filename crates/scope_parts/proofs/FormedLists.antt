@@ -5,6 +5,7 @@ use Rattle.std.specs.Prelude.{Bool, true, false, Option, None, Some, slice_get, 
 use Rattle.std.proofs.lemmas.Option.{none-some, same_Some}
 use Rattle.lotos_base.specs.Names.{folded}
 use Rattle.std.specs.Str.{bytes_eq}
+use Rattle.std.proofs.lemmas.Bool.{eq-eqb}
 use Rattle.lotos_base.specs.WrittenTerm.{PlacedName}
 use Rattle.lotos_base.specs.Signature.{Signature, IsSort, Sort}
 use Rattle.lotos_base.specs.Equation.{Place, Variable}
@@ -13,6 +14,7 @@ use Rattle.sort_terms.specs.ReadingOutcome.{one_name}
 use Rattle.syntax_trees.specs.WrittenVariable.{WrittenVariable}
 use Rattle.behaviour_semantics.specs.Behaviour.{numbers_of}
 use Rattle.behaviour_semantics.specs.WellFormed.{Every, AreDistinct, sort_in, AreBinders, AreGates, IsFunctionality}
+use Rattle.behaviour_semantics.proofs.InstanceLemmas.{every_at}
 use Rattle.scope_parts.specs.ScopeFault.{ScopeFault, unknown_sort}
 use Rattle.scope_parts.specs.Resolution.{Resolution, resolved, faulty, and_then, put_in_front, beside}
 use Rattle.scope_parts.specs.Scope.{Binding, bound_to, bind, bind_all, found_gate, gate_at, gates_at}
@@ -161,9 +163,6 @@ numbered_from next (x ∷ xs) (suc i) v numbered at =
     let rest = numbered_from (suc next) xs i v numbered.1 at in
     (omega (arith, rest.0), omega (arith, rest.1))
 
-same_number : (n m : ℕ) → n ≡ m → nat_eq n m ≡ true
-same_number n m same = grind arith
-
 other_number : (n m : ℕ) → n < m → nat_eq n m ≡ false
 other_number n m less = grind arith
 
@@ -182,7 +181,7 @@ own : (next : ℕ) (xs scope : List Variable) (i : ℕ) (v : Variable) → AreNu
 own next [] scope i v numbered at = absurd (none-some v at)
 own next (x ∷ xs) scope zero v numbered at =
     let same : x ≡ v = same_Some _ _ at in
-    let test : nat_eq x.number v.number ≡ true = same_number x.number v.number (ap (λ (y : Variable). y.number) same) in
+    let test : nat_eq x.number v.number ≡ true = eq-eqb x.number v.number (ap (λ (y : Variable). y.number) same) in
     rw test (ap (λ (y : Variable). Some y.sort) same)
 own next (x ∷ xs) scope (suc i) v numbered at =
     let bounds = numbered_from (suc next) xs i v numbered.1 at in
@@ -211,11 +210,6 @@ below_more next many vs xs below numbered counted i v at =
       | inl here ↦ let less = below i v here in omega (arith, less)
       | inr there ↦ let bounds = numbered_from next xs there.0 v numbered there.1 in omega (arith, bounds.1, counted)
     ]
-
-pub every_at : {A : Type 0} (P : A → Type 0) (xs : List A) (i : ℕ) (x : A) → Every P xs → slice_get xs i ≡ Some x → P x
-every_at P [] i x every at = absurd (none-some x at)
-every_at P (y ∷ ys) zero x every at = subst P (same_Some _ _ at) every.0
-every_at P (y ∷ ys) (suc i) x every at = every_at P ys i x every.1 at
 
 pub over_more : (signature : Signature) (vs xs : List Variable) → IsScopeOver signature vs → HaveSorts signature xs
     → IsScopeOver signature (vs ++ xs)

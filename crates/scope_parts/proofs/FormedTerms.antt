@@ -5,10 +5,11 @@ use Rattle.lotos_base.specs.WrittenTerm.{WrittenTerm, WrittenTerms, written, no_
 use Rattle.lotos_base.specs.Signature.{Signature}
 use Rattle.lotos_base.specs.Term.{Term, Terms, variable, node, no_terms, term_then}
 use Rattle.lotos_base.specs.Sorting.{Occurs, OccursAmong}
-use Rattle.lotos_base.specs.Equation.{Place, Variable}
+use Rattle.lotos_base.specs.Equation.{Variable}
 use Rattle.sort_terms.specs.Reading.{Reads, AllRead, IsScopeOver}
-use Rattle.sort_terms.specs.ReadingOutcome.{ReadingRefusal, answered, ComesTo, IsReading, IsPairReading, unknown_in}
+use Rattle.sort_terms.specs.ReadingOutcome.{IsReading, IsPairReading, unknown_in}
 use Rattle.sort_terms.proofs.ReadsLemmas.{reads_sorted}
+use Rattle.sort_terms.proofs.OutcomeLemmas.{is_reading}
 use Rattle.behaviour_semantics.specs.Behaviour.{Test}
 use Rattle.behaviour_semantics.specs.WellFormed.{sort_in, IsTermIn, IsTestIn}
 use Rattle.scope_parts.specs.Resolution.{resolved}
@@ -17,10 +18,6 @@ use Rattle.scope_parts.specs.Terms.{TermIs, PairIs}
 -- each variable of the list has its sort by its number
 abbrev pub AreIn : List Variable → List Variable → Type 0
 AreIn variables scope = (i : ℕ) (v : Variable) → slice_get variables i ≡ Some v → sort_in scope v.number ≡ Some v.sort
-
-answered_is : {A : Type 0} (unknown : List ReadingRefusal) (place : Place) (P : A → Type 0) (x : A) → ComesTo unknown place P (answered x) → P x
-answered_is (r ∷ rs) place P x h = absurd h
-answered_is [] place P x h = h.is_answer
 
 mutual
   -- a variable that occurs in a reading is one that is visible
@@ -61,7 +58,7 @@ reading_formed signature variables scope w t sort over are reads = record {
 pub term_formed : (signature : Signature) (variables scope : List Variable) (w : WrittenTerm) (t : Term) → IsScopeOver signature variables
     → AreIn variables scope → TermIs signature variables w None (resolved t) → (sort : ℕ) × IsTermIn signature scope sort t
 term_formed signature variables scope w t over are is =
-    let reading = answered_is (unknown_in signature variables w) _ (IsReading signature variables w None) is.0 is.1 in (
+    let reading = is_reading (unknown_in signature variables w) _ (IsReading signature variables w None) is.0 is.1 in (
       is.0.sort,
       subst (λ (x : Term). IsTermIn signature scope is.0.sort x) (sym is.2)
           (reading_formed signature variables scope w is.0.term is.0.sort over are reading.0),
@@ -71,7 +68,7 @@ pub expected_formed : (signature : Signature) (variables scope : List Variable) 
     → IsScopeOver signature variables → AreIn variables scope → TermIs signature variables w (Some sort) (resolved t)
     → IsTermIn signature scope sort t
 expected_formed signature variables scope w t sort over are is =
-    let reading = answered_is (unknown_in signature variables w) _ (IsReading signature variables w (Some sort)) is.0 is.1 in
+    let reading = is_reading (unknown_in signature variables w) _ (IsReading signature variables w (Some sort)) is.0 is.1 in
     subst (λ (x : Term). IsTermIn signature scope sort x) (sym is.2)
     (subst (λ (r : ℕ). IsTermIn signature scope r is.0.term) reading.1
     (reading_formed signature variables scope w is.0.term is.0.sort over are reading.0))
@@ -80,7 +77,7 @@ pub pair_formed : (signature : Signature) (variables scope : List Variable) (lef
     → IsScopeOver signature variables → AreIn variables scope → PairIs signature variables left right (resolved test)
     → IsTestIn signature scope test
 pair_formed signature variables scope left right test over are is =
-    let reading = answered_is _ _ (IsPairReading signature variables left right) is.0 is.1 in
+    let reading = is_reading _ _ (IsPairReading signature variables left right) is.0 is.1 in
     subst (λ (x : Test). IsTestIn signature scope x) (sym is.2) (record {
       sort = is.0.sort;
       left = reading_formed signature variables scope left is.0.left is.0.sort over are reading.0;

@@ -2,7 +2,7 @@
 use Rattle.std.proofs.Common.{◌≡◌, ℕ, suc, ◌+◌, ◌-◌, ◌≤◌, List, [], ◌∷◌, ◌++◌, length, drop, refl, ap, sym, ◌∙◌, arith}
 use Rattle.std.specs.List.{filter_map}
 use Rattle.std.proofs.Math.Seq.{drop-append_seam}
-use Rattle.std.proofs.lemmas.List.{length-append}
+use Rattle.std.proofs.lemmas.List.{length-append, append-nil}
 use Rattle.lotos_base.specs.Names.{folded}
 use Rattle.syntax_trees.specs.TreeViews.{gate_choice_of, gate_choices_of}
 use Rattle.syntax_trees.specs.WrittenBehaviour.{WrittenSign, WrittenGateChoice}
@@ -34,16 +34,12 @@ declared_visible (name ∷ names) gates =
     declared_visible names (declared_one name gates)
     ∙ ap (λ (n : ℕ). bind_all names n (bind name (length gates.names) gates.visible)) (one_longer gates.names name)
 
-append_none : (names : List (List ℕ)) → names ++ [] ≡ names
-append_none [] = refl
-append_none (name ∷ names) = ap (λ ns. name ∷ ns) (append_none names)
-
 append_one : {A : Type 0} (xs : List A) (x : A) (ys : List A) → xs ++ x ∷ ys ≡ (xs ++ x ∷ []) ++ ys
 append_one [] x ys = refl
 append_one (z ∷ xs) x ys = ap (λ zs. z ∷ zs) (append_one xs x ys)
 
 pub declared_names : (names : List (List ℕ)) (gates : Gates) → (declared names gates).names ≡ gates.names ++ names
-declared_names [] gates = sym (append_none gates.names)
+declared_names [] gates = sym (append-nil gates.names)
 declared_names (name ∷ names) gates = declared_names names (declared_one name gates) ∙ sym (append_one gates.names name names)
 
 pub same_gates : (one other : Gates) → one.names ≡ other.names → one.visible ≡ other.visible → one ≡ other

@@ -4,11 +4,7 @@ use Rattle.lotos_base.specs.Signature.{Signature}
 use Rattle.sort_terms.specs.ProfiledTerm.{ProfiledTerm}
 use Rattle.behaviour_tree.specs.BehaviourTerms.{joined}
 use Rattle.behaviour_tree.specs.Over.{AreTermsOf}
-
-pub terms_both : (signature : Signature) (xs ys : List ProfiledTerm) → AreTermsOf signature xs → AreTermsOf signature ys
-    → AreTermsOf signature (xs ++ ys)
-terms_both signature [] ys one other = other
-terms_both signature (x ∷ xs) ys one other = (one.0, terms_both signature xs ys one.1 other)
+use Rattle.behaviour_tree.proofs.ClosedLemmas.{terms_both}
 
 nothing_more : (xs : List ProfiledTerm) → xs ++ [] ≡ xs
 nothing_more [] = refl

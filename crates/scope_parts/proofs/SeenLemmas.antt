@@ -3,8 +3,9 @@ use Rattle.std.proofs.Common.{◌≡◌, ℕ, zero, suc, ◌<◌, Bool, true, fa
 use Rattle.std.specs.Prelude.{Option, None, Some, slice_get, is_some, if◌then◌else◌}
 use Rattle.std.specs.Option.{option_or}
 use Rattle.std.specs.Str.{bytes_eq}
-use Rattle.std.proofs.lemmas.Bool.{cases_order}
 use Rattle.std.proofs.lemmas.Option.{none-some, same_Some}
+use Rattle.lotos_base.proofs.Bytes.{same_bytes, bytes_same}
+use Rattle.sort_terms.proofs.NodeLemmas.{last_is_one}
 use Rattle.lotos_base.specs.Names.{folded, AreOneName}
 use Rattle.lotos_base.specs.Signature.{Signature}
 use Rattle.lotos_base.specs.Equation.{Place, Variable}
@@ -13,7 +14,6 @@ use Rattle.lotos_base.specs.WrittenTerm.{WrittenTerm, WrittenTerms, written, no_
 use Rattle.sort_terms.specs.Reading.{IsLastNamed, NoneNamed, Reads, AllRead}
 use Rattle.sort_terms.specs.ReadingOutcome.{ReadingRefusal, ReadingOutcome, answered, refused, ComesTo, SortedTerm, SortedPair, one_name, is_variable_name, unknown_in, unknown_in_each, in_text_order, unknown_at, unknown_sorts, IsReading, IsPairReading, ReadingIs, PairReadingIs}
 use Rattle.scope_parts.specs.Seen.{visible_named, found_list, seen_in, seen_in_each}
-use Rattle.scope_parts.proofs.BindingLemmas.{same_key, key_eq}
 
 -- ---- The last variable of a name
 
@@ -23,10 +23,10 @@ LastOf scope name None = NoneNamed scope name
 LastOf scope name (Some v) = IsLastNamed scope name v
 
 named_there : (v : Variable) (name : List ℕ) → one_name v.name name ≡ true → AreOneName v.name name
-named_there v name = same_key (folded v.name) (folded name)
+named_there v name = same_bytes (folded v.name) (folded name)
 
 not_named : (v : Variable) (name : List ℕ) → one_name v.name name ≡ false → ¬ AreOneName v.name name
-not_named v name test same = let both : true ≡ false = sym (key_eq (folded v.name) (folded name) same) ∙ test in cc
+not_named v name test same = let both : true ≡ false = sym (bytes_same (folded v.name) (folded name) same) ∙ test in cc
 
 one_further : (v : Variable) (scope : List Variable) (name : List ℕ) (w : Variable) → IsLastNamed scope name w
     → IsLastNamed (v ∷ scope) name w
@@ -69,21 +69,12 @@ last_visible (v ∷ scope) name = go (visible_named scope name) (last_visible sc
     go (Some w) last = one_further v scope name w last
     go None none = last_here v scope name none (one_name v.name name) refl
 
--- two last ones are one
-last_once : (scope : List Variable) (name : List ℕ) (v w : Variable) → IsLastNamed scope name v → IsLastNamed scope name w → v ≡ w
-last_once scope name v w one other =
-    elim (cases_order one.position other.position) [
-      | inl same ↦ same_Some _ _ (sym one.found ∙ ap (slice_get scope) same ∙ other.found)
-      | inr (inl before) ↦ absurd (one.last other.position w before other.found other.named)
-      | inr (inr behind) ↦ absurd (other.last one.position v behind one.found one.named)
-    ]
-
 pub visible_last : (scope : List Variable) (name : List ℕ) (v : Variable) → IsLastNamed scope name v → visible_named scope name ≡ Some v
 visible_last scope name v last = go (visible_named scope name) (last_visible scope name)
   where
     go : (o : Option Variable) → LastOf scope name o → o ≡ Some v
     go None none = absurd (none last.position v last.found last.named)
-    go (Some w) other = ap Some (last_once scope name w v other last)
+    go (Some w) other = ap Some (last_is_one scope name w v other last)
 
 visible_none : (scope : List Variable) (name : List ℕ) → NoneNamed scope name → visible_named scope name ≡ None
 visible_none scope name none = go (visible_named scope name) (last_visible scope name)
@@ -321,7 +312,7 @@ found_has scope name = go (visible_named scope name) refl
   where
     go : (o : Option Variable) → visible_named scope name ≡ o → is_some o ≡ true → is_some (visible_named (found_list o) name) ≡ true
     go None found h = h
-    go (Some v) found h = rw (key_eq (folded v.name) (folded name) (found_named scope name v found)) refl
+    go (Some v) found h = rw (bytes_same (folded v.name) (folded name) (found_named scope name v found)) refl
 
 -- a list of visible variables means the same by a name that it has, or that nothing visible has
 agree_at : (scope vs : List Variable) (name : List ℕ) → AreVisible scope vs

@@ -2,6 +2,7 @@
 use Rattle.std.proofs.Common.{◌≡◌, ℕ, zero, suc, ◌+◌, ◌<◌, ◌≤◌, List, [], ◌∷◌, ◌++◌, drop, get_or, length, refl, ap, sym, ◌∙◌, subst, arith, inl}
 use Rattle.std.specs.Prelude.{Option, None, Some}
 use Rattle.std.proofs.Math.ListN.{drop_of_length-le}
+use Rattle.lotos_base.proofs.Pieces.{next_member}
 use Rattle.lotos_base.specs.WrittenView.{written_term_of, written_terms_of}
 use Rattle.lotos_base.specs.declared.written_terms.Written.{Written}
 use Rattle.lotos_base.specs.Signature.{Signature}
@@ -11,7 +12,7 @@ use Rattle.scope_parts.specs.Resolution.{Resolution, resolved, faulty, put_in_fr
 use Rattle.scope_parts.specs.FaultView.{FaultIs}
 use Rattle.scope_parts.specs.Terms.{TermIs, ValuesAre}
 use Rattle.scope_parts.specs.declared.scope_faults.ScopeFault.{ScopeFault}
-use Rattle.scope_parts.proofs.AnswerLemmas.{prefixed, prefixed_one, prefixed_all, next_member, then_front, means_map}
+use Rattle.scope_parts.proofs.AnswerLemmas.{prefixed, prefixed_one, prefixed_all, then_front, means_map}
 
 split_at : {A : Type 0} (xs : List A) (i : ℕ) → i < length xs → (x : A) × (drop i xs ≡ x ∷ drop (i + 1) xs)
 split_at [] i within = absurd (let no : ⊥ = omega (arith, within) in no)

@@ -6,7 +6,8 @@ use Rattle.std.specs.Str.{bytes_eq}
 use Rattle.std.proofs.Math.Seq.{drop-append_seam, drop-cons}
 use Rattle.std.proofs.Math.ListN.{drop_of_length-le}
 use Rattle.std.proofs.lemmas.List.{reverse-append, map-append, take-append-drop, length-drop, length-reverse}
-use Rattle.std.proofs.lemmas.Option.{none-some, same_Some}
+use Rattle.lotos_base.proofs.Bytes.{bytes_turned}
+use Rattle.lotos_base.proofs.Members.{from_map}
 use Rattle.lotos_base.specs.Name.{spelling}
 use Rattle.lotos_base.specs.WrittenTerm.{written_terms}
 use Rattle.lotos_base.specs.WrittenView.{written_term_of, written_terms_of}
@@ -19,7 +20,6 @@ use Rattle.sort_terms.specs.declared.equations.Variable as code
 use Rattle.sort_terms.proofs.CountedLemmas.{written_opened}
 use Rattle.scope_parts.specs.Scope.{Binding, bind, bound_to}
 use Rattle.scope_parts.specs.Seen.{visible_named, found_list, seen_in, seen_in_each, positioned, positions_in}
-use Rattle.scope_parts.proofs.BindingLemmas.{same_key, key_eq, other_key, differing_keys}
 
 positioned_append : (first : ℕ) (xs ys : List Variable)
     → positioned first (xs ++ ys) ≡ positioned first xs ++ positioned (first + length xs) ys
@@ -103,13 +103,6 @@ bound_append (x ∷ xs) ys key = go (bytes_eq key x.key) (bound_append xs ys key
     go true rest = refl
     go false rest = rest
 
-swapped : (one other : List ℕ) → bytes_eq one other ≡ bytes_eq other one
-swapped one other = go (bytes_eq one other) refl
-  where
-    go : (b : Bool) → bytes_eq one other ≡ b → b ≡ bytes_eq other one
-    go true is = sym (key_eq other one (sym (same_key one other is)))
-    go false is = sym (other_key other one (λ same. differing_keys one other is (sym same)))
-
 -- the number found, and the variable there, counted from a number on
 abbrev pub Matches : ℕ → List Variable → Option ℕ → Option Variable → Type 0
 Matches first vs None None = Unit {0}
@@ -128,7 +121,7 @@ found_at first (v ∷ vs) name =
     (sym (ap (λ (bs : List Binding). bound_to bs (folded name)) (reverse-append (entry first v ∷ []) (positioned (suc first) vs))
     ∙ bound_append (reverse (positioned (suc first) vs)) (entry first v ∷ []) (folded name)
     ∙ ap (λ (b : Bool). option_or (bound_to (reverse (positioned (suc first) vs)) (folded name)) (if b then Some first else None))
-    (swapped (folded name) (folded v.name))))
+    (bytes_turned (folded name) (folded v.name))))
     (go (bound_to (reverse (positioned (suc first) vs)) (folded name)) (visible_named vs name) (one_name v.name name)
     (found_at (suc first) vs name))
   where
@@ -139,12 +132,6 @@ found_at first (v ∷ vs) name =
     go None (Some w) b h = absurd h
     go (Some p) None b h = absurd h
     go (Some p) (Some w) b h = let next : p ≡ first + suc h.0 = omega (arith, h.1) in (suc h.0, next, h.2)
-
-pub map_at : {A B : Type 0} (f : A → B) (xs : List A) (i : ℕ) (y : B) → slice_get (map f xs) i ≡ Some y
-    → (x : A) × (slice_get xs i ≡ Some x) × (f x ≡ y)
-map_at f [] i y at = absurd (none-some y at)
-map_at f (x ∷ xs) zero y at = (x, refl, same_Some _ _ at)
-map_at f (x ∷ xs) (suc i) y at = map_at f xs i y at
 
 -- the variable that stands at the position found
 pub found_variable : (vs : List code.Variable) (table : List Binding) (name : List ℕ) (p : ℕ) → table ≡ positions_in (map variable_of vs)
@@ -160,7 +147,7 @@ found_variable vs table name p are found =
     go None is h = absurd h
     go (Some v) is h =
         let same : h.0 ≡ p = omega (arith, h.1) in
-        let at = map_at variable_of vs p v (ap (slice_get (map variable_of vs)) (sym same) ∙ h.2) in
+        let at = from_map variable_of vs p v (ap (slice_get (map variable_of vs)) (sym same) ∙ h.2) in
         (at.0, at.1, is ∙ ap Some (sym at.2))
 
 pub found_none : (vs : List code.Variable) (table : List Binding) (name : List ℕ) → table ≡ positions_in (map variable_of vs)
@@ -173,11 +160,6 @@ found_none vs table name are none =
     go : (o : Option Variable) → Matches 0 (map variable_of vs) None o → None ≡ o
     go None h = refl
     go (Some v) h = absurd h
-
-pub at_within : {A : Type 0} (xs : List A) (i : ℕ) (x : A) → slice_get xs i ≡ Some x → i < length xs
-at_within [] i x at = absurd (none-some x at)
-at_within (y ∷ ys) zero x at = omega arith
-at_within (y ∷ ys) (suc i) x at = let rest = at_within ys i x at in omega (arith, rest)
 
 -- ---- What a term sees
 

@@ -1,5 +1,4 @@
 pub mod MadeProcesses
 pub mod SortNames
 pub mod WithoutToken
-pub mod Grammars
 pub mod Meanings

@@ -1,16 +1,14 @@
 -- What a derivation means is what the definition of the grammar says of its tokens.
-use Rattle.std.proofs.Common.{◌≡◌, ◌∙◌, ℕ, true, List, [], ◌∷◌, map, refl, ap, sym, subst}
+use Rattle.std.proofs.Common.{◌≡◌, ◌∙◌, ℕ, List, [], ◌∷◌, map, ap, sym, subst}
 use Rattle.std.specs.Prelude.{Option, Some, option_map, option_and_then}
-use Rattle.std.specs.List.{list_all}
 use Rattle.ll_engine.specs.declared.symbol.Symbol.TheVariants.{Part}
 use Rattle.ll_engine.specs.Derivation.{Production, Forest, DerivesSymbols, leaves}
 use Rattle.ll_engine.specs.Language.{ContextFree, IsSentence, IsLeftmostDerivation}
 use Rattle.ll_engine.proofs.Uniqueness.{one_tree}
-use Rattle.ll_engine.specs.Fold.{kept_in_front, first_value, value_of_tree}
+use Rattle.ll_engine.specs.Fold.{first_value, value_of_tree}
 use Rattle.lotos_lexer.specs.declared.tokens.Token.{Token}
 use Rattle.lotos_rows.specs.declared.starts.TheConstants as starts
 use Rattle.lotos_rows.specs.Kept.{is_kept_kind}
-use Rattle.lotos_rows.specs.Rows as lotos
 use Rattle.lotos_rows.specs.Rows.{grammar_from}
 use Rattle.lotos_rows.specs.Starts.{IsWrittenSpecification, AreItems, AreOrderItems, AreOptionalTerms}
 use Rattle.lotos_base.specs.WrittenTerm.{WrittenTerm, ListedOperation}
@@ -23,15 +21,7 @@ use Rattle.tree_building.specs.RowMeaning.{numbered_row_means}
 use Rattle.sentence_trees.specs.Sentences.{kind_of, Derived}
 use Rattle.sentence_trees.proofs.AllGiven.{rows_have}
 use Rattle.sentence_trees.proofs.DefinitionsCases.{all_sentences_derived}
-use Rattle.sentence_building.specs.LotosGrammar.{IsLotosGrammar}
-
-kept_rows : list_all (λ row. kept_in_front is_kept_kind row.right) lotos.rows ≡ true
-unfolding lotos.rows
-kept_rows = refl
-
--- kept tokens stand in front in each row
-pub kept_in_rows : (g : ContextFree) → IsLotosGrammar g → list_all (λ row. kept_in_front is_kept_kind row.right) g.rows ≡ true
-kept_in_rows g is = ap (λ (all : List Production). list_all (λ row. kept_in_front is_kept_kind row.right) all) is.lotos_rows ∙ kept_rows
+use Rattle.sentence_trees.specs.LotosGrammar.{IsLotosGrammar}
 
 -- the value of the tree of a derivation is the one meaning that its tokens have
 pub value_is : (text : List ℕ) (g : ContextFree) → IsLotosGrammar g → (tokens : List Token) (tree : Forest) →

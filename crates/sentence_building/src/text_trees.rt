@@ -10,7 +10,7 @@ ghost use Rattle.sentence_trees.specs.Sentences.{Derived, kind_of};
 ghost use Rattle.syntax_trees.specs.TreeViews.{item_of, specification_of};
 ghost use Rattle.tree_building.specs.Meaning.{Meaning};
 ghost use Rattle.tree_building.specs.MeaningView.{meaning};
-ghost use Rattle.sentence_building.specs.LotosGrammar.{IsLotosGrammar};
+ghost use Rattle.sentence_trees.specs.LotosGrammar.{IsLotosGrammar};
 
 use crate::{Builder, built_items, built_order, built_specification, built_terms};
 use ll_engine::{Grammar, fold_derivation};

@@ -1,7 +1,7 @@
 -- All rows keep what their parts are, so what a derivation means is what its part is.
 use Rattle.std.proofs.Common.{◌≡◌, ◌∙◌, ℕ, List, ◌++◌, refl, ap, sym, subst}
 use Rattle.std.specs.Prelude.{Some, option_and_then, slice_get}
-use Rattle.list_laws.proofs.Members.{from_map, at_map}
+use Rattle.lotos_base.proofs.Members.{from_map, at_map}
 use Rattle.ll_engine.specs.Derivation.{Production}
 use Rattle.ll_engine.specs.Fold.{front_token}
 use Rattle.ll_engine.specs.Values.{StandForTokens, IsKept}

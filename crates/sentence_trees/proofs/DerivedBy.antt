@@ -1,7 +1,7 @@
 -- A derivation by one row more.
 use Rattle.std.proofs.Common.{◌≡◌, ◌∙◌, ℕ, List, ap}
 use Rattle.std.specs.Prelude.{Some, option_and_then, slice_get}
-use Rattle.list_laws.proofs.Members.{at_map}
+use Rattle.lotos_base.proofs.Members.{at_map}
 use Rattle.ll_engine.specs.Fold.{front_token}
 use Rattle.ll_engine.specs.Values.{StandForTokens}
 use Rattle.ll_engine.proofs.Values.{closed}

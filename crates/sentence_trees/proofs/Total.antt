@@ -4,28 +4,18 @@ use Rattle.std.specs.Prelude.{◌&&◌, ◌||◌, Option, Some, option_and_then,
 use Rattle.std.specs.List.{list_all}
 use Rattle.std.proofs.lemmas.Bool.{and_parts}
 use Rattle.std.proofs.lemmas.List.{length-map}
-use Rattle.list_laws.proofs.Tests.{list_all-at}
+use Rattle.lotos_base.proofs.Tests.{list_all-at}
 use Rattle.ll_engine.specs.declared.symbol.Symbol.{Symbol}
 use Rattle.ll_engine.specs.declared.symbol.Symbol.TheVariants.{Token as Tok, Part}
 use Rattle.ll_engine.specs.Derivation.{Production, Forest, empty, leaf, node, DerivesSymbols, leaves}
-use Rattle.ll_engine.specs.Fold.{begins_kept, first_if, front_token, tree_begins_kept, in_front, folded}
+use Rattle.ll_engine.specs.Fold.{first_if, front_token, tree_begins_kept, in_front, folded}
 use Rattle.ll_engine.specs.Values.{StandForTokens, nothing, token, part, IsKept}
 use Rattle.ll_engine.proofs.Folding.{append_parts, halves, no_tokens}
+use Rattle.ll_engine.proofs.Values.{begin_alike}
 
 abbrev pub is_said_symbol : (ℕ → Bool) → Symbol → Bool
 is_said_symbol said (Tok t) = true
 is_said_symbol said (Part p) = said p
-
-begin_alike : (keeps : ℕ → Bool) (rows : List Production) (trees : Forest) (symbols : List Symbol) → DerivesSymbols rows trees symbols →
-    tree_begins_kept keeps trees ≡ begins_kept keeps symbols
-begin_alike keeps rows empty [] d = refl
-begin_alike keeps rows empty (symbol ∷ symbols) d = absurd d
-begin_alike keeps rows (leaf t rest) [] d = absurd d
-begin_alike keeps rows (leaf t rest) (Tok u ∷ symbols) d = ap keeps d.0
-begin_alike keeps rows (leaf t rest) (Part p ∷ symbols) d = absurd d
-begin_alike keeps rows (node r below rest) [] d = absurd d
-begin_alike keeps rows (node r below rest) (Tok u ∷ symbols) d = absurd d
-begin_alike keeps rows (node r below rest) (Part p ∷ symbols) d = refl
 
 -- rows of parts of which something is said have parts of which something is said
 abbrev pub stays_said : (ℕ → Bool) → Production → Bool

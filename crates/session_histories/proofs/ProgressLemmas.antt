@@ -1,7 +1,7 @@
 -- Sessions that are stepped and undone.
 use Rattle.std.proofs.Common.{◌≡◌, ℕ, ◌+◌, List, [], ◌∷◌, ◌++◌, reverse, length, refl, ap, sym, ◌∙◌, subst, length-append}
 use Rattle.std.proofs.lemmas.List.{reverse-append, reverse-reverse}
-use Rattle.list_laws.proofs.Pieces.{same_heads, same_tails}
+use Rattle.lotos_base.proofs.Pieces.{same_heads, same_tails}
 use Rattle.lotos_base.specs.Term.{Term}
 use Rattle.behaviour_semantics.specs.Label.{Label}
 use Rattle.behaviour_semantics.specs.Run.{at_start, one_move}

@@ -1,5 +1,5 @@
 -- Steps that are not refused: there is an entry, and the values fit it.
-use Rattle.std.proofs.Common.{◌≡◌, ℕ, zero, suc, List, [], ◌∷◌, map, length, Bool, true, false, nat_eq, if◌then◌else◌, slice_get, Option, None, Some, refl, ap, sym, ◌∙◌, subst, arith, eqb-true, eq-eqb}
+use Rattle.std.proofs.Common.{◌≡◌, ℕ, suc, List, [], ◌∷◌, map, length, Bool, true, false, nat_eq, if◌then◌else◌, Option, None, Some, refl, ap, sym, ◌∙◌, subst, arith, eqb-true, eq-eqb}
 use Rattle.std.specs.Prelude.{◌↔◌}
 use Rattle.std.specs.Option.{option_map}
 use Rattle.behaviour_semantics.proofs.FaultParts.{first_none, none_first}
@@ -24,7 +24,7 @@ use Rattle.behaviour_semantics.specs.Rule.{AllHold, AreValues, is_same_sort}
 use Rattle.behaviour_semantics.specs.Solving.{Entry, test_in}
 use Rattle.behaviour_semantics.specs.SolvingLaws.{IsTermOver}
 use Rattle.behaviour_semantics.specs.WellFormed.{Every}
-use Rattle.behaviour_semantics.proofs.OptionLemmas.{some_value}
+use Rattle.behaviour_semantics.proofs.SupplyLemmas.{value_at}
 use Rattle.printed_texts.specs.HandedOn.{unmet_among}
 use Rattle.session_histories.specs.Session.{SessionBasis}
 use Rattle.session_histories.specs.Refusal.{value_count, value_sort, unmet, count_refusal, sort_refusal, condition_refusal, value_refusal}
@@ -137,13 +137,6 @@ fit_sorts signature variable (sort ∷ sorts) (value ∷ values) h =
     (fit_sorts signature (suc variable) sorts values h.1)
 
 -- ---- Conditions
-
-value_at : (signature : Signature) (sorts : List ℕ) (values : List Term) → AreValues signature sorts values → (n s : ℕ)
-    → slice_get sorts n ≡ Some s → IsGroundOf signature s (leaves_in values n s)
-value_at signature [] values h n s at = absurd (cc at)
-value_at signature (r ∷ sorts) [] h n s at = absurd h
-value_at signature (r ∷ sorts) (v ∷ values) h zero s at = subst (λ (q : ℕ). IsGroundOf signature q v) (some_value at) h.0
-value_at signature (r ∷ sorts) (v ∷ values) h (suc n) s at = value_at signature sorts values h.1 n s at
 
 module _ (data_ : Data) (canon : Term → Term) (is_canon : IsCanon data_ canon) (sorts : List ℕ) (values : List Term)
     (fit : AreValues data_.signature sorts values) where

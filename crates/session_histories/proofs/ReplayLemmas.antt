@@ -1,6 +1,6 @@
 -- What lines of traces come to: one thing at most, and lawful sessions.
 use Rattle.std.proofs.Common.{◌≡◌, ◌≢◌, ◌⊎◌, inl, inr, ◌+◌, ℕ, suc, List, [], ◌∷◌, length, Bool, true, false, Option, None, Some, bytes_eq, refl, ap, sym, ◌∙◌, subst}
-use Rattle.list_laws.proofs.Options.{none_and_some}
+use Rattle.lotos_base.proofs.Options.{none_and_some}
 use Rattle.lotos_base.specs.Signature.{Signature}
 use Rattle.lotos_base.specs.Term.{Term}
 use Rattle.lotos_base.specs.WrittenTerm.{WrittenTerm}
@@ -10,7 +10,8 @@ use Rattle.sentence_trees.specs.declared.fault.ReadFault.{ReadFault}
 use Rattle.sentence_trees.specs.declared.fault.ReadFault.TheVariants.{NoMemory}
 use Rattle.sort_terms.specs.ReadingLaws.{ReadingComesToOneThing}
 use Rattle.sort_terms.specs.ReadingOutcome as reading
-use Rattle.sort_terms.specs.ReadingOutcome.{ReadingIs, SortedTerm, answered}
+use Rattle.sort_terms.specs.ReadingOutcome.{ReadingIs, SortedTerm}
+use Rattle.sort_terms.proofs.OutcomeLemmas.{same_answer, not_answered_and_refused}
 use Rattle.behaviour_semantics.specs.Label.{Label}
 use Rattle.behaviour_semantics.specs.Solving.{Entry}
 use Rattle.behaviour_semantics.specs.TargetLaws.{TargetsAreWellFormed}
@@ -47,7 +48,7 @@ turn_once {A} Stops Goes Next one_why apart one_way next one other (inr h) (inr 
 
 -- ---- Readings of values
 
-read_count : (signature : Signature) (sorts : List ℕ) (terms : List WrittenTerm) (values : List Term)
+pub read_count : (signature : Signature) (sorts : List ℕ) (terms : List WrittenTerm) (values : List Term)
     → AreRead signature sorts terms values → length terms ≡ length sorts
 read_count signature [] [] [] h = refl
 read_count signature [] [] (value ∷ values) h = absurd h
@@ -56,12 +57,6 @@ read_count signature (sort ∷ sorts) [] values h = absurd h
 read_count signature (sort ∷ sorts) (term ∷ terms) [] h = absurd h
 read_count signature (sort ∷ sorts) (term ∷ terms) (value ∷ values) h =
     ap suc (read_count signature sorts terms values h.1)
-
-same_answer : (one other : SortedTerm) → answered one ≡ answered other → one ≡ other
-same_answer one other e = cc e
-
-not_refused_too : (one : SortedTerm) (refusal : reading.ReadingRefusal) → answered one ≡ reading.refused refusal → ⊥
-not_refused_too one refusal e = cc e
 
 module _ (readings : ReadingComesToOneThing) (signature : Signature) where
   read_once : (sorts : List ℕ) (terms : List WrittenTerm) (values others : List Term) → AreRead signature sorts terms values
@@ -85,7 +80,7 @@ module _ (readings : ReadingComesToOneThing) (signature : Signature) where
   not_misread (sort ∷ sorts) [] values h k = k
   not_misread (sort ∷ sorts) (term ∷ terms) [] h k = h
   not_misread (sort ∷ sorts) (term ∷ terms) (value ∷ values) h (inl k) =
-      not_refused_too _ k.0 (readings signature [] term (Some sort) _ _ h.0 k.1)
+      not_answered_and_refused _ k.0 (readings signature [] term (Some sort) _ _ h.0 k.1)
   not_misread (sort ∷ sorts) (term ∷ terms) (value ∷ values) h (inr k) = not_misread sorts terms values h.1 k
 
 -- ---- A line
@@ -365,7 +360,7 @@ lines_lawful basis number progress new (line ∷ lines) lawful (one_goes_on {nex
     let last : IsLawful basis new × HaveOneStart next new = lines_lawful basis (number + 1) next new lines made.0 rest in
     (last.0, last.1 ∙ made.1)
 
-no_stop : (new : Progress) (why : ReplayRefusal) → goes_on new ≡ stops why → ⊥
+pub no_stop : (new : Progress) (why : ReplayRefusal) → goes_on new ≡ stops why → ⊥
 no_stop new why e = cc e
 
 behind_lawful : (basis : SessionBasis) (first : Situation) (heading : Bool) (lines : List (List ℕ)) (new : Progress)

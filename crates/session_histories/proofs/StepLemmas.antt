@@ -7,7 +7,7 @@ use Rattle.lotos_base.specs.Substitution.{substituted}
 use Rattle.lotos_base.specs.Canon.{IsCanon}
 use Rattle.lotos_base.proofs.CanonLemmas.{canon_ground, canon_equal}
 use Rattle.lotos_base.proofs.EqualityLemmas.{equal_back}
-use Rattle.behaviour_semantics.specs.Behaviour.{Behaviour, Process}
+use Rattle.behaviour_semantics.specs.Behaviour.{Behaviour}
 use Rattle.behaviour_semantics.specs.Derives.{Derives, DerivesCanonically, leaves_in}
 use Rattle.behaviour_semantics.specs.Draft.{Draft, draft_of}
 use Rattle.behaviour_semantics.specs.DraftOrderLaws.{IsSolvedFrom}
@@ -25,6 +25,7 @@ use Rattle.behaviour_semantics.proofs.DraftFineness.{FineDraft, fine_draft}
 use Rattle.behaviour_semantics.proofs.MenuLemmas.{same_members}
 use Rattle.behaviour_semantics.proofs.OptionLemmas.{some_value}
 use Rattle.behaviour_semantics.proofs.SolvingAnyDraft.{solving_any}
+use Rattle.behaviour_semantics.proofs.OrderLemmas.{entries_within}
 use Rattle.printed_texts.specs.HandedOn.{canonical_derivation}
 use Rattle.session_histories.specs.Session.{SessionBasis, Item, Situation, Progress, stepped}
 use Rattle.session_histories.specs.Refusal.{entry_numbered, step_refusal}
@@ -180,11 +181,6 @@ equal_leaves = record {
 }
 
 -- ---- A state has one menu
-
-entries_within : (data_ : Data) (canon : Term → Term) (processes : List Process) (b : Behaviour) (menu other : List Entry)
-    → Exact data_ canon processes b menu → Exact data_ canon processes b other → (x : Entry) → IsEntry menu x → IsEntry other x
-entries_within data_ canon processes b menu other exact another x inside =
-    let draft : _ = exact.solved x inside in another.every_solved x.shape draft.0 x draft.1 draft.2
 
 pub one_menu : AtMostOneMenuIsExact
 one_menu = λ data_ canon processes b menu other exact another.

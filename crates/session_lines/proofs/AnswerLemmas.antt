@@ -6,6 +6,7 @@ use Rattle.sentence_trees.proofs.Outcomes.{all_have_one_outcome}
 use Rattle.sort_terms.specs.ReadingOutcome as reading
 use Rattle.sort_terms.specs.ReadingOutcome.{SortedTerm, SortedPair, ReadingIs, PairReadingIs, answered}
 use Rattle.sort_terms.proofs.ReadsLemmas.{comes_once}
+use Rattle.sort_terms.proofs.OutcomeLemmas.{not_answered_and_refused}
 use Rattle.lotos_base.specs.Equality.{Equal}
 use Rattle.lotos_base.specs.Equation.{Data}
 use Rattle.lotos_base.specs.Signature.{Signature}
@@ -73,9 +74,6 @@ refused_in A refusal = reading.refused refusal
 refusal_is : (A : Type 0) (one other : reading.ReadingRefusal) → refused_in A one ≡ refused_in A other → one ≡ other
 refusal_is A one other same = cc same
 
-not_both : {A : Type 0} (one : A) (other : reading.ReadingRefusal) → answered one ≡ reading.refused other → ⊥
-not_both one other same = absurd (cc same)
-
 -- ---- Answers
 
 pub normal_once : (signature : Signature) (canon : Term → Term) (text : List ℕ) (one other : QuestionOutcome Term)
@@ -87,7 +85,7 @@ normal_once signature canon text (gives form) (refuses bad_command) is is' =
     absurd (counted text (is.0 ∷ []) is'.0 1 is.2 is'.1 refl is'.2)
 normal_once signature canon text (gives form) (refuses (bad_term number)) is (inl none) = absurd (not_unread text _ number is.2 none)
 normal_once signature canon text (gives form) (refuses (bad_term number)) is (inr is') =
-    absurd (not_both is.1 is'.1 (term_reads_once signature text is.0 is'.0 _ _ is.2 is'.2 is.3 is'.3))
+    absurd (not_answered_and_refused is.1 is'.1 (term_reads_once signature text is.0 is'.0 _ _ is.2 is'.2 is.3 is'.3))
 normal_once signature canon text (refuses bad_command) (gives form) is is' =
     absurd (counted text (is'.0 ∷ []) is.0 1 is'.2 is.1 refl is.2)
 normal_once signature canon text (refuses bad_command) (refuses bad_command) is is' = refl
@@ -97,7 +95,7 @@ normal_once signature canon text (refuses bad_command) (refuses (bad_term number
     absurd (counted text (is'.0 ∷ []) is.0 1 is'.2 is.1 refl is.2)
 normal_once signature canon text (refuses (bad_term number)) (gives form) (inl none) is' = absurd (not_unread text _ number is'.2 none)
 normal_once signature canon text (refuses (bad_term number)) (gives form) (inr is) is' =
-    absurd (not_both is'.1 is.1 (term_reads_once signature text is'.0 is.0 _ _ is'.2 is.2 is'.3 is.3))
+    absurd (not_answered_and_refused is'.1 is.1 (term_reads_once signature text is'.0 is.0 _ _ is'.2 is.2 is'.3 is.3))
 normal_once signature canon text (refuses (bad_term number)) (refuses bad_command) (inl none) is' =
     absurd (not_unread text _ number is'.1 none)
 normal_once signature canon text (refuses (bad_term number)) (refuses bad_command) (inr is) is' =
@@ -132,7 +130,7 @@ comparison_once data_ text (gives equal) (refuses bad_command) is is' =
     absurd (counted text (is.0 ∷ is.1 ∷ []) is'.0 2 is.3 is'.1 refl is'.2)
 comparison_once data_ text (gives equal) (refuses (bad_term number)) is (inl none) = absurd (not_unread text _ number is.3 none)
 comparison_once data_ text (gives equal) (refuses (bad_term number)) is (inr is') =
-    absurd (not_both is.2 is'.2 (pair_reads_one data_.signature text is.0 is.1 is'.0 is'.1 _ _ is.3 is'.3 is.4 is'.4))
+    absurd (not_answered_and_refused is.2 is'.2 (pair_reads_one data_.signature text is.0 is.1 is'.0 is'.1 _ _ is.3 is'.3 is.4 is'.4))
 comparison_once data_ text (refuses bad_command) (gives equal) is is' =
     absurd (counted text (is'.0 ∷ is'.1 ∷ []) is.0 2 is'.3 is.1 refl is.2)
 comparison_once data_ text (refuses bad_command) (refuses bad_command) is is' = refl
@@ -141,7 +139,7 @@ comparison_once data_ text (refuses bad_command) (refuses (bad_term number)) is 
     absurd (counted text (is'.0 ∷ is'.1 ∷ []) is.0 2 is'.3 is.1 refl is.2)
 comparison_once data_ text (refuses (bad_term number)) (gives equal) (inl none) is' = absurd (not_unread text _ number is'.3 none)
 comparison_once data_ text (refuses (bad_term number)) (gives equal) (inr is) is' =
-    absurd (not_both is'.2 is.2 (pair_reads_one data_.signature text is'.0 is'.1 is.0 is.1 _ _ is'.3 is.3 is'.4 is.4))
+    absurd (not_answered_and_refused is'.2 is.2 (pair_reads_one data_.signature text is'.0 is'.1 is.0 is.1 _ _ is'.3 is.3 is'.4 is.4))
 comparison_once data_ text (refuses (bad_term number)) (refuses bad_command) (inl none) is' =
     absurd (not_unread text _ number is'.1 none)
 comparison_once data_ text (refuses (bad_term number)) (refuses bad_command) (inr is) is' =

@@ -1,5 +1,5 @@
 -- What comes of questions on terms.
-use Rattle.std.proofs.Common.{◌≡◌, ◌↔◌, inl, inr, ℕ, Bool, IsTrue, List, [], ◌∷◌, ◌++◌, None, refl, ap, subst, ◌∙◌, append_assoc}
+use Rattle.std.proofs.Common.{◌≡◌, ◌↔◌, inl, inr, ℕ, Bool, IsTrue, List, [], ◌∷◌, ◌++◌, None, refl, ap, subst, ◌∙◌}
 use Rattle.std.proofs.lemmas.Option.{none-some}
 use Rattle.lotos_base.specs.WrittenTerm.{WrittenTerm, WrittenTerms, written, no_written, written_then}
 use Rattle.lotos_base.specs.Equality.{Equal}
@@ -12,10 +12,11 @@ use Rattle.sentence_trees.specs.declared.fault.ReadFault.{ReadFault}
 use Rattle.sentence_trees.specs.declared.fault.ReadFault.TheVariants as fault
 use Rattle.sort_terms.specs.Reading.{Reads, AllRead}
 use Rattle.sort_terms.specs.ReadingOutcome as reading
-use Rattle.sort_terms.specs.ReadingOutcome.{SortedTerm, SortedPair, ReadingIs, PairReadingIs, answered, ComesTo, IsPairReading}
+use Rattle.sort_terms.specs.ReadingOutcome.{SortedTerm, SortedPair, ReadingIs, PairReadingIs, answered, IsPairReading}
 use Rattle.sort_terms.specs.RefusalView.{UnlessNoMemory}
 use Rattle.sort_terms.specs.declared.sort_faults.SortFault.{SortFault}
 use Rattle.sort_terms.specs.declared.sort_faults.SortFault.TheVariants as sort_fault
+use Rattle.sort_terms.proofs.OutcomeLemmas.{read_ground, all_ground, is_reading}
 use Rattle.session_lines.specs.Refusal.{bad_command, bad_term, term_number, AreTerms, AreUnread}
 use Rattle.session_lines.specs.Answer.{QuestionOutcome, refuses, gives, IsNormalAnswer, IsComparison, normal_text, comparison_text}
 use Rattle.session_lines.specs.View.{refused_for_text, refused_for_term, RefusesWith, AddsRefusal, AddsOutcome}
@@ -95,26 +96,6 @@ comparison_read data_ read scope text left right pair equal over none there is d
 
 -- ---- Terms that are read without variables are ground
 
-mutual
-  pub read_ground : (signature : Signature) (w : WrittenTerm) (t : Term) (sort : ℕ) → Reads signature [] w t sort → IsGround t
-  read_ground signature (written head arguments) (variable n s) sort reads = absurd (none-some _ reads.0.last.found)
-  read_ground signature (written head arguments) (node f ts) sort reads = all_ground signature arguments ts _ reads.3
-
-  all_ground : (signature : Signature) (ws : WrittenTerms) (ts : Terms) (sorts : List ℕ) → AllRead signature [] ws ts sorts → AreGround ts
-  all_ground signature no_written no_terms [] reads = unit
-  all_ground signature no_written no_terms (s ∷ ss) reads = absurd reads
-  all_ground signature no_written (term_then t ts) ss reads = absurd reads
-  all_ground signature (written_then w ws) no_terms ss reads = absurd reads
-  all_ground signature (written_then w ws) (term_then t ts) [] reads = absurd reads
-  all_ground signature (written_then w ws) (term_then t ts) (s ∷ ss) reads =
-      (read_ground signature w t s reads.0, all_ground signature ws ts ss reads.1)
-
--- the reading that a question comes to is a reading
-pub is_reading : {A : Type 0} (unknown : List reading.ReadingRefusal) (place : _) (Is : A → Type 0) (one : A)
-    → ComesTo unknown place Is (answered one) → Is one
-is_reading (first ∷ rest) place Is one comes = absurd comes
-is_reading [] place Is one comes = comes.is_answer
-
 pub pair_ground : (signature : Signature) (scope : List Variable) (left right : WrittenTerm) (pair : SortedPair) → scope ≡ []
     → PairReadingIs signature scope left right (answered pair) → IsGround pair.left × IsGround pair.right
 pair_ground signature scope left right pair none is =
@@ -124,16 +105,6 @@ pair_ground signature scope left right pair none is =
     (read_ground signature left pair.left pair.sort both.0, read_ground signature right pair.right pair.sort both.1)
 
 -- ---- What was added
-
-pub in_three : (before first second third one two after : List ℕ) → one ≡ before ++ first → two ≡ one ++ second → after ≡ two ++ third
-    → after ≡ before ++ (first ++ (second ++ third))
-in_three before first second third one two after is_one is_two is_after =
-    is_after
-    ∙ (ap (λ (it : List ℕ). it ++ third) is_two
-    ∙ (ap (λ (it : List ℕ). (it ++ second) ++ third) is_one
-    ∙ (ap (λ (it : List ℕ). it ++ third) (append_assoc before first second)
-    ∙ (append_assoc before (first ++ second) third
-    ∙ ap (λ (it : List ℕ). before ++ it) (append_assoc first second third)))))
 
 pub normal_refused : (signature : Signature) (canon : Term → Term) (text before after : List ℕ) (refusal : CodeRefusal)
     → RefusesWith (IsNormalAnswer signature canon text) refusal → AddsRefusal refusal before after

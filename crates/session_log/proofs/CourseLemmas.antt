@@ -1,6 +1,6 @@
 -- Courses that are begun, stepped and undone.
 use Rattle.std.proofs.Common.{◌≡◌, ℕ, List, [], ◌∷◌, ◌++◌, Some, None, length, append-nil, false, refl, ap, ap₂, sym, ◌∙◌, subst}
-use Rattle.std.proofs.lemmas.List.{map-append}
+use Rattle.std.proofs.lemmas.List.{map-append, nil_from_length, length-map}
 use Rattle.std.proofs.lemmas.Option.{none-some}
 use Rattle.lotos_base.specs.Signature.{Signature}
 use Rattle.lotos_base.specs.Term.{Term}
@@ -45,7 +45,7 @@ use Rattle.session_log.specs.Entries.{AreGiven, IsChosenEntry, IsEntryAt}
 use Rattle.session_log.specs.Kept.{AreSuited, IsKeptCourse, IsKeptMenu, IsKeptPast, IsKeptState}
 use Rattle.session_log.specs.declared.courses.Course.{Course}
 use Rattle.session_log.specs.declared.courses.Past.{Past}
-use Rattle.session_log.proofs.EntryLemmas.{entry_there, mapped_length, values_told, well_counted}
+use Rattle.session_log.proofs.EntryLemmas.{entry_there, values_told, well_counted}
 use Rattle.session_log.specs.RefusalView.{TellsStep}
 use Rattle.session_log.specs.declared.refusals.StepRefusal.{StepRefusal}
 use Rattle.event_offers.specs.declared.drafts.Entry.{Entry}
@@ -290,14 +290,10 @@ same_beginning data_ canon spec old new kept begun same =
 
 -- ---- Nothing to undo
 
-no_items : {X : Type 0} (xs : List X) → length xs ≡ 0 → xs ≡ []
-no_items [] e = refl
-no_items (x ∷ xs) e = absurd (cc e)
-
 pub nothing_undone : (old : Course) (history : List Past) → length old.history.items ≡ 0 → old.history.items ≡ history ++ []
     → IsUndone false (progress_of old) (progress_at old.state old.menu history)
 nothing_undone old history none items = (
-  ap pasts_of (no_items old.history.items none),
+  ap pasts_of (nil_from_length old.history.items none),
   (λ i. record {
     situation = situation_of old.state old.menu;
     steps = pasts_of ((sym (append-nil history) ∙ sym items) i);
@@ -319,7 +315,7 @@ pub chosen_told : (data_ : Data) (canon : Term → Term) (menu : Menu) (number :
 chosen_told data_ canon menu number values entry listed counted refusal h spec =
     values_told (basis_over data_ canon spec) (entries_in menu) number (terms_of values) (plain_entry entry)
     (entry_there menu number entry listed)
-    (subst (λ (n : ℕ). number_refusal (entries_in menu) number n ≡ None) (sym (mapped_length term_in values))
+    (subst (λ (n : ℕ). number_refusal (entries_in menu) number n ≡ None) (sym (length-map values term_in))
     (well_counted menu number (length values) entry listed counted)) refusal h
 
 pub no_fault : (data_ : Data) (canon : Term → Term) (spec : Spec) (state : State) (derivation : Derivation) (fault : StepFault)

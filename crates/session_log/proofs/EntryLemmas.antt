@@ -1,6 +1,10 @@
 -- Entries of menus and values for them.
-use Rattle.std.proofs.Common.{◌≡◌, ◌≢◌, ◌<◌, ◌≤◌, ◌-◌, ◌+◌, ℕ, zero, suc, List, [], ◌∷◌, map, drop, get_or, length, Option, Some, None, slice_get, nat_eq, if◌then◌else◌, Bool, true, false, refl, ap, ap₂, sym, ◌∙◌, subst, arith, add-one, drop-cons, eqb-true, eq-eqb, ne_eqb}
+use Rattle.std.proofs.Common.{◌≡◌, ◌≢◌, ◌<◌, ◌-◌, ◌+◌, ℕ, suc, List, [], ◌∷◌, drop, get_or, length, Option, Some, None, slice_get, nat_eq, if◌then◌else◌, Bool, true, false, refl, ap, ap₂, sym, ◌∙◌, subst, arith, add-one, eqb-true, eq-eqb, ne_eqb}
 use Rattle.std.specs.Option.{option_map}
+use Rattle.std.proofs.lemmas.List.{length-map}
+use Rattle.std.proofs.lemmas.Option.{slice_get_past}
+use Rattle.lotos_base.proofs.Members.{past_map, at_map}
+use Rattle.lotos_base.proofs.Pieces.{next_member}
 use Rattle.lotos_base.specs.Signature.{Signature}
 use Rattle.lotos_base.specs.Term.{Term}
 use Rattle.lotos_base.specs.Sorting.{IsGround, IsGroundOf, sort_of}
@@ -9,10 +13,9 @@ use Rattle.behaviour_semantics.specs.Behaviour.{Test}
 use Rattle.behaviour_semantics.specs.Derives.{leaves_in}
 use Rattle.behaviour_semantics.specs.Fault.{first_of_two}
 use Rattle.behaviour_semantics.specs.Rule.{AreValues, is_same_sort}
-use Rattle.behaviour_semantics.proofs.OptionLemmas.{some_value}
 use Rattle.behaviour_semantics.specs.Solving.{Entry as PlainEntry}
 use Rattle.behaviour_semantics.specs.WellFormed.{Every}
-use Rattle.behaviour_semantics.proofs.DraftsInOrder.{at_map}
+use Rattle.behaviour_semantics.proofs.InstanceLemmas.{every_at}
 use Rattle.behaviour_tree.specs.BehaviourTerms.{profiles_of}
 use Rattle.behaviour_tree.specs.BehaviourView.{terms_of}
 use Rattle.behaviour_tree.specs.Over.{AreTermsOf}
@@ -44,26 +47,12 @@ entry_there menu number entry h =
     subst (λ (n : ℕ). entry_numbered (entries_in menu) n ≡ Some (plain_entry entry)) (sym h.numbered)
     (at_map plain_entry menu.entries.items h.position entry h.found)
 
-pub mapped_length : {X Y : Type 0} (f : X → Y) (xs : List X) → length (map f xs) ≡ length xs
-mapped_length f [] = refl
-mapped_length f (x ∷ xs) = ap suc (mapped_length f xs)
-
-none_mapped : {X Y : Type 0} (f : X → Y) (xs : List X) (position : ℕ) → slice_get xs position ≡ None → slice_get (map f xs) position ≡ None
-none_mapped f [] position e = refl
-none_mapped f (x ∷ xs) zero e = absurd (cc e)
-none_mapped f (x ∷ xs) (suc position) e = none_mapped f xs position e
-
-none_past : {X : Type 0} (xs : List X) (position : ℕ) → length xs ≤ position → slice_get xs position ≡ None
-none_past [] position e = refl
-none_past (x ∷ xs) zero e = absurd (omega (arith, e))
-none_past (x ∷ xs) (suc position) e = none_past xs position (omega (arith, e))
-
 -- a number without an entry is refused
 refused : (menu : Menu) (number count given : ℕ) → count ≡ length menu.entries.items → entry_numbered (entries_in menu) number ≡ None
     → number_refusal (entries_in menu) number given ≡ Some (no_entry number count)
 refused menu number count given counted none =
     ap (λ (it : Option PlainEntry). count_refusal number (length (entries_in menu)) it given) none
-    ∙ ap (λ (it : ℕ). Some (no_entry number it)) (mapped_length plain_entry menu.entries.items ∙ sym counted)
+    ∙ ap (λ (it : ℕ). Some (no_entry number it)) (length-map menu.entries.items plain_entry ∙ sym counted)
 
 pub refused_at_zero : (menu : Menu) (number count given : ℕ) → count ≡ length menu.entries.items → number ≡ 0
     → number_refusal (entries_in menu) number given ≡ Some (no_entry number count)
@@ -78,13 +67,13 @@ pub refused_without : (menu : Menu) (number count given : ℕ) → count ≡ len
     → number_refusal (entries_in menu) number given ≡ Some (no_entry number count)
 refused_without menu number count given counted some none =
     refused menu number count given counted (ap (entry_numbered (entries_in menu)) (before_number number some)
-    ∙ none_mapped plain_entry menu.entries.items (number - 1) none)
+    ∙ past_map plain_entry menu.entries.items (number - 1) none)
 
 pub refused_past : (menu : Menu) (number count given : ℕ) → count ≡ length menu.entries.items → count < number
     → number_refusal (entries_in menu) number given ≡ Some (no_entry number count)
 refused_past menu number count given counted past =
     refused_without menu number count given counted (omega (arith, past))
-    (none_past menu.entries.items (number - 1) (omega (arith, counted, past)))
+    (slice_get_past menu.entries.items (number - 1) (omega (arith, counted, past)))
 
 pub found_at : (menu : Menu) (number : ℕ) (entry : Entry) → 0 < number → slice_get menu.entries.items (number - 1) ≡ Some entry
     → IsEntryAt menu number entry
@@ -155,13 +144,6 @@ condition_is_told signature canon entry values test free e =
 
 -- ---- Values that are given
 
--- the members of a list from this one on
-pub from_here : {X : Type 0} (xs : List X) (index : ℕ) (x : X) → index < length xs → x ≡ get_or xs index x
-    → drop index xs ≡ x ∷ drop (index + 1) xs
-from_here xs index x below is =
-    drop-cons xs index x below
-    ∙ ((λ i. sym is i ∷ drop (suc index) xs) ∙ ap (λ (n : ℕ). x ∷ drop n xs) (sym (add-one index)))
-
 pub given_ground : (signature : Signature) (values : List Sorted) → AreTermsOf signature (profiles_of values)
     → Every (λ (value : Sorted). IsGround (term_in value)) values
     → Every (λ (t : Term). (sort : ℕ) × IsGroundOf signature sort t) (terms_of values)
@@ -185,11 +167,6 @@ told_sort signature value is_of =
     (fitting_has_sort signature (profiled_in value) is_of value.fits)
     ∙ ap (λ (s : ℕ). Some s) value.headed
 
-every_at : {X : Type 0} (P : X → Type 0) (xs : List X) (position : ℕ) (x : X) → Every P xs → slice_get xs position ≡ Some x → P x
-every_at P [] position x h e = absurd (cc e)
-every_at P (y ∷ xs) zero x h e = subst P (some_value e) h.0
-every_at P (y ∷ xs) (suc position) x h e = every_at P xs position x h.1 e
-
 pub entry_over : (signature : Signature) (menu : Menu) (number : ℕ) (entry : Entry) → IsKeptMenu signature menu
     → IsEntryAt menu number entry → IsEntryOver signature entry
 entry_over signature menu number entry kept h = every_at (IsEntryOver signature) menu.entries.items h.position entry kept h.found
@@ -199,7 +176,7 @@ pub given_sorts : (signature : Signature) (sorts : List ℕ) (values : List Sort
     → length values ≡ length sorts → sort_refusal signature 0 sorts (terms_of values) ≡ None
     → AreValues signature sorts (terms_of values)
 given_sorts signature sorts values given counted free =
-    sorts_fit signature 0 sorts (terms_of values) (mapped_length term_in values ∙ counted)
+    sorts_fit signature 0 sorts (terms_of values) (length-map values term_in ∙ counted)
     (given_ground signature values given.terms given.ground) free
 
 -- ---- Values one after another
@@ -209,8 +186,8 @@ pub sort_here : (signature : Signature) (index : ℕ) (sorts : List ℕ) (values
     → AreTermsOf signature (profiles_of (drop index values)) → value.sort ≢ sort
     → sort_refusal signature index (drop index sorts) (terms_of (drop index values)) ≡ Some (value_sort index)
 sort_here signature index sorts values sort value below is below_sorts is_sort terms differ =
-    let rest : drop index sorts ≡ sort ∷ drop (index + 1) sorts = from_here sorts index sort below_sorts is_sort in
-    let left : drop index values ≡ value ∷ drop (index + 1) values = from_here values index value below is in
+    let rest : drop index sorts ≡ sort ∷ drop (index + 1) sorts = next_member sorts index sort below_sorts is_sort in
+    let left : drop index values ≡ value ∷ drop (index + 1) values = next_member values index value below is in
     let here : AreTermsOf signature (profiles_of (value ∷ drop (index + 1) values)) =
     subst (λ (it : List Sorted). AreTermsOf signature (profiles_of it)) left terms in
     ap₂ (λ (ss : List ℕ) (vs : List Sorted). sort_refusal signature index ss (terms_of vs)) rest left
@@ -225,8 +202,8 @@ pub sort_after : (signature : Signature) (index : ℕ) (sorts : List ℕ) (value
     ≡ sort_refusal signature (index + 1) (drop (index + 1) sorts) (terms_of (drop (index + 1) values)))
     × AreTermsOf signature (profiles_of (drop (index + 1) values))
 sort_after signature index sorts values sort value below is below_sorts is_sort terms same =
-    let rest : drop index sorts ≡ sort ∷ drop (index + 1) sorts = from_here sorts index sort below_sorts is_sort in
-    let left : drop index values ≡ value ∷ drop (index + 1) values = from_here values index value below is in
+    let rest : drop index sorts ≡ sort ∷ drop (index + 1) sorts = next_member sorts index sort below_sorts is_sort in
+    let left : drop index values ≡ value ∷ drop (index + 1) values = next_member values index value below is in
     let here : AreTermsOf signature (profiles_of (value ∷ drop (index + 1) values)) =
     subst (λ (it : List Sorted). AreTermsOf signature (profiles_of it)) left terms in (
       ap₂ (λ (ss : List ℕ) (vs : List Sorted). sort_refusal signature index ss (terms_of vs)) rest left

@@ -1,12 +1,13 @@
 -- How the lines of a trace are read.
-use Rattle.std.proofs.Common.{◌≡◌, ◌<◌, ◌≤◌, ◌+◌, ◌*◌, ◌-◌, ◌^◌, ℕ, suc, zero, List, [], ◌∷◌, ◌++◌, take, drop, length, get_or, Bool, true, false, ◌&&◌, nat_eq, nat_lt, nat_le, cond, if◌then◌else◌, Option, Some, None, option_map, refl, ap, ap₂, sym, ◌∙◌, subst, arith, add-one, length-drop, take_all, append_assoc, append-nil, drop-drop, leb-true, ltb-true, ltb-false, lt_of_lt_of_le, pow-suc}
-use Rattle.std.proofs.Math.Nat.{pow-le-pow_right}
+use Rattle.std.proofs.Common.{◌≡◌, ◌<◌, ◌≤◌, ◌+◌, ◌*◌, ◌-◌, ℕ, suc, zero, List, [], ◌∷◌, ◌++◌, take, drop, length, get_or, Bool, true, false, ◌&&◌, nat_eq, if◌then◌else◌, Option, Some, None, option_map, refl, ap, ap₂, sym, ◌∙◌, subst, arith, add-one, length-drop, take_all, append_assoc, append-nil, drop-drop}
 use Rattle.std.specs.List.{list_all, starts_with}
-use Rattle.std.specs.Char.{is_ascii_digit, digit_value}
+use Rattle.std.specs.Char.{is_ascii_digit}
 use Rattle.std.specs.Str.Parse.{digits_value_after}
+use Rattle.std.proofs.lemmas.Bool.{and_parts}
+use Rattle.lotos_base.proofs.Digits.{digit_is, digit_value_is}
+use Rattle.lotos_base.proofs.Pieces.{next_member}
 use Rattle.session_histories.specs.TraceLine.{AroundArrow, with_byte, around_arrow, first_digits, behind_digits, with_first, lines_of}
 use Rattle.session_histories.specs.TraceText.{arrow}
-use Rattle.session_log.proofs.EntryLemmas.{from_here}
 use Rattle.session_log.specs.Lines.{line_length, digit_count, around_at, with_bytes}
 
 -- ---- The first line
@@ -130,25 +131,6 @@ no_arrow position line (byte ∷ rest) none whole = absurd (omega (arith, none))
 
 -- ---- Numbers
 
-both : (a b : Bool) → (a && b) ≡ true → (a ≡ true) × (b ≡ true)
-both true b e = (refl, e)
-both false b e = absurd (cc e)
-
-digit_is : (byte : ℕ) → is_ascii_digit byte ≡ true → (48 ≤ byte) × (byte ≤ 57)
-digit_is byte h =
-    let parts : (nat_le 48 byte ≡ true) × (nat_le byte 57 ≡ true) = both (nat_le 48 byte) (nat_le byte 57) h in
-    (leb-true 48 byte parts.0, leb-true byte 57 parts.1)
-
-digit_value_is : (byte : ℕ) → 48 ≤ byte → byte ≤ 57 → digit_value byte ≡ byte - 48
-digit_value_is byte low high = by (nat_lt byte 48) (nat_lt byte 58) refl refl
-  where
-    by : (a b : Bool) → nat_lt byte 48 ≡ a → nat_lt byte 58 ≡ b
-        → cond a 36 (cond b (byte - 48) (cond (nat_lt byte 65) 36 (cond (nat_lt byte 91) (byte - 55) (cond (nat_lt byte 97) 36
-        (cond (nat_lt byte 123) (byte - 87) 36))))) ≡ byte - 48
-    by true b p q = absurd (omega (arith, low, ltb-true byte 48 p))
-    by false true p q = refl
-    by false false p q = absurd (omega (arith, high, ltb-false byte 58 q))
-
 pub record IsDigitRead (digits : List ℕ) (index value digit : ℕ) : Type 0 where
   pub value_ : digits_value_after 10 value (drop index digits) ≡ digits_value_after 10 (value * 10 + (digit - 48)) (drop (index + 1) digits)
   pub low : 48 ≤ digit
@@ -158,9 +140,9 @@ pub record IsDigitRead (digits : List ℕ) (index value digit : ℕ) : Type 0 wh
 pub digit_read : (digits : List ℕ) (index value digit : ℕ) → index < length digits → digit ≡ get_or digits index digit
     → list_all is_ascii_digit (drop index digits) ≡ true → IsDigitRead digits index value digit
 digit_read digits index value digit below is all =
-    let cut : drop index digits ≡ digit ∷ drop (index + 1) digits = from_here digits index digit below is in
+    let cut : drop index digits ≡ digit ∷ drop (index + 1) digits = next_member digits index digit below is in
     let parts : (is_ascii_digit digit ≡ true) × (list_all is_ascii_digit (drop (index + 1) digits) ≡ true) =
-    both (is_ascii_digit digit) (list_all is_ascii_digit (drop (index + 1) digits))
+    and_parts (is_ascii_digit digit) (list_all is_ascii_digit (drop (index + 1) digits))
     (subst (λ (it : List ℕ). list_all is_ascii_digit it ≡ true) cut all) in
     let range : (48 ≤ digit) × (digit ≤ 57) = digit_is digit parts.0 in
     record {
@@ -170,16 +152,6 @@ digit_read digits index value digit below is all =
       high = range.1;
       rest = parts.1;
     }
-
--- ten digits fit
-pub fits_ten : (index value : ℕ) → index < 10 → value < 10 ^ index → value < 1000000000
-fits_ten index value small below = lt_of_lt_of_le below (pow-le-pow_right {n = 10} (omega arith) {i = index} {j = 9} (omega (arith, small)))
-
-pub one_digit_more : (index value digit : ℕ) → value < 10 ^ index → digit ≤ 57 → 48 ≤ digit
-    → value * 10 + (digit - 48) < 10 ^ (index + 1)
-one_digit_more index value digit below high low =
-    let next : 10 ^ (index + 1) ≡ 10 ^ index * 10 = ap (λ (n : ℕ). 10 ^ n) (add-one index) ∙ pow-suc 10 index in
-    omega (arith, next, below, high, low)
 
 -- the rest behind so many members, and that behind the first one, as slices have them
 pub whole_rest : (count : ℕ) (xs : List ℕ) → take (length xs - count) (drop count xs) ≡ drop count xs

@@ -1,11 +1,11 @@
 -- What comes of the lines of a trace.
-use Rattle.std.proofs.Common.{◌≡◌, ◌≢◌, inl, inr, ◌<◌, ◌≤◌, ◌+◌, ℕ, zero, suc, List, [], ◌∷◌, ◌++◌, map, drop, length, get_or, Bool, true, false, bytes_eq, Option, Some, None, refl, ap, sym, ◌∙◌, subst, arith, append-nil, append_assoc}
-use Rattle.std.proofs.lemmas.List.{map-append}
+use Rattle.std.proofs.Common.{◌≡◌, ◌≢◌, inl, inr, ◌<◌, ◌≤◌, ◌+◌, ℕ, List, [], ◌∷◌, ◌++◌, map, drop, length, get_or, Bool, true, false, bytes_eq, Option, Some, None, refl, ap, sym, ◌∙◌, subst, arith, append-nil, append_assoc}
+use Rattle.std.proofs.lemmas.List.{map-append, drop_all, length-map}
 use Rattle.std.proofs.lemmas.Option.{none-some}
 use Rattle.lotos_base.specs.Signature.{Signature}
 use Rattle.lotos_base.specs.Term.{Term, Terms, variable, node, no_terms, term_then}
 use Rattle.lotos_base.specs.Sorting.{IsGround, AreGround}
-use Rattle.lotos_base.specs.Equation.{Data, Place, Variable}
+use Rattle.lotos_base.specs.Equation.{Data, Variable}
 use Rattle.lotos_base.specs.WrittenTerm.{WrittenTerm, WrittenTerms, written, no_written, written_then}
 use Rattle.lotos_base.specs.WrittenView.{text_place_of, written_term_of}
 use Rattle.lotos_base.specs.Name.{spelling}
@@ -22,7 +22,7 @@ use Rattle.sort_terms.specs.declared.signatures.Signature.{Signature as CodeSign
 use Rattle.sort_terms.specs.declared.sort_faults.SortFault.{SortFault}
 use Rattle.sort_terms.specs.declared.sort_faults.SortFault.TheVariants as term_fault
 use Rattle.sort_terms.specs.ReadingOutcome as reading
-use Rattle.sort_terms.specs.ReadingOutcome.{ReadingIs, SortedTerm, answered, ComesTo, IsReading}
+use Rattle.sort_terms.specs.ReadingOutcome.{ReadingIs, SortedTerm, answered, IsReading}
 use Rattle.sort_terms.specs.SortedView.{profiled_in, term_in}
 use Rattle.sort_terms.specs.declared.sorted.Sorted.{Sorted}
 use Rattle.behaviour_semantics.specs.Fault.{first_of_two}
@@ -46,14 +46,18 @@ use Rattle.printed_texts.specs.MenuText.{label_text}
 use Rattle.printed_texts.specs.TextView.{written_label}
 use Rattle.std.specs.Prelude.{Result, MatchResult}
 use Rattle.std.proofs.lemmas.Result.{MatchResult-weaker}
+use Rattle.sort_terms.proofs.OutcomeLemmas.{read_ground, all_ground, is_reading}
+use Rattle.behaviour_semantics.proofs.SupplyLemmas.{length-values}
+use Rattle.lotos_base.proofs.Members.{read_map}
+use Rattle.lotos_base.proofs.Pieces.{next_member}
 use Rattle.menu_builder.specs.Menus.{entries_in}
 use Rattle.session_histories.specs.Refusal as plain
 use Rattle.session_histories.specs.Refusal.{StepRefusal, entry_numbered, count_refusal, number_refusal, condition_refusal, value_refusal, step_refusal}
 use Rattle.session_histories.specs.Replay.{has_no_form, LineRefusal, bad_line, step_refused, label_differs, LinesOutcome, goes_on, stops, ReplayRefusal, AreRead, IsOneMisread, IsReadStep, shown_label, LineComesTo, is_not_read, is_miscounted, is_misread, is_unmet, is_mislabelled, is_replayed, LinesComeTo, all_done, one_stops, one_goes_on, no_heading, ComeBehind, TraceComesTo, ReplayIs}
 use Rattle.session_histories.specs.TraceLine.{StepLine, step_line, lines_of}
 use Rattle.session_histories.specs.TraceText.{trace_heading}
-use Rattle.session_histories.proofs.RefusalLemmas.{free_of_count, as_many, fit_sorts}
-use Rattle.session_log.proofs.EntryLemmas.{entry_there, from_here, mapped_length}
+use Rattle.session_histories.proofs.RefusalLemmas.{free_of_count, fit_sorts}
+use Rattle.session_log.proofs.EntryLemmas.{entry_there}
 use Rattle.session_log.specs.Entries.{AreGiven, IsEntryAt}
 use Rattle.session_log.specs.RefusalView.{TellsStep, TellsLine, TellsReplay, fault_at, line_fault_of, line_fault_of_text, line_fault_of_term}
 use Rattle.session_log.specs.CourseView.{basis_over, pasts_of, progress_of, situation_of}
@@ -91,25 +95,6 @@ tells_line Is Other so (line_fault.Step refusal) h = (h.0, h.1, so (step_refused
 tells_line Is Other so line_fault.NoMemory h = tt
 
 -- ---- Terms that are read without variables are ground
-
-mutual
-  read_ground : (signature : Signature) (w : WrittenTerm) (t : Term) (sort : ℕ) → Reads signature [] w t sort → IsGround t
-  read_ground signature (written head arguments) (variable n s) sort reads = absurd (none-some _ reads.0.last.found)
-  read_ground signature (written head arguments) (node f ts) sort reads = all_ground signature arguments ts _ reads.3
-
-  all_ground : (signature : Signature) (ws : WrittenTerms) (ts : Terms) (sorts : List ℕ) → AllRead signature [] ws ts sorts → AreGround ts
-  all_ground signature no_written no_terms [] reads = tt
-  all_ground signature no_written no_terms (s ∷ ss) reads = absurd reads
-  all_ground signature no_written (term_then t ts) ss reads = absurd reads
-  all_ground signature (written_then w ws) no_terms ss reads = absurd reads
-  all_ground signature (written_then w ws) (term_then t ts) [] reads = absurd reads
-  all_ground signature (written_then w ws) (term_then t ts) (s ∷ ss) reads =
-      (read_ground signature w t s reads.0, all_ground signature ws ts ss reads.1)
-
-is_reading : {A : Type 0} (unknown : List reading.ReadingRefusal) (place : Place) (Is : A → Type 0) (one : A)
-    → ComesTo unknown place Is (answered one) → Is one
-is_reading (first ∷ rest) place Is one comes = absurd comes
-is_reading [] place Is one comes = comes.is_answer
 
 pub reading_ground : (signature : Signature) (scope : List Variable) (term : WrittenTerm) (expected : Option ℕ) (one : SortedTerm)
     → scope ≡ [] → ReadingIs signature scope term expected (answered one) → IsGround one.term
@@ -198,8 +183,8 @@ pub one_read : (signature : Signature) (sorts : List ℕ) (terms : List WrittenT
     → sort ≡ get_or sorts index sort → AreHalfRead signature sorts terms index values → IsReadAt signature term sort value
     → AreHalfRead signature sorts terms (index + 1) (values ++ (value ∷ []))
 one_read signature sorts terms index values term sort value below is below_sorts is_sort half h =
-    let rest : drop index sorts ≡ sort ∷ drop (index + 1) sorts = from_here sorts index sort below_sorts is_sort in
-    let left : drop index terms ≡ term ∷ drop (index + 1) terms = from_here terms index term below is in
+    let rest : drop index sorts ≡ sort ∷ drop (index + 1) sorts = next_member sorts index sort below_sorts is_sort in
+    let left : drop index terms ≡ term ∷ drop (index + 1) terms = next_member terms index term below is in
     record {
       read = λ more k.
           subst (λ (it : List Term). AreRead signature sorts terms it)
@@ -226,15 +211,9 @@ pub one_misread : (signature : Signature) (sorts : List ℕ) (terms : List Writt
     → IsOneMisread signature sorts terms
 one_misread signature sorts terms index values term sort below is below_sorts is_sort half h =
     half.misread
-    (subst (λ (it : List ℕ). IsOneMisread signature it (drop index terms)) (sym (from_here sorts index sort below_sorts is_sort))
+    (subst (λ (it : List ℕ). IsOneMisread signature it (drop index terms)) (sym (next_member sorts index sort below_sorts is_sort))
     (subst (λ (it : List WrittenTerm). IsOneMisread signature (sort ∷ drop (index + 1) sorts) it)
-    (sym (from_here terms index term below is)) (inl h)))
-
-none_left : {X : Type 0} (xs : List X) (index : ℕ) → length xs ≤ index → drop index xs ≡ []
-none_left [] zero h = refl
-none_left [] (suc index) h = refl
-none_left (x ∷ xs) zero h = absurd (omega (arith, h))
-none_left (x ∷ xs) (suc index) h = none_left xs index (omega (arith, h))
+    (sym (next_member terms index term below is)) (inl h)))
 
 pub all_read : (signature : Signature) (sorts : List ℕ) (terms : List WrittenTerm) (index : ℕ) (values : List Sorted)
     → length terms ≤ index → length sorts ≤ index → AreHalfRead signature sorts terms index values
@@ -242,14 +221,8 @@ pub all_read : (signature : Signature) (sorts : List ℕ) (terms : List WrittenT
 all_read signature sorts terms index values past past_sorts half =
     subst (AreRead signature sorts terms) (append-nil (terms_of values))
     (half.read []
-    (subst (λ (it : List ℕ). AreRead signature it (drop index terms) []) (sym (none_left sorts index past_sorts))
-    (subst (λ (it : List WrittenTerm). AreRead signature [] it []) (sym (none_left terms index past)) tt)))
-
-mapped_at : {X Y : Type 0} (f : X → Y) (xs : List X) (index : ℕ) (x : X) → get_or (map f xs) index (f x) ≡ f (get_or xs index x)
-mapped_at f [] zero x = refl
-mapped_at f [] (suc index) x = refl
-mapped_at f (y ∷ xs) zero x = refl
-mapped_at f (y ∷ xs) (suc index) x = mapped_at f xs index x
+    (subst (λ (it : List ℕ). AreRead signature it (drop index terms) []) (sym (drop_all index sorts past_sorts))
+    (subst (λ (it : List WrittenTerm). AreRead signature [] it []) (sym (drop_all index terms past)) tt)))
 
 pub next_read : (signature : Signature) (sorts : List ℕ) (terms : List Written) (index : ℕ) (values : List Sorted) (term : Written)
     (sort : ℕ) (value : Sorted) → index < length terms → length terms ≡ length sorts → term ≡ get_or terms index term
@@ -258,8 +231,8 @@ pub next_read : (signature : Signature) (sorts : List ℕ) (terms : List Written
     → AreHalfRead signature sorts (map written_term_of terms) (index + 1) (values ++ (value ∷ []))
 next_read signature sorts terms index values term sort value below counted is is_sort half h =
     one_read signature sorts (map written_term_of terms) index values (written_term_of term) sort value
-    (omega (arith, below, mapped_length written_term_of terms))
-    (ap written_term_of is ∙ sym (mapped_at written_term_of terms index term)) (omega (arith, below, counted)) is_sort half h
+    (omega (arith, below, length-map terms written_term_of))
+    (ap written_term_of is ∙ sym (read_map written_term_of terms index term)) (omega (arith, below, counted)) is_sort half h
 
 pub next_misread : (signature : Signature) (sorts : List ℕ) (terms : List Written) (index : ℕ) (values : List Sorted) (term : Written)
     (sort : ℕ) → index < length terms → length terms ≡ length sorts → term ≡ get_or terms index term → sort ≡ get_or sorts index sort
@@ -267,8 +240,8 @@ pub next_misread : (signature : Signature) (sorts : List ℕ) (terms : List Writ
     → IsOneMisread signature sorts (map written_term_of terms)
 next_misread signature sorts terms index values term sort below counted is is_sort half h =
     one_misread signature sorts (map written_term_of terms) index values (written_term_of term) sort
-    (omega (arith, below, mapped_length written_term_of terms))
-    (ap written_term_of is ∙ sym (mapped_at written_term_of terms index term)) (omega (arith, below, counted)) is_sort half h
+    (omega (arith, below, length-map terms written_term_of))
+    (ap written_term_of is ∙ sym (read_map written_term_of terms index term)) (omega (arith, below, counted)) is_sort half h
 
 pub next_told : (signature : Signature) (sorts : List ℕ) (terms : List Written) (index : ℕ) (values : List Sorted) (term : Written)
     (sort : ℕ) → index < length terms → length terms ≡ length sorts → term ≡ get_or terms index term → sort ≡ get_or sorts index sort
@@ -284,7 +257,7 @@ pub values_read : (signature : Signature) (sorts : List ℕ) (terms : List Writt
     → length terms ≤ index → length terms ≡ length sorts → AreHalfRead signature sorts (map written_term_of terms) index values
     → AreRead signature sorts (map written_term_of terms) (terms_of values) × AreGiven signature values
 values_read signature sorts terms index values past counted half = (
-  all_read signature sorts (map written_term_of terms) index values (omega (arith, past, mapped_length written_term_of terms))
+  all_read signature sorts (map written_term_of terms) index values (omega (arith, past, length-map terms written_term_of))
       (omega (arith, past, counted)) half,
   half.given,
 )
@@ -309,7 +282,7 @@ pub count_told : (signature : Signature) (menu : Menu) (number : ℕ) (terms : L
     → TellsLine (IsReadRefusal signature menu number (map written_term_of terms)) (line_fault_of refusal)
 count_told signature menu number terms refusal h =
     counts_told signature menu number (map written_term_of terms) refusal
-    (subst (λ (n : ℕ). TellsStep (number_refusal (entries_in menu) number n) refusal) (sym (mapped_length written_term_of terms)) h)
+    (subst (λ (n : ℕ). TellsStep (number_refusal (entries_in menu) number n) refusal) (sym (length-map terms written_term_of)) h)
 
 pub entry_misread : (signature : Signature) (menu : Menu) (number : ℕ) (entry : Entry) (terms : List Written) → IsEntryAt menu number entry
     → length terms ≡ length entry.vars.items → (fault : LineFault)
@@ -319,11 +292,11 @@ entry_misread signature menu number entry terms listed counted fault h =
     tells_line (λ (why : LineRefusal). (why ≡ bad_line) × IsOneMisread signature entry.vars.items (map written_term_of terms))
     (IsReadRefusal signature menu number (map written_term_of terms))
     (λ why m. subst (IsReadRefusal signature menu number (map written_term_of terms)) (sym m.0)
-    (are_misread (plain_entry entry) (entry_there menu number entry listed) (mapped_length written_term_of terms ∙ counted) m.1)) fault h
+    (are_misread (plain_entry entry) (entry_there menu number entry listed) (length-map terms written_term_of ∙ counted) m.1)) fault h
 
 -- ---- What a line comes to
 
-no_scope : (signature : Signature) → IsScopeOver signature []
+pub no_scope : (signature : Signature) → IsScopeOver signature []
 no_scope signature i v e = absurd (none-some _ e)
 
 -- values that are read are ground terms of their sorts
@@ -376,7 +349,7 @@ module _ (basis : SessionBasis) (progress : Progress) (line : List ℕ) (said : 
           (value_refusal basis.data_.signature basis.canon it values)) listed
           ∙ (ap (λ (it : Option StepRefusal). first_of_two it (value_refusal basis.data_.signature basis.canon (Some entry) values))
           (free_of_count said.number (length progress.situation.menu) entry (length values)
-          (as_many basis.data_.signature entry.variables values sorted))
+          (length-values basis.data_.signature entry.variables values sorted))
           ∙ ap (λ (it : Option StepRefusal). first_of_two it (condition_refusal basis.canon entry values))
           (fit_sorts basis.data_.signature 0 entry.variables values sorted))
 
@@ -536,7 +509,7 @@ refused_at basis number progress line rest more Whole decides cut fault h =
     (line_refused basis number progress line rest more refusal.why Whole decides cut k.1)) fault h
 
 -- what holds over data that have not changed
-over_same : (data_ other : Data) (canon also : Term → Term) (P : Data → (Term → Term) → Type 0) → other ≡ data_ → also ≡ canon
+pub over_same : (data_ other : Data) (canon also : Term → Term) (P : Data → (Term → Term) → Type 0) → other ≡ data_ → also ≡ canon
     → P other also → P data_ canon
 over_same data_ other canon also P same same_canon h = subst (λ (d : Data). P d canon) same (subst (P other) same_canon h)
 

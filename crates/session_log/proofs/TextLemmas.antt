@@ -1,5 +1,6 @@
 -- The texts of the steps of a trace.
 use Rattle.std.proofs.Common.{◌≡◌, ◌+◌, ◌<◌, ℕ, List, [], ◌∷◌, ◌++◌, map, length, get_or, drop, codes, refl, ap, sym, ◌∙◌, append_assoc}
+use Rattle.lotos_base.proofs.Pieces.{next_member}
 use Rattle.lotos_base.specs.Name.{spelling}
 use Rattle.lotos_base.specs.declared.names.Name.{Name}
 use Rattle.behaviour_tree.specs.BehaviourView.{terms_of}
@@ -13,7 +14,6 @@ use Rattle.session_histories.specs.Session.{items_of}
 use Rattle.session_histories.specs.TraceText.{ended, given_text, steps_text, step_text}
 use Rattle.session_log.specs.CourseView.{item_of, pasts_of}
 use Rattle.session_log.specs.declared.courses.Past.{Past}
-use Rattle.session_log.proofs.EntryLemmas.{from_here}
 
 -- values as they are printed
 pub texts_are : (signature : Signature) (values : List Sorted)
@@ -60,4 +60,4 @@ one_line_more signature gates history index past was now start below is before w
     written
     ∙ (append_assoc was (ended (step_text (signature_of signature) (map spelling gates) (item_of past))) _
     ∙ (ap (λ (it : List Past). was ++ steps_text (signature_of signature) (map spelling gates) (items_of (pasts_of it)))
-    (sym (from_here history index past below is)) ∙ before))
+    (sym (next_member history index past below is)) ∙ before))

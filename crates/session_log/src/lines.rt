@@ -176,7 +176,7 @@ fn is_number(digits: &[u8]) -> bool
 }
 
 // The number that the digits write.
-#[tactic(auto, using(crate::proofs::LineLemmas::digit_read, crate::proofs::LineLemmas::fits_ten, crate::proofs::LineLemmas::one_digit_more))]
+#[tactic(auto, using(crate::proofs::LineLemmas::digit_read, lotos_base::proofs::Digits::fits_ten, lotos_base::proofs::Digits::one_digit_more))]
 fn number(digits: &[u8]) -> u64
     requires digits { list_all is_ascii_digit digits.now ≡ true }
     requires short { length digits.now < 11 }

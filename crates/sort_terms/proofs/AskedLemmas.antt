@@ -1,7 +1,7 @@
 -- What the `of`s on a node allow, one after the other.
-use Rattle.std.proofs.Common.{◌≡◌, ◌↔◌, ℕ, Bool, true, ◌&&◌, List, [], ◌∷◌, ◌++◌, refl, sym, ◌∙◌, subst}
+use Rattle.std.proofs.Common.{◌≡◌, ◌↔◌, ℕ, ◌&&◌, List, [], ◌∷◌, ◌++◌, sym, ◌∙◌, subst}
 use Rattle.std.specs.Prelude.{Option, Some, None, IsTrue, MatchOption}
-use Rattle.std.proofs.lemmas.Bool.{eqb-true, eq-eqb, and_parts}
+use Rattle.std.proofs.lemmas.Bool.{eqb-true, eq-eqb, and_parts, and_from}
 use Rattle.lotos_base.specs.WrittenTerm.{PlacedName}
 use Rattle.lotos_base.specs.Signature.{Signature}
 use Rattle.sort_terms.specs.Asked.{allows, is_sort}
@@ -31,9 +31,6 @@ append_asked signature (first ∷ names) one s asked =
     let rest = append_asked signature names one s asked.1 in
     ((asked.0, rest.0), rest.1)
 
-both_true : (x y : Bool) → x ≡ true → y ≡ true → (x && y) ≡ true
-both_true x y h k = rw h (rw k refl)
-
 -- one `of` more
 pub asked_more : (signature : Signature) (names : List PlacedName) (one : PlacedName) (new_names : List PlacedName) (old new : Asked)
     (found : Option ℕ) → new_names ≡ names ++ one ∷ []
@@ -46,5 +43,5 @@ asked_more signature names one new_names old new found is so_far more sort s = (
       asked_append signature names one s ((so_far s).0 both.0) ((sort_tells signature one.name found sort s).0 both.1))),
   (λ asked.
       let parts = append_asked signature names one s (subst (λ (ns : List PlacedName). IsAsked signature ns s) is asked) in
-      more s ∙ both_true (allows old s) (is_sort found s) ((so_far s).1 parts.0) ((sort_tells signature one.name found sort s).1 parts.1)),
+      more s ∙ and_from (allows old s) (is_sort found s) ((so_far s).1 parts.0) ((sort_tells signature one.name found sort s).1 parts.1)),
 )

@@ -5,17 +5,17 @@ use Rattle.std.specs.declared.rc.Rc.{Rc}
 use Rattle.std.proofs.lemmas.Option.{slice_get-get_or}
 use Rattle.std.specs.Option.{option_map}
 use Rattle.std.proofs.Math.Seq.{drop-cons}
+use Rattle.lotos_base.proofs.Members.{at_map}
 use Rattle.lotos_base.specs.Signature.{Signature}
-use Rattle.sort_terms.specs.ProfiledTerm.{ProfiledTerm, ProfiledTerms, profiled_node, no_profiled_terms, profiled_term_then}
+use Rattle.sort_terms.specs.ProfiledTerm.{ProfiledTerm, ProfiledTerms, profiled_node, no_profiled_terms, profiled_term_then, profiled_variable}
 use Rattle.sort_terms.specs.Tables.{built_from, all_built_from, node_with, profiled_cons, term_if}
 use Rattle.sort_terms.specs.TableView.{table_of, tables_of}
 use Rattle.sort_terms.specs.TermView.{all_profiled, profiled_of}
 use Rattle.sort_terms.specs.ChoicesView.{choice_at}
 use Rattle.sort_terms.specs.declared.counted.Counted.{Counted, out-Counted}
 use Rattle.sort_terms.specs.declared.operations.Op.{Op}
-use Rattle.sort_terms.specs.declared.terms.Term.{Term, Node, the_lemmas}
+use Rattle.sort_terms.specs.declared.terms.Term.{Term, Node, the_lemmas, Var, the_lemmas as term_lemmas}
 use Rattle.sort_terms.specs.Operations.{operation_of}
-use Rattle.sort_terms.proofs.ScopeLemmas.{member_mapped}
 use Rattle.sort_terms.proofs.CountedLemmas.{counted_opened}
 use Rattle.sort_terms.proofs.TermListLemmas.{with_last_profiled, all_profiled-append}
 
@@ -123,7 +123,7 @@ pub built_opened : (signature : Signature) (a : Counted) (s : ℕ)
     (choice_at (out-Counted a).choices s)
 built_opened signature a s = ap (λ t. built_from signature t s) (counted_opened a)
 
-profiled_Node : (number : ℕ) (made : Rc Op Global) (arguments : Vec Term Global)
+pub profiled_Node : (number : ℕ) (made : Rc Op Global) (arguments : Vec Term Global)
     → profiled_of (Node number made arguments) ≡ profiled_node number (operation_of made.value) (all_profiled arguments.items)
 profiled_Node number made arguments = search (rules, the_lemmas)
 
@@ -139,7 +139,10 @@ built_operation ops profiles number known made arguments below same within is co
     slice_get-get_or profiles number known (ltb-true number (length profiles) (sym within)) ∙ ap (λ (rc : Rc Op Global). Some rc)
     (sym is) in
     let operation : slice_get (map operation_of ops) number ≡ Some (operation_of known.value) =
-    ap (λ os. slice_get os number) (sym same) ∙ member_mapped (λ (p : Rc Op Global). operation_of p.value) profiles number known here in
+    ap (λ os. slice_get os number) (sym same) ∙ at_map (λ (p : Rc Op Global). operation_of p.value) profiles number known here in
     sym (ap (λ o. node_with number below o) operation ∙ ap (λ o. option_map (profiled_node number (operation_of known.value)) o) (sym built)
     ∙ ap (λ (op : Op). Some (profiled_node number (operation_of op) (all_profiled arguments.items))) (sym copy)
     ∙ ap (λ (t : ProfiledTerm). Some t) (sym (profiled_Node number made arguments)))
+
+pub profiled_Var : (n s : ℕ) → profiled_of (Var n s) ≡ profiled_variable n s
+profiled_Var n s = search (rules, term_lemmas)

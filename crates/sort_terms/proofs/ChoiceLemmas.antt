@@ -1,5 +1,5 @@
 -- Ordered entries of choices: one alone, or two with different sorts.
-use Rattle.std.proofs.Common.{◌≡◌, ◌<◌, ℕ, Bool, true, false, List, [], ◌∷◌, length, refl, sym, ◌∙◌, arith}
+use Rattle.std.proofs.Common.{◌≡◌, ◌<◌, ℕ, true, false, List, [], ◌∷◌, length, refl, sym, ◌∙◌, arith}
 use Rattle.std.specs.Prelude.{Option, Some, None, slice_get}
 use Rattle.std.specs.List.Sorted.{IsStrictlySortedBy}
 use Rattle.std.specs.Map.{lookup, keys_of}
@@ -9,6 +9,7 @@ use Rattle.std.specs.BTreeMap.{is_at}
 use Rattle.std.specs.declared.cmp.Ordering.TheVariants.{Less, Equal}
 use Rattle.std.proofs.lemmas.Map.Lookups.{exact_unsigned}
 use Rattle.std.proofs.lemmas.Option.{same_Some}
+use Rattle.std.proofs.lemmas.Bool.{false_from_ne_true}
 use Rattle.sort_terms.specs.declared.choices.Choice.{Choice}
 
 abbrev pub Entries : Type 0
@@ -24,12 +25,8 @@ cmp_self s = (Equal-is (nat_cmp s s)).1 (sym (nat_cmp_is s s Equal refl))
 cmp_same : (s k : ℕ) → is_eq (nat_cmp s k) ≡ true → s ≡ k
 cmp_same s k h = exact_unsigned s k ((Equal-is (nat_cmp s k)).0 h)
 
-false_unless : (test : Bool) → (test ≡ true → ⊥) → test ≡ false
-false_unless true never = absurd (never refl)
-false_unless false never = refl
-
 pub cmp_other : (s k : ℕ) → ¬ (s ≡ k) → is_eq (nat_cmp s k) ≡ false
-cmp_other s k differ = false_unless (is_eq (nat_cmp s k)) (λ same. differ (cmp_same s k same))
+cmp_other s k differ = false_from_ne_true (is_eq (nat_cmp s k)) (λ same. differ (cmp_same s k same))
 
 pub at_first : (k : ℕ) (c : Choice) (es : Entries) → at k ((k, c) ∷ es) ≡ Some c
 at_first k c es = rw (cmp_self k) refl

@@ -6,7 +6,7 @@ use Rattle.std.specs.List.Sorted.{IsStrictlySortedBy}
 use Rattle.std.specs.Map.{keys_of}
 use Rattle.std.specs.Ordering.{nat_cmp}
 use Rattle.std.specs.declared.cmp.Ordering.TheVariants.{Less}
-use Rattle.std.proofs.lemmas.Bool.{eqb-true, eq-eqb}
+use Rattle.std.proofs.lemmas.Bool.{eqb-true, eq-eqb, both_ways}
 use Rattle.std.proofs.lemmas.Option.{none-some}
 use Rattle.sort_terms.specs.Choices.{both, joined}
 use Rattle.sort_terms.specs.declared.choices.Choice.{Choice}
@@ -43,11 +43,8 @@ rest_sorted : (k : ℕ) (es : Entries) → IsStrictlySortedBy nat_cmp (k ∷ key
 unfolding IsStrictlySortedBy
 rest_sorted k es sorted = sorted.1
 
-true_false : {A : Type 0} (b : Bool) → b ≡ true → b ≡ false → A
-true_false b holds fails = let both : true ≡ false = sym holds ∙ fails in cc
-
 differs : (s k : ℕ) → nat_eq s k ≡ false → ¬ (s ≡ k)
-differs s k test same = true_false (nat_eq s k) (eq-eqb s k same) test
+differs s k test same = absurd (both_ways (nat_eq s k) test (eq-eqb s k same))
 
 both_nothing : (o : Option Choice) → both o None ≡ None
 both_nothing None = refl

@@ -1,8 +1,9 @@
 -- What the code's written terms and counted terms are seen as; the readings of a node by what its arguments have.
-use Rattle.std.proofs.Common.{◌≡◌, ℕ, zero, suc, ◌+◌, ◌<◌, ◌≤◌, Bor, get_or, List, [], ◌∷◌, ◌++◌, map, length, drop, refl, ap, sym, ◌∙◌, subst, arith}
+use Rattle.std.proofs.Common.{◌≡◌, ℕ, ◌+◌, ◌<◌, Bor, get_or, List, [], ◌∷◌, ◌++◌, map, length, refl, ap, sym, ◌∙◌, subst, arith}
 use Rattle.std.specs.Prelude.{Option, Some, None, slice_get, MatchOption}
 use Rattle.std.proofs.lemmas.Option.{same_Some, slice_get-get_or, slice_get_within}
 use Rattle.std.proofs.lemmas.List.{length-map}
+use Rattle.lotos_base.proofs.Members.{from_map, at_map}
 use Rattle.lotos_base.specs.Name.{spelling}
 use Rattle.lotos_base.specs.WrittenLaws.{head_of}
 use Rattle.lotos_base.specs.WrittenTerm.{WrittenTerm, WrittenTerms, written, written_terms}
@@ -34,7 +35,6 @@ use Rattle.sort_terms.specs.declared.counted.Counted.TheViews.{out-roll-Counted,
 use Rattle.sort_terms.specs.declared.counted.Counted.TheFolds.{fold_out-Counted}
 use Rattle.sort_terms.proofs.NodeLemmas.{AllowsAsked, node_means, variable_means}
 use Rattle.sort_terms.proofs.PositionMembers.{position_is, positions_apart, position_there}
-use Rattle.sort_terms.proofs.ScopeLemmas.{mapped_member, member_mapped}
 
 -- the arguments of the code's written term
 abbrev pub arguments_of : Written → WrittenTerms
@@ -78,7 +78,7 @@ operation_node signature scope w ts asked choices suits asks visible are s =
         → (o : PlainOperation) × IsOperation signature f o × AreOneName o.name (head_of w).name
     sound i f found =
         let at = position_is 0 (folded (head_of w).name) names i f found in
-        let member = mapped_member (λ (o : PlainOperation). o.name) signature.operations at.0 at.1 at.3 in
+        let member = from_map (λ (o : PlainOperation). o.name) signature.operations at.0 at.1 at.3 in
         let here : at.0 ≡ f = sym (at.2 ∙ omega arith) in
         (member.0, subst (λ (n : ℕ). IsOperation signature n member.0) here member.1, ap folded member.2 ∙ sym at.4)
 
@@ -86,7 +86,7 @@ operation_node signature scope w ts asked choices suits asks visible are s =
         → source_of t ≡ FromOperation f → HeadIn (positions_of (folded (head_of w).name) names) t
     complete f o t there named is =
         position_there 0 (folded (head_of w).name) names f f o.name t (omega arith)
-        (member_mapped (λ (p : PlainOperation). p.name) signature.operations f o there) (sym named) is
+        (at_map (λ (p : PlainOperation). p.name) signature.operations f o there) (sym named) is
 
 rolled : (r : Counted-F Counted) → table_of (roll-Counted r) ≡ table (choice_at r.choices) (tables_of r.arguments.items)
 rolled r = counted_opened (roll-Counted r) ∙ ap (λ (n : Counted-F Counted). table (choice_at n.choices) (tables_of n.arguments.items))
@@ -132,12 +132,6 @@ pub mapped_names : {A B C : Type 0} (f : A → B) (g : B → C) (h : A → C) (x
     → map g (map f xs) ≡ map h xs
 mapped_names f g h [] same = refl
 mapped_names f g h (x ∷ xs) same = ap (λ y. y ∷ map g (map f xs)) (same x) ∙ ap (λ ys. h x ∷ ys) (mapped_names f g h xs same)
-
-pub drop_past : {A : Type 0} (xs : List A) (n : ℕ) → length xs ≤ n → drop n xs ≡ []
-drop_past [] zero h = refl
-drop_past [] (suc n) h = refl
-drop_past (x ∷ xs) zero h = absurd (omega arith)
-drop_past (x ∷ xs) (suc n) h = drop_past xs n (omega arith)
 
 -- the number is that of an operation
 pub number_below : (ops : List Op) (key numbers : List ℕ) (i : ℕ) → numbers ≡ positions_of key (map (λ o. spelling o.name) ops)

@@ -18,3 +18,4 @@ pub mod CommonLemmas
 pub mod PairLemmas
 pub mod ReadsLemmas
 pub mod WellFormedLemmas
+pub mod OutcomeLemmas

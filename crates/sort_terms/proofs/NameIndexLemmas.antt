@@ -4,8 +4,9 @@ use Rattle.std.specs.Prelude.{if◌then◌else◌, Result, Ok, Err, OnErr}
 use Rattle.std.specs.Option.{option_map_or}
 use Rattle.std.specs.Map.{lookup, set_value, KeepsOthers, IsKeyTest, AreApart}
 use Rattle.std.specs.Str.{bytes_eq}
-use Rattle.std.proofs.lemmas.Slice.Eq.{bytes_eq-Decides}
 use Rattle.std.proofs.lemmas.Option.{same_Some, none-some}
+use Rattle.std.proofs.lemmas.List.{append-nil}
+use Rattle.lotos_base.proofs.Bytes.{same_bytes, bytes_same, bytes_differ, differing_bytes}
 
 abbrev pub Entries : Type 0
 Entries = List (Vec ℕ Global × Vec ℕ Global)
@@ -17,26 +18,6 @@ is_key key = λ known. bytes_eq key known.items
 -- what the entries have under a name
 abbrev pub under : List ℕ → Entries → List ℕ
 under key es = option_map_or (λ (numbers : Vec ℕ Global). numbers.items) (lookup (is_key key) es) []
-
-pub same_key : (one other : List ℕ) → bytes_eq one other ≡ true → one ≡ other
-same_key one other = (bytes_eq-Decides one other).0
-
-pub key_eq : (one other : List ℕ) → one ≡ other → bytes_eq one other ≡ true
-key_eq one other = (bytes_eq-Decides one other).1
-
-false_unless : (test : Bool) → (test ≡ true → ⊥) → test ≡ false
-false_unless true never = absurd (never refl)
-false_unless false never = refl
-
-pub other_key : (one other : List ℕ) → ¬ (one ≡ other) → bytes_eq one other ≡ false
-other_key one other differ = false_unless (bytes_eq one other) (λ same. differ (same_key one other same))
-
-differing_keys : (one other : List ℕ) → bytes_eq one other ≡ false → ¬ (one ≡ other)
-differing_keys one other test same = let both : true ≡ false = sym (key_eq one other same) ∙ test in cc
-
-pub append_nothing : (xs : List ℕ) → xs ++ [] ≡ xs
-append_nothing [] = refl
-append_nothing (x ∷ xs) = ap (λ rest. x ∷ rest) (append_nothing xs)
 
 -- the number behind what is under a name, if it is added under that name
 abbrev pub behind : Bool → ℕ → List ℕ → List ℕ
@@ -54,16 +35,16 @@ pushed (e ∷ es) here key v w n found is =
         → under key (set_value (is_key here) (e ∷ es) w) ≡ behind (bytes_eq key here) n (under key (e ∷ es))
     go true at true of_key below =
         let value : e.1 ≡ v = same_Some _ _ (sym (rw at refl) ∙ found) in
-        let same : bytes_eq key here ≡ true = key_eq key here (same_key key e.0.items of_key ∙ sym (same_key here e.0.items at)) in
+        let same : bytes_eq key here ≡ true = bytes_same key here (same_bytes key e.0.items of_key ∙ sym (same_bytes here e.0.items at)) in
         rw at (rw of_key (rw same (is ∙ ap (λ (known : Vec ℕ Global). known.items ++ n ∷ []) (sym value))))
     go true at false of_key below =
         let differ : bytes_eq key here ≡ false =
-        other_key key here (λ same. differing_keys key e.0.items of_key (same ∙ same_key here e.0.items at)) in
-        rw at (rw of_key (rw differ (sym (append_nothing (under key es)))))
+        bytes_differ key here (λ same. differing_bytes key e.0.items of_key (same ∙ same_bytes here e.0.items at)) in
+        rw at (rw of_key (rw differ (sym (append-nil (under key es)))))
     go false at true of_key below =
         let differ : bytes_eq key here ≡ false =
-        other_key key here (λ same. differing_keys here e.0.items at (sym same ∙ same_key key e.0.items of_key)) in
-        rw at (rw of_key (rw differ (sym (append_nothing e.1.items))))
+        bytes_differ key here (λ same. differing_bytes here e.0.items at (sym same ∙ same_bytes key e.0.items of_key)) in
+        rw at (rw of_key (rw differ (sym (append-nil e.1.items))))
     go false at false of_key below =
         let later : lookup (is_key here) es ≡ Some v = sym (rw at refl) ∙ found in
         rw at (rw of_key (below later))
@@ -106,20 +87,20 @@ inserted old new here name slice key w n sliced named none found keeps is = go (
   where
     go : (b : Bool) → bytes_eq key name ≡ b → under key new ≡ behind b n (under key old)
     go true same =
-        let at : key ≡ here = same_key key name same ∙ sym named in
+        let at : key ≡ here = same_bytes key name same ∙ sym named in
         let nothing : lookup (is_key key) old ≡ None =
         subst (λ (k : List ℕ). lookup (is_key k) old ≡ None) (sliced ∙ sym at) (sym none) in
         let something : lookup (is_key key) new ≡ Some w =
         subst (λ (k : List ℕ). lookup (is_key k) new ≡ Some w) (sym at) found in
         rw nothing (rw something is)
     go false differ =
-        let apart : ¬ (key ≡ here) = λ same. differing_keys key name differ (same ∙ named) in
+        let apart : ¬ (key ≡ here) = λ same. differing_bytes key name differ (same ∙ named) in
         let test : IsKeyTest (λ (a b : Vec ℕ Global). bytes_eq a.items b.items) (is_key key) =
-        λ x y passes. ap (λ (k : List ℕ). bytes_eq k y.items) (same_key key x.items passes) in
+        λ x y passes. ap (λ (k : List ℕ). bytes_eq k y.items) (same_bytes key x.items passes) in
         let others : AreApart (is_key here) (is_key key) =
-        λ k passes. other_key key k.items (λ same. apart (same ∙ sym (same_key here k.items passes))) in
+        λ k passes. bytes_differ key k.items (λ same. apart (same ∙ sym (same_bytes here k.items passes))) in
         let unchanged : lookup (is_key key) new ≡ lookup (is_key key) old = keeps (is_key key) test others in
-        rw unchanged (sym (append_nothing (under key old)))
+        rw unchanged (sym (append-nil (under key old)))
 
 -- the same, where the entries before are known by an equation
 pub inserted_under : (first old new : Entries) (here name slice key : List ℕ) (w : Vec ℕ Global) (n : ℕ)

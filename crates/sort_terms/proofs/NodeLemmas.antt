@@ -2,7 +2,7 @@
 use Rattle.std.proofs.Common.{◌≡◌, ◌↔◌, ℕ, suc, arith, Bool, true, false, ◌&&◌, List, [], ◌∷◌, inl, inr, refl, ap, sym, ◌∙◌, subst}
 use Rattle.std.specs.Prelude.{Option, Some, None, IsTrue, nat_eq, slice_get}
 use Rattle.std.specs.Option.{option_map}
-use Rattle.std.proofs.lemmas.Bool.{eqb-true, eq-eqb, and_parts, cases_lt}
+use Rattle.std.proofs.lemmas.Bool.{eqb-true, eq-eqb, and_parts, cases_lt, both_ways, and_from}
 use Rattle.std.proofs.lemmas.Option.{same_Some}
 use Rattle.lotos_base.specs.WrittenTerm.{WrittenHead, WrittenTerms, written}
 use Rattle.lotos_base.specs.Names.{AreOneName}
@@ -29,12 +29,6 @@ eq_forms prefix_form prefix_form h = refl
 eq_forms prefix_form infix_form h = cc
 eq_forms infix_form prefix_form h = cc
 eq_forms infix_form infix_form h = refl
-
-true_false : {A : Type 0} (b : Bool) → b ≡ true → b ≡ false → A
-true_false b holds fails = let both : true ≡ false = sym holds ∙ fails in cc
-
-pub both_true : (x y : Bool) → x ≡ true → y ≡ true → (x && y) ≡ true
-both_true x y h k = rw h (rw k refl)
 
 -- what `of`s allow is what they ask for
 abbrev pub AllowsAsked : Signature → WrittenHead → Asked → Type 0
@@ -101,7 +95,7 @@ offer_by signature scope head ws ts asked suits asks visible s f operation there
     fits : (t : Term) → ReadsBy signature scope head ws s f t → (form_eq operation.form head.form && allows asked operation.result) ≡ true
     fits t h =
         let parts = applied signature scope head ws s f operation t there h in
-        both_true _ _ (eq_forms operation.form head.form parts.at.formed) ((asks operation.result).1 parts.at.asked)
+        and_from _ _ (eq_forms operation.form head.form parts.at.formed) ((asks operation.result).1 parts.at.asked)
 
     at : (form_eq operation.form head.form && allows asked operation.result) ≡ true → IsOperationAt signature scope head ws f operation
     at holds =
@@ -122,8 +116,9 @@ offer_by signature scope head ws ts asked suits asks visible s f operation there
         rw same (subst (λ (r : ℕ). MeansSome (ReadsBy signature scope head ws r f) (FromOperation f) several)
         (sym (eqb-true s operation.result same)) (several_by signature scope head ws f operation (at holds) several some))
     with_sort several holds some false differ =
-        rw differ (λ t h. true_false (nat_eq s operation.result)
-        (eq-eqb s operation.result (sym (applied signature scope head ws s f operation t there h).sorted)) differ)
+        rw differ (λ t h. absurd
+        (both_ways (nat_eq s operation.result) differ
+        (eq-eqb s operation.result (sym (applied signature scope head ws s f operation t there h).sorted))))
 
     with_arguments : (form_eq operation.form head.form && allows asked operation.result) ≡ true → (r : Option Bool)
         → MeansArguments (λ us. AllRead signature scope ws us operation.arguments) r
@@ -136,7 +131,7 @@ offer_by signature scope head ws ts asked suits asks visible s f operation there
         → Means (ReadsBy signature scope head ws s f) (with_offer s None f (offered_by head.form asked ts operation))
     go true holds =
         rw holds (with_arguments holds (combined operation.arguments ts) (arguments_mean signature scope ws ts suits operation.arguments))
-    go false fails = rw fails (λ t h. true_false _ (fits t h) fails)
+    go false fails = rw fails (λ t h. absurd (both_ways _ fails (fits t h)))
 
 pub offer_is : (signature : Signature) (scope : List DeclaredVariable) (head : WrittenHead) (ws : WrittenTerms) (ts : Tables)
     (asked : Asked) → AllSuit signature scope ws ts → AllowsAsked signature head asked → IsVisible scope head ws
@@ -241,5 +236,4 @@ variable_means signature scope head ws asked v asks bare last s = go (allows ask
           },
           refl,
         )
-    go false fails = rw fails (λ t h. true_false _
-        (both_true _ _ (from_sort t h).2 (eq-eqb s v.sort (sym (from_sort t h).1))) fails)
+    go false fails = rw fails (λ t h. absurd (both_ways _ fails (and_from _ _ (from_sort t h).2 (eq-eqb s v.sort (sym (from_sort t h).1)))))

@@ -1,7 +1,7 @@
 -- What was found over the sorts that two terms share is what the readings of pairs are.
 use Rattle.std.proofs.Common.{◌≡◌, ◌⊎◌, ℕ, Bool, true, false, ◌||◌, List, [], ◌++◌, inl, inr, refl, ap, sym, ◌∙◌, subst}
 use Rattle.std.specs.Prelude.{Option, Some, None, nat_eq}
-use Rattle.std.proofs.lemmas.Bool.{eqb-true, eq-eqb}
+use Rattle.std.proofs.lemmas.Bool.{eqb-true, eq-eqb, or_cases, or_parts}
 use Rattle.std.proofs.lemmas.Option.{same_Some, none-some}
 use Rattle.lotos_base.specs.WrittenLaws.{head_of}
 use Rattle.lotos_base.specs.WrittenTerm.{WrittenTerm}
@@ -55,14 +55,6 @@ are_both (Some x) (Some y) c is = record {
   right_is = refl;
   several = ap (λ (d : Choice). d.several) (sym (same_Some _ _ is));
 }
-
-either_true : (x y : Bool) → (x || y) ≡ true → (x ≡ true) ⊎ (y ≡ true)
-either_true true y h = inl refl
-either_true false y h = inr h
-
-neither_true : (x y : Bool) → (x || y) ≡ false → (x ≡ false) × (y ≡ false)
-neither_true true y h = cc
-neither_true false y h = (refl, h)
 
 -- ---- Pairs
 
@@ -122,7 +114,7 @@ several_common signature scope l r t u common pairs (inl at) =
     let parts = are_both (choice_in t at.0) (choice_in u at.0) at.1 (sym (pairs.common_is at.0) ∙ at.2) in
     let left = some_reading signature scope l t pairs.left at.0 parts.left parts.left_is in
     let right = some_reading signature scope r u pairs.right at.0 parts.right parts.right_is in
-    elim (either_true parts.left.several parts.right.several (sym parts.several ∙ at.3)) [
+    elim (or_cases parts.left.several parts.right.several (sym parts.several ∙ at.3)) [
       | inl several ↦
           two_lefts signature scope l r at.0
           (several_says signature scope l t pairs.left at.0 parts.left parts.left_is several) right.0 right.1
@@ -157,7 +149,7 @@ pub one_common : (signature : Signature) (scope : List Variable) (l r : WrittenT
     → ArePairs signature scope l r t u common → IsFound common (One s) → IsOnePair signature scope l r s
 one_common signature scope l r t u common s pairs at =
     let parts = are_both (choice_in t s) (choice_in u s) at.0.0 (sym (pairs.common_is s) ∙ at.0.1) in
-    let single = neither_true parts.left.several parts.right.several (sym parts.several ∙ at.0.2) in
+    let single = or_parts parts.left.several parts.right.several (sym parts.several ∙ at.0.2) in
     let left = one_says signature scope l t pairs.left s parts.left parts.left_is single.0 in
     let right = one_says signature scope r u pairs.right s parts.right parts.right_is single.1 in
     record {

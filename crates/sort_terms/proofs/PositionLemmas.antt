@@ -3,9 +3,10 @@ use Rattle.std.proofs.Common.{◌≡◌, ℕ, zero, suc, ◌+◌, ◌-◌, ◌<�
 use Rattle.std.specs.Prelude.{Option, Some, None, slice_get, if◌then◌else◌}
 use Rattle.std.specs.Str.{bytes_eq}
 use Rattle.std.proofs.lemmas.Option.{none-some, same_Some}
+use Rattle.std.proofs.lemmas.List.{append-nil}
+use Rattle.lotos_base.proofs.Bytes.{same_bytes, bytes_same}
 use Rattle.lotos_base.specs.Names.{folded}
 use Rattle.sort_terms.specs.Positions.{positions_from, positions_of}
-use Rattle.sort_terms.proofs.NameIndexLemmas.{same_key, key_eq, append_nothing}
 
 append_assoc : (xs ys zs : List ℕ) → xs ++ (ys ++ zs) ≡ (xs ++ ys) ++ zs
 append_assoc [] ys zs = refl
@@ -20,7 +21,7 @@ positions_from-append : (first : ℕ) (key : List ℕ) (names : List (List ℕ))
     ≡ positions_from first key names ++ one_if (bytes_eq key (folded name)) (first + length names)
 positions_from-append first key [] name =
     let here : first ≡ first + 0 = omega arith in
-    append_nothing (one_if (bytes_eq key (folded name)) first) ∙ ap (λ (n : ℕ). one_if (bytes_eq key (folded name)) n) here
+    append-nil (one_if (bytes_eq key (folded name)) first) ∙ ap (λ (n : ℕ). one_if (bytes_eq key (folded name)) n) here
 positions_from-append first key (x ∷ names) name =
     let further : suc first + length names ≡ first + suc (length names) = omega arith in
     ap (λ rest. one_if (bytes_eq key (folded x)) first ++ rest)
@@ -75,7 +76,7 @@ last_at first key (x ∷ names) =
     go (bytes_eq key (folded x)) refl (last_of (positions_from (suc first) key names)) (last_at (suc first) key names) refl
   where
     none_here : bytes_eq key (folded x) ≡ false → ¬ (key ≡ folded x)
-    none_here differ same = let both : true ≡ false = sym (key_eq key (folded x) same) ∙ differ in cc
+    none_here differ same = let both : true ≡ false = sym (bytes_same key (folded x) same) ∙ differ in cc
 
     go : (b : Bool) → bytes_eq key (folded x) ≡ b → (o : Option ℕ) → IsLastAt (suc first) key names o
         → last_of (positions_from (suc first) key names) ≡ o
@@ -85,7 +86,7 @@ last_at first key (x ∷ names) =
         λ j m. elim j as (λ j. 0 < j → slice_get (x ∷ names) j ≡ Some m → ¬ (key ≡ folded m))
         [ zero ↦ λ h. absurd (omega arith) | suc i ↦ λ h. none i m ] in
         let at : first ≡ first + 0 = omega arith in
-        rw e (0, x, at, refl, same_key key (folded x) is, nothing)
+        rw e (0, x, at, refl, same_bytes key (folded x) is, nothing)
     go false is None none e = rw e (λ j m.
         elim j as (λ j. slice_get (x ∷ names) j ≡ Some m → ¬ (key ≡ folded m))
         [ zero ↦ λ found same. none_here is (same ∙ ap folded (sym (same_Some _ _ found))) | suc i ↦ none i m ])

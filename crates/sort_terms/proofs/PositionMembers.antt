@@ -3,13 +3,13 @@ use Rattle.std.proofs.Common.{◌≡◌, ℕ, zero, suc, ◌+◌, ◌<◌, ◌�
 use Rattle.std.specs.Prelude.{Some, slice_get}
 use Rattle.std.specs.Str.{bytes_eq}
 use Rattle.std.proofs.lemmas.Option.{none-some, same_Some}
+use Rattle.lotos_base.proofs.Bytes.{same_bytes, bytes_same}
 use Rattle.lotos_base.specs.Names.{folded}
 use Rattle.lotos_base.specs.Term.{Term}
 use Rattle.sort_terms.specs.Positions.{positions_from}
 use Rattle.sort_terms.specs.Suiting.{source_of}
 use Rattle.sort_terms.specs.declared.choices.Source.TheVariants.{Operation as FromOperation}
 use Rattle.sort_terms.proofs.MeaningLemmas.{HeadIn, NotIn, AreApart}
-use Rattle.sort_terms.proofs.NameIndexLemmas.{same_key, key_eq}
 use Rattle.sort_terms.proofs.PositionLemmas.{one_if}
 
 -- the number is a position of the name
@@ -34,7 +34,7 @@ position_is first key (x ∷ names) j p found =
         → IsPosition first key (x ∷ names) p
     go true is zero found below =
         let at : p ≡ first + 0 = sym (same_Some _ _ found) ∙ omega arith in
-        (0, x, at, refl, same_key key (folded x) is)
+        (0, x, at, refl, same_bytes key (folded x) is)
     go true is (suc i) found below = further first key x names p (below i found)
     go false is j found below = further first key x names p (below j found)
 
@@ -44,7 +44,7 @@ not_in_above f g (n ∷ numbers) less above =
     let at : g ≤ n = above 0 n refl in
     ((λ same. absurd (omega arith)), not_in_above f g numbers less (λ j p found. above (suc j) p found))
 
-above_first : (first : ℕ) (key : List ℕ) (names : List (List ℕ)) (j p : ℕ) → slice_get (positions_from first key names) j ≡ Some p
+pub above_first : (first : ℕ) (key : List ℕ) (names : List (List ℕ)) (j p : ℕ) → slice_get (positions_from first key names) j ≡ Some p
     → first ≤ p
 above_first first key names j p found = let at = position_is first key names j p found in let is : p ≡ first + at.0 = at.2 in omega arith
 
@@ -64,7 +64,7 @@ pub position_there : (first : ℕ) (key : List ℕ) (names : List (List ℕ)) (i
     → slice_get names i ≡ Some m → key ≡ folded m → source_of t ≡ FromOperation f → HeadIn (positions_from first key names) t
 position_there first key [] i f m t at found named is = absurd (none-some m found)
 position_there first key (x ∷ names) zero f m t at found named is =
-    let here : bytes_eq key (folded x) ≡ true = key_eq key (folded x) (named ∙ ap folded (sym (same_Some _ _ found))) in
+    let here : bytes_eq key (folded x) ≡ true = bytes_same key (folded x) (named ∙ ap folded (sym (same_Some _ _ found))) in
     let same : f ≡ first = at ∙ omega arith in
     rw here (inl (is ∙ ap (λ (n : ℕ). FromOperation n) same))
 position_there first key (x ∷ names) (suc i) f m t at found named is =

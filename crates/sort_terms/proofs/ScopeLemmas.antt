@@ -1,10 +1,11 @@
 -- The last variable of a name, by the positions of the names.
-use Rattle.std.proofs.Common.{◌≡◌, ℕ, zero, suc, ◌+◌, ◌<◌, List, [], ◌∷◌, ◌++◌, map, length, get_or, refl, ap, sym, ◌∙◌, arith}
+use Rattle.std.proofs.Common.{◌≡◌, ℕ, ◌+◌, ◌<◌, List, [], ◌∷◌, ◌++◌, map, length, get_or, refl, ap, sym, ◌∙◌, arith}
 use Rattle.std.specs.Prelude.{Some, None, slice_get, Result, Ok, Err, IsOk, is_ok, if◌then◌else◌}
 use Rattle.std.specs.Str.{bytes_eq}
 use Rattle.std.proofs.lemmas.List.{length-map, map-append}
 use Rattle.sort_terms.specs.Positions.{positions_of}
-use Rattle.std.proofs.lemmas.Option.{none-some, same_Some, slice_get_within, get_or_from_slice_get}
+use Rattle.std.proofs.lemmas.Option.{slice_get_within, get_or_from_slice_get}
+use Rattle.lotos_base.proofs.Members.{from_map, at_map}
 use Rattle.lotos_base.specs.Name.{spelling}
 use Rattle.lotos_base.specs.Names.{folded}
 use Rattle.lotos_base.specs.Equation.{Variable as PlainVariable}
@@ -13,19 +14,6 @@ use Rattle.sort_terms.specs.Reading.{IsLastNamed, NoneNamed}
 use Rattle.sort_terms.specs.declared.equations.Variable.{Variable}
 use Rattle.sort_terms.proofs.PositionLemmas.{IsLastAt, one_if, positions_of-append}
 
--- a member of a mapped list
-pub mapped_member : {A B : Type 0} (f : A → B) (xs : List A) (i : ℕ) (y : B) → slice_get (map f xs) i ≡ Some y
-    → (x : A) × (slice_get xs i ≡ Some x) × (f x ≡ y)
-mapped_member f [] i y found = absurd (none-some y found)
-mapped_member f (x ∷ xs) zero y found = (x, refl, same_Some _ _ found)
-mapped_member f (x ∷ xs) (suc i) y found = mapped_member f xs i y found
-
-pub member_mapped : {A B : Type 0} (f : A → B) (xs : List A) (i : ℕ) (x : A) → slice_get xs i ≡ Some x
-    → slice_get (map f xs) i ≡ Some (f x)
-member_mapped f [] i x found = absurd (none-some x found)
-member_mapped f (y ∷ ys) zero x found = ap (λ z. Some (f z)) (same_Some _ _ found)
-member_mapped f (y ∷ ys) (suc i) x found = member_mapped f ys i x found
-
 abbrev pub names_of : List Variable → List (List ℕ)
 names_of variables = map (λ v. spelling v.name) variables
 
@@ -33,7 +21,7 @@ names_of variables = map (λ v. spelling v.name) variables
 pub last_within : (variables : List Variable) (name : List ℕ) (p : ℕ) → IsLastAt 0 (folded name) (names_of variables) (Some p)
     → p < length variables
 last_within variables name p last =
-    let found = mapped_member (λ (v : Variable). spelling v.name) variables last.0 last.1 last.3 in
+    let found = from_map (λ (v : Variable). spelling v.name) variables last.0 last.1 last.3 in
     let within : last.0 < length variables = slice_get_within variables last.0 found.0 found.1 in
     let at : p ≡ 0 + last.0 = last.2 in
     omega arith
@@ -41,21 +29,21 @@ last_within variables name p last =
 name_at : (variables : List Variable) (j : ℕ) (w : PlainVariable) → slice_get (map variable_of variables) j ≡ Some w
     → slice_get (names_of variables) j ≡ Some w.name
 name_at variables j w found =
-    let member = mapped_member variable_of variables j w found in
-    member_mapped (λ (v : Variable). spelling v.name) variables j member.0 member.1 ∙ ap (λ (v : PlainVariable). Some v.name) member.2
+    let member = from_map variable_of variables j w found in
+    at_map (λ (v : Variable). spelling v.name) variables j member.0 member.1 ∙ ap (λ (v : PlainVariable). Some v.name) member.2
 
 -- the variable there is the last one of the name
 pub last_variable : (variables : List Variable) (name : List ℕ) (p : ℕ) (v : Variable)
     → IsLastAt 0 (folded name) (names_of variables) (Some p) → v ≡ get_or variables p v
     → IsLastNamed (map variable_of variables) name (variable_of v)
 last_variable variables name p v last is =
-    let member = mapped_member (λ (w : Variable). spelling w.name) variables last.0 last.1 last.3 in
+    let member = from_map (λ (w : Variable). spelling w.name) variables last.0 last.1 last.3 in
     let at : p ≡ last.0 = last.2 ∙ omega arith in
     let here : v ≡ member.0 =
     is ∙ ap (λ (i : ℕ). get_or variables i v) at ∙ get_or_from_slice_get variables last.0 member.0 v member.1 in
     record {
       position = last.0;
-      found = member_mapped variable_of variables last.0 v (member.1 ∙ ap (λ (w : Variable). Some w) (sym here));
+      found = at_map variable_of variables last.0 v (member.1 ∙ ap (λ (w : Variable). Some w) (sym here));
       named = ap (λ (w : Variable). folded (spelling w.name)) here ∙ ap folded member.2 ∙ sym last.4;
       last = λ i w later found same. last.5 i w.name later (name_at variables i w found) (sym same);
     }
@@ -79,7 +67,7 @@ pushed_positions name key old new x before after n is so_far at added =
 pub last_member : {A : Type 0} (name : A → List ℕ) (xs : List A) (key : List ℕ) (p : ℕ) → IsLastAt 0 key (map name xs) (Some p)
     → (x : A) × (slice_get xs p ≡ Some x) × (key ≡ folded (name x)) × (p < length xs)
 last_member name xs key p last =
-    let found = mapped_member name xs last.0 last.1 last.3 in
+    let found = from_map name xs last.0 last.1 last.3 in
     let at : p ≡ last.0 = last.2 ∙ omega arith in
     let here : slice_get xs p ≡ Some found.0 = ap (λ (i : ℕ). slice_get xs i) at ∙ found.1 in
     (found.0, here, last.4 ∙ ap folded (sym found.2), slice_get_within xs p found.0 here)
@@ -87,7 +75,7 @@ last_member name xs key p last =
 -- where there is no position, no member has the name
 pub no_member : {A : Type 0} (name : A → List ℕ) (xs : List A) (key : List ℕ) → IsLastAt 0 key (map name xs) None
     → (i : ℕ) (x : A) → slice_get xs i ≡ Some x → ¬ (key ≡ folded (name x))
-no_member name xs key none = λ i x found same. none i (name x) (member_mapped name xs i x found) same
+no_member name xs key none = λ i x found same. none i (name x) (at_map name xs i x found) same
 
 -- the branch that is taken
 pub if_ok : {T E X : Type 0} (r : Result T E) (x y : X) → IsOk r → (if is_ok r then x else y) ≡ x

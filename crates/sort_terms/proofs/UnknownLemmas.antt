@@ -1,10 +1,14 @@
 -- The first unknown name, part by part.
-use Rattle.std.proofs.Common.{◌≡◌, ℕ, zero, suc, ◌+◌, ◌-◌, ◌<◌, ◌≤◌, Bool, true, false, ◌&&◌, ◌||◌, List, [], ◌∷◌, ◌++◌, inl, inr, map, take, drop, length, get_or, refl, ap, sym, ◌∙◌, subst, arith}
+use Rattle.std.proofs.Common.{◌≡◌, ℕ, zero, suc, ◌+◌, ◌-◌, ◌<◌, ◌≤◌, Bool, true, false, ◌&&◌, List, [], ◌∷◌, ◌++◌, inl, inr, map, take, drop, length, get_or, refl, ap, sym, ◌∙◌, subst, arith}
 use Rattle.std.specs.Prelude.{Option, Some, None, slice_get}
 use Rattle.std.specs.List.{list_any}
 use Rattle.std.proofs.Math.Seq.{drop-cons, take-length}
-use Rattle.std.proofs.lemmas.Bool.{and_parts}
-use Rattle.std.proofs.lemmas.Option.{none-some, same_Some}
+use Rattle.std.proofs.lemmas.Bool.{and_parts, or_left, or_right, false_from_ne_true, and_from}
+use Rattle.std.proofs.lemmas.Map.Keys.{any_passes_from_place}
+use Rattle.lotos_base.proofs.Truth.{same_truth, second_alone}
+use Rattle.lotos_base.proofs.Tests.{list_any-at}
+use Rattle.lotos_base.proofs.Bytes.{same_bytes, bytes_same}
+use Rattle.lotos_base.proofs.Members.{from_map, at_map}
 use Rattle.lotos_base.specs.Name.{spelling}
 use Rattle.lotos_base.specs.WrittenLaws.{head_of}
 use Rattle.lotos_base.specs.WrittenTerm.{written_terms}
@@ -28,9 +32,7 @@ use Rattle.sort_terms.specs.declared.sort_faults.SortFault.{SortFault}
 use Rattle.sort_terms.specs.declared.sort_faults.SortFault.TheVariants.{UnknownName, UnknownSort}
 use Rattle.sort_terms.proofs.CountedLemmas.{written_opened}
 use Rattle.sort_terms.proofs.MeaningLemmas.{HeadIn}
-use Rattle.sort_terms.proofs.NameIndexLemmas.{same_key, key_eq}
 use Rattle.sort_terms.proofs.PositionMembers.{position_is, position_there}
-use Rattle.sort_terms.proofs.ScopeLemmas.{mapped_member, member_mapped}
 
 pub first_here : (xs ys : List ReadingRefusal) (fault : SortFault) → IsFirstRefusal xs (Some fault) → IsFirstRefusal (xs ++ ys) (Some fault)
 first_here xs ys fault first = (first.0, first.1 ++ ys, first.2, ap (λ (zs : List ReadingRefusal). zs ++ ys) first.3)
@@ -126,48 +128,15 @@ unknown_parts signature scope w =
 
 -- ---- Whether a name is known
 
-same_truth : (b d : Bool) → (b ≡ true → d ≡ true) → (d ≡ true → b ≡ true) → b ≡ d
-same_truth true d h k = sym (h refl)
-same_truth false true h k = k refl
-same_truth false false h k = refl
-
-or_left : (x y : Bool) → x ≡ true → (x || y) ≡ true
-or_left true y h = refl
-or_left false y h = cc
-
-or_right : (x y : Bool) → y ≡ true → (x || y) ≡ true
-or_right true y h = refl
-or_right false y h = h
-
-pub any_member : {A : Type 0} (test : A → Bool) (xs : List A) (i : ℕ) (x : A) → slice_get xs i ≡ Some x → test x ≡ true → list_any test xs
-    ≡ true
-any_member test [] i x found passes = absurd (none-some x found)
-any_member test (y ∷ ys) zero x found passes = or_left (test y) (list_any test ys) (ap test (same_Some _ _ found) ∙ passes)
-any_member test (y ∷ ys) (suc i) x found passes = or_right (test y) (list_any test ys) (any_member test ys i x found passes)
-
-pub member_any : {A : Type 0} (test : A → Bool) (xs : List A) → list_any test xs ≡ true → (i : ℕ) × (x : A) × (slice_get xs i ≡ Some x) ×
-    (test x ≡ true)
-member_any test [] h = cc
-member_any test (x ∷ xs) h = go (test x) refl h (λ later. member_any test xs later)
-  where
-    go : (b : Bool) → test x ≡ b → (b || list_any test xs) ≡ true
-        → (list_any test xs ≡ true → (i : ℕ) × (y : _) × (slice_get xs i ≡ Some y) × (test y ≡ true))
-        → (i : ℕ) × (y : _) × (slice_get (x ∷ xs) i ≡ Some y) × (test y ≡ true)
-    go true is h below = (0, x, refl, is)
-    go false is h below = let rest = below h in (suc rest.0, rest.1, rest.2, rest.3)
-
-false_unless : (test : Bool) → (test ≡ true → ⊥) → test ≡ false
-false_unless true never = absurd (never refl)
-false_unless false never = refl
-
 pub variable_known : (scope : List Variable) (name : List ℕ) (v : Variable) → IsLastNamed scope name v → is_variable_name scope name ≡ true
 variable_known scope name v last =
-    any_member (λ (w : Variable). one_name w.name name) scope last.position v last.found (key_eq (folded v.name) (folded name) last.named)
+    any_passes_from_place (λ (w : Variable). one_name w.name name) scope last.position v last.found
+    (bytes_same (folded v.name) (folded name) last.named)
 
 pub variable_unknown : (scope : List Variable) (name : List ℕ) → NoneNamed scope name → is_variable_name scope name ≡ false
-variable_unknown scope name none = false_unless (is_variable_name scope name) (λ h.
-    let member = member_any (λ (w : Variable). one_name w.name name) scope h in
-    none member.0 member.1 member.2 (same_key (folded member.1.name) (folded name) member.3))
+variable_unknown scope name none = false_from_ne_true (is_variable_name scope name) (λ h.
+    let member = list_any-at (λ (w : Variable). one_name w.name name) scope h in
+    none member.0 member.1 member.2 (same_bytes (folded member.1.name) (folded name) member.3))
 
 any_headed : (test : ℕ → Bool) (numbers : List ℕ) (f : ℕ) → HeadIn numbers (node f no_terms) → test f ≡ true → list_any test numbers ≡ true
 any_headed test [] f h passes = absurd h
@@ -175,9 +144,6 @@ any_headed test (g ∷ gs) f (inl same) passes =
     let numbers : f ≡ g = cc in
     or_left (test g) (list_any test gs) (ap test (sym numbers) ∙ passes)
 any_headed test (g ∷ gs) f (inr h) passes = or_right (test g) (list_any test gs) (any_headed test gs f h passes)
-
-both_true : (x y : Bool) → x ≡ true → y ≡ true → (x && y) ≡ true
-both_true x y h k = rw h (rw k refl)
 
 -- an operation of the name and form is one of those under the name that has the form
 pub operation_known : (signature : Signature) (name : List ℕ) (form : Form)
@@ -188,25 +154,25 @@ operation_known signature name form = same_truth _ _ out back
     out : any_of_form signature form (positions_of (folded name) (map (λ (o : Operation). o.name) signature.operations)) ≡ true
         → is_operation_name signature name form ≡ true
     out h =
-        let one = member_any (λ number. form_is form (slice_get signature.operations number)) _ h in
+        let one = list_any-at (λ number. form_is form (slice_get signature.operations number)) _ h in
         let at = position_is 0 (folded name) (map (λ (o : Operation). o.name) signature.operations) one.0 one.1 one.2 in
-        let member = mapped_member (λ (o : Operation). o.name) signature.operations at.0 at.1 at.3 in
+        let member = from_map (λ (o : Operation). o.name) signature.operations at.0 at.1 at.3 in
         let here : one.1 ≡ at.0 = at.2 ∙ omega arith in
         let there : slice_get signature.operations one.1 ≡ Some member.0 = ap (slice_get signature.operations) here ∙ member.1 in
-        any_member (λ (o : Operation). one_name o.name name && form_eq o.form form) signature.operations at.0 member.0 member.1
-        (both_true _ _ (key_eq (folded member.0.name) (folded name) (ap folded member.2 ∙ sym at.4))
+        any_passes_from_place (λ (o : Operation). one_name o.name name && form_eq o.form form) signature.operations at.0 member.0 member.1
+        (and_from _ _ (bytes_same (folded member.0.name) (folded name) (ap folded member.2 ∙ sym at.4))
         (sym (ap (form_is form) there) ∙ one.3))
 
     back : is_operation_name signature name form ≡ true
         → any_of_form signature form (positions_of (folded name) (map (λ (o : Operation). o.name) signature.operations)) ≡ true
     back h =
-        let member = member_any (λ (o : Operation). one_name o.name name && form_eq o.form form) signature.operations h in
+        let member = list_any-at (λ (o : Operation). one_name o.name name && form_eq o.form form) signature.operations h in
         let parts = and_parts (one_name member.1.name name) (form_eq member.1.form form) member.3 in
         any_headed (λ number. form_is form (slice_get signature.operations number)) _ member.0
         (position_there 0 (folded name) (map (λ (o : Operation). o.name) signature.operations) member.0 member.0 member.1.name
         (node member.0 no_terms)
-        (omega arith) (member_mapped (λ (o : Operation). o.name) signature.operations member.0 member.1 member.2)
-        (sym (same_key (folded member.1.name) (folded name) parts.0)) refl)
+        (omega arith) (at_map (λ (o : Operation). o.name) signature.operations member.0 member.1 member.2)
+        (sym (same_bytes (folded member.1.name) (folded name) parts.0)) refl)
         (ap (form_is form) member.2 ∙ parts.1)
 
 -- the operation at the place has the form
@@ -226,18 +192,15 @@ pub variable_is_known : (signature : Signature) (scope : List Variable) (w : Wri
 variable_is_known signature scope w v prefixed last =
     sym (or_left (form_eq (head_of w).form prefix_form && is_variable_name scope (head_of w).name)
     (is_operation_name signature (head_of w).name (head_of w).form)
-    (both_true (form_eq (head_of w).form prefix_form) (is_variable_name scope (head_of w).name)
+    (and_from (form_eq (head_of w).form prefix_form) (is_variable_name scope (head_of w).name)
     (ap (λ f. form_eq (form_of f) prefix_form) prefixed) (variable_known scope (head_of w).name v last)))
-
-or_neither : (x y : Bool) → x ≡ false → (x || y) ≡ y
-or_neither x y h = rw h refl
 
 pub operation_is_known : (signature : Signature) (scope : List Variable) (w : Written) (known : Bool) → (out-Written w).form ≡ Prefix
     → NoneNamed scope (head_of w).name → known ≡ is_operation_name signature (head_of w).name prefix_form
     → known ≡ is_known signature scope (head_of w)
 operation_is_known signature scope w known prefixed none is =
     is ∙ ap (λ f. is_operation_name signature (head_of w).name (form_of f)) (sym prefixed)
-    ∙ sym (or_neither (form_eq (head_of w).form prefix_form && is_variable_name scope (head_of w).name)
+    ∙ sym (second_alone (form_eq (head_of w).form prefix_form && is_variable_name scope (head_of w).name)
     (is_operation_name signature (head_of w).name (head_of w).form)
     (and_right (form_eq (head_of w).form prefix_form) (is_variable_name scope (head_of w).name)
     (ap (λ f. form_eq (form_of f) prefix_form) prefixed) (variable_unknown scope (head_of w).name none)))
@@ -246,13 +209,14 @@ operation_is_known signature scope w known prefixed none is =
 
 sort_name_known : (signature : Signature) (name : List ℕ) (n : ℕ) → IsSortNamed signature n name → is_sort_name signature name ≡ true
 sort_name_known signature name n named =
-    any_member (λ (s : Sort). one_name s.name name) signature.sorts n named.0 named.1 (key_eq (folded named.0.name) (folded name) named.2)
+    any_passes_from_place (λ (s : Sort). one_name s.name name) signature.sorts n named.0 named.1
+    (bytes_same (folded named.0.name) (folded name) named.2)
 
-sort_name_unknown : (signature : Signature) (name : List ℕ) → ((s : ℕ) → ¬ IsSortNamed signature s name) → is_sort_name signature name
+pub sort_name_unknown : (signature : Signature) (name : List ℕ) → ((s : ℕ) → ¬ IsSortNamed signature s name) → is_sort_name signature name
     ≡ false
-sort_name_unknown signature name none = false_unless (is_sort_name signature name) (λ h.
-    let member = member_any (λ (s : Sort). one_name s.name name) signature.sorts h in
-    none member.0 (member.1, member.2, same_key (folded member.1.name) (folded name) member.3))
+sort_name_unknown signature name none = false_from_ne_true (is_sort_name signature name) (λ h.
+    let member = list_any-at (λ (s : Sort). one_name s.name name) signature.sorts h in
+    none member.0 (member.1, member.2, same_bytes (folded member.1.name) (folded name) member.3))
 
 abbrev pub Asks : Type 0
 Asks = List (Place × Name)

@@ -11,9 +11,8 @@ use Rattle.termination_theory.proofs.OrientationLemmas.{oriented_well_formed, ru
 use Rattle.path_order.specs.Listing.{IsFirstWrong}
 use Rattle.equation_book.specs.HandedOn.{AreUnjoinedBy}
 use Rattle.equation_book.specs.Refusal.{IsBookPrecedence}
-use Rattle.start_values.specs.Refusal.{Refusal, too_long, bad_byte, open_comment, wrong_syntax, too_deep, too_many_libraries, wrong_names, wrong_types, wrong_scopes, mismatch, unguarded, unknown_operation, twice_listed, unorientable, unjoined, start_values, start_term}
 use Rattle.spec_acceptance.specs.AcceptanceLaws.{BooksAreDecided}
-use Rattle.spec_acceptance.specs.Book.{Opens, DoesNotOpen}
+use Rattle.spec_acceptance.specs.Book.{Opens, OpeningFault, names_none, names_twice, not_oriented, not_joined, DoesNotOpen}
 use Rattle.spec_acceptance.specs.PartLaws.{IsDecided}
 use Rattle.spec_acceptance.proofs.DecidedOrders.{over_once, IsFault, UnknownAt, TwiceAt, unknown_is_fault, twice_is_fault, one_place, one_name, not_unknown_and_twice, not_fine_and_wrong}
 use Rattle.spec_acceptance.proofs.DecidedRules.{SidesWithin, data_within, greater_also, AreAlike, rules_once, equation_once, not_rules_and_equation}
@@ -41,37 +40,23 @@ well_formed p data_ rules is = oriented_well_formed p (rules_of rules) (rules_of
 
 -- ---- The faults
 
-data Fault (items : List ListedOperation) (data_ : Data) : Refusal → Type 0 where
+data Fault (items : List ListedOperation) (data_ : Data) : OpeningFault → Type 0 where
   is_unknown : (place : Place) (name : List ℕ) → IsFirstWrong data_.signature items (UnknownAt data_.signature) place name
-      → Fault items data_ (unknown_operation place name)
+      → Fault items data_ (names_none place name)
   is_twice : (place : Place) (name : List ℕ) → IsFirstWrong data_.signature items (TwiceAt data_.signature items) place name
-      → Fault items data_ (twice_listed place name)
+      → Fault items data_ (names_twice place name)
   is_unorientable : (equation : ℕ) (p : Precedence) → IsBookPrecedence data_.signature items p
-      → IsFirstUnorientable p data_.equations equation → Fault items data_ (unorientable equation)
+      → IsFirstUnorientable p data_.equations equation → Fault items data_ (not_oriented equation)
   is_unjoined : (first second : ℕ) (peak left right : Term) (p : Precedence) (rules : List NumberedRule)
       → IsBookPrecedence data_.signature items p → IsOrientation p data_ rules
-      → AreUnjoinedBy data_.signature rules first second peak left right → Fault items data_ (unjoined first second peak left right)
+      → AreUnjoinedBy data_.signature rules first second peak left right → Fault items data_ (not_joined first second peak left right)
 
-fault_of : (items : List ListedOperation) (data_ : Data) (refusal : Refusal) → DoesNotOpen items data_ refusal
-    → Fault items data_ refusal
-fault_of items data_ (unknown_operation place name) is = is_unknown place name is
-fault_of items data_ (twice_listed place name) is = is_twice place name is
-fault_of items data_ (unorientable equation) is = is_unorientable equation is.0 is.1 is.2
-fault_of items data_ (unjoined first second peak left right) is =
+fault_of : (items : List ListedOperation) (data_ : Data) (fault : OpeningFault) → DoesNotOpen items data_ fault → Fault items data_ fault
+fault_of items data_ (names_none place name) is = is_unknown place name is
+fault_of items data_ (names_twice place name) is = is_twice place name is
+fault_of items data_ (not_oriented equation) is = is_unorientable equation is.0 is.1 is.2
+fault_of items data_ (not_joined first second peak left right) is =
     is_unjoined first second peak left right is.0 is.1 is.2 is.3 is.4
-fault_of items data_ (too_long number) is = absurd is
-fault_of items data_ (bad_byte place) is = absurd is
-fault_of items data_ (open_comment place) is = absurd is
-fault_of items data_ (wrong_syntax place) is = absurd is
-fault_of items data_ (too_deep place) is = absurd is
-fault_of items data_ (too_many_libraries place name) is = absurd is
-fault_of items data_ (wrong_names fault) is = absurd is
-fault_of items data_ (wrong_types fault) is = absurd is
-fault_of items data_ (wrong_scopes fault) is = absurd is
-fault_of items data_ (mismatch place left right) is = absurd is
-fault_of items data_ (unguarded place process cycle) is = absurd is
-fault_of items data_ (start_values wanted given) is = absurd is
-fault_of items data_ (start_term refusal) is = absurd is
 
 module _ (items : List ListedOperation) (data_ : Data) (well : IsWellFormedData data_) where
   abbrev IsWrongly : (ℕ → ListedOperation → Type 0) → Place → List ℕ → Type 0
@@ -96,17 +81,17 @@ module _ (items : List ListedOperation) (data_ : Data) (well : IsWellFormedData 
   not_twice p place name is wrong =
       not_fine_and_wrong data_.signature items p (TwiceAt data_.signature items) twices place name is.by_items wrong
 
-  not_oriented : (p q : Precedence) (rules : List NumberedRule) (equation : ℕ) → IsBookPrecedence data_.signature items p
+  never_oriented : (p q : Precedence) (rules : List NumberedRule) (equation : ℕ) → IsBookPrecedence data_.signature items p
       → IsBookPrecedence data_.signature items q → IsOrientation p data_ rules
       → IsFirstUnorientable q data_.equations equation → ⊥
-  not_oriented p q rules equation is also oriented not =
+  never_oriented p q rules equation is also oriented not =
       not_rules_and_equation (count_of data_) p q (alike items data_ p q is also) data_ rules equation within oriented not
 
   one_unjoined : (p q : Precedence) (rules others : List NumberedRule) (first second one two : ℕ) (peak left right top more rest : Term)
       → IsBookPrecedence data_.signature items p → IsBookPrecedence data_.signature items q → IsOrientation p data_ rules
       → IsOrientation q data_ others → AreUnjoinedBy data_.signature rules first second peak left right
       → AreUnjoinedBy data_.signature others one two top more rest
-      → unjoined first second peak left right ≡ unjoined one two top more rest
+      → not_joined first second peak left right ≡ not_joined one two top more rest
   one_unjoined p q rules others first second one two peak left right top more rest is also oriented also_oriented pair other =
       let same : rules ≡ others =
       rules_once (count_of data_) p q (alike items data_ p q is also) data_ rules others within oriented also_oriented in
@@ -114,11 +99,11 @@ module _ (items : List ListedOperation) (data_ : Data) (well : IsWellFormedData 
       unjoined_once data_.signature rules first second one two peak left right top more rest (well_formed p data_ rules oriented)
       pair
       (subst (λ (rs : List NumberedRule). AreUnjoinedBy data_.signature rs one two top more rest) (sym same) other) in
-      (λ i. unjoined (are.firsts i) (are.seconds i) (are.peaks i) (are.lefts i) (are.rights i))
+      (λ i. not_joined (are.firsts i) (are.seconds i) (are.peaks i) (are.lefts i) (are.rights i))
 
-  one_fault : {refusal other : Refusal} → Fault items data_ refusal → Fault items data_ other → refusal ≡ other
+  one_fault : {fault other : OpeningFault} → Fault items data_ fault → Fault items data_ other → fault ≡ other
   one_fault (is_unknown place name is) (is_unknown at word also) =
-      (λ i. unknown_operation
+      (λ i. names_none
       (one_place data_.signature items (UnknownAt data_.signature) (UnknownAt data_.signature) unknowns unknowns place at name word is
       also i)
       (one_name data_.signature items (UnknownAt data_.signature) (UnknownAt data_.signature) unknowns unknowns place at name word is
@@ -130,7 +115,7 @@ module _ (items : List ListedOperation) (data_ : Data) (well : IsWellFormedData 
   one_fault (is_twice place name is) (is_unknown at word also) =
       absurd (not_unknown_and_twice data_.signature items at place word name also is)
   one_fault (is_twice place name is) (is_twice at word also) =
-      (λ i. twice_listed
+      (λ i. names_twice
       (one_place data_.signature items (TwiceAt data_.signature items) (TwiceAt data_.signature items) twices twices place at name word is
       also i)
       (one_name data_.signature items (TwiceAt data_.signature items) (TwiceAt data_.signature items) twices twices place at name word is
@@ -140,23 +125,23 @@ module _ (items : List ListedOperation) (data_ : Data) (well : IsWellFormedData 
   one_fault (is_unorientable equation p by not) (is_unknown place name is) = absurd (not_unknown p place name by is)
   one_fault (is_unorientable equation p by not) (is_twice place name is) = absurd (not_twice p place name by is)
   one_fault (is_unorientable equation p by not) (is_unorientable other q also too) =
-      ap (λ (n : ℕ). unorientable n)
+      ap (λ (n : ℕ). not_oriented n)
       (equation_once (count_of data_) p q (alike items data_ p q by also) data_.equations equation other within not too)
   one_fault (is_unorientable equation p by not) (is_unjoined _ _ _ _ _ q rules also oriented pair) =
-      absurd (not_oriented q p rules equation also by oriented not)
+      absurd (never_oriented q p rules equation also by oriented not)
   one_fault (is_unjoined _ _ _ _ _ p rules by oriented pair) (is_unknown place name is) = absurd (not_unknown p place name by is)
   one_fault (is_unjoined _ _ _ _ _ p rules by oriented pair) (is_twice place name is) = absurd (not_twice p place name by is)
   one_fault (is_unjoined _ _ _ _ _ p rules by oriented pair) (is_unorientable equation q also not) =
-      absurd (not_oriented p q rules equation by also oriented not)
+      absurd (never_oriented p q rules equation by also oriented not)
   one_fault (is_unjoined first second peak left right p rules by oriented pair)
       (is_unjoined one two top more rest q others also too other) =
       one_unjoined p q rules others first second one two peak left right top more rest by also oriented too pair other
 
   not_opened : (p : Precedence) (rules : List NumberedRule) → IsBookPrecedence data_.signature items p → IsOrientation p data_ rules
-      → AreConfluent (rules_of rules) → {refusal : Refusal} → Fault items data_ refusal → ⊥
+      → AreConfluent (rules_of rules) → {fault : OpeningFault} → Fault items data_ fault → ⊥
   not_opened p rules by oriented confluent (is_unknown place name is) = not_unknown p place name by is
   not_opened p rules by oriented confluent (is_twice place name is) = not_twice p place name by is
-  not_opened p rules by oriented confluent (is_unorientable equation q also not) = not_oriented p q rules equation by also oriented not
+  not_opened p rules by oriented confluent (is_unorientable equation q also not) = never_oriented p q rules equation by also oriented not
   not_opened p rules by oriented confluent (is_unjoined _ _ _ _ _ q others also too pair) =
       let same : rules ≡ others =
       rules_once (count_of data_) p q (alike items data_ p q by also) data_ rules others within oriented too in
@@ -165,9 +150,9 @@ module _ (items : List ListedOperation) (data_ : Data) (well : IsWellFormedData 
   decided : IsDecided (Opens items data_) (DoesNotOpen items data_)
   decided = record {
     one_value = λ b c is also. is.0 ∙ sym also.0;
-    not_both = λ b refusal is not.
-        not_opened is.1.0 is.1.1 is.1.2.ordered is.1.2.joined.0 is.1.2.joined.1 (fault_of items data_ refusal not);
-    one_fault = λ refusal other is also. one_fault (fault_of items data_ refusal is) (fault_of items data_ other also);
+    not_both = λ b fault is not.
+        not_opened is.1.0 is.1.1 is.1.2.ordered is.1.2.joined.0 is.1.2.joined.1 (fault_of items data_ fault not);
+    one_fault = λ fault other is also. one_fault (fault_of items data_ fault is) (fault_of items data_ other also);
   }
 
 pub books_are_decided : BooksAreDecided

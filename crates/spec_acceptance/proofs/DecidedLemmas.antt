@@ -1,7 +1,7 @@
 -- Functionalities and recursion of what the code keeps of a specification are decided by the plain specification and the places.
 use Rattle.std.proofs.Common.{refl, ap, sym, ◌∙◌, ◌≡◌, subst, ℕ, List, [], ◌∷◌, map, length, Option, None, Some, slice_get}
 use Rattle.std.proofs.lemmas.Option.{same_Some}
-use Rattle.list_laws.proofs.Members.{at_map}
+use Rattle.lotos_base.proofs.Members.{at_map}
 use Rattle.lotos_base.specs.Equation.{Place, Data}
 use Rattle.lotos_base.specs.WrittenView.{text_place_of}
 use Rattle.lotos_base.specs.declared.places.Place as code
@@ -21,9 +21,8 @@ use Rattle.process_checks.specs.Ranks.{IsSiteAt, IsUnguarded}
 use Rattle.process_checks.specs.declared.calls.CallSite.{CallSite}
 use Rattle.process_checks.proofs.CallLemmas.{not_guarded}
 use Rattle.process_checks.proofs.WayLemmas.{way_of_leads}
-use Rattle.start_values.specs.Refusal.{Refusal, too_long, bad_byte, open_comment, wrong_syntax, too_deep, too_many_libraries, wrong_names, wrong_types, wrong_scopes, mismatch, unguarded, unknown_operation, twice_listed, unorientable, unjoined, start_values, start_term}
 use Rattle.spec_acceptance.specs.PartLaws.{IsDecided}
-use Rattle.spec_acceptance.specs.Checks.{KeepsSpecification, FunctionalitiesAgree, IsFirstDisagreement, Disagree, Guarded, Cyclic}
+use Rattle.spec_acceptance.specs.Checks.{KeepsSpecification, FunctionalitiesAgree, FunctionalityFault, differ_at, IsFirstDisagreement, Disagree, Guarded, RecursionFault, unguarded_at, Cyclic}
 use Rattle.spec_acceptance.specs.AcceptanceLaws.{ExitsAreDecided, RanksAreDecided}
 use Rattle.spec_acceptance.proofs.OneCycle.{first_is_one, kept_cycle_is_one}
 use Rattle.spec_acceptance.proofs.PlacedCalls.{PlacedCall, placed_call, seen_by, calls_by, calls_are_by}
@@ -59,54 +58,35 @@ module _ (data_ : Data) (tree : WrittenSpecification) (spec : Specification) whe
       ∙ ap (λ (f : Functionality). (place, left, f)) is.2
 
   told_once : (ds : List PlacedDisagreement) (place other : Place) (left also right too : Functionality) → IsFirstTold ds place left right
-      → IsFirstTold ds other also too → mismatch place left right ≡ mismatch other also too
+      → IsFirstTold ds other also too → differ_at place left right ≡ differ_at other also too
   told_once [] place other left also right too is not = absurd is
   told_once (d ∷ ds) place other left also right too is same =
-      ap (λ (t : PlacedDisagreement). mismatch t.0 t.1 t.2) (sym is ∙ same)
+      ap (λ (t : PlacedDisagreement). differ_at t.0 t.1 t.2) (sym is ∙ same)
 
-  -- a refusal for functionalities is a mismatch
-  mismatched : (refusal : Refusal) → Disagree data_ tree spec refusal →
-      (place : Place) × (left : Functionality) × (right : Functionality) × (refusal ≡ mismatch place left right)
-      × IsFirstTold told_all place left right
-  mismatched (mismatch place left right) is = (
-    place,
-    left,
-    right,
-    refl,
-    subst (λ (ds : List PlacedDisagreement). IsFirstTold ds place left right) (seen_are_told is.0 is.1)
-        (first_told (all_disagreements is.0) place left right is.2),
-  )
-  mismatched (too_long number) is = absurd is
-  mismatched (bad_byte place) is = absurd is
-  mismatched (open_comment place) is = absurd is
-  mismatched (wrong_syntax place) is = absurd is
-  mismatched (too_deep place) is = absurd is
-  mismatched (too_many_libraries place name) is = absurd is
-  mismatched (wrong_names fault) is = absurd is
-  mismatched (wrong_types fault) is = absurd is
-  mismatched (wrong_scopes fault) is = absurd is
-  mismatched (unguarded place process cycle) is = absurd is
-  mismatched (unknown_operation place name) is = absurd is
-  mismatched (twice_listed place name) is = absurd is
-  mismatched (unorientable equation) is = absurd is
-  mismatched (unjoined first second peak left right) is = absurd is
-  mismatched (start_values wanted given) is = absurd is
-  mismatched (start_term refusal) is = absurd is
+  first_of_text : (place : Place) (left right : Functionality) → Disagree data_ tree spec (differ_at place left right)
+      → IsFirstTold told_all place left right
+  first_of_text place left right is =
+      subst (λ (ds : List PlacedDisagreement). IsFirstTold ds place left right) (seen_are_told is.0 is.1)
+      (first_told (all_disagreements is.0) place left right is.2)
 
   none_told : (ds : List Disagreement) → ds ≡ [] → seen_disagreements ds ≡ []
   none_told ds none = ap seen_disagreements none
 
+  agree_or_differ : (b : Specification) (fault : FunctionalityFault) → FunctionalitiesAgree data_ tree spec b → Disagree data_ tree spec fault
+      → ⊥
+  agree_or_differ b (differ_at place left right) is not =
+      subst (λ (ds : List PlacedDisagreement). IsFirstTold ds place left right)
+      (sym (seen_are_told is.1.0 is.1.1) ∙ none_told (all_disagreements is.1.0) is.1.2) (first_of_text place left right not)
+
+  differ_once : (fault other : FunctionalityFault) → Disagree data_ tree spec fault → Disagree data_ tree spec other → fault ≡ other
+  differ_once (differ_at place left right) (differ_at other also too) is same =
+      told_once told_all place other left also right too (first_of_text place left right is) (first_of_text other also too same)
+
   pub exits_decided : IsDecided (FunctionalitiesAgree data_ tree spec) (Disagree data_ tree spec)
   exits_decided = record {
     one_value = λ b c is also. is.0 ∙ sym also.0;
-    not_both = λ b refusal is not.
-        let told = mismatched refusal not in
-        subst (λ (ds : List PlacedDisagreement). IsFirstTold ds told.0 told.1 told.2)
-        (sym (seen_are_told is.1.0 is.1.1) ∙ none_told (all_disagreements is.1.0) is.1.2) told.4;
-    one_fault = λ refusal other is also.
-        let told = mismatched refusal is in
-        let tells = mismatched other also in
-        told.3 ∙ told_once told_all told.0 tells.0 told.1 tells.1 told.2 tells.2 told.4 tells.4 ∙ sym tells.3;
+    not_both = agree_or_differ;
+    one_fault = differ_once;
   }
 
 pub exits_are_decided : ExitsAreDecided
@@ -157,17 +137,17 @@ record IsToldCycle (calls : List (List PlacedCall)) (place : Place) (process : �
   pub kept : IsKeptCycle (map numbers_in calls) process position cycle
   pub placed : place_there calls process position ≡ Some place
 
-same_refusal : (place other : Place) (process also : ℕ) (cycle too : List ℕ) → place ≡ other → process ≡ also → cycle ≡ too
-    → unguarded place process cycle ≡ unguarded other also too
-same_refusal place other process also cycle too one two three =
-    ap (λ (p : Place). unguarded p process cycle) one ∙ ap (λ (n : ℕ). unguarded other n cycle) two
-    ∙ ap (λ (ns : List ℕ). unguarded other also ns) three
+same_cycle : (place other : Place) (process also : ℕ) (cycle too : List ℕ) → place ≡ other → process ≡ also → cycle ≡ too
+    → unguarded_at place process cycle ≡ unguarded_at other also too
+same_cycle place other process also cycle too one two three =
+    ap (λ (p : Place). unguarded_at p process cycle) one ∙ ap (λ (n : ℕ). unguarded_at other n cycle) two
+    ∙ ap (λ (ns : List ℕ). unguarded_at other also ns) three
 
 cycle_told_once : (calls : List (List PlacedCall)) (place other : Place) (process also : ℕ) (cycle too : List ℕ)
     → IsToldCycle calls place process cycle → IsToldCycle calls other also too
-    → unguarded place process cycle ≡ unguarded other also too
+    → unguarded_at place process cycle ≡ unguarded_at other also too
 cycle_told_once calls place other process also cycle too one two =
-    same_refusal place other process also cycle too
+    same_cycle place other process also cycle too
     (same_Some place other (sym one.placed ∙ ap (λ (n : ℕ). place_there calls n one.position) same.0
     ∙ ap (place_there calls also) same.1 ∙ two.placed))
     same.0
@@ -212,63 +192,25 @@ module _ (data_ : Data) (tree : WrittenSpecification) (spec : Specification) whe
         ∙ site_placed kept process is.position at is.stands;
   }
 
-  -- a refusal for recursion is for a cycle
-  cyclic : (refusal : Refusal) → Cyclic data_ tree spec refusal →
-      (place : Place) × (process : ℕ) × (cycle : List ℕ) × (refusal ≡ unguarded place process cycle)
-      × IsToldCycle calls_all place process cycle
-  cyclic (unguarded place process cycle) is = (
-    place,
-    process,
-    cycle,
-    refl,
-    subst (λ (p : Place). IsToldCycle calls_all p process cycle) is.3 (cycle_told is.0 is.1 process cycle is.2 is.4),
-  )
-  cyclic (too_long number) is = absurd is
-  cyclic (bad_byte place) is = absurd is
-  cyclic (open_comment place) is = absurd is
-  cyclic (wrong_syntax place) is = absurd is
-  cyclic (too_deep place) is = absurd is
-  cyclic (too_many_libraries place name) is = absurd is
-  cyclic (wrong_names fault) is = absurd is
-  cyclic (wrong_types fault) is = absurd is
-  cyclic (wrong_scopes fault) is = absurd is
-  cyclic (mismatch place left right) is = absurd is
-  cyclic (unknown_operation place name) is = absurd is
-  cyclic (twice_listed place name) is = absurd is
-  cyclic (unorientable equation) is = absurd is
-  cyclic (unjoined first second peak left right) is = absurd is
-  cyclic (start_values wanted given) is = absurd is
-  cyclic (start_term refusal) is = absurd is
+  cycle_of_text : (place : Place) (process : ℕ) (cycle : List ℕ) → Cyclic data_ tree spec (unguarded_at place process cycle)
+      → IsToldCycle calls_all place process cycle
+  cycle_of_text place process cycle is =
+      subst (λ (p : Place). IsToldCycle calls_all p process cycle) is.3 (cycle_told is.0 is.1 process cycle is.2 is.4)
 
-  kept_cyclic : (refusal : Refusal) → Cyclic data_ tree spec refusal → IsGuarded spec.processes → ⊥
-  kept_cyclic (unguarded place process cycle) is guarded =
+  guarded_or_cyclic : (b : Specification) (fault : RecursionFault) → Guarded spec b → Cyclic data_ tree spec fault → ⊥
+  guarded_or_cyclic b (unguarded_at place process cycle) guarded is =
       not_guarded is.0.processes.items (cycle_of is.0 process is.4.position is.4.first.on_cycle)
-      (subst (λ (s : Specification). IsGuarded s.processes) (sym is.2.same) guarded)
-  kept_cyclic (too_long number) is guarded = absurd is
-  kept_cyclic (bad_byte place) is guarded = absurd is
-  kept_cyclic (open_comment place) is guarded = absurd is
-  kept_cyclic (wrong_syntax place) is guarded = absurd is
-  kept_cyclic (too_deep place) is guarded = absurd is
-  kept_cyclic (too_many_libraries place name) is guarded = absurd is
-  kept_cyclic (wrong_names fault) is guarded = absurd is
-  kept_cyclic (wrong_types fault) is guarded = absurd is
-  kept_cyclic (wrong_scopes fault) is guarded = absurd is
-  kept_cyclic (mismatch place left right) is guarded = absurd is
-  kept_cyclic (unknown_operation place name) is guarded = absurd is
-  kept_cyclic (twice_listed place name) is guarded = absurd is
-  kept_cyclic (unorientable equation) is guarded = absurd is
-  kept_cyclic (unjoined first second peak left right) is guarded = absurd is
-  kept_cyclic (start_values wanted given) is guarded = absurd is
-  kept_cyclic (start_term refusal) is guarded = absurd is
+      (subst (λ (s : Specification). IsGuarded s.processes) (sym is.2.same) guarded.1)
+
+  cyclic_once : (fault other : RecursionFault) → Cyclic data_ tree spec fault → Cyclic data_ tree spec other → fault ≡ other
+  cyclic_once (unguarded_at place process cycle) (unguarded_at other also too) is same =
+      cycle_told_once calls_all place other process also cycle too (cycle_of_text place process cycle is) (cycle_of_text other also too same)
 
   pub ranks_decided : IsDecided (Guarded spec) (Cyclic data_ tree spec)
   ranks_decided = record {
     one_value = λ b c is also. is.0 ∙ sym also.0;
-    not_both = λ b refusal is not. kept_cyclic refusal not is.1;
-    one_fault = λ refusal other is also.
-        let told = cyclic refusal is in
-        let tells = cyclic other also in
-        told.3 ∙ cycle_told_once calls_all told.0 tells.0 told.1 tells.1 told.2 tells.2 told.4 tells.4 ∙ sym tells.3;
+    not_both = guarded_or_cyclic;
+    one_fault = cyclic_once;
   }
 
 pub ranks_are_decided : RanksAreDecided

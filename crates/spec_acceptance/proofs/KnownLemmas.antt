@@ -51,16 +51,16 @@ use Rattle.equation_book.specs.declared.book_fault.BookFault.TheVariants as book
 use Rattle.static_scope.specs.KeptPlaces.{places_of}
 use Rattle.static_scope.specs.TextPlaces.{text_places}
 use Rattle.start_values.specs.Refusal as plain
-use Rattle.start_values.specs.Refusal.{Refusal}
 use Rattle.start_values.specs.declared.refused.Refused.{Refused}
 use Rattle.start_values.specs.declared.spec_fault.SpecFault.TheVariants as fault
-use Rattle.spec_acceptance.specs.Ending.{at_first, with_libraries, with_data, with_spec}
-use Rattle.spec_acceptance.specs.Texts.{TextIsMisread}
-use Rattle.spec_acceptance.specs.Types.{HaveData, HaveFault}
-use Rattle.spec_acceptance.specs.Scopes.{Breaks, StandsFor}
-use Rattle.spec_acceptance.specs.Checks.{FunctionalitiesAgree, Disagree, Guarded, Cyclic}
-use Rattle.spec_acceptance.specs.Book.{DoesNotOpen, Opens}
-use Rattle.spec_acceptance.specs.Doing.{Faulty, IsLibraryRefusal, RefusesAs, with_libraries_refused, with_data_refused, with_spec_refused, known_with_data, known_with_spec}
+use Rattle.lotos_grammar.specs.TextFault.{TextIsMisread}
+use Rattle.spec_acceptance.specs.Ending.{at_first, with_libraries, with_spec}
+use Rattle.spec_acceptance.specs.Texts.{text_told}
+use Rattle.spec_acceptance.specs.Types.{HaveData, HaveFault, types_told}
+use Rattle.spec_acceptance.specs.Scopes.{Breaks, StandsFor, scopes_told}
+use Rattle.spec_acceptance.specs.Checks.{FunctionalitiesAgree, Disagree, functionality_told, Guarded, Cyclic, recursion_told}
+use Rattle.spec_acceptance.specs.Book.{DoesNotOpen, Opens, opening_told}
+use Rattle.spec_acceptance.specs.Doing.{Faulty, IsLibraryRefusal, RefusesAs, with_libraries_refused, with_data_refused, with_spec_refused}
 use Rattle.spec_acceptance.specs.Known.{KnowsData, Resolved, KnowsSpec, KnowsRanks, KnowsOrder, ReadsItems, KnowsBook}
 use Rattle.spec_acceptance.specs.declared.not_accepted.NotAccepted.{NotAccepted}
 use Rattle.spec_acceptance.specs.declared.not_accepted.NotAccepted.TheVariants.{File, Spec, NoMemory}
@@ -68,30 +68,31 @@ use Rattle.spec_acceptance.specs.declared.stages.WithData.{WithData}
 use Rattle.spec_acceptance.specs.declared.stages.WithOrder.{WithOrder}
 use Rattle.spec_acceptance.specs.declared.stages.WithRanks.{WithRanks}
 use Rattle.spec_acceptance.specs.declared.stages.WithSpec.{WithSpec}
-use Rattle.spec_acceptance.proofs.FaultLemmas.{read_faulty, types_faulty, scopes_faulty, exits_faulty, ranks_faulty, order_faulty, book_faulty}
+use Rattle.spec_acceptance.proofs.FaultLemmas.{by_data, by_spec, order_told, read_faulty, types_faulty, scopes_faulty, exits_faulty, ranks_faulty, order_faulty, book_faulty}
 
 -- an answer that is this refusal, unless memory was wanted
-pub refused_as : (IsFault : Refusal → Type 0) (known : Refusal → plain.Refused) (IsWanting : Type 0) (r : Refused) (answer : NotAccepted)
-    → RefusesAs IsWanting r answer → ((IsWanting → ⊥) → Faulty IsFault known (Spec r)) → Faulty IsFault known answer
-refused_as IsFault known IsWanting r (File name) is tells = absurd is
-refused_as IsFault known IsWanting r (Spec found) is tells =
-    subst (λ (x : Refused). Faulty IsFault known (Spec x)) (sym is.0) (tells is.1)
-refused_as IsFault known IsWanting r NoMemory is tells = tt
+pub refused_as : {F : Type 0} (IsFault : F → Type 0) (tell : F → plain.Refused) (IsWanting : Type 0) (r : Refused) (answer : NotAccepted)
+    → RefusesAs IsWanting r answer → ((IsWanting → ⊥) → Faulty IsFault tell (Spec r)) → Faulty IsFault tell answer
+refused_as IsFault tell IsWanting r (File name) is tells = absurd is
+refused_as IsFault tell IsWanting r (Spec found) is tells =
+    subst (λ (x : Refused). Faulty IsFault tell (Spec x)) (sym is.0) (tells is.1)
+refused_as IsFault tell IsWanting r NoMemory is tells = tt
 
 -- what a refusal then tells
-pub told_spec : (libraries read : List (List ℕ)) (data_ other : Data) (spec also : Specification) (IsFault : Refusal → Type 0) (answer :
-    NotAccepted)
-    → libraries ≡ read → data_ ≡ other → spec ≡ also → Faulty IsFault (with_spec libraries data_ spec) answer
-    → Faulty IsFault (with_spec read other also) answer
-told_spec libraries read data_ other spec also IsFault answer one two three is =
-    subst (λ (ls : List (List ℕ)). Faulty IsFault (with_spec ls other also) answer) one
-    (subst (λ (d : Data). Faulty IsFault (with_spec libraries d also) answer) two
-    (subst (λ (s : Specification). Faulty IsFault (with_spec libraries data_ s) answer) three is))
+pub told_spec : {F : Type 0} (tell : List (List ℕ) → Data → Specification → F → plain.Refused) (libraries read : List (List ℕ))
+    (data_ other : Data) (spec also : Specification) (IsFault : F → Type 0) (answer : NotAccepted)
+    → libraries ≡ read → data_ ≡ other → spec ≡ also → Faulty IsFault (tell libraries data_ spec) answer
+    → Faulty IsFault (tell read other also) answer
+told_spec tell libraries read data_ other spec also IsFault answer one two three is =
+    subst (λ (ls : List (List ℕ)). Faulty IsFault (tell ls other also) answer) one
+    (subst (λ (d : Data). Faulty IsFault (tell libraries d also) answer) two
+    (subst (λ (s : Specification). Faulty IsFault (tell libraries data_ s) answer) three is))
 
-pub tells_spec : (whole : Resolved) (known : WithSpec) (IsFault : Refusal → Type 0) (answer : NotAccepted) → KnowsSpec whole known
-    → Faulty IsFault (known_with_spec known) answer → Faulty IsFault (with_spec whole.read whole.data_ whole.spec) answer
-tells_spec whole known IsFault answer knows is =
-    told_spec (map spelling known.libraries.items) whole.read (data_of known.flat) whole.data_ (specification_of known.spec) whole.spec
+pub tells_spec : {F : Type 0} (tell : List (List ℕ) → Data → Specification → F → plain.Refused) (whole : Resolved) (known : WithSpec)
+    (IsFault : F → Type 0) (answer : NotAccepted) → KnowsSpec whole known
+    → Faulty IsFault (by_spec tell known) answer → Faulty IsFault (tell whole.read whole.data_ whole.spec) answer
+tells_spec tell whole known IsFault answer knows is =
+    told_spec tell (map spelling known.libraries.items) whole.read (data_of known.flat) whole.data_ (specification_of known.spec) whole.spec
     IsFault answer knows.libraries knows.data_is knows.keeps.same is
 
 -- ---- Texts and types
@@ -99,13 +100,13 @@ tells_spec whole known IsFault answer knows is =
 pub spec_misread : (text : List ℕ) (libraries : Vec Name Global) (found : ReadFault) (answer : NotAccepted) → libraries.items ≡ []
     → IsSpecificationFault 0 text found
     → RefusesAs (found ≡ read.NoMemory) (with_libraries_refused libraries (fault.Read 0 found)) answer
-    → Faulty (TextIsMisread IsSpecificationFault 0 text) at_first answer
+    → Faulty (TextIsMisread IsSpecificationFault 0 text) (text_told at_first 0) answer
 spec_misread text libraries found answer none is refused =
-    refused_as (TextIsMisread IsSpecificationFault 0 text) at_first (found ≡ read.NoMemory)
+    refused_as (TextIsMisread IsSpecificationFault 0 text) (text_told at_first 0) (found ≡ read.NoMemory)
     (with_libraries_refused libraries (fault.Read 0 found)) answer refused (λ not.
     subst (λ (names : List Name).
-    Faulty (TextIsMisread IsSpecificationFault 0 text) (with_libraries (map spelling names)) (Spec (with_libraries_refused libraries
-    (fault.Read 0 found))))
+    Faulty (TextIsMisread IsSpecificationFault 0 text) (text_told (with_libraries (map spelling names)) 0)
+    (Spec (with_libraries_refused libraries (fault.Read 0 found))))
     none (read_faulty IsSpecificationFault 0 text libraries found is not))
 
 pub refusal_is : (so_far : Gathered) (found other : LibraryFault) (answer : NotAccepted) → found ≡ other
@@ -129,11 +130,11 @@ flat_fine given items libraries flat all is = (
 pub flat_faulty : (given items : List ItemText) (libraries : Vec Name Global) (found : TypeFault) (answer : NotAccepted) → given ≡ items
     → IsRefused (types_of (map item_of given)) found
     → RefusesAs (found ≡ type.NoMemory) (with_libraries_refused libraries (fault.Types found)) answer
-    → Faulty (HaveFault (types_of (map item_of items))) (with_libraries (map spelling libraries.items)) answer
+    → Faulty (HaveFault (types_of (map item_of items))) (types_told (map spelling libraries.items)) answer
 flat_faulty given items libraries found answer all is refused =
-    refused_as (HaveFault (types_of (map item_of items))) (with_libraries (map spelling libraries.items)) (found ≡ type.NoMemory)
+    refused_as (HaveFault (types_of (map item_of items))) (types_told (map spelling libraries.items)) (found ≡ type.NoMemory)
     (with_libraries_refused libraries (fault.Types found)) answer refused (λ not.
-    subst (λ (ts : List ItemText). Faulty (HaveFault (types_of (map item_of ts))) (with_libraries (map spelling libraries.items))
+    subst (λ (ts : List ItemText). Faulty (HaveFault (types_of (map item_of ts))) (types_told (map spelling libraries.items))
     (Spec (with_libraries_refused libraries (fault.Types found)))) all
     (types_faulty (types_of (map item_of given)) libraries found is not))
 
@@ -166,11 +167,11 @@ pub resolved_faulty : (tree : WrittenSpecification) (known : WithData) (found : 
     → FaultIs found (λ (f : scope.ScopeFault). SpecificationIs (data_of known.flat).signature tree (faulty f))
     → RefusesAs (found ≡ scoped.NoMemory) (with_data_refused known (fault.Scope found)) answer
     → (text : WrittenSpecification) (read : List (List ℕ)) (data_ : Data) → tree ≡ without_items text → KnowsData read data_ known
-    → Faulty (Breaks data_ text) (with_data read data_) answer
+    → Faulty (Breaks data_ text) (scopes_told read data_) answer
 resolved_faulty tree known found answer is refused text read data_ same knows =
-    subst (λ (d : Data). Faulty (Breaks d text) (with_data read d) answer) knows.data_is
-    (subst (λ (ls : List (List ℕ)). Faulty (Breaks (data_of known.flat) text) (with_data ls (data_of known.flat)) answer) knows.libraries
-    (refused_as (Breaks (data_of known.flat) text) (known_with_data known) (found ≡ scoped.NoMemory)
+    subst (λ (d : Data). Faulty (Breaks d text) (scopes_told read d) answer) knows.data_is
+    (subst (λ (ls : List (List ℕ)). Faulty (Breaks (data_of known.flat) text) (scopes_told ls (data_of known.flat)) answer) knows.libraries
+    (refused_as (Breaks (data_of known.flat) text) (by_data scopes_told known) (found ≡ scoped.NoMemory)
     (with_data_refused known (fault.Scope found)) answer refused (λ not.
     scopes_faulty text known found not
     (subst (λ (t : WrittenSpecification).
@@ -185,10 +186,10 @@ agreed_fine known nothing whole knows = (knows, (refl, (known.spec, knows.keeps,
 pub agreed_faulty : (known : WithSpec) (found : ExitFault) (answer : NotAccepted) → Blames (all_disagreements known.spec) found
     → RefusesAs (found ≡ exit.NoMemory) (with_spec_refused known (fault.Exit found)) answer
     → (whole : Resolved) → KnowsSpec whole known
-    → Faulty (Disagree whole.data_ whole.tree whole.spec) (with_spec whole.read whole.data_ whole.spec) answer
+    → Faulty (Disagree whole.data_ whole.tree whole.spec) (functionality_told whole.read whole.data_ whole.spec) answer
 agreed_faulty known found answer is refused whole knows =
-    tells_spec whole known (Disagree whole.data_ whole.tree whole.spec) answer knows
-    (refused_as (Disagree whole.data_ whole.tree whole.spec) (known_with_spec known) (found ≡ exit.NoMemory)
+    tells_spec functionality_told whole known (Disagree whole.data_ whole.tree whole.spec) answer knows
+    (refused_as (Disagree whole.data_ whole.tree whole.spec) (by_spec functionality_told known) (found ≡ exit.NoMemory)
     (with_spec_refused known (fault.Exit found)) answer refused (λ not.
     exits_faulty whole.data_ whole.tree whole.spec known found knows.keeps not is))
 
@@ -203,10 +204,10 @@ ranked_fine known ranks are guarded whole knows = (
 pub ranked_faulty : (known : WithSpec) (found : RankFault) (answer : NotAccepted) → RefusesRanks known.spec found
     → RefusesAs (found ≡ rank.NoMemory) (with_spec_refused known (fault.Rank found)) answer
     → (whole : Resolved) → KnowsSpec whole known
-    → Faulty (Cyclic whole.data_ whole.tree whole.spec) (with_spec whole.read whole.data_ whole.spec) answer
+    → Faulty (Cyclic whole.data_ whole.tree whole.spec) (recursion_told whole.read whole.data_ whole.spec) answer
 ranked_faulty known found answer is refused whole knows =
-    tells_spec whole known (Cyclic whole.data_ whole.tree whole.spec) answer knows
-    (refused_as (Cyclic whole.data_ whole.tree whole.spec) (known_with_spec known) (found ≡ rank.NoMemory)
+    tells_spec recursion_told whole known (Cyclic whole.data_ whole.tree whole.spec) answer knows
+    (refused_as (Cyclic whole.data_ whole.tree whole.spec) (by_spec recursion_told known) (found ≡ rank.NoMemory)
     (with_spec_refused known (fault.Rank found)) answer refused (λ not.
     ranks_faulty whole.data_ whole.tree whole.spec known found knows.keeps not is))
 
@@ -215,12 +216,12 @@ ranked_faulty known found answer is refused whole knows =
 pub order_misread : (text : List ℕ) (known : WithRanks) (found : ReadFault) (answer : NotAccepted) → IsOrderReadFault 1 text found
     → RefusesAs (found ≡ read.NoMemory) (with_spec_refused known.known (fault.Read 1 found)) answer
     → (whole : Resolved) → KnowsRanks whole known
-    → Faulty (TextIsMisread IsOrderReadFault 1 text) (with_spec whole.read whole.data_ whole.spec) answer
+    → Faulty (TextIsMisread IsOrderReadFault 1 text) (text_told (with_spec whole.read whole.data_ whole.spec) 1) answer
 order_misread text known found answer is refused whole knows =
-    tells_spec whole known.known (TextIsMisread IsOrderReadFault 1 text) answer knows.spec_known
-    (refused_as (TextIsMisread IsOrderReadFault 1 text) (known_with_spec known.known) (found ≡ read.NoMemory)
+    tells_spec order_told whole known.known (TextIsMisread IsOrderReadFault 1 text) answer knows.spec_known
+    (refused_as (TextIsMisread IsOrderReadFault 1 text) (by_spec order_told known.known) (found ≡ read.NoMemory)
     (with_spec_refused known.known (fault.Read 1 found)) answer refused (λ not.
-    order_faulty IsOrderReadFault 1 text known.known found is not))
+    order_faulty IsOrderReadFault text known.known found is not))
 
 pub order_read : (text : List ℕ) (known : WithRanks) (items : Vec OrderItem Global)
     → IsOrderReading 1 text (map listed_operation_of items.items) → (whole : Resolved) → KnowsRanks whole known
@@ -266,17 +267,17 @@ pub opened_faulty : (ordered : WithOrder) (given : List OrderItem) (flat : Flat)
     → IsBookFault (map listed_operation_of given) (data_of ordered.known.known.flat) found
     → RefusesAs (found ≡ book.NoMemory) (with_spec_refused (with_flat ordered flat) (fault.Book found)) answer
     → (whole : Resolved) (items : List ListedOperation) → KnowsOrder whole items ordered
-    → Faulty (DoesNotOpen items whole.data_) (with_spec whole.read whole.data_ whole.spec) answer
+    → Faulty (DoesNotOpen items whole.data_) (opening_told whole.read whole.data_ whole.spec) answer
 opened_faulty ordered given flat found answer all same is refused whole items knows =
-    refused_as (DoesNotOpen items whole.data_) (with_spec whole.read whole.data_ whole.spec) (found ≡ book.NoMemory)
+    refused_as (DoesNotOpen items whole.data_) (opening_told whole.read whole.data_ whole.spec) (found ≡ book.NoMemory)
     (with_spec_refused (with_flat ordered flat) (fault.Book found)) answer refused (λ not.
-    subst (λ (f : Flat). Faulty (DoesNotOpen items whole.data_) (with_spec whole.read whole.data_ whole.spec)
+    subst (λ (f : Flat). Faulty (DoesNotOpen items whole.data_) (opening_told whole.read whole.data_ whole.spec)
     (Spec (with_spec_refused (with_flat ordered f) (fault.Book found)))) (sym same)
-    (tells_spec whole ordered.known.known (DoesNotOpen items whole.data_)
+    (tells_spec opening_told whole ordered.known.known (DoesNotOpen items whole.data_)
     (Spec (with_spec_refused ordered.known.known (fault.Book found))) knows.ranks_known.spec_known
-    (subst (λ (d : Data). Faulty (DoesNotOpen items d) (known_with_spec ordered.known.known)
+    (subst (λ (d : Data). Faulty (DoesNotOpen items d) (by_spec opening_told ordered.known.known)
     (Spec (with_spec_refused ordered.known.known (fault.Book found)))) knows.ranks_known.spec_known.data_is
-    (subst (λ (os : List ListedOperation). Faulty (DoesNotOpen os (data_of ordered.known.known.flat)) (known_with_spec
-    ordered.known.known)
+    (subst (λ (os : List ListedOperation). Faulty (DoesNotOpen os (data_of ordered.known.known.flat))
+    (by_spec opening_told ordered.known.known)
     (Spec (with_spec_refused ordered.known.known (fault.Book found)))) (ap (map listed_operation_of) all ∙ knows.listed)
     (book_faulty (map listed_operation_of given) ordered.known.known found not is)))))

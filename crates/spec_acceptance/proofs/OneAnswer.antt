@@ -8,11 +8,11 @@ use Rattle.lotos_grammar.specs.Gathering.{GotFile}
 use Rattle.lotos_grammar.specs.GatheringLaws.{AreGotFrom}
 use Rattle.lotos_grammar.specs.ShelfUse.{ShelfState, IsFileOf}
 use Rattle.spec_acceptance.specs.Acceptance.{Asked, Acceptance, IsAccepted}
-use Rattle.spec_acceptance.specs.Ending.{unread, refused}
-use Rattle.spec_acceptance.specs.Part.{Comes, goes_on, stops}
+use Rattle.start_values.specs.Refusal.{Refused}
+use Rattle.spec_acceptance.specs.Part.{Comes, goes_on, unread, stops, wants_memory}
 use Rattle.spec_acceptance.specs.Doing.{Did}
 use Rattle.spec_acceptance.specs.declared.not_accepted.NotAccepted.TheVariants.{File, Spec, NoMemory}
-use Rattle.spec_acceptance.specs.AcceptanceOutcomes.{got_from, ComesOver, OutcomesOverTextsAreOne, RefusesOver, AnswersOver, ReadsAreOne}
+use Rattle.spec_acceptance.specs.AcceptanceOutcomes.{got_from, ComesOver, OutcomesOverTextsAreOne, ReadsAreOne}
 use Rattle.spec_acceptance.proofs.OneFault.{acceptance_has_one_outcome}
 
 -- ---- What was got
@@ -35,12 +35,12 @@ got_all texts (file ∷ files) all = (
   got_all texts files (all_behind (IsFileOf (Some texts)) file files all),
 )
 
-got_told : (texts : Texts) (told : Option Texts) (files : List GotFile) → told ≡ Some texts → All (IsFileOf told) files
+pub got_told : (texts : Texts) (told : Option Texts) (files : List GotFile) → told ≡ Some texts → All (IsFileOf told) files
     → AreGotFrom (got_from texts) files
 got_told texts told files same all = got_all texts files (subst (λ (t : Option Texts). All (IsFileOf t) files) same all)
 
 -- a file that could not be got without a fault is none of the texts
-lacks_told : (texts : Texts) (told : Option Texts) (before after : ℕ) (name : List ℕ) → told ≡ Some texts → (¬ Rises before after)
+pub lacks_told : (texts : Texts) (told : Option Texts) (before after : ℕ) (name : List ℕ) → told ≡ Some texts → (¬ Rises before after)
     → Rises before after ⊎ ((after ≡ before) × IsSomeAnd told (λ (all : Texts). all name ≡ None)) → got_from texts name ≡ None
 lacks_told texts told before after name same not (inl rises) = absurd (not rises)
 lacks_told texts told before after name same not (inr lacks) =
@@ -49,26 +49,34 @@ lacks_told texts told before after name same not (inr lacks) =
 
 -- ---- What came of it
 
-pub comes_over : (texts : Texts) (asked : Asked) (before after : ShelfState) (comes : Comes Acceptance) → before.texts ≡ Some texts
-    → (¬ Rises before.faults after.faults) → Did before after (IsAccepted asked) comes → ComesOver texts asked comes
-comes_over texts asked before after (goes_on acceptance) told not did = record {
+-- memory was there
+abbrev pub IsThere : Comes Refused Acceptance → Type 0
+IsThere (goes_on acceptance) = Unit {0}
+IsThere (unread name) = Unit {0}
+IsThere (stops r) = Unit {0}
+IsThere wants_memory = ⊥
+
+pub comes_over : (texts : Texts) (asked : Asked) (before after : ShelfState) (comes : Comes Refused Acceptance) → before.texts ≡ Some texts
+    → (¬ Rises before.faults after.faults) → IsThere comes → Did before after (IsAccepted asked) comes → ComesOver texts asked comes
+comes_over texts asked before after (goes_on acceptance) told not there did = record {
   files = did.0;
   came = did.2;
   got_files = got_told texts before.texts did.0 told did.1.content;
   lacks = tt;
 }
-comes_over texts asked before after (stops (unread name)) told not did = record {
+comes_over texts asked before after (unread name) told not there did = record {
   files = did.0;
   came = did.2;
   got_files = got_told texts before.texts did.0 told did.1.content;
   lacks = lacks_told texts before.texts before.faults after.faults name told not did.1.cause;
 }
-comes_over texts asked before after (stops (refused r)) told not did = record {
+comes_over texts asked before after (stops r) told not there did = record {
   files = did.0;
   came = did.2;
   got_files = got_told texts before.texts did.0 told did.1.content;
   lacks = tt;
 }
+comes_over texts asked before after wants_memory told not there did = absurd there
 
 pub outcomes_over_texts_are_one : OutcomesOverTextsAreOne
 outcomes_over_texts_are_one texts asked one other is also =
@@ -77,22 +85,18 @@ outcomes_over_texts_are_one texts asked one other is also =
 
 -- ---- The answer
 
-wants_memory : (comes : Comes Acceptance) → RefusesOver comes NoMemory
-wants_memory (goes_on acceptance) = tt
-wants_memory (stops (unread name)) = tt
-wants_memory (stops (refused r)) = tt
-
 pub reads_are_one : ReadsAreOne
-reads_are_one texts asked comes over before after told not (Ok accepted) is =
-    let same = outcomes_over_texts_are_one texts asked (goes_on is.0) comes
-    (comes_over texts asked before after (goes_on is.0) told not is.1) over in
-    subst (λ (c : Comes Acceptance). AnswersOver c (Ok accepted)) same is.2
+reads_are_one texts asked comes over before after told not (Ok accepted) is = (
+  is.0,
+  outcomes_over_texts_are_one texts asked comes (goes_on is.0) over (comes_over texts asked before after (goes_on is.0) told not tt is.1),
+  is.2,
+)
 reads_are_one texts asked comes over before after told not (Err (File name)) did =
-    let same = outcomes_over_texts_are_one texts asked (stops (unread name.items)) comes
-    (comes_over texts asked before after (stops (unread name.items)) told not did) over in
-    subst (λ (c : Comes Acceptance). AnswersOver c (Err (File name))) same refl
-reads_are_one texts asked comes over before after told not (Err (Spec r)) is =
-    let same = outcomes_over_texts_are_one texts asked (stops (refused is.0)) comes
-    (comes_over texts asked before after (stops (refused is.0)) told not is.2) over in
-    subst (λ (c : Comes Acceptance). AnswersOver c (Err (Spec r))) same is.1
-reads_are_one texts asked comes over before after told not (Err NoMemory) kept = wants_memory comes
+    outcomes_over_texts_are_one texts asked comes (unread name.items) over
+    (comes_over texts asked before after (unread name.items) told not tt did)
+reads_are_one texts asked comes over before after told not (Err (Spec r)) is = (
+  is.0,
+  is.1,
+  outcomes_over_texts_are_one texts asked comes (stops is.0) over (comes_over texts asked before after (stops is.0) told not tt is.2),
+)
+reads_are_one texts asked comes over before after told not (Err NoMemory) did = tt

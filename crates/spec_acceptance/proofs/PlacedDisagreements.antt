@@ -14,6 +14,7 @@ use Rattle.sort_terms.specs.declared.sorted.Sorted.{Sorted}
 use Rattle.behaviour_semantics.specs.Behaviour as plain
 use Rattle.behaviour_semantics.specs.Behaviour.{Behaviour, stop, exit_with, action, inner_action, guard, choice, parallel, hide, enable, disable, let_be, choose_value, choose_gate, par_gate, call, relabel, ExitValue, exit_value, any_of}
 use Rattle.behaviour_semantics.specs.WellFormed.{Every}
+use Rattle.behaviour_semantics.proofs.EveryLemmas.{every_front, every_back}
 use Rattle.behaviour_tree.specs.BehaviourTerms.{profiles_in, exit_profiles, joined, offer_profiles, option_profiles, test_profiles, let_profile}
 use Rattle.behaviour_tree.specs.BehaviourView.{behaviour_of, exit_value_of, variables_of}
 use Rattle.behaviour_tree.specs.DefinitionView.{functionality_of, process_of, specification_of}
@@ -54,14 +55,6 @@ bare_term sorted = refl
 sorted_sort : (signature : Signature) (t : Sorted) → IsOf signature (profiled_in t) → sort_of_term signature (term_in t) ≡ t.sort
 sorted_sort signature t of =
     ap (sort_of_term signature) (sym (bare_term t)) ∙ term_sort signature (profiled_in t) of ∙ t.headed
-
-every_first : {A : Type 0} (P : A → Type 0) (xs ys : List A) → Every P (xs ++ ys) → Every P xs
-every_first P [] ys all = tt
-every_first P (x ∷ xs) ys all = (all.0, every_first P xs ys all.1)
-
-every_later : {A : Type 0} (P : A → Type 0) (xs ys : List A) → Every P (xs ++ ys) → Every P ys
-every_later P [] ys all = all
-every_later P (x ∷ xs) ys all = every_later P xs ys all.1
 
 exit_sorts : (signature : Signature) (values : List written.ExitValue) → AreTermsOf signature (joined (map exit_profiles values))
     → map (sort_of_value signature) (map exit_value_of values) ≡ map value_sort values
@@ -120,26 +113,26 @@ module _ (signature : Signature) (processes : List Process) where
   functions_are_told Stop of = refl
   functions_are_told (Exit values) of = ap (λ (ss : List ℕ). Some ss) (exit_sorts signature values.items of)
   functions_are_told (Action' _ offers test _ next) of =
-      functions_are_told next (every_later Fits (joined (map offer_profiles offers.items) ++ option_profiles test) (profiles_in next) of)
+      functions_are_told next (every_back Fits (joined (map offer_profiles offers.items) ++ option_profiles test) (profiles_in next) of)
   functions_are_told (Inner' _ next) of = functions_are_told next of
-  functions_are_told (Guard' test _ next) of = functions_are_told next (every_later Fits (test_profiles test) (profiles_in next) of)
+  functions_are_told (Guard' test _ next) of = functions_are_told next (every_back Fits (test_profiles test) (profiles_in next) of)
   functions_are_told (Choice' _ _ left _ right) of =
       either_of (plainly (behaviour_of left)) (plainly (behaviour_of right)) (functionality processes left) (functionality processes right)
-      (functions_are_told left (every_first Fits (profiles_in left) (profiles_in right) of))
-      (functions_are_told right (every_later Fits (profiles_in left) (profiles_in right) of))
+      (functions_are_told left (every_front Fits (profiles_in left) (profiles_in right) of))
+      (functions_are_told right (every_back Fits (profiles_in left) (profiles_in right) of))
   functions_are_told (Parallel' _ _ _ left _ right) of =
       both_of (plainly (behaviour_of left)) (plainly (behaviour_of right)) (functionality processes left) (functionality processes right)
-      (functions_are_told left (every_first Fits (profiles_in left) (profiles_in right) of))
-      (functions_are_told right (every_later Fits (profiles_in left) (profiles_in right) of))
+      (functions_are_told left (every_front Fits (profiles_in left) (profiles_in right) of))
+      (functions_are_told right (every_back Fits (profiles_in left) (profiles_in right) of))
   functions_are_told (Hide' _ _ next) of = functions_are_told next of
   functions_are_told (Enable' _ _ left _ _ right) of =
-      functions_are_told right (every_later Fits (profiles_in left) (profiles_in right) of)
+      functions_are_told right (every_back Fits (profiles_in left) (profiles_in right) of)
   functions_are_told (Disable' _ _ left _ right) of =
       either_of (plainly (behaviour_of left)) (plainly (behaviour_of right)) (functionality processes left) (functionality processes right)
-      (functions_are_told left (every_first Fits (profiles_in left) (profiles_in right) of))
-      (functions_are_told right (every_later Fits (profiles_in left) (profiles_in right) of))
+      (functions_are_told left (every_front Fits (profiles_in left) (profiles_in right) of))
+      (functions_are_told right (every_back Fits (profiles_in left) (profiles_in right) of))
   functions_are_told (Let' bindings _ next) of =
-      functions_are_told next (every_later Fits (map let_profile bindings.items) (profiles_in next) of)
+      functions_are_told next (every_back Fits (map let_profile bindings.items) (profiles_in next) of)
   functions_are_told (ChooseValue' _ _ next) of = functions_are_told next of
   functions_are_told (ChooseGate' _ _ _ next) of = functions_are_told next of
   functions_are_told (ParGate' _ _ _ _ next) of = functions_are_told next of
@@ -276,26 +269,26 @@ module _ (signature : Signature) (processes : List Process) where
       (at_sign place (functionality processes left) (functionality processes right))
       (sign_there place (function_of (behaviour_of left)) (function_of (behaviour_of right)) (functionality processes left)
       (functionality processes right)
-      (functions_are_told signature processes left (every_first Fit (profiles_in left) (profiles_in right) of))
-      (functions_are_told signature processes right (every_later Fit (profiles_in left) (profiles_in right) of)))
+      (functions_are_told signature processes left (every_front Fit (profiles_in left) (profiles_in right) of))
+      (functions_are_told signature processes right (every_back Fit (profiles_in left) (profiles_in right) of)))
       one other
 
   pub disagreements_are_told : (b : Beh) → AreTermsOf signature (profiles_in b) → TellsOf b
   disagreements_are_told Stop of = λ rest. refl
   disagreements_are_told (Exit values) of = λ rest. refl
   disagreements_are_told (Action' _ offers test _ next) of =
-      disagreements_are_told next (every_later Fit (joined (map offer_profiles offers.items) ++ option_profiles test) (profiles_in next) of)
+      disagreements_are_told next (every_back Fit (joined (map offer_profiles offers.items) ++ option_profiles test) (profiles_in next) of)
   disagreements_are_told (Inner' _ next) of = disagreements_are_told next of
   disagreements_are_told (Guard' test _ next) of =
-      disagreements_are_told next (every_later Fit (test_profiles test) (profiles_in next) of)
+      disagreements_are_told next (every_back Fit (test_profiles test) (profiles_in next) of)
   disagreements_are_told (Choice' place _ left _ right) of =
       two_parts place left right of
-      (disagreements_are_told left (every_first Fit (profiles_in left) (profiles_in right) of))
-      (disagreements_are_told right (every_later Fit (profiles_in left) (profiles_in right) of))
+      (disagreements_are_told left (every_front Fit (profiles_in left) (profiles_in right) of))
+      (disagreements_are_told right (every_back Fit (profiles_in left) (profiles_in right) of))
   disagreements_are_told (Parallel' place _ _ left _ right) of =
       two_parts place left right of
-      (disagreements_are_told left (every_first Fit (profiles_in left) (profiles_in right) of))
-      (disagreements_are_told right (every_later Fit (profiles_in left) (profiles_in right) of))
+      (disagreements_are_told left (every_front Fit (profiles_in left) (profiles_in right) of))
+      (disagreements_are_told right (every_back Fit (profiles_in left) (profiles_in right) of))
   disagreements_are_told (Hide' _ _ next) of = disagreements_are_told next of
   disagreements_are_told (Enable' place _ left variables _ right) of =
       signed_parts place left right
@@ -303,16 +296,16 @@ module _ (signature : Signature) (processes : List Process) where
       (at_sign place (functionality processes left) (Some (map variable_sort variables.items)))
       (sign_there place (function_of (behaviour_of left)) (Some (map plain_variable_sort (variables_of variables.items)))
       (functionality processes left) (Some (map variable_sort variables.items))
-      (functions_are_told signature processes left (every_first Fit (profiles_in left) (profiles_in right) of))
+      (functions_are_told signature processes left (every_front Fit (profiles_in left) (profiles_in right) of))
       (ap (λ (ss : List ℕ). Some ss) (variable_sorts variables.items)))
-      (disagreements_are_told left (every_first Fit (profiles_in left) (profiles_in right) of))
-      (disagreements_are_told right (every_later Fit (profiles_in left) (profiles_in right) of))
+      (disagreements_are_told left (every_front Fit (profiles_in left) (profiles_in right) of))
+      (disagreements_are_told right (every_back Fit (profiles_in left) (profiles_in right) of))
   disagreements_are_told (Disable' place _ left _ right) of =
       two_parts place left right of
-      (disagreements_are_told left (every_first Fit (profiles_in left) (profiles_in right) of))
-      (disagreements_are_told right (every_later Fit (profiles_in left) (profiles_in right) of))
+      (disagreements_are_told left (every_front Fit (profiles_in left) (profiles_in right) of))
+      (disagreements_are_told right (every_back Fit (profiles_in left) (profiles_in right) of))
   disagreements_are_told (Let' bindings _ next) of =
-      disagreements_are_told next (every_later Fit (map let_profile bindings.items) (profiles_in next) of)
+      disagreements_are_told next (every_back Fit (map let_profile bindings.items) (profiles_in next) of)
   disagreements_are_told (ChooseValue' _ _ next) of = disagreements_are_told next of
   disagreements_are_told (ChooseGate' _ _ _ next) of = disagreements_are_told next of
   disagreements_are_told (ParGate' _ _ _ _ next) of = disagreements_are_told next of

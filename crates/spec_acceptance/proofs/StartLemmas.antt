@@ -1,6 +1,7 @@
 -- Start values, and the state in which the specification begins with them.
 use Rattle.std.proofs.Common.{refl, ap, sym, ◌∙◌, ◌≡◌, subst, ℕ, List, [], ◌∷◌, ◌++◌, map, length, Option, None, Some, option_map}
 use Rattle.std.specs.Prelude.{Result, Ok, Err, IsErrAnd}
+use Rattle.scope_parts.proofs.FormedDefinitions.{every_both}
 use Rattle.lotos_base.specs.Name.{spelling}
 use Rattle.lotos_base.specs.WrittenTerm.{ListedOperation}
 use Rattle.lotos_base.proofs.CanonLemmas.{canon_ground}
@@ -11,7 +12,7 @@ use Rattle.lotos_base.specs.Term.{Term}
 use Rattle.behaviour_semantics.specs.Behaviour.{Behaviour, Specification, sorts_of}
 use Rattle.behaviour_semantics.specs.Replacement.{with_values, binding_of}
 use Rattle.behaviour_semantics.specs.Rule.{AreValues}
-use Rattle.behaviour_semantics.specs.WellFormed.{Every, IsBehaviour}
+use Rattle.behaviour_semantics.specs.WellFormed.{IsBehaviour}
 use Rattle.behaviour_semantics.proofs.PutTerms.{closed_by}
 use Rattle.sort_terms.specs.EquationView.{data_of}
 use Rattle.sort_terms.specs.ProfiledTerm.{ProfiledTerm, IsOf}
@@ -85,7 +86,7 @@ refused_there : (known : WithBook) (found : SpecFault) (answer : NotAccepted) (I
     → FailsAs IsFault (start_fault.Refused found) → (whole : Resolved) (items : List ListedOperation) → KnowsBook whole items known
     → Faulty IsFault (with_spec whole.read whole.data_ whole.spec) answer
 refused_there known found answer IsFault refuses is whole items knows =
-    told_spec (map spelling known.libraries.items) whole.read (data_of refuses.flat) whole.data_ (specification_of known.spec)
+    told_spec with_spec (map spelling known.libraries.items) whole.read (data_of refuses.flat) whole.data_ (specification_of known.spec)
     whole.spec IsFault answer knows.libraries (refuses.same_data ∙ knows.data_is) knows.keeps.same
     (subst (λ (a : NotAccepted).
     Faulty IsFault (with_spec (map spelling known.libraries.items) (data_of refuses.flat) (specification_of known.spec)) a)
@@ -151,10 +152,6 @@ starts valued normal are terms may = record {
   profiles = terms;
 }
 
-every_of : {X : Type 0} (P : X → Type 0) (xs ys : List X) → Every P xs → Every P ys → Every P (xs ++ ys)
-every_of P [] ys one other = other
-every_of P (x ∷ xs) ys one other = (one.0, every_of P xs ys one.1 other)
-
 state_over : (valued : WithValues) (normal : List Sorted) (state : State)
     → AreValues (data_of valued.known.book.flat).signature (parameter_sorts valued.known.spec.parameters.items) (terms_of normal)
     → AreTermsOf (data_of valued.known.book.flat).signature (profiles_of normal) → MayStart valued
@@ -169,7 +166,7 @@ state_over valued normal state fit terms may begins kept = record {
       (behaviour_of valued.known.spec.body.value) fit may.over.well_formed.whole.behaviour);
   terms =
       subst (λ (ts : List ProfiledTerm). AreTermsOf signature ts) (sym kept)
-      (every_of (IsOf signature) (profiles_in valued.known.spec.body.value) (profiles_of normal) may.over.body terms);
+      (every_both (IsOf signature) (profiles_in valued.known.spec.body.value) (profiles_of normal) may.over.body terms);
 }
   where
     signature : Signature

@@ -9,6 +9,7 @@ use Rattle.lotos_base.specs.Term.{Term}
 use Rattle.syntax_trees.specs.WrittenDefinition.{WrittenSpecification}
 use Rattle.behaviour_semantics.specs.Behaviour.{Specification, sorts_of}
 use Rattle.lotos_grammar.specs.Gathering.{Gathered}
+use Rattle.start_values.specs.Refusal.{Refused}
 use Rattle.start_values.specs.StartValues.{Start, AreStartValues, IsStartFault}
 use Rattle.spec_acceptance.specs.Ending.{with_spec}
 use Rattle.spec_acceptance.specs.Part.{Part, Then, Has, Looks}
@@ -24,6 +25,45 @@ pub record Asked : Type 0 where
   pub order : Option (List ℕ)
   pub values : List (List ℕ)
 
+-- ---- Up to the book
+
+-- what is known then: the libraries that were read, the data, the specification, and the items of the order
+pub record Founded : Type 0 where
+  pub libraries : List (List ℕ)
+  pub data_ : Data
+  pub spec : Specification
+  pub items : List ListedOperation
+
+abbrev pub founded_with : Gathered → Data → Specification → List ListedOperation → Founded
+founded_with gathered data_ spec items = record { libraries = gathered.read; data_ = data_; spec = spec; items = items }
+
+-- what comes behind the text of the specification, in this order
+abbrev pub FoundedBy : Option (List ℕ) → WrittenSpecification → Part Refused Founded
+FoundedBy order tree =
+    Then (Gathers tree) (λ gathered.
+    Then (Flattens gathered) (λ data_.
+    Then (Resolves gathered data_ tree) (λ spec.
+    Then (ComesToAgreement gathered data_ tree spec) (λ _.
+    Then (IsGuardedIn gathered data_ tree spec) (λ _.
+    Then (Orders (with_spec gathered.read data_ spec) order) (λ items.
+    Then (OpensBook gathered data_ spec items) (λ _.
+    Has (founded_with gathered data_ spec items))))))))
+
+-- with this text
+abbrev pub Founds : List ℕ → Option (List ℕ) → Part Refused Founded
+Founds text order = Then (ReadsSpecification text) (λ tree. FoundedBy order tree)
+
+-- ---- With start values
+
+-- the words behind `with` are the start values: ground terms of the sorts of the parameters, as they are read
+abbrev pub start_of : Data → Specification → List (List ℕ) → Start
+start_of data_ spec words = record { signature = data_.signature; sorts = sorts_of spec.parameters; words = words }
+
+abbrev pub StartsWithValues : Founded → List (List ℕ) → Part Refused (List Term)
+StartsWithValues founded words =
+    Looks (AreStartValues (start_of founded.data_ founded.spec words)) (IsStartFault (start_of founded.data_ founded.spec words))
+    (with_spec founded.libraries founded.data_ founded.spec)
+
 -- what is accepted: the libraries that were read, the data, the specification, the items of the order, and the start values
 pub record Acceptance : Type 0 where
   pub libraries : List (List ℕ)
@@ -32,35 +72,24 @@ pub record Acceptance : Type 0 where
   pub items : List ListedOperation
   pub values : List Term
 
--- the words behind `with` are the start values: ground terms of the sorts of the parameters, as they are read
-abbrev pub start_of : Data → Specification → List (List ℕ) → Start
-start_of data_ spec words = record { signature = data_.signature; sorts = sorts_of spec.parameters; words = words }
+abbrev pub accepted_with : Founded → List Term → Acceptance
+accepted_with founded values = record {
+  libraries = founded.libraries;
+  data_ = founded.data_;
+  spec = founded.spec;
+  items = founded.items;
+  values = values;
+}
 
-abbrev pub StartsWithValues : Gathered → Data → Specification → List (List ℕ) → Part (List Term)
-StartsWithValues gathered data_ spec words =
-    Looks (AreStartValues (start_of data_ spec words)) (IsStartFault (start_of data_ spec words)) (with_spec gathered.read data_ spec)
+-- ---- All of it
 
--- what is accepted in the end
-abbrev pub accepted_with : Gathered → Data → Specification → List ListedOperation → List Term → Acceptance
-accepted_with gathered data_ spec items values =
-    record { libraries = gathered.read; data_ = data_; spec = spec; items = items; values = values }
+-- a specification whose text is given
+abbrev pub AcceptsText : List ℕ → Option (List ℕ) → List (List ℕ) → Part Refused Acceptance
+AcceptsText text order words =
+    Then (Founds text order) (λ founded.
+    Then (StartsWithValues founded words) (λ values.
+    Has (accepted_with founded values)))
 
--- what comes behind the text of the specification, in this order
-abbrev pub AfterText : Option (List ℕ) → List (List ℕ) → WrittenSpecification → Part Acceptance
-AfterText order words tree =
-    Then (Gathers tree) (λ gathered.
-    Then (Flattens gathered) (λ data_.
-    Then (Resolves gathered data_ tree) (λ spec.
-    Then (ComesToAgreement gathered data_ tree spec) (λ _.
-    Then (IsGuardedIn gathered data_ tree spec) (λ _.
-    Then (Orders (with_spec gathered.read data_ spec) order) (λ items.
-    Then (OpensBook gathered data_ spec items) (λ _.
-    Then (StartsWithValues gathered data_ spec words) (λ values.
-    Has (accepted_with gathered data_ spec items values)))))))))
-
--- all of it
-abbrev pub IsAccepted : Asked → Part Acceptance
-IsAccepted asked =
-    Then (GetsFile asked.spec) (λ text.
-    Then (ReadsSpecification text) (λ tree.
-    AfterText asked.order asked.values tree))
+-- one whose text is got under its name
+abbrev pub IsAccepted : Asked → Part Refused Acceptance
+IsAccepted asked = Then (GetsFile asked.spec) (λ text. AcceptsText text asked.order asked.values)

@@ -39,8 +39,8 @@ abbrev pub BooksAreDecided : Type 0
 BooksAreDecided = (items : List ListedOperation) (data_ : Data) → IsWellFormedData data_
     → IsDecided (Opens items data_) (DoesNotOpen items data_)
 
--- Where these are, all of the acceptance is: by what is got under each name there is one outcome at most, and the same files
--- are got for it in the same order. Texts, libraries and scopes are decided by the laws of their crates.
+-- Where these are, all of the acceptance is: by what is got under each name there is one outcome at most where memory is there,
+-- and the same files are got for it in the same order. Texts, libraries and scopes are decided by the laws of their crates.
 abbrev pub AcceptanceIsDetermined : Type 0
 AcceptanceIsDetermined = TypesAreDecided → DataAreWellFormed → ExitsAreDecided → RanksAreDecided → BooksAreDecided
     → (asked : Asked) (got : Files) → IsDetermined got (IsAccepted asked)

@@ -7,20 +7,25 @@ use Rattle.lotos_base.specs.Outside.{Texts}
 use Rattle.lotos_grammar.specs.Gathering.{GotFile}
 use Rattle.lotos_grammar.specs.GatheringLaws.{Files, AreGotFrom}
 use Rattle.lotos_grammar.specs.ShelfUse.{ShelfState}
+use Rattle.start_values.specs.Refusal.{Refused}
 use Rattle.start_values.specs.RefusalView.{refused_of}
 use Rattle.spec_acceptance.specs.Acceptance.{Asked, Acceptance, IsAccepted}
-use Rattle.spec_acceptance.specs.Ending.{unread, refused}
-use Rattle.spec_acceptance.specs.Part.{Comes, goes_on, stops}
-use Rattle.spec_acceptance.specs.PartLaws.{Lacks, IsDetermined}
+use Rattle.spec_acceptance.specs.Part.{Comes, goes_on, unread, stops}
+use Rattle.spec_acceptance.specs.PartLaws.{Lacks, IsDetermined, WantsBehindFirst}
 use Rattle.spec_acceptance.specs.AcceptedView.{HoldsAccepted, AcceptsWith}
 use Rattle.spec_acceptance.specs.Doing.{Failed}
 use Rattle.spec_acceptance.specs.declared.accepted.Accepted.{Accepted}
 use Rattle.spec_acceptance.specs.declared.not_accepted.NotAccepted.{NotAccepted}
 use Rattle.spec_acceptance.specs.declared.not_accepted.NotAccepted.TheVariants.{File, Spec, NoMemory}
 
--- by what is got under each name there is one outcome at most, and the same files are got for it in the same order
+-- by what is got under each name there is one outcome at most where memory is there, and the same files are got for it in the
+-- same order
 abbrev pub AcceptanceHasOneOutcome : Type 0
 AcceptanceHasOneOutcome = (asked : Asked) (got : Files) → IsDetermined got (IsAccepted asked)
+
+-- and where memory is wanted, the first ones of these files were got
+abbrev pub WantedFilesAreFirst : Type 0
+WantedFilesAreFirst = (asked : Asked) (got : Files) → WantsBehindFirst got (IsAccepted asked)
 
 -- ---- Over texts
 
@@ -28,8 +33,8 @@ AcceptanceHasOneOutcome = (asked : Asked) (got : Files) → IsDetermined got (Is
 abbrev pub got_from : Texts → Files
 got_from texts name = option_map (λ (text : List ℕ). take (text_limit + 1) text) (texts name)
 
--- This comes of accepting it over these texts.
-pub record ComesOver (texts : Texts) (asked : Asked) (comes : Comes Acceptance) : Type 0 where
+-- This comes of accepting it over these texts, where memory is there.
+pub record ComesOver (texts : Texts) (asked : Asked) (comes : Comes Refused Acceptance) : Type 0 where
   pub files : List GotFile
   pub came : IsAccepted asked files comes
   pub got_files : AreGotFrom (got_from texts) files
@@ -37,31 +42,24 @@ pub record ComesOver (texts : Texts) (asked : Asked) (comes : Comes Acceptance) 
 
 -- and nothing else does
 abbrev pub OutcomesOverTextsAreOne : Type 0
-OutcomesOverTextsAreOne = (texts : Texts) (asked : Asked) (one other : Comes Acceptance) → ComesOver texts asked one
+OutcomesOverTextsAreOne = (texts : Texts) (asked : Asked) (one other : Comes Refused Acceptance) → ComesOver texts asked one
     → ComesOver texts asked other → one ≡ other
 
 -- ---- The answer of a call
 
 -- The answer says so; or memory was wanted.
-abbrev pub RefusesOver : Comes Acceptance → NotAccepted → Type 0
-RefusesOver (goes_on acceptance) (File kept) = ⊥
-RefusesOver (goes_on acceptance) (Spec found) = ⊥
-RefusesOver (goes_on acceptance) NoMemory = Unit {0}
-RefusesOver (stops (unread name)) (File kept) = kept.items ≡ name
-RefusesOver (stops (unread name)) (Spec found) = ⊥
-RefusesOver (stops (unread name)) NoMemory = Unit {0}
-RefusesOver (stops (refused r)) (File kept) = ⊥
-RefusesOver (stops (refused r)) (Spec found) = refused_of found ≡ Some r
-RefusesOver (stops (refused r)) NoMemory = Unit {0}
+abbrev pub RefusesOver : Comes Refused Acceptance → NotAccepted → Type 0
+RefusesOver comes (File kept) = comes ≡ unread kept.items
+RefusesOver comes (Spec found) = (told : Refused) × (refused_of found ≡ Some told) × (comes ≡ stops told)
+RefusesOver comes NoMemory = Unit {0}
 
-abbrev pub AnswersOver : Comes Acceptance → Result Accepted NotAccepted → Type 0
-AnswersOver (goes_on acceptance) (Ok accepted) = HoldsAccepted acceptance accepted
-AnswersOver (stops ending) (Ok accepted) = ⊥
+abbrev pub AnswersOver : Comes Refused Acceptance → Result Accepted NotAccepted → Type 0
+AnswersOver comes (Ok accepted) = (acceptance : Acceptance) × (comes ≡ goes_on acceptance) × HoldsAccepted acceptance accepted
 AnswersOver comes (Err fault) = RefusesOver comes fault
 
 -- Over a shelf that tells its texts, where no fault is counted, the answer of `Accepted::read` is what comes over them.
 abbrev pub ReadsAreOne : Type 0
-ReadsAreOne = (texts : Texts) (asked : Asked) (comes : Comes Acceptance) → ComesOver texts asked comes
+ReadsAreOne = (texts : Texts) (asked : Asked) (comes : Comes Refused Acceptance) → ComesOver texts asked comes
     → (before after : ShelfState) → before.texts ≡ Some texts → (¬ Rises before.faults after.faults)
     → (answer : Result Accepted NotAccepted)
     → MatchResult answer (AcceptsWith before after (IsAccepted asked)) (Failed before after (IsAccepted asked))

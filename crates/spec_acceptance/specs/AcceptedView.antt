@@ -14,6 +14,7 @@ use Rattle.path_order.specs.RulesView.{precedence_in, rules_in}
 use Rattle.process_checks.specs.Ranks.{AreRanksOf}
 use Rattle.sort_terms.specs.EquationView.{data_of}
 use Rattle.sort_terms.specs.SignatureView.{signature_of}
+use Rattle.start_values.specs.Refusal.{Refused}
 use Rattle.spec_acceptance.specs.Acceptance.{Asked, Acceptance}
 use Rattle.spec_acceptance.specs.Part.{goes_on, Part}
 use Rattle.spec_acceptance.specs.Doing.{Did}
@@ -41,6 +42,6 @@ pub record HoldsAccepted (acceptance : Acceptance) (accepted : Accepted) : Type 
   pub closed : IsClosedNode accepted.start.node
 
 -- the shelf gave what was asked of it, and the answer is what came of it
-abbrev pub AcceptsWith : ShelfState → ShelfState → Part Acceptance → Accepted → Type 0
+abbrev pub AcceptsWith : ShelfState → ShelfState → Part Refused Acceptance → Accepted → Type 0
 AcceptsWith before after part accepted =
     (acceptance : Acceptance) × Did before after part (goes_on acceptance) × HoldsAccepted acceptance accepted

@@ -1,24 +1,19 @@
 -- What the parts of the acceptance do to a shelf, and what the answers of the code say of them.
-use Rattle.std.specs.Prelude.{◌≡◌, ℕ, List, [], map, None, Some, Vec}
+use Rattle.std.specs.Prelude.{◌≡◌, ℕ, List, [], None, Some, Vec}
 use Rattle.std.specs.String.{string_bytes}
 use Rattle.std.specs.declared.alloc.Global.{Global}
-use Rattle.lotos_base.specs.Name.{spelling}
 use Rattle.lotos_base.specs.declared.names.Name.{Name}
-use Rattle.sort_terms.specs.EquationView.{data_of}
-use Rattle.behaviour_tree.specs.DefinitionView.{specification_of}
 use Rattle.lotos_grammar.specs.Gathering.{GotFile}
-use Rattle.lotos_grammar.specs.ShelfUse.{ShelfState, Gives, GivesAndLacks, KeepsCount}
+use Rattle.lotos_grammar.specs.ShelfUse.{ShelfState, Gives, GivesAndLacks, GivesSome}
 use Rattle.lotos_grammar.specs.declared.faults.LibraryFault.{LibraryFault}
 use Rattle.lotos_grammar.specs.declared.faults.LibraryFault.TheVariants as library
 use Rattle.lotos_grammar.specs.declared.gathered.Gathered.{Gathered}
 use Rattle.start_values.specs.Refusal as plain
-use Rattle.start_values.specs.Refusal.{Refusal}
 use Rattle.start_values.specs.RefusalView.{refused_of}
 use Rattle.start_values.specs.declared.refused.Refused.{Refused}
 use Rattle.start_values.specs.declared.spec_fault.SpecFault.{SpecFault}
 use Rattle.start_values.specs.declared.spec_fault.SpecFault.TheVariants as fault
-use Rattle.spec_acceptance.specs.Ending.{unread, refused, with_data, with_spec}
-use Rattle.spec_acceptance.specs.Part.{Comes, goes_on, stops, Part}
+use Rattle.spec_acceptance.specs.Part.{Comes, goes_on, unread, stops, wants_memory, Part}
 use Rattle.spec_acceptance.specs.declared.not_accepted.NotAccepted.{NotAccepted}
 use Rattle.spec_acceptance.specs.declared.not_accepted.NotAccepted.TheVariants.{File, Spec, NoMemory}
 use Rattle.spec_acceptance.specs.declared.stages.WithData.{WithData}
@@ -26,31 +21,36 @@ use Rattle.spec_acceptance.specs.declared.stages.WithSpec.{WithSpec}
 
 -- ---- Over a shelf
 
--- This came of the part: the shelf gave the files that it gets, once each and nothing else; or it gave those before a file
--- that it could not give.
-abbrev pub Did : {B : Type 0} → ShelfState → ShelfState → Part B → Comes B → Type 0
-Did before after part (goes_on b) = (files : List GotFile) × Gives before after files × part files (goes_on b)
-Did before after part (stops (unread name)) =
-    (files : List GotFile) × GivesAndLacks before after files name × part files (stops (unread name))
-Did before after part (stops (refused r)) = (files : List GotFile) × Gives before after files × part files (stops (refused r))
+-- the part asks for another file behind these
+abbrev pub AsksBehind : {E B : Type 0} → Part E B → List GotFile → Type 0
+AsksBehind part files = (name : List ℕ) × part files (unread name)
 
--- it stopped so; or memory was wanted
-abbrev pub Failed : {B : Type 0} → ShelfState → ShelfState → Part B → NotAccepted → Type 0
-Failed before after part (File name) = Did before after part (stops (unread name.items))
-Failed before after part (Spec r) = (told : plain.Refused) × (refused_of r ≡ Some told) × Did before after part (stops (refused told))
-Failed before after part NoMemory = KeepsCount before after
+-- This came of the part: the shelf gave the files that it gets, once each and nothing else; or it gave those before a file
+-- that it could not give; or those that the part gets until memory was wanted.
+abbrev pub Did : {E B : Type 0} → ShelfState → ShelfState → Part E B → Comes E B → Type 0
+Did before after part (goes_on b) = (files : List GotFile) × Gives before after files × part files (goes_on b)
+Did before after part (unread name) = (files : List GotFile) × GivesAndLacks before after files name × part files (unread name)
+Did before after part (stops e) = (files : List GotFile) × Gives before after files × part files (stops e)
+Did before after part wants_memory =
+    (files : List GotFile) × GivesSome before after files (AsksBehind part files) × part files wants_memory
+
+-- it stopped so
+abbrev pub Failed : {B : Type 0} → ShelfState → ShelfState → Part plain.Refused B → NotAccepted → Type 0
+Failed before after part (File name) = Did before after part (unread name.items)
+Failed before after part (Spec r) = (told : plain.Refused) × (refused_of r ≡ Some told) × Did before after part (stops told)
+Failed before after part NoMemory = Did before after part wants_memory
 
 -- the file of the name is not got; or memory was wanted
 abbrev pub FileIsNotGot : ShelfState → ShelfState → List ℕ → NotAccepted → Type 0
 FileIsNotGot before after name (File kept) = (kept.items ≡ name) × GivesAndLacks before after [] name
 FileIsNotGot before after name (Spec r) = ⊥
-FileIsNotGot before after name NoMemory = KeepsCount before after
+FileIsNotGot before after name NoMemory = GivesSome before after [] (Unit {0})
 
--- a look that gets nothing has this fault, and so much is known; or memory was wanted
-abbrev pub Faulty : (Refusal → Type 0) → (Refusal → plain.Refused) → NotAccepted → Type 0
-Faulty IsFault known (File name) = ⊥
-Faulty IsFault known (Spec r) = (refusal : Refusal) × IsFault refusal × (refused_of r ≡ Some (known refusal))
-Faulty IsFault known NoMemory = Unit {0}
+-- a look that gets nothing has this fault, which is told so; or memory was wanted
+abbrev pub Faulty : {F : Type 0} → (F → Type 0) → (F → plain.Refused) → NotAccepted → Type 0
+Faulty IsFault tell (File name) = ⊥
+Faulty {F} IsFault tell (Spec r) = (found : F) × IsFault found × (refused_of r ≡ Some (tell found))
+Faulty IsFault tell NoMemory = Unit {0}
 
 -- ---- Refusals of the code
 
@@ -69,13 +69,6 @@ with_data_refused known found = record { fault = found; libraries = known.librar
 abbrev pub with_spec_refused : WithSpec → SpecFault → Refused
 with_spec_refused known found =
     record { fault = found; libraries = known.libraries; flat = Some known.flat; spec = Some known.spec }
-
--- what is known then, as plain values
-abbrev pub known_with_data : WithData → Refusal → plain.Refused
-known_with_data known = with_data (map spelling known.libraries.items) (data_of known.flat)
-
-abbrev pub known_with_spec : WithSpec → Refusal → plain.Refused
-known_with_spec known = with_spec (map spelling known.libraries.items) (data_of known.flat) (specification_of known.spec)
 
 -- a fault of the libraries
 abbrev pub IsLibraryRefusal : Gathered → LibraryFault → NotAccepted → Type 0

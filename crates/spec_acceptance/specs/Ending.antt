@@ -1,15 +1,10 @@
--- How the acceptance of a specification ends before its end: a file could not be got, or a fault was found.
+-- A refusal with what is known of the specification by then: when its text is read, when its libraries are, when its types are
+-- flattened, and when its scopes are resolved.
 use Rattle.std.specs.Prelude.{ℕ, List, [], None, Some}
 use Rattle.lotos_base.specs.Equation.{Data}
 use Rattle.behaviour_semantics.specs.Behaviour.{Specification}
 use Rattle.start_values.specs.Refusal.{Refusal, Refused}
 
-pub data AcceptanceEnding : Type 0 where
-  unread : (name : List ℕ) → AcceptanceEnding
-  refused : Refused → AcceptanceEnding
-
--- a refusal with what is known when the text is read, when the libraries are, when the types are flattened, and when the
--- scopes are resolved
 abbrev pub at_first : Refusal → Refused
 at_first refusal = record { refusal = refusal; libraries = []; data_ = None; spec = None }
 

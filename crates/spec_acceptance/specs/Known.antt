@@ -22,13 +22,14 @@ use Rattle.sentence_trees.specs.Reading.{IsOrderReading}
 use Rattle.path_order.specs.RulesView.{precedence_in, rules_in}
 use Rattle.equation_book.specs.BookCanon.{book_canon}
 use Rattle.equation_book.specs.Refusal.{IsOpenedBy}
+use Rattle.start_values.specs.Refusal.{Refused}
 use Rattle.start_values.specs.declared.spec_fault.SpecFault.{SpecFault}
 use Rattle.start_values.specs.StartValues.{AreStartValues}
 use Rattle.start_values.specs.StartView.{parameter_sorts}
-use Rattle.spec_acceptance.specs.Acceptance.{start_of}
+use Rattle.spec_acceptance.specs.Acceptance.{Founded, start_of}
 use Rattle.spec_acceptance.specs.Checks.{KeepsSpecification}
 use Rattle.spec_acceptance.specs.Ending.{with_spec}
-use Rattle.spec_acceptance.specs.Part.{goes_on}
+use Rattle.spec_acceptance.specs.Part.{goes_on, Part}
 use Rattle.spec_acceptance.specs.Texts.{Orders}
 use Rattle.spec_acceptance.specs.Doing.{Did, with_spec_refused}
 use Rattle.spec_acceptance.specs.declared.accepted.Accepted.{Accepted}
@@ -94,6 +95,17 @@ pub record KnowsBook (whole : Resolved) (items : List ListedOperation) (known : 
   pub keeps : KeepsSpecification whole.data_ whole.tree whole.spec known.spec
   pub ranks_known : AreRanksOf known.spec known.ranks
   pub opened : IsOpenedBy items whole.data_ (precedence_in known.book.joined.rules) (rules_in known.book.joined.rules)
+
+-- what is known up to the book, of the text
+abbrev pub resolved_in : WrittenSpecification → Founded → Resolved
+resolved_in tree founded = record { read = founded.libraries; data_ = founded.data_; tree = tree; spec = founded.spec }
+
+-- the shelf gave what was asked of it, and this is what came of the text up to the book
+pub record FoundsWith (before after : ShelfState) (part : Part Refused Founded) (made : WithBook) : Type 0 where
+  pub founded : Founded
+  pub came : Did before after part (goes_on founded)
+  pub tree : WrittenSpecification
+  pub known : KnowsBook (resolved_in tree founded) founded.items made
 
 -- with the start values as they are read, over the words behind `with`
 pub record KnowsValues (whole : Resolved) (items : List ListedOperation) (words : List (List ℕ)) (known : WithValues) : Type 0 where

@@ -1,27 +1,21 @@
 //! The acceptance of a specification.
 
-ghost use Rattle.spec_acceptance.specs.Acceptance.{AfterText, IsAccepted};
+ghost use Rattle.spec_acceptance.specs.Acceptance.{AcceptsText, IsAccepted};
 ghost use Rattle.lotos_grammar.specs.ShelfUse.{shelf_state};
-ghost use Rattle.sentence_trees.specs.Reading.{IsSpecificationReading};
 ghost use Rattle.spec_acceptance.specs.AcceptedView.{AcceptsWith, asked_for};
 ghost use Rattle.spec_acceptance.specs.Doing.{Failed};
 ghost use Rattle.start_values.specs.WordLimits.{are_within, words_of};
-ghost use Rattle.std.specs.Prelude.{ℕ, IsTrue, List, MatchResult, option_map};
-ghost use Rattle.syntax_trees.specs.TreeViews.{specification_of};
+ghost use Rattle.std.specs.Prelude.{IsTrue, MatchResult, option_map};
 
-use crate::books::{WithBook, opened};
-use crate::definitions::{agreed, ranked, resolved};
 use crate::files::file;
+use crate::founded::founded;
 use crate::not_accepted::NotAccepted;
 use crate::starts::{started, valued};
-use crate::texts::{order_items, specification, types_of};
-use crate::types::data;
 use behaviour_tree::{Spec, State};
 use equation_book::Book;
 use lotos_base::Shelf;
 use process_checks::Ranks;
 use std::alloc::Global;
-use syntax_trees::{SpecText, discard};
 
 /// A specification that is accepted.
 #[derive(Drop)]
@@ -47,7 +41,8 @@ impl Accepted {
     /// with that fault: of the text, of the libraries, of the types, of the scopes, of
     /// functionalities, of recursion, of the order file, of its items, of the orientation of an
     /// equation, of a critical pair, of the start values: of their words, of their number, of the
-    /// readings of their terms.
+    /// readings of their terms. Where it is `NoMemory`, the shelf gave the first ones of these
+    /// files, once each, and was called once more at most, for the one behind them.
     pub fn read<F: Shelf>(
         alloc: Global,
         spec: &str,
@@ -67,41 +62,31 @@ impl Accepted {
             (words_of values.now)))) }
     {
         let text = file(alloc, spec, shelf)?;
-        let mut tree = specification(alloc, text.as_slice())?;
-        let accepted = accept(alloc, &mut tree, order, values, shelf);
-        discard(tree);
-        accepted
+        Accepted::of_text(alloc, text.as_slice(), order, values, shelf)
     }
-}
 
-// Accepts the specification of the tree, whose types are taken out of it.
-fn accept<F: Shelf>(
-    alloc: Global,
-    tree: &mut SpecText,
-    order: Option<&str>,
-    values: &[String],
-    shelf: &mut F,
-) -> Result<Accepted, NotAccepted>
-    requires read { (text : List ℕ) × IsSpecificationReading 0 text (specification_of tree.old) }
-    requires within { IsTrue (are_within (words_of values.now)) }
-    ensures { MatchResult result
-        (AcceptsWith (shelf_state (F.texts shelf.old) (F.faults shelf.old) (F.calls shelf.old))
-        (shelf_state (F.texts shelf.new) (F.faults shelf.new) (F.calls shelf.new))
-        (AfterText (option_map (λ word. word.now) order.entry) (words_of values.now)
-        (specification_of tree.old)))
-        (Failed (shelf_state (F.texts shelf.old) (F.faults shelf.old) (F.calls shelf.old))
-        (shelf_state (F.texts shelf.new) (F.faults shelf.new) (F.calls shelf.new))
-        (AfterText (option_map (λ word. word.now) order.entry) (words_of values.now)
-        (specification_of tree.old))) }
-{
-    let items = tree.take_items(alloc)?;
-    let gathered = types_of(alloc, items, shelf)?;
-    let flattened = data(alloc, gathered)?;
-    let stood = resolved(alloc, tree, flattened)?;
-    let checked = agreed(alloc, stood)?;
-    let guarded = ranked(alloc, checked)?;
-    let ordered = order_items(alloc, order, guarded, shelf)?;
-    let with_book = opened(ordered)?;
-    let whole = valued(alloc, values, with_book)?;
-    started(alloc, whole)
+    /// Accepts the specification with this text, which is that of the name `spec` of
+    /// [`Accepted::read`]; the rest is as there. It gets the files of the libraries that the text
+    /// mentions and the order file, and nothing else.
+    pub fn of_text<F: Shelf>(
+        alloc: Global,
+        text: &[u8],
+        order: Option<&str>,
+        values: &[String],
+        shelf: &mut F,
+    ) -> Result<Accepted, NotAccepted>
+        requires { IsTrue (are_within (words_of values.now)) }
+        ensures { MatchResult result
+            (AcceptsWith (shelf_state (F.texts shelf.old) (F.faults shelf.old) (F.calls shelf.old))
+            (shelf_state (F.texts shelf.new) (F.faults shelf.new) (F.calls shelf.new))
+            (AcceptsText text.now (option_map (λ word. word.now) order.entry) (words_of values.now)))
+            (Failed (shelf_state (F.texts shelf.old) (F.faults shelf.old) (F.calls shelf.old))
+            (shelf_state (F.texts shelf.new) (F.faults shelf.new) (F.calls shelf.new))
+            (AcceptsText text.now (option_map (λ word. word.now) order.entry) (words_of
+            values.now))) }
+    {
+        let known = founded(alloc, text, order, shelf)?;
+        let whole = valued(alloc, values, known)?;
+        started(alloc, whole)
+    }
 }

@@ -1,7 +1,6 @@
 //! Opening the book of the data by the order.
 
-ghost use Rattle.spec_acceptance.specs.Book.{DoesNotOpen, Opens};
-ghost use Rattle.spec_acceptance.specs.Ending.{with_spec};
+ghost use Rattle.spec_acceptance.specs.Book.{DoesNotOpen, Opens, opening_told};
 ghost use Rattle.lotos_base.specs.WrittenTerm.{ListedOperation};
 ghost use Rattle.sort_terms.specs.EquationView.{IsSortedFlat};
 ghost use Rattle.spec_acceptance.specs.Doing.{Faulty};
@@ -35,7 +34,7 @@ pub fn opened(ordered: WithOrder) -> Result<WithBook, NotAccepted>
     ensures { (whole : Resolved) (items : List ListedOperation) → KnowsOrder whole items ordered
         → MatchResult result
         (λ made. KnowsBook whole items made × Opens items whole.data_ items)
-        (Faulty (DoesNotOpen items whole.data_) (with_spec whole.read whole.data_ whole.spec)) }
+        (Faulty (DoesNotOpen items whole.data_) (opening_told whole.read whole.data_ whole.spec)) }
 {
     let WithOrder { known, items } = ordered;
     let WithRanks { known, ranks } = known;

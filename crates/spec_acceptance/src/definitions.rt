@@ -1,8 +1,14 @@
 //! Resolving the scopes of the text, and checking its definitions.
 
-ghost use Rattle.spec_acceptance.specs.Checks.{FunctionalitiesAgree, Cyclic, Disagree, Guarded};
-ghost use Rattle.spec_acceptance.specs.Ending.{with_data, with_spec};
-ghost use Rattle.spec_acceptance.specs.Scopes.{Breaks, StandsFor};
+ghost use Rattle.spec_acceptance.specs.Checks.{
+  FunctionalitiesAgree,
+  Cyclic,
+  Disagree,
+  Guarded,
+  functionality_told,
+  recursion_told,
+};
+ghost use Rattle.spec_acceptance.specs.Scopes.{Breaks, StandsFor, scopes_told};
 ghost use Rattle.behaviour_tree.specs.DefinitionView.{specification_of};
 ghost use Rattle.spec_acceptance.specs.Doing.{Faulty};
 ghost use Rattle.spec_acceptance.specs.Known.{KnowsData, KnowsRanks, KnowsSpec, Resolved};
@@ -35,7 +41,7 @@ pub fn resolved(alloc: Global, tree: &SpecText, known: WithData) -> Result<WithS
           spec = specification_of made.spec;
         }) made
         × StandsFor data_ text (specification_of made.spec))
-        (Faulty (Breaks data_ text) (with_data read data_)) }
+        (Faulty (Breaks data_ text) (scopes_told read data_)) }
 {
     match resolve(alloc, tree, &known.flat.signature) {
         Ok(spec) => {
@@ -55,7 +61,7 @@ pub fn agreed(alloc: Global, known: WithSpec) -> Result<WithSpec, NotAccepted>
     ensures { (whole : Resolved) → KnowsSpec whole known → MatchResult result
         (λ made. KnowsSpec whole made × FunctionalitiesAgree whole.data_ whole.tree whole.spec whole.spec)
         (Faulty (Disagree whole.data_ whole.tree whole.spec)
-        (with_spec whole.read whole.data_ whole.spec)) }
+        (functionality_told whole.read whole.data_ whole.spec)) }
 {
     match exits(alloc, &known.spec) {
         Ok(()) => Ok(known),
@@ -68,7 +74,7 @@ pub fn ranked(alloc: Global, known: WithSpec) -> Result<WithRanks, NotAccepted>
     ensures { (whole : Resolved) → KnowsSpec whole known → MatchResult result
         (λ made. KnowsRanks whole made × Guarded whole.spec whole.spec)
         (Faulty (Cyclic whole.data_ whole.tree whole.spec)
-        (with_spec whole.read whole.data_ whole.spec)) }
+        (recursion_told whole.read whole.data_ whole.spec)) }
 {
     match ranks(alloc, &known.spec) {
         Ok(ranks) => Ok(WithRanks { known, ranks }),

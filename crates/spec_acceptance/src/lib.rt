@@ -8,6 +8,7 @@ pub mod copies;
 pub mod decided_laws;
 pub mod definitions;
 pub mod files;
+pub mod founded;
 pub mod laws;
 pub mod not_accepted;
 pub mod outcome_laws;

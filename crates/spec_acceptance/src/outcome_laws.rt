@@ -5,6 +5,7 @@ ghost use Rattle.spec_acceptance.specs.AcceptanceOutcomes.{
   AcceptanceHasOneOutcome,
   OutcomesOverTextsAreOne,
   ReadsAreOne,
+  WantedFilesAreFirst,
 };
 
 /// Types have their data, or one thing is the first that is wrong: with their names, or with what
@@ -19,9 +20,11 @@ pub fn data_are_well_formed()
 {}
 
 /// By what is got under each name a specification is accepted in one way at most, or refused for one
-/// fault, or one file is not got; and the same files are got for it in the same order.
+/// fault, or one file is not got, where memory is there; and the same files are got for it in the
+/// same order. Where memory is wanted, the first ones of these files were got.
 pub fn acceptance_has_one_outcome()
-    ensures { AcceptanceHasOneOutcome }
+    ensures one { AcceptanceHasOneOutcome }
+    ensures wanted { WantedFilesAreFirst }
 {}
 
 /// Over a shelf that tells its texts `Accepted::read` has one answer, where the shelf's count of

@@ -2,9 +2,10 @@
 
 ghost use Rattle.spec_acceptance.specs.Ending.{at_first, with_spec};
 ghost use Rattle.spec_acceptance.specs.Part.{goes_on};
-ghost use Rattle.spec_acceptance.specs.Texts.{GathersTypes, TextIsMisread, Orders};
+ghost use Rattle.spec_acceptance.specs.Texts.{GathersTypes, Orders, text_told};
 ghost use Rattle.lotos_grammar.specs.GatheredView.{gathered_of};
 ghost use Rattle.lotos_grammar.specs.ShelfUse.{shelf_state};
+ghost use Rattle.lotos_grammar.specs.TextFault.{TextIsMisread};
 ghost use Rattle.sentence_trees.specs.Reading.{
   IsOrderReadFault,
   IsSpecificationFault,
@@ -28,7 +29,7 @@ use syntax_trees::{ItemText, SpecText};
 /// Reads the specification.
 pub fn specification(alloc: Global, text: &[u8]) -> Result<SpecText, NotAccepted>
     ensures { MatchResult result (λ tree. IsSpecificationReading 0 text.now (specification_of tree))
-        (Faulty (TextIsMisread IsSpecificationFault 0 text.now) at_first) }
+        (Faulty (TextIsMisread IsSpecificationFault 0 text.now) (text_told at_first 0)) }
 {
     match read_spec(alloc, text, 0) {
         Ok(tree) => Ok(tree),
@@ -110,7 +111,7 @@ fn read_items(alloc: Global, text: &[u8], known: WithRanks) -> Result<WithOrder,
     ensures { (whole : Resolved) → KnowsRanks whole known → MatchResult result
         (λ made. ReadsItems whole text.now made)
         (Faulty (TextIsMisread IsOrderReadFault 1 text.now)
-        (with_spec whole.read whole.data_ whole.spec)) }
+        (text_told (with_spec whole.read whole.data_ whole.spec) 1)) }
 {
     match read_order(alloc, text, 1) {
         Ok(items) => Ok(WithOrder { known, items }),

@@ -1,7 +1,6 @@
 //! Flattening the types.
 
-ghost use Rattle.spec_acceptance.specs.Ending.{with_libraries};
-ghost use Rattle.spec_acceptance.specs.Types.{HaveData, HaveFault};
+ghost use Rattle.spec_acceptance.specs.Types.{HaveData, HaveFault, types_told};
 ghost use Rattle.lotos_grammar.specs.GatheredView.{gathered_of};
 ghost use Rattle.sort_terms.specs.EquationView.{data_of};
 ghost use Rattle.spec_acceptance.specs.Doing.{Faulty};
@@ -22,7 +21,7 @@ pub fn data(alloc: Global, gathered: Gathered) -> Result<WithData, NotAccepted>
         (λ known. KnowsData (gathered_of gathered).read (data_of known.flat) known
         × HaveData (types_of (gathered_of gathered).types) (data_of known.flat))
         (Faulty (HaveFault (types_of (gathered_of gathered).types))
-        (with_libraries (gathered_of gathered).read)) }
+        (types_told (gathered_of gathered).read)) }
 {
     let Gathered { libraries, types } = gathered;
     match flatten(alloc, types.as_slice()) {

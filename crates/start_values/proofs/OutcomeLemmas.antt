@@ -16,7 +16,8 @@ use Rattle.sort_terms.proofs.ReadsLemmas.{comes_once, reads_sorted}
 use Rattle.sort_terms.specs.Reading.{Reads, AllRead}
 use Rattle.sort_terms.specs.ReadingLaws.{ReadingsAreWellSorted, ReadingComesToOneThing}
 use Rattle.sort_terms.specs.ReadingOutcome as reading
-use Rattle.sort_terms.specs.ReadingOutcome.{SortedTerm, ReadingIs, answered, ComesTo, IsReading}
+use Rattle.sort_terms.specs.ReadingOutcome.{SortedTerm, ReadingIs, IsReading}
+use Rattle.sort_terms.proofs.OutcomeLemmas.{same_answer, not_answered_and_refused, read_ground, all_ground, is_reading}
 use Rattle.start_values.specs.Refusal.{Refusal, start_values}
 use Rattle.start_values.specs.declared.words.TheConstants.{WORDS_TEXT}
 use Rattle.start_values.specs.StartValues.{WordTerm, of_word, HaveTerms, told_of_word, IsWordFault, HaveWordFault, HasStartValue, HaveValues, told_of_term, IsTermFault, HaveTermFault, Start, AreStartValues, IsStartFault, misread, miscounted, misfitting}
@@ -80,12 +81,6 @@ value_count signature (sort ∷ sorts) (given ∷ others) [] h = absurd h
 value_count signature (sort ∷ sorts) (given ∷ others) (value ∷ values) h =
     ap suc (value_count signature sorts others values h.1)
 
-same_answer : (one other : SortedTerm) → answered one ≡ answered other → one ≡ other
-same_answer one other e = cc e
-
-not_refused_too : (one : SortedTerm) (refusal : reading.ReadingRefusal) → answered one ≡ reading.refused refusal → ⊥
-not_refused_too one refusal e = cc e
-
 same_refusal : (one other : reading.ReadingRefusal) → ◌≡◌ {A = reading.ReadingOutcome SortedTerm} (reading.refused one) (reading.refused other)
     → one ≡ other
 same_refusal one other e = cc e
@@ -99,7 +94,7 @@ module _ (readings : ReadingComesToOneThing) (signature : Signature) where
   value_fine : (sort : ℕ) (given : WordTerm) (value : Term) (refusal : Refusal) → HasStartValue signature sort given value
       → IsTermFault signature sort given refusal → ⊥
   value_fine sort given value refusal is not =
-      not_refused_too _ not.0 (readings signature [] given.term (Some sort) _ _ is not.1)
+      not_answered_and_refused _ not.0 (readings signature [] given.term (Some sort) _ _ is not.1)
 
   values_once : (sorts : List ℕ) (terms : List WordTerm) (some other : List Term) → HaveValues signature sorts terms some
       → HaveValues signature sorts terms other → some ≡ other
@@ -188,26 +183,6 @@ starts_have_one_outcome =
     one_outcome all_have_one_outcome.terms (λ signature scope w expected one other. comes_once _ _ _ one other)
 
 -- ---- Start values are ground
-
-mutual
-  read_ground : (signature : Signature) (w : WrittenTerm) (t : Term) (sort : ℕ) → Reads signature [] w t sort → IsGround t
-  read_ground signature (written head arguments) (variable n s) sort reads = absurd (none-some _ reads.0.last.found)
-  read_ground signature (written head arguments) (node f ts) sort reads = all_ground signature arguments ts _ reads.3
-
-  all_ground : (signature : Signature) (ws : WrittenTerms) (ts : Terms) (sorts : List ℕ) → AllRead signature [] ws ts sorts → AreGround ts
-  all_ground signature no_written no_terms [] reads = tt
-  all_ground signature no_written no_terms (s ∷ ss) reads = absurd reads
-  all_ground signature no_written (term_then t ts) ss reads = absurd reads
-  all_ground signature (written_then w ws) no_terms ss reads = absurd reads
-  all_ground signature (written_then w ws) (term_then t ts) [] reads = absurd reads
-  all_ground signature (written_then w ws) (term_then t ts) (s ∷ ss) reads =
-      (read_ground signature w t s reads.0, all_ground signature ws ts ss reads.1)
-
--- the reading that a question comes to is a reading
-is_reading : {A : Type 0} (unknown : List reading.ReadingRefusal) (place : _) (Is : A → Type 0) (one : A)
-    → ComesTo unknown place Is (answered one) → Is one
-is_reading (first ∷ rest) place Is one comes = absurd comes
-is_reading [] place Is one comes = comes.is_answer
 
 module _ (sorted : ReadingsAreWellSorted) (signature : Signature) where
   value_ground : (sort : ℕ) (given : WordTerm) (value : Term) → HasStartValue signature sort given value

@@ -4,6 +4,7 @@ use Rattle.std.specs.Prelude.{Vec, Result, Ok, Err, MatchResult}
 use Rattle.std.specs.declared.alloc.Global.{Global}
 use Rattle.std.proofs.Math.ListN.{drop_of_length-le}
 use Rattle.std.proofs.lemmas.List.{length-map}
+use Rattle.lotos_base.proofs.Pieces.{next_member}
 use Rattle.lotos_base.specs.Signature.{Signature}
 use Rattle.lotos_base.specs.Term.{Term}
 use Rattle.sort_terms.specs.ReadingOutcome as reading
@@ -15,7 +16,6 @@ use Rattle.sort_terms.specs.declared.signatures.Signature as code_signature
 use Rattle.sort_terms.specs.declared.sorted.Sorted.{Sorted}
 use Rattle.sort_terms.specs.declared.sort_faults.SortFault.{SortFault}
 use Rattle.sort_terms.specs.declared.sort_faults.SortFault.TheVariants as cause
-use Rattle.start_values.proofs.ListLemmas.{next_member}
 use Rattle.behaviour_tree.specs.BehaviourView.{terms_of}
 use Rattle.start_values.specs.Refusal.{Refusal, start_values}
 use Rattle.start_values.specs.declared.faults.StartFault.{StartFault}

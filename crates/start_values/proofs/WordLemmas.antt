@@ -4,10 +4,10 @@ use Rattle.std.specs.Prelude.{nat_le, String, string_bytes, IsErrAnd, IsSomeAnd,
 use Rattle.std.proofs.Math.ListN.{drop_of_length-le}
 use Rattle.std.proofs.lemmas.Bool.{and_parts, leb-true}
 use Rattle.std.specs.declared.alloc.Global.{Global}
+use Rattle.lotos_base.proofs.Pieces.{next_member}
 use Rattle.lotos_base.specs.WrittenTerm.{WrittenTerm}
 use Rattle.sentence_trees.specs.Reading.{IsTermsReading, IsTermsFault}
 use Rattle.sentence_trees.specs.declared.fault.ReadFault.{ReadFault}
-use Rattle.start_values.proofs.ListLemmas.{next_member}
 use Rattle.start_values.specs.Refusal.{Refusal}
 use Rattle.start_values.specs.RefusalView.{refusal_of}
 use Rattle.start_values.specs.declared.words.TheConstants.{WORDS_TEXT}

@@ -1,8 +1,7 @@
 -- What is known in a body and behind a definition.
 use Rattle.std.proofs.Common.{◌≡◌, ℕ, ◌+◌, ◌-◌, List, [], ◌++◌, length, drop, ap, ◌∙◌, subst, arith}
 use Rattle.std.proofs.Math.Seq.{drop-length}
-use Rattle.std.proofs.lemmas.List.{append_assoc, length-append, length-map}
-use Rattle.lotos_base.specs.WrittenTerm.{PlacedName}
+use Rattle.std.proofs.lemmas.List.{append_assoc, length-append}
 use Rattle.lotos_base.specs.Equation.{Variable}
 use Rattle.syntax_trees.specs.WrittenBehaviour.{WrittenBehaviour}
 use Rattle.syntax_trees.specs.WrittenDefinition.{WrittenHeading}
@@ -13,6 +12,7 @@ use Rattle.behaviour_semantics.specs.Behaviour.{Behaviour}
 use Rattle.scope_parts.specs.Behaviours.{BehaviourIs}
 use Rattle.scope_parts.specs.Resolution.{Resolution}
 use Rattle.scope_parts.specs.Definitions.{Heading, own_scope}
+use Rattle.scope_parts.proofs.FormedDefinitions.{length_spelled}
 use Rattle.behaviour_scopes.specs.ResolverState.{State, BehaviourStandsFor, numbers_at, passed, with_first_variables, with_last_gates}
 use Rattle.static_scope.specs.Points.{Point, point_of, numbers_of, inside, past_definition}
 
@@ -95,9 +95,6 @@ inside_is old between text heading gates first visible names counted =
       process = old.process;
     })
     counted
-
-length_spelled : (names : List PlacedName) → length (spelled names) ≡ length names
-length_spelled names = length-map names (λ (name : PlacedName). name.name)
 
 -- the numbers in a body, and behind a definition
 pub numbers_inside : (text : WrittenHeading) (heading : Heading) (state : State)

@@ -3,17 +3,13 @@ use Rattle.std.proofs.Common.{◌≡◌, ap, sym, ◌∙◌}
 use Rattle.syntax_trees.specs.declared.definitions.InnerText.{InnerText, Item, Process}
 use Rattle.syntax_trees.specs.declared.definitions.ProcessText.{ProcessText}
 use Rattle.syntax_trees.specs.declared.definitions.InnerText.TheFolds.{fold-roll-InnerText, fold_out-ProcessText}
-use Rattle.syntax_trees.specs.declared.definitions.InnerText.TheVariants.{rolls-Item, rolls-Process}
+use Rattle.syntax_trees.specs.declared.definitions.InnerText.TheVariants.{rolls-Item}
 use Rattle.syntax_trees.specs.declared.definitions.InnerText.TheOpen.{InnerText-F}
 use Rattle.syntax_trees.specs.declared.items.ItemText.{ItemText}
-use Rattle.syntax_trees.specs.TreeViews.{inner_of, inner_level, process_level, process_of, item_of}
+use Rattle.syntax_trees.specs.TreeViews.{inner_of, inner_level, process_level, item_of}
 use Rattle.syntax_trees.specs.WrittenDefinition.{WrittenInner, inner_item}
+use Rattle.syntax_trees.proofs.Counts.{seen_process}
 use Rattle.static_scope.specs.ProcessView.{written_definition}
-
-seen_process : (definition : ProcessText) → inner_of (Process definition) ≡ process_of definition
-seen_process definition =
-    ap inner_of (sym (rolls-Process definition))
-    ∙ fold-roll-InnerText WrittenInner WrittenInner inner_level process_level (InnerText-F.Process definition)
 
 pub seen_definition : (inner : InnerText) (text : ProcessText) → inner ≡ Process text → inner_of inner ≡ written_definition text
 seen_definition inner text is =

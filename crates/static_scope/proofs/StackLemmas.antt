@@ -3,7 +3,7 @@ use Rattle.std.proofs.Common.{◌≡◌, ◌<◌, ◌≤◌, ℕ, ◌+◌, List,
 use Rattle.std.specs.Prelude.{reverse}
 use Rattle.std.proofs.lemmas.List.{map-append, reverse-append, append_assoc, append-nil}
 use Rattle.std.proofs.Math.ListN.{drop_of_length-le}
-use Rattle.scope_parts.proofs.AnswerLemmas.{next_member}
+use Rattle.lotos_base.proofs.Pieces.{next_member}
 
 -- one entry more, and the last one taken off
 pub pushed : {A B : Type 0} (f : A → B) (before after : List A) (x : A) → after ≡ before ++ x ∷ []

@@ -10,6 +10,7 @@ use Rattle.scope_parts.specs.FaultView.{FaultIs}
 use Rattle.scope_parts.specs.Scope.{Binding, Callable}
 use Rattle.scope_parts.specs.ScopeFault as faults
 use Rattle.scope_parts.specs.declared.scope_faults.ScopeFault.{ScopeFault}
+use Rattle.scope_parts.proofs.FormedDefinitions.{every_both}
 use Rattle.syntax_trees.specs.TreeViews.{inner_of}
 use Rattle.syntax_trees.specs.WrittenDefinition.{WrittenInners}
 use Rattle.syntax_trees.specs.declared.definitions.InnerText.{InnerText}
@@ -77,14 +78,10 @@ pub listed_places : (made : List Process) (definition : Option Process)
 listed_places made None = ap places_of_processes (append-nil made) ∙ sym (append-nil (places_of_processes made))
 listed_places made (Some p) = places_append made p
 
-every_append : {A : Type 0} (P : A → Type 0) (xs ys : List A) → Every P xs → Every P ys → Every P (xs ++ ys)
-every_append P [] ys first later = later
-every_append P (x ∷ xs) ys first later = (first.0, every_append P xs ys first.1 later)
-
 pub listed_every : (P : Process → Type 0) (made : List Process) (definition : Option Process) → Every P made
     → ((p : Process) → definition ≡ Some p → P p) → Every P (made ++ listed definition)
 listed_every P made None first later = subst (Every P) (sym (append-nil made)) first
-listed_every P made (Some p) first later = every_append P made (p ∷ []) first (later p refl, tt)
+listed_every P made (Some p) first later = every_both P made (p ∷ []) first (later p refl, tt)
 
 -- ---- The loop over the frames
 

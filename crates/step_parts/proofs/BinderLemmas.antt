@@ -3,7 +3,7 @@ use Rattle.std.proofs.Common.{◌≡◌, ℕ, zero, suc, List, [], ◌∷◌, �
 use Rattle.std.specs.Prelude.{zip}
 use Rattle.std.proofs.lemmas.Option.{same_Some, none-some}
 use Rattle.std.proofs.lemmas.List.{append-nil}
-use Rattle.lotos_base.specs.Signature.{Signature, Operation}
+use Rattle.lotos_base.specs.Signature.{Signature}
 use Rattle.lotos_base.specs.Term.{Term}
 use Rattle.lotos_base.specs.Sorting.{HasSort, IsGround}
 use Rattle.lotos_base.specs.Equation.{Variable}
@@ -11,13 +11,14 @@ use Rattle.lotos_base.specs.Substitution.{is_listed}
 use Rattle.behaviour_semantics.specs.Behaviour.{Behaviour, Process, numbers_of, sorts_of}
 use Rattle.behaviour_semantics.specs.Rule.{AreValues}
 use Rattle.behaviour_semantics.specs.WellFormed.{AreDistinct, IsBehaviour, sort_in}
-use Rattle.sort_terms.specs.ProfiledTerm.{ProfiledTerm, profiled_variable, profiled_node, bare, head_sort, IsOf}
+use Rattle.sort_terms.specs.ProfiledTerm.{head_sort}
 use Rattle.sort_terms.specs.SortedView.{profiled_in, term_in}
 use Rattle.sort_terms.specs.declared.sorted.Sorted.{Sorted}
 use Rattle.behaviour_tree.specs.Closed.{AreGroundValues, IsClosedBy, IsGivenOnce}
 use Rattle.behaviour_tree.specs.Over.{AreTermsOf}
 use Rattle.behaviour_tree.specs.StateView.{environment_of, pair_of, pair_profile}
 use Rattle.behaviour_tree.proofs.FreeLemmas.{free_in_scope}
+use Rattle.behaviour_tree.proofs.StartLemmas.{told_sort}
 
 -- ---- Pairs of other variables
 abbrev pub IsAbsent : ℕ → List (ℕ × Sorted) → Type 0
@@ -111,11 +112,6 @@ module _ (n s : ℕ) (pair : ℕ × Sorted) (pairs : List (ℕ × Sorted)) (give
       }
 
 -- ---- Pairs of variables with terms
--- The head of a value of a sort tells this sort.
-told_sort : (signature : Signature) (t : ProfiledTerm) (s : ℕ) → IsOf signature t → HasSort signature (bare t) s → head_sort t ≡ s
-told_sort signature (profiled_variable n r) s of h = h.0
-told_sort signature (profiled_node f operation ts) s of h =
-    ap (λ (o : Operation). o.result) (same_Some operation h.0 (sym of.0 ∙ h.1)) ∙ h.2
 
 -- A number that is not listed has no place in the list.
 not_at : (numbers : List ℕ) (n k : ℕ) → is_listed numbers n ≡ false → slice_get numbers k ≡ Some n → ⊥

@@ -1,7 +1,7 @@
 -- What is wrong with the leaves of a node.
 use Rattle.std.proofs.Common.{◌≡◌, ◌<◌, ◌≤◌, ◌+◌, ◌-◌, ℕ, zero, suc, List, [], ◌∷◌, length, drop, get_or, Option, None, Some, Bool, true, false, nat_lt, if◌then◌else◌, refl, ap, sym, ◌∙◌, subst, add-one, arith}
 use Rattle.std.proofs.Math.Seq.{drop-cons}
-use Rattle.std.proofs.lemmas.Bool.{lt-ltb, ltb-true, le-ltb, ltb-false}
+use Rattle.std.proofs.lemmas.Bool.{lt-ltb, ltb-true, le-ltb, ltb-false, false_from_ne_true}
 use Rattle.std.proofs.lemmas.List.{drop_all}
 use Rattle.lotos_base.specs.Signature.{Signature}
 use Rattle.lotos_base.specs.Sorting.{IsGround, HasSort, IsGroundOf}
@@ -15,10 +15,10 @@ use Rattle.sort_terms.specs.ProfiledTerm.{IsOf}
 use Rattle.sort_terms.specs.SortedView.{profiled_in, term_in}
 use Rattle.sort_terms.specs.declared.sorted.Sorted.{Sorted}
 use Rattle.sort_terms.proofs.ProfiledTermLemmas.{fitting_has_sort}
-use Rattle.event_offers.proofs.SolvingWay.{head_sorted}
 use Rattle.behaviour_tree.specs.BehaviourTerms.{profiles_of}
 use Rattle.behaviour_tree.specs.BehaviourView.{terms_of}
 use Rattle.behaviour_tree.specs.Over.{AreTermsOf}
+use Rattle.behaviour_tree.proofs.StartLemmas.{told_sort}
 use Rattle.step_parts.specs.Leaves.{leaf_wrong}
 
 -- ---- Too few leaves
@@ -37,9 +37,6 @@ enough_left many first wanted h = by (nat_lt (many - first) wanted) refl
         sym (le-ltb many (first + wanted) (omega (arith, most, h)))
 
 -- ---- One leaf
-pub not_true : (b : Bool) → (b ≡ true → ⊥) → b ≡ false
-not_true true h = absurd (h refl)
-not_true false h = refl
 
 module _ (signature : Signature) (sort : ℕ) (leaf : Sorted) (of : IsOf signature (profiled_in leaf)) where
   leaf_sorted : HasSort signature (term_in leaf) leaf.sort
@@ -55,14 +52,14 @@ module _ (signature : Signature) (sort : ℕ) (leaf : Sorted) (of : IsOf signatu
       → leaf_wrong signature sort (term_in leaf) number ≡ Some (bad_value number)
   bad_leaf number h =
       ap (λ (b : Bool). if b then None else Some (bad_value number))
-      (not_true (is_value signature sort (term_in leaf)) (λ e. h ((Decides-is_value signature sort (term_in leaf)).0 e)))
+      (false_from_ne_true (is_value signature sort (term_in leaf)) (λ e. h ((Decides-is_value signature sort (term_in leaf)).0 e)))
 
   pub open_leaf : (number : ℕ) → (IsGround (term_in leaf) → ⊥) → leaf_wrong signature sort (term_in leaf) number ≡ Some (bad_value number)
   open_leaf number h = bad_leaf number (λ g. h g.ground)
 
   pub other_leaf : (number : ℕ) → (leaf.sort ≡ sort → ⊥) → leaf_wrong signature sort (term_in leaf) number ≡ Some (bad_value number)
   other_leaf number h =
-      bad_leaf number (λ g. h (sym leaf.headed ∙ head_sorted signature (profiled_in leaf) sort of g.sorted))
+      bad_leaf number (λ g. h (sym leaf.headed ∙ told_sort signature (profiled_in leaf) sort of g.sorted))
 
 -- ---- Leaves from one on
 -- the leaf with a number

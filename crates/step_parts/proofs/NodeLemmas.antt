@@ -17,10 +17,9 @@ use Rattle.behaviour_semantics.specs.Replacement.{with_values}
 use Rattle.behaviour_semantics.specs.Rule.{side_by_side}
 use Rattle.behaviour_semantics.specs.WellFormed.{AreTermsIn, Every, IsClosedBehaviour}
 use Rattle.behaviour_semantics.proofs.ClosedTargets.{ground_of}
-use Rattle.behaviour_semantics.proofs.ListLemmas.{Every-append}
 use Rattle.behaviour_semantics.proofs.ReplacementLemmas.{unchanged}
 use Rattle.lotos_base.specs.declared.places.Place.{Place}
-use Rattle.sort_terms.specs.ProfiledTerm.{ProfiledTerm, IsOf}
+use Rattle.sort_terms.specs.ProfiledTerm.{ProfiledTerm}
 use Rattle.sort_terms.specs.SortedView.{term_in}
 use Rattle.sort_terms.specs.declared.sorted.Sorted.{Sorted}
 use Rattle.behaviour_tree.specs.BehaviourView.{behaviour_of, terms_of}
@@ -34,9 +33,6 @@ use Rattle.step_parts.specs.TargetNodes.{HasClosedParts, is_lacking, stands_apar
 use Rattle.step_parts.proofs.BinderLemmas.{nothing_free}
 
 -- ---- Parts without values
-pub none_there : {A : Type 0} (xs : List A) → length xs ≡ 0 → xs ≡ []
-none_there [] e = refl
-none_there (x ∷ xs) e = absurd (cc e)
 
 put_nothing : binding [] ≡ variable
 put_nothing = fun_ext (λ n. fun_ext (λ s. refl))
@@ -57,10 +53,6 @@ pub no_pair_closes : (signature : Signature) (specification : Specification) (pa
 no_pair_closes signature specification pairs b e h =
     subst (λ (ps : List (ℕ × Sorted)). IsClosedBy ps b) (sym e)
     (nothing_free signature (length specification.gate_names) specification.processes b h)
-
-pub both_terms : (signature : Signature) (first second : List ProfiledTerm) → AreTermsOf signature first → AreTermsOf signature second
-    → AreTermsOf signature (first ++ second)
-both_terms signature first second h k = Every-append (IsOf signature) first second h k
 
 pub first_terms : (signature : Signature) (first second : List ProfiledTerm) → AreTermsOf signature (first ++ second)
     → AreTermsOf signature first

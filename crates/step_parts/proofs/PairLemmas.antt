@@ -1,6 +1,7 @@
 -- Values that a node matches, pair by pair.
-use Rattle.std.proofs.Common.{◌≡◌, ◌<◌, ◌≤◌, ◌+◌, ℕ, List, [], ◌∷◌, length, drop, get_or, Option, None, Some, refl, ap, sym, ◌∙◌}
+use Rattle.std.proofs.Common.{◌≡◌, ◌<◌, ◌≤◌, ◌+◌, ℕ, List, [], ◌∷◌, length, drop, get_or, Option, None, Some, ap, sym, ◌∙◌}
 use Rattle.std.proofs.lemmas.List.{drop_all}
+use Rattle.event_offers.proofs.LabelLemmas.{pairwise_nothing}
 use Rattle.lotos_base.specs.Term.{Term}
 use Rattle.behaviour_semantics.specs.Behaviour.{Test}
 use Rattle.behaviour_semantics.specs.Fault.{Wrong, first_unmet}
@@ -10,10 +11,6 @@ use Rattle.sort_terms.specs.declared.sorted.Sorted.{Sorted}
 use Rattle.behaviour_tree.specs.BehaviourView.{terms_of}
 use Rattle.step_parts.proofs.OfferLemmas.{rest_is}
 use Rattle.step_parts.proofs.TestLemmas.{carried, met}
-
-nothing_paired : (ts : List Term) → pairwise ts [] ≡ []
-nothing_paired [] = refl
-nothing_paired (t ∷ ts) = refl
 
 module _ (canon : Term → Term) (lefts rights : List Sorted) where
   -- what is unmet from a pair on
@@ -44,4 +41,4 @@ module _ (canon : Term → Term) (lefts rights : List Sorted) where
   pub none_right : (i : ℕ) → length rights ≤ i → unmet_from i ≡ None
   none_right i h =
       ap (λ (xs : List Sorted). first_unmet canon (pairwise (terms_of (drop i lefts)) (terms_of xs))) (drop_all i rights h)
-      ∙ ap (first_unmet canon) (nothing_paired (terms_of (drop i lefts)))
+      ∙ ap (first_unmet canon) (pairwise_nothing (terms_of (drop i lefts)))

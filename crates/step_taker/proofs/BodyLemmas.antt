@@ -3,6 +3,7 @@ use Rattle.std.proofs.Common.{◌≡◌, ℕ, zero, suc, List, [], ◌∷◌, �
 use Rattle.std.specs.Prelude.{zip}
 use Rattle.std.proofs.lemmas.List.{append-nil}
 use Rattle.std.proofs.lemmas.Option.{none-some}
+use Rattle.lotos_base.proofs.Members.{at_map}
 use Rattle.lotos_base.specs.Canon.{IsCanon}
 use Rattle.lotos_base.specs.Equation.{Variable}
 use Rattle.lotos_base.specs.Sorting.{IsGroundOf}
@@ -45,12 +46,6 @@ pub instance_over : (ground : Ground) (environment : List (ℕ × Sorted)) (b ma
     → AreTermsOf ground.data_.signature (profiles_in made)
 instance_over ground environment b made e h k =
     subst (AreTermsOf ground.data_.signature) (sym e) (of_signatures ground.data_.signature environment b h k)
-
--- the item of a mapped list
-pub mapped_at : {A B : Type 0} (f : A → B) (xs : List A) (k : ℕ) (x : A) → slice_get xs k ≡ Some x → slice_get (map f xs) k ≡ Some (f x)
-mapped_at f [] k x e = absurd (cc e)
-mapped_at f (y ∷ xs) zero x e = ap (λ z. Some (f z)) (some_value e)
-mapped_at f (y ∷ xs) (suc k) x e = mapped_at f xs k x e
 
 module _ (ground : Ground) (is_canon : IsCanon ground.data_ ground.canon) where
   pub keeps_ground : KeepsGround ground.data_.signature ground.canon
@@ -97,7 +92,7 @@ module _ (ground : Ground) (is_canon : IsCanon ground.data_ ground.canon) where
     pub call_defined : (called : Called) (values : List Sorted) → IsCalled ground called values → Defined (process_of called)
     call_defined called values h =
         Every-at Defined (specification_of ground.spec).processes h.number (process_of called) over.well_formed.each
-        (mapped_at process_of ground.spec.processes.items h.number called h.there)
+        (at_map process_of ground.spec.processes.items h.number called h.there)
 
     pub call_sorted : (called : Called) (values : List Sorted) → IsCalled ground called values
         → AreValues ground.data_.signature (sorts_of (process_of called).parameters) (map ground.canon (terms_of values))
@@ -117,7 +112,7 @@ module _ (ground : Ground) (is_canon : IsCanon ground.data_ ground.canon) where
         → AreTermsOf ground.data_.signature (profiles_of values) → IsCalled ground called values
     is_called number gates called values at closed h =
         let same : closed.1.process ≡ process_of called =
-        some_value (sym closed.1.exists ∙ mapped_at process_of ground.spec.processes.items number called at) in
+        some_value (sym closed.1.exists ∙ at_map process_of ground.spec.processes.items number called at) in
         record {
           number = number;
           there = at;

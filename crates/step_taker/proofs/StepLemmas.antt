@@ -1,5 +1,5 @@
 -- What the steps of a walk need besides: places, options, and environments without values.
-use Rattle.std.proofs.Common.{◌≡◌, ◌≤◌, ◌+◌, ℕ, zero, suc, List, [], ◌∷◌, map, length, slice_get, nat_lt, Bool, true, false, if◌then◌else◌, Option, None, Some, inr, refl, ap, sym, ◌∙◌, subst, ltb-true, arith}
+use Rattle.std.proofs.Common.{◌≡◌, ◌≤◌, ◌+◌, ℕ, suc, List, [], ◌∷◌, length, nat_lt, Bool, true, false, if◌then◌else◌, inr, refl, ap, sym, ◌∙◌, subst, ltb-true, arith}
 use Rattle.std.proofs.Math.Path.{fun_ext}
 use Rattle.std.proofs.lemmas.Option.{none-some}
 use Rattle.lotos_base.specs.Equation.{Variable}
@@ -24,16 +24,6 @@ use Rattle.step_taker.specs.Walked.{IsThere}
 -- two parts one after the other
 pub two_as : {A B : Type 0} (f : A → A → B) (a b c d : A) → a ≡ b → c ≡ d → f a c ≡ f b d
 two_as f a b c d e h = ap (λ x. f x c) e ∙ ap (λ x. f b x) h
-
--- options without a value
-pub none_of : {A : Type 0} (o : Option A) → ((x : A) → o ≡ Some x → ⊥) → o ≡ None
-none_of None h = refl
-none_of (Some x) h = absurd (h x refl)
-
-pub none_mapped : {A B : Type 0} (f : A → B) (xs : List A) (k : ℕ) → slice_get xs k ≡ None → slice_get (map f xs) k ≡ None
-none_mapped f [] k e = refl
-none_mapped f (x ∷ xs) zero e = absurd (cc e)
-none_mapped f (x ∷ xs) (suc k) e = none_mapped f xs k e
 
 -- numbers of nodes and of leaves
 own_number : (n : ℕ) → n ≤ greatest_number → n ≡ kept_number n

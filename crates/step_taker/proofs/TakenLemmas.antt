@@ -1,16 +1,12 @@
 -- From the walk through the whole state to the answer of a step.
 use Rattle.std.proofs.Common.{◌≡◌, ◌≤◌, ◌+◌, ℕ, suc, List, [], ◌∷◌, length, Bool, true, false, nat_lt, if◌then◌else◌, Option, None, Some, refl, ap, sym, ◌∙◌, subst, arith, ltb-false}
 use Rattle.lotos_base.specs.Canon.{IsCanon}
-use Rattle.lotos_base.specs.Signature.{Signature}
-use Rattle.lotos_base.specs.Substitution.{Substitution}
 use Rattle.lotos_base.specs.Term.{Term}
 use Rattle.behaviour_semantics.specs.Behaviour.{Behaviour}
-use Rattle.behaviour_semantics.specs.Derives.{leaves_in}
 use Rattle.behaviour_semantics.specs.Fault.{at_node, Fault, first_of_two, left_over, not_fitting, size, Wrong}
 use Rattle.behaviour_semantics.specs.Label as plain
 use Rattle.behaviour_semantics.specs.Move.{Move}
-use Rattle.behaviour_semantics.specs.Rule.{AreValues}
-use Rattle.behaviour_semantics.proofs.SupplyLemmas.{Supplied}
+use Rattle.behaviour_semantics.proofs.FaultLemmas.{values_of}
 use Rattle.sort_terms.specs.declared.sorted.Sorted.{Sorted}
 use Rattle.behaviour_tree.specs.BehaviourView.{terms_of}
 use Rattle.behaviour_tree.specs.Closed.{IsClosedNode}
@@ -30,22 +26,6 @@ use Rattle.step_taker.specs.Taken.{Ground, IsStepFault, IsTaken, setting_on}
 use Rattle.step_taker.specs.Walked.{IsClosedOn, IsFirstStepFault, IsMoved}
 use Rattle.step_taker.specs.declared.moved.Moved.{Moved}
 use Rattle.step_taker.proofs.GoodLemmas.{moved_sound, target_closed}
-
--- as many leaves as sorts, supplied from the first on, are values
-unshifted : (signature : Signature) (given : Substitution) (next : ℕ) (sorts : List ℕ) → Supplied signature given (suc next) sorts
-    → Supplied signature (λ k s. given (suc k) s) next sorts
-unshifted signature given next [] h = tt
-unshifted signature given next (s ∷ sorts) h = (h.0, unshifted signature given (suc next) sorts h.1)
-
-values_of : (signature : Signature) (sorts : List ℕ) (vs : List Term) → length sorts ≡ length vs
-    → Supplied signature (leaves_in vs) 0 sorts → AreValues signature sorts vs
-values_of signature [] [] e h = tt
-values_of signature [] (v ∷ vs) e h = absurd (omega arith)
-values_of signature (s ∷ sorts) [] e h = absurd (omega arith)
-values_of signature (s ∷ sorts) (v ∷ vs) e h = (
-  h.0,
-  values_of signature sorts vs (omega arith) (unshifted signature (leaves_in (v ∷ vs)) 0 sorts h.1),
-)
 
 same_length : (leaves : List Sorted) → length (terms_of leaves) ≡ length leaves
 same_length [] = refl

@@ -11,7 +11,7 @@ use Rattle.syntax_trees.specs.TreeViews.{inner_level, inner_of, item_of, process
 use Rattle.syntax_trees.specs.WrittenDefinition.{WrittenInner, inner_item}
 use Rattle.syntax_trees.specs.Counting.{declared_by, declared_by_process, declared_in}
 
-seen_process : (definition : ProcessText) → inner_of (Process definition) ≡ process_of definition
+pub seen_process : (definition : ProcessText) → inner_of (Process definition) ≡ process_of definition
 seen_process definition =
     ap inner_of (sym (rolls-Process definition))
     ∙ fold-roll-InnerText WrittenInner WrittenInner inner_level process_level (InnerText-F.Process definition)

@@ -9,7 +9,7 @@ use Rattle.std.proofs.lemmas.List.{map-append}
 use Rattle.syntax_trees.specs.declared.definitions.InnerText.{InnerText, Item, Process}
 use Rattle.syntax_trees.specs.declared.definitions.ProcessText.{ProcessText, roll-ProcessText}
 use Rattle.syntax_trees.specs.declared.definitions.InnerText.TheFolds.{fold-roll-InnerText, fold-roll-ProcessText, fold_out-ProcessText}
-use Rattle.syntax_trees.specs.declared.definitions.InnerText.TheVariants.{rolls-Item, rolls-Process}
+use Rattle.syntax_trees.specs.declared.definitions.InnerText.TheVariants.{rolls-Item}
 use Rattle.syntax_trees.specs.declared.definitions.InnerText.TheOpen.{InnerText-F}
 use Rattle.syntax_trees.specs.declared.items.ItemText.{ItemText}
 use Rattle.syntax_trees.specs.declared.levels.Level.{Level}
@@ -19,6 +19,7 @@ use Rattle.syntax_trees.specs.WrittenItem.{WrittenItem}
 use Rattle.syntax_trees.specs.WrittenBehaviour.{WrittenBehaviour}
 use Rattle.syntax_trees.specs.WrittenDefinition.{WrittenHeading, WrittenInner, WrittenInners, inner_item, process, no_inner, inner_then, list_of_inners, inners_of}
 use Rattle.syntax_trees.specs.TakenItems.{items_of_inners, processes_of, declarations_among, declarations_in}
+use Rattle.syntax_trees.proofs.Counts.{seen_process}
 
 -- a process whose own declarations are being looked at, with what stays of the list before it and what is behind it
 pub record OuterList : Type 0 where
@@ -77,7 +78,7 @@ pub count_ahead-append : (outers : List OuterList) (last : OuterList) →
 count_ahead-append [] last = omega arith
 count_ahead-append (outer ∷ rest) last = let e = count_ahead-append rest last in omega arith
 
-listed-again : (inner : WrittenInners) → inners_of (list_of_inners inner) ≡ inner
+pub listed-again : (inner : WrittenInners) → inners_of (list_of_inners inner) ≡ inner
 listed-again no_inner = refl
 listed-again (inner_then first others) = ap (inner_then first) (listed-again others)
 
@@ -132,11 +133,6 @@ same before inner {outers} {outers'} {kept} {kept'} {ahead} {ahead'} {items} {it
     subst (λ o. IsTaking before inner o kept' ahead' items') e
     (subst (λ o. IsTaking before inner outers o ahead' items') k
     (subst (λ o. IsTaking before inner outers kept o items') a (subst (λ o. IsTaking before inner outers kept ahead o) x so)))
-
-seen_process : (definition : ProcessText) → inner_of (Process definition) ≡ process_of definition
-seen_process definition =
-    ap inner_of (sym (rolls-Process definition))
-    ∙ fold-roll-InnerText WrittenInner WrittenInner inner_level process_level (InnerText-F.Process definition)
 
 seen_item : (item : ItemText) → inner_of (Item item) ≡ inner_item (item_of item)
 seen_item item =

@@ -19,9 +19,6 @@ abbrev IsFrom : ℕ → ℕ → ℕ → Type 0
 IsFrom limit depth zero = limit < depth
 IsFrom limit depth (suc k) = depth + suc k ≡ suc limit
 
-less : (limit depth : ℕ) → limit < depth → nat_lt limit depth ≡ true
-less limit depth h = lt-ltb limit depth h
-
 not_less : (limit depth k : ℕ) → depth + suc k ≡ suc limit → nat_lt limit depth ≡ false
 not_less limit depth k h = le-ltb limit depth (omega arith)
 
@@ -43,7 +40,7 @@ first_deeper-append limit (node ∷ some) others =
 -- a node that is too deep, and one that is not
 at_node : (limit depth : ℕ) (place : Place) (behind : List TreeNode) → limit < depth →
     first_deeper limit (node_at place depth ∷ behind) ≡ Some place
-at_node limit depth place behind h = ap (λ b. cond b (Some place) (first_deeper limit behind)) (less limit depth h)
+at_node limit depth place behind h = ap (λ b. cond b (Some place) (first_deeper limit behind)) (lt-ltb limit depth h)
 
 past_node : (limit depth k : ℕ) (place : Place) (behind : List TreeNode) → IsFrom limit depth (suc k) →
     first_deeper limit (node_at place depth ∷ behind) ≡ first_deeper limit behind

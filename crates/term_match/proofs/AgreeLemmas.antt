@@ -3,6 +3,7 @@ use Rattle.std.proofs.Common.{◌≡◌, ℕ, List, [], ◌∷◌, Bool, true, f
 use Rattle.std.specs.Prelude.{◌⊎◌, ◌||◌, if◌then◌else◌, Some, slice_get}
 use Rattle.std.proofs.lemmas.Option.{same_Some}
 use Rattle.std.proofs.lemmas.Bool.Decides.{Decides-eqb}
+use Rattle.std.proofs.lemmas.Bool.{or_left, or_right}
 use Rattle.lotos_base.specs.Signature.{Signature, Operation}
 use Rattle.lotos_base.specs.Term.{variable, node, term_then}
 use Rattle.lotos_base.specs.Sorting.{Occurs, OccursAmong}
@@ -14,14 +15,6 @@ use Rattle.term_match.specs.Disagreement.{TermDisagreement, agreed, clashing, bi
 
 -- ---- Numbers that stand in terms
 
-left_true : (a b : Bool) → a ≡ true → (a || b) ≡ true
-left_true true b e = refl
-left_true false b e = cc
-
-right_true : (a b : Bool) → b ≡ true → (a || b) ≡ true
-right_true true b e = refl
-right_true false b e = e
-
 mutual
   pub has_number_true : (n s : ℕ) (t : ProfiledTerm) → Occurs n s (bare t) → has_number n t ≡ true
   has_number_true n s (profiled_variable m r) o = (Decides-eqb m n).1 o.0
@@ -29,8 +22,8 @@ mutual
 
   have_number_true : (n s : ℕ) (ts : ProfiledTerms) → OccursAmong n s (all_bare ts) → have_number n ts ≡ true
   have_number_true n s no_profiled_terms o = absurd o
-  have_number_true n s (profiled_term_then t ts) (inl o) = left_true (has_number n t) (have_number n ts) (has_number_true n s t o)
-  have_number_true n s (profiled_term_then t ts) (inr o) = right_true (has_number n t) (have_number n ts) (have_number_true n s ts o)
+  have_number_true n s (profiled_term_then t ts) (inl o) = or_left (has_number n t) (have_number n ts) (has_number_true n s t o)
+  have_number_true n s (profiled_term_then t ts) (inr o) = or_right (has_number n t) (have_number n ts) (have_number_true n s ts o)
 
 -- which sort the variable has there
 mutual

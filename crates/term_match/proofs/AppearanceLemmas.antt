@@ -4,6 +4,7 @@ use Rattle.std.specs.Prelude.{◌⊎◌, if◌then◌else◌, Some, None, slice_
 use Rattle.std.proofs.lemmas.Option.{same_Some}
 use Rattle.std.proofs.lemmas.List.{map-append}
 use Rattle.std.proofs.lemmas.Bool.Decides.{Decides-eqb}
+use Rattle.lotos_base.proofs.Numbers.{smaller}
 use Rattle.lotos_base.specs.Term.{Term, variable, node, Terms, no_terms, term_then}
 use Rattle.lotos_base.specs.Sorting.{Occurs}
 use Rattle.lotos_base.specs.Substitution.{substituted, all_substituted, renaming, is_listed}
@@ -30,9 +31,6 @@ StandsBefore next ns i m = (m < next) ⊎ ((j : ℕ) × (j < i) × (slice_get ns
 later : (next n i m : ℕ) (ns : List ℕ) → StandsBefore next ns i m → StandsBefore next (n ∷ ns) (suc i) m
 later next n i m ns (inl less) = inl less
 later next n i m ns (inr (j, less, e)) = inr (suc j, omega (arith, less), e)
-
-smaller : (n m next : ℕ) → n ≡ next → m < suc next → (n ≡ m → ⊥) → m < next
-smaller n m next same less differ = grind (arith, same, less, differ)
 
 later_new : (next n i m : ℕ) (ns : List ℕ) → n ≡ next → StandsBefore (suc next) ns i m → StandsBefore next (n ∷ ns) (suc i) m
 later_new next n i m ns same (inr (j, less, e)) = inr (suc j, omega (arith, less), e)

@@ -3,6 +3,7 @@ use Rattle.std.proofs.Common.{◌≡◌, ℕ, zero, suc, List, [], ◌∷◌, �
 use Rattle.std.specs.Prelude.{Option, Some, None, slice_get, if◌then◌else◌}
 use Rattle.std.proofs.lemmas.Option.{same_Some}
 use Rattle.std.proofs.lemmas.Bool.Decides.{Decides-eqb}
+use Rattle.lotos_base.proofs.Options.{chained}
 use Rattle.lotos_base.specs.Signature.{Signature, Operation}
 use Rattle.lotos_base.specs.Sorting.{Occurs, OccursAmong}
 use Rattle.lotos_base.specs.Substitution.{binding}
@@ -14,7 +15,6 @@ use Rattle.term_match.specs.ProfiledInstance.{bare_pairs}
 use Rattle.term_match.specs.Numbers.{AreDistinctNumbers}
 use Rattle.term_match.specs.Search.{looked_up, bound, searched, all_searched}
 use Rattle.term_match.specs.Matched.{TermHasOneSortPerNumber, HasMatch, IsPair, NumberOccurs, IsMatchedBy}
-use Rattle.term_match.proofs.PathLemmas.{and_then_some}
 use Rattle.term_match.proofs.DistinctLemmas.{IsAbsent, distinct_more}
 use Rattle.term_match.proofs.SearchLemmas.{Pairs, if_some, all_search_extends, search_sound, search_complete, binding_agrees, found_last}
 
@@ -69,7 +69,7 @@ mutual
   all_search_distinct no_profiled_terms (profiled_term_then t ts) found more e distinct = cc
   all_search_distinct (profiled_term_then l ls) no_profiled_terms found more e distinct = cc
   all_search_distinct (profiled_term_then l ls) (profiled_term_then t ts) found more e distinct =
-      let step = and_then_some (all_searched ls ts) (searched l t found) more e in
+      let step = chained (all_searched ls ts) (searched l t found) {y = more} e in
       all_search_distinct ls ts step.0 more step.2 (search_distinct l t found step.0 step.1 distinct)
 
 -- ---- What holds of the parts of the term holds of what is found
@@ -122,7 +122,7 @@ mutual
   all_search_keeps P Q inherited no_profiled_terms (profiled_term_then t ts) found more e p q kept = cc
   all_search_keeps P Q inherited (profiled_term_then l ls) no_profiled_terms found more e p q kept = cc
   all_search_keeps P Q inherited (profiled_term_then l ls) (profiled_term_then t ts) found more e p q kept =
-      let step = and_then_some (all_searched ls ts) (searched l t found) more e in
+      let step = chained (all_searched ls ts) (searched l t found) {y = more} e in
       all_search_keeps P Q inherited ls ts step.0 more step.2 p.1 (λ n s o. q n s (inr o))
       (search_keeps P Q inherited l t found step.0 step.1 p.0 (λ n s o. q n s (inl o)) kept)
 
@@ -163,11 +163,11 @@ mutual
   all_search_pairs no_profiled_terms ts found more n s e o = absurd o
   all_search_pairs (profiled_term_then l ls) no_profiled_terms found more n s e o = cc
   all_search_pairs (profiled_term_then l ls) (profiled_term_then t ts) found more n s e (inl o) =
-      let step = and_then_some (all_searched ls ts) (searched l t found) more e in
+      let step = chained (all_searched ls ts) (searched l t found) {y = more} e in
       let first = search_pairs l t found step.0 n s step.1 o in
       (first.0, all_search_extends ls ts step.0 more step.2 n first.0 first.1)
   all_search_pairs (profiled_term_then l ls) (profiled_term_then t ts) found more n s e (inr o) =
-      let step = and_then_some (all_searched ls ts) (searched l t found) more e in
+      let step = chained (all_searched ls ts) (searched l t found) {y = more} e in
       all_search_pairs ls ts step.0 more n s step.2 o
 
 found_is_pair : (n : ℕ) (pairs : Pairs) (w : ProfiledTerm) → looked_up n pairs ≡ Some w → IsPair pairs n w

@@ -1,19 +1,18 @@
 -- Subterms and replacements in terms with profiles.
-use Rattle.std.proofs.Common.{◌≡◌, ℕ, zero, suc, ◌-◌, ◌<◌, ◌≤◌, List, [], ◌∷◌, length, get_or, take, drop, set, refl, ap, sym, ◌∙◌, subst, arith, rules, Vec, Global, Bor, ltb, ltb-true, ltb-false, Bool, true, false, nat_eq}
+use Rattle.std.proofs.Common.{◌≡◌, ℕ, zero, suc, ◌-◌, ◌<◌, ◌≤◌, List, [], ◌∷◌, length, get_or, take, drop, set, refl, ap, sym, ◌∙◌, subst, arith, Bor, ltb, ltb-true, ltb-false, Bool, true, false, nat_eq}
 use Rattle.std.specs.Prelude.{Option, Some, None, is_some, IfSome, if◌then◌else◌}
 use Rattle.std.specs.Option.{option_map, option_and_then}
-use Rattle.std.specs.declared.rc.Rc.{Rc}
 use Rattle.std.proofs.Math.Seq.{take-length}
 use Rattle.std.proofs.lemmas.Option.{same_Some}
 use Rattle.std.proofs.lemmas.Bool.Decides.{Decides-eqb}
+use Rattle.lotos_base.proofs.Options.{chained, mapped}
 use Rattle.lotos_base.specs.Signature.{Signature, Operation}
 use Rattle.lotos_base.specs.Term.{Term as PlainTerm, node, term_then}
 use Rattle.lotos_base.specs.Path.{argument_at, with_argument, subterm, put_at}
-use Rattle.sort_terms.specs.Operations.{operation_of}
+use Rattle.lotos_base.proofs.PlainLemmas.{path_parts}
 use Rattle.sort_terms.specs.ProfiledTerm.{ProfiledTerm, ProfiledTerms, profiled_variable, profiled_node, no_profiled_terms, profiled_term_then, bare, all_bare, head_sort, FitsProfiles, FitArguments, IsOf, AreOf}
 use Rattle.sort_terms.specs.TermView.{profiled_of, all_profiled}
-use Rattle.sort_terms.specs.declared.operations.Op.{Op}
-use Rattle.sort_terms.specs.declared.terms.Term.{Term, Node, the_lemmas}
+use Rattle.sort_terms.specs.declared.terms.Term.{Term}
 use Rattle.term_match.specs.ProfiledPath.{profiled_argument_at, with_profiled_argument, profiled_subterm, profiled_put_at, replaced}
 
 -- ---- Without profiles
@@ -86,29 +85,19 @@ argument_fits k (profiled_term_then u us) [] t h e = absurd h
 argument_fits zero (profiled_term_then u us) (s ∷ ss) t h e = subst (λ (v : ProfiledTerm). FitsProfiles v) (same_Some _ _ e) h.1
 argument_fits (suc k) (profiled_term_then u us) (s ∷ ss) t h e = argument_fits k us ss t h.2 e
 
--- what a step gives after a first one, taken apart
-pub and_then_some : {A B : Type 0} (f : A → Option B) (o : Option A) (y : B) → option_and_then f o ≡ Some y
-    → (x : A) × (o ≡ Some x) × (f x ≡ Some y)
-and_then_some f None y e = cc
-and_then_some f (Some x) y e = (x, refl, e)
-
-pub map_some : {A B : Type 0} (f : A → B) (o : Option A) (y : B) → option_map f o ≡ Some y → (x : A) × (o ≡ Some x) × (f x ≡ y)
-map_some f None y e = cc
-map_some f (Some x) y e = (x, refl, same_Some _ _ e)
-
 pub subterm_of : (signature : Signature) (path : List ℕ) (t part : ProfiledTerm) → IsOf signature t
     → profiled_subterm path t ≡ Some part → IsOf signature part
 subterm_of signature [] t part h e = subst (λ (v : ProfiledTerm). IsOf signature v) (same_Some _ _ e) h
 subterm_of signature (k ∷ path) (profiled_variable n s) part h e = cc
 subterm_of signature (k ∷ path) (profiled_node f operation ts) part h e =
-    let found = and_then_some (λ t. profiled_subterm path t) (profiled_argument_at k ts) part e in
+    let found = chained (λ t. profiled_subterm path t) (profiled_argument_at k ts) {y = part} e in
     subterm_of signature path found.0 part (argument_of signature k ts found.0 h.1 found.1) found.2
 
 pub subterm_fits : (path : List ℕ) (t part : ProfiledTerm) → FitsProfiles t → profiled_subterm path t ≡ Some part → FitsProfiles part
 subterm_fits [] t part h e = subst (λ (v : ProfiledTerm). FitsProfiles v) (same_Some _ _ e) h
 subterm_fits (k ∷ path) (profiled_variable n s) part h e = cc
 subterm_fits (k ∷ path) (profiled_node f operation ts) part h e =
-    let found = and_then_some (λ t. profiled_subterm path t) (profiled_argument_at k ts) part e in
+    let found = chained (λ t. profiled_subterm path t) (profiled_argument_at k ts) {y = part} e in
     subterm_fits path found.0 part (argument_fits k ts operation.arguments found.0 h found.1) found.2
 
 with_argument_of : (signature : Signature) (k : ℕ) (part : ProfiledTerm) (ts : ProfiledTerms) → AreOf signature ts
@@ -122,9 +111,9 @@ pub put_of : (signature : Signature) (path : List ℕ) (part t whole : ProfiledT
 put_of signature [] part t whole h p e = subst (λ (v : ProfiledTerm). IsOf signature v) (same_Some _ _ e) p
 put_of signature (k ∷ path) part (profiled_variable n s) whole h p e = cc
 put_of signature (k ∷ path) part (profiled_node f operation ts) whole h p e =
-    let made = map_some (λ t. profiled_node f operation (with_profiled_argument k t ts))
-    (option_and_then (λ t. profiled_put_at path part t) (profiled_argument_at k ts)) whole e in
-    let found = and_then_some (λ t. profiled_put_at path part t) (profiled_argument_at k ts) made.0 made.1 in
+    let made = mapped (λ t. profiled_node f operation (with_profiled_argument k t ts))
+    (option_and_then (λ t. profiled_put_at path part t) (profiled_argument_at k ts)) {y = whole} e in
+    let found = chained (λ t. profiled_put_at path part t) (profiled_argument_at k ts) {y = made.0} made.1 in
     subst (λ (v : ProfiledTerm). IsOf signature v) made.2 (
       h.0,
       with_argument_of signature k made.0 ts h.1 (put_of signature path part found.0 made.0
@@ -151,10 +140,10 @@ put_fits [] part t old whole h p found same e = (
 )
 put_fits (k ∷ path) part (profiled_variable n s) old whole h p found same e = cc
 put_fits (k ∷ path) part (profiled_node f operation ts) old whole h p found same e =
-    let made = map_some (λ t. profiled_node f operation (with_profiled_argument k t ts))
-    (option_and_then (λ t. profiled_put_at path part t) (profiled_argument_at k ts)) whole e in
-    let into = and_then_some (λ t. profiled_put_at path part t) (profiled_argument_at k ts) made.0 made.1 in
-    let under = and_then_some (λ t. profiled_subterm path t) (profiled_argument_at k ts) old found in
+    let made = mapped (λ t. profiled_node f operation (with_profiled_argument k t ts))
+    (option_and_then (λ t. profiled_put_at path part t) (profiled_argument_at k ts)) {y = whole} e in
+    let into = chained (λ t. profiled_put_at path part t) (profiled_argument_at k ts) {y = made.0} made.1 in
+    let under = chained (λ t. profiled_subterm path t) (profiled_argument_at k ts) {y = old} found in
     let one : under.0 ≡ into.0 = same_Some _ _ (sym under.1 ∙ into.1) in
     let there : profiled_subterm path into.0 ≡ Some old = subst (λ (v : ProfiledTerm). profiled_subterm path v ≡ Some old) one under.2 in
     let below = put_fits path part into.0 old made.0 (argument_fits k ts operation.arguments into.0 h into.1) p there same into.2 in (
@@ -164,11 +153,6 @@ put_fits (k ∷ path) part (profiled_node f operation ts) old whole h p found sa
     )
 
 -- ---- Lists of the code
-
--- a node stands for the operation on what its arguments stand for
-pub profiled_of-Node : (f : ℕ) (profile : Rc Op Global) (ts : Vec Term Global)
-    → profiled_of (Node f profile ts) ≡ profiled_node f (operation_of profile.value) (all_profiled ts.items)
-profiled_of-Node f profile ts = search (rules, the_lemmas)
 
 pub all_profiled-set : (xs : List Term) (i : ℕ) (y : Term)
     → all_profiled (set xs i y) ≡ with_profiled_argument i (profiled_of y) (all_profiled xs)
@@ -207,13 +191,6 @@ argument_found f operation xs i None some is =
     sym (some_or_none (profiled_argument_at i (all_profiled xs)) ∙ argument_past xs i (ltb-false i (length xs) (sym some)))
 argument_found f operation xs i (Some x) some is =
     sym (some_or_none (profiled_argument_at i (all_profiled xs)) ∙ argument_within xs i x.now (ltb-true i (length xs) (sym some)) is)
-
--- a path with a first position
-path_parts : (path : List ℕ) → 1 ≤ length path → path ≡ get_or path 0 0 ∷ take (length path - 1) (drop 1 path)
-path_parts [] h = absurd (omega arith)
-path_parts (k ∷ rest) h =
-    let shorter : suc (length rest) - 1 ≡ length rest = omega arith in
-    ap (λ ks. k ∷ ks) (sym (ap (λ (n : ℕ). take n rest) shorter ∙ take-length rest))
 
 no_put : (k : ℕ) (rest : List ℕ) (part : ProfiledTerm) (f : ℕ) (operation : Operation) (ts : ProfiledTerms)
     → profiled_argument_at k ts ≡ None

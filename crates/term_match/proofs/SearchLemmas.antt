@@ -4,6 +4,7 @@ use Rattle.std.specs.Prelude.{◌⊎◌, Option, Some, None, slice_get, if◌the
 use Rattle.std.specs.Option.{option_and_then}
 use Rattle.std.proofs.lemmas.Option.{same_Some}
 use Rattle.std.proofs.lemmas.Bool.Decides.{Decides-eqb}
+use Rattle.lotos_base.proofs.Options.{chained}
 use Rattle.lotos_base.specs.Term.{Term, node, term_then}
 use Rattle.lotos_base.specs.Sorting.{Occurs, OccursAmong}
 use Rattle.lotos_base.specs.Substitution.{Substitution, substituted, all_substituted, binding}
@@ -16,7 +17,6 @@ use Rattle.term_match.specs.FoundView.{found_pair, found_pairs}
 use Rattle.term_match.specs.ProfiledInstance.{bare_pairs}
 use Rattle.term_match.specs.Search.{looked_up, bound, searched, all_searched}
 use Rattle.term_match.specs.Matched.{TermHasOneSortPerNumber}
-use Rattle.term_match.proofs.PathLemmas.{and_then_some}
 
 abbrev pub Pairs : Type 0
 Pairs = List (ℕ × ProfiledTerm)
@@ -90,7 +90,7 @@ mutual
   all_search_extends no_profiled_terms (profiled_term_then t ts) found more e = cc
   all_search_extends (profiled_term_then l ls) no_profiled_terms found more e = cc
   all_search_extends (profiled_term_then l ls) (profiled_term_then t ts) found more e =
-      let step = and_then_some (all_searched ls ts) (searched l t found) more e in
+      let step = chained (all_searched ls ts) (searched l t found) {y = more} e in
       λ m u h. all_search_extends ls ts step.0 more step.2 m u (search_extends l t found step.0 step.1 m u h)
 
 -- ---- What is found makes the pattern the term
@@ -124,7 +124,7 @@ mutual
   all_search_sound values no_profiled_terms (profiled_term_then t ts) found more e agrees = cc
   all_search_sound values (profiled_term_then l ls) no_profiled_terms found more e agrees = cc
   all_search_sound values (profiled_term_then l ls) (profiled_term_then t ts) found more e agrees =
-      let step = and_then_some (all_searched ls ts) (searched l t found) more e in
+      let step = chained (all_searched ls ts) (searched l t found) {y = more} e in
       let first = search_sound values l t found step.0 step.1
       (λ n s u h. agrees n s u (all_search_extends ls ts step.0 more step.2 n u h)) in
       let rest = all_search_sound values ls ts step.0 more step.2 agrees in

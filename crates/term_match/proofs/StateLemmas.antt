@@ -134,7 +134,7 @@ mutual
   occurs_sort_of signature (profiled_variable m r) n s h o = subst (λ (q : ℕ). IsSort signature q) o.1 h
   occurs_sort_of signature (profiled_node f operation ts) n s h o = occurs_sorts_of signature ts n s h.1 o
 
-  occurs_sorts_of : (signature : Signature) (ts : ProfiledTerms) (n s : ℕ) → AreOf signature ts → OccursAmong n s (all_bare ts)
+  pub occurs_sorts_of : (signature : Signature) (ts : ProfiledTerms) (n s : ℕ) → AreOf signature ts → OccursAmong n s (all_bare ts)
       → IsSort signature s
   occurs_sorts_of signature no_profiled_terms n s h o = absurd o
   occurs_sorts_of signature (profiled_term_then t ts) n s h (inl o) = occurs_sort_of signature t n s h.0 o
@@ -192,11 +192,11 @@ pub record IsSolving (left right : ProfiledTerm) (pairs : Pairs) (l r : Profiled
 
 -- an instance that puts nothing
 mutual
-  nothing_put : (t : ProfiledTerm) → profiled_instance (profiled_binding []) t ≡ t
+  pub nothing_put : (t : ProfiledTerm) → profiled_instance (profiled_binding []) t ≡ t
   nothing_put (profiled_variable n s) = refl
   nothing_put (profiled_node f operation ts) = ap (λ us. profiled_node f operation us) (nothing_put_in ts)
 
-  nothing_put_in : (ts : ProfiledTerms) → profiled_instances (profiled_binding []) ts ≡ ts
+  pub nothing_put_in : (ts : ProfiledTerms) → profiled_instances (profiled_binding []) ts ≡ ts
   nothing_put_in no_profiled_terms = refl
   nothing_put_in (profiled_term_then t ts) = λ i. profiled_term_then (nothing_put t i) (nothing_put_in ts i)
 

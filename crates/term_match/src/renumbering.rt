@@ -1,6 +1,7 @@
 //! Terms with other variable numbers.
 
 ghost use Rattle.term_match.specs.Renumbering.{new_number, profiled_renaming};
+ghost use Rattle.sort_terms.specs.ProfiledTerm.{profiled_variable};
 ghost use Rattle.sort_terms.specs.SortedView.{profiled_in, term_in};
 ghost use Rattle.sort_terms.specs.TermView.{all_profiled, profiled_of};
 ghost use Rattle.std.specs.Prelude.{◌≡◌, IfOk};
@@ -28,10 +29,7 @@ fn renumbered_term(term: &Term, numbers: &[(u64, u64)]) -> Result<Term, NoMemory
         ≡ profiled_instance (profiled_renaming (new_number numbers.now)) (profiled_of term.now)) }
 {
     match term {
-        Term::Var { number, sort } => Ok(Term::Var {
-            number: number_for(*number, *sort, numbers),
-            sort: *sort,
-        }),
+        Term::Var { number, sort } => Ok(renumbered_variable(*number, *sort, numbers)),
         Term::Node {
             op,
             profile,
@@ -58,15 +56,14 @@ fn renumbered_terms(terms: &Vec<Term>, numbers: &[(u64, u64)]) -> Result<Vec<Ter
     Ok(made)
 }
 
-// The new number of the variable with this number and sort.
-fn number_for(number: u64, sort: u32, numbers: &[(u64, u64)]) -> u64
-    ensures { result ≡ new_number numbers.now number sort }
+// The variable with its new number.
+fn renumbered_variable(number: u64, sort: u32, numbers: &[(u64, u64)]) -> Term
+    ensures { profiled_of result ≡ profiled_variable (new_number numbers.now number sort) sort }
 {
     for (known, new) in numbers {
         if *known == number {
-            return *new;
+            return Term::Var { number: *new, sort };
         }
     }
-    let _ = sort;
-    number
+    Term::Var { number, sort }
 }

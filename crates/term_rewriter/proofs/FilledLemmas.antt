@@ -2,6 +2,7 @@
 use Rattle.std.proofs.Common.{◌≡◌, ℕ, ◌+◌, List, [], ◌∷◌, ◌++◌, map, length, get_or, drop, take, ◌<◌, ap, sym, ◌∙◌, append_assoc, append-nil}
 use Rattle.std.proofs.lemmas.List.{map-append}
 use Rattle.lotos_base.specs.Signature.{Operation}
+use Rattle.lotos_base.proofs.Pieces.{same_heads, same_tails}
 use Rattle.sort_terms.specs.ProfiledTerm.{ProfiledTerm, ProfiledTerms, profiled_variable, profiled_node}
 use Rattle.sort_terms.specs.TermView.{profiled_of, all_profiled}
 use Rattle.sort_terms.specs.declared.terms.Term.{Term}
@@ -10,13 +11,6 @@ use Rattle.term_match.proofs.InstanceLemmas.{instances_more}
 use Rattle.term_rewriter.specs.Taken.{owned_pairs, AreTaken, IsRewritten}
 use Rattle.term_rewriter.specs.Wanted.{variables_of, all_variables_of, value_by, values_by, IsFilled, AreFilled}
 
--- the head and the rest of a list
-heads : {X : Type 0} {x y : X} {xs ys : List X} → x ∷ xs ≡ y ∷ ys → x ≡ y
-heads {x = x} e = ap (λ zs. get_or zs 0 x) e
-
-rests : {X : Type 0} {x y : X} {xs ys : List X} → x ∷ xs ≡ y ∷ ys → xs ≡ ys
-rests e = ap (λ zs. drop 1 zs) e
-
 -- ---- one term
 
 pub filled_variable : (t : ProfiledTerm) (n s : ℕ) (before after : List Term) (value : Term) → t ≡ profiled_variable n s
@@ -24,7 +18,7 @@ pub filled_variable : (t : ProfiledTerm) (n s : ℕ) (before after : List Term) 
 filled_variable t n s before after value shape is values rest e =
     let same : profiled_of value ∷ map profiled_of after ≡ values n s ∷ rest =
     sym (ap (map profiled_of) is) ∙ e ∙ ap (λ (u : ProfiledTerm). values_by values (variables_of u) ++ rest) shape in
-    (heads same ∙ ap (profiled_instance values) (sym shape), rests same)
+    (same_heads _ _ _ _ same ∙ ap (profiled_instance values) (sym shape), same_tails _ _ _ _ same)
 
 pub filled_short : (t : ProfiledTerm) (n s : ℕ) (before : List Term) (after : List ProfiledTerm) (made : ProfiledTerm)
     → t ≡ profiled_variable n s → before ≡ [] → IsFilled t (map profiled_of before) after made

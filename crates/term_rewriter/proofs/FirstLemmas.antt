@@ -2,12 +2,12 @@
 use Rattle.std.proofs.Common.{◌≡◌, ℕ, zero, suc, ◌<◌, List, [], ◌∷◌, length, get_or, Bool, true, false, refl, ap, sym, ◌∙◌, subst, arith}
 use Rattle.std.specs.Prelude.{Some, None, slice_get}
 use Rattle.std.proofs.lemmas.Option.{same_Some, slice_get_within}
+use Rattle.lotos_base.proofs.Members.{at_map}
 use Rattle.lotos_base.specs.Term.{Term, variable, node, Terms}
 use Rattle.rewriting_theory.specs.Rule.{Rule as PlainRule, IsNode}
 use Rattle.rewriting_theory.specs.Matching.{Matches}
 use Rattle.sort_terms.specs.ProfiledTerm.{ProfiledTerm, bare}
 use Rattle.sort_terms.specs.SortedView.{profiled_in, term_in}
-use Rattle.sort_terms.proofs.ScopeLemmas.{member_mapped}
 use Rattle.term_match.specs.Matched.{TermHasOneSortPerNumber}
 use Rattle.term_match.specs.Search.{searched}
 use Rattle.term_match.proofs.SearchLemmas.{search_complete}
@@ -44,7 +44,7 @@ code_at (first ∷ rules) (suc k) rule is = code_at rules k rule is
 
 pub sides_at : (rules : List Rule) (k : ℕ) (rule : Rule) → slice_get rules k ≡ Some rule
     → slice_get (all_sides rules) k ≡ Some (sides_of rule)
-sides_at rules k rule is = member_mapped sides_of rules k rule is
+sides_at rules k rule is = at_map sides_of rules k rule is
 
 pub at_index : (rules : List Rule) (k : ℕ) (rule : Rule) → k < length rules → rule ≡ get_or rules k rule → slice_get rules k ≡ Some rule
 at_index [] k rule within is = absurd (omega arith)

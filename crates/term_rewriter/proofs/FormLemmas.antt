@@ -28,6 +28,7 @@ use Rattle.term_match.specs.ProfiledInstance.{profiled_instances, profiled_bindi
 use Rattle.term_match.specs.Search.{searched, all_searched}
 use Rattle.term_match.proofs.InstanceLemmas.{instance_by_pairs}
 use Rattle.term_match.proofs.MatchLemmas.{All, AreKept, IsInherited, all_search_keeps, if_through, search_is_match}
+use Rattle.term_match.proofs.StateLemmas.{nothing_put, occurs_sort_of}
 use Rattle.path_order.specs.RuleView.{rule_of}
 use Rattle.path_order.specs.RulesView.{plain_rules_in, signature_in}
 use Rattle.path_order.specs.declared.rule.Rule.{Rule}
@@ -300,39 +301,19 @@ matched_within rules number whole m = slice_get_within rules.rules.items number 
 
 -- ---- whole terms
 
-mutual
-  without_pairs : (t : ProfiledTerm) → by_pairs [] t ≡ t
-  without_pairs (profiled_variable n s) = refl
-  without_pairs (profiled_node f operation ts) = ap (λ us. profiled_node f operation us) (all_without_pairs ts)
-
-  all_without_pairs : (ts : ProfiledTerms) → profiled_instances (profiled_binding []) ts ≡ ts
-  all_without_pairs no_profiled_terms = refl
-  all_without_pairs (profiled_term_then t ts) = λ i. profiled_term_then (without_pairs t i) (all_without_pairs ts i)
-
-mutual
-  occurring_sort : (signature : Signature) (t : ProfiledTerm) (n s : ℕ) → IsOf signature t → Occurs n s (bare t) → IsSort signature s
-  occurring_sort signature (profiled_variable m r) n s h o = subst (λ (q : ℕ). IsSort signature q) o.1 h
-  occurring_sort signature (profiled_node f operation ts) n s h o = all_occurring_sort signature ts n s h.1 o
-
-  all_occurring_sort : (signature : Signature) (ts : ProfiledTerms) (n s : ℕ) → AreOf signature ts → OccursAmong n s (all_bare ts)
-      → IsSort signature s
-  all_occurring_sort signature no_profiled_terms n s h o = absurd o
-  all_occurring_sort signature (profiled_term_then t ts) n s h (inl o) = occurring_sort signature t n s h.0 o
-  all_occurring_sort signature (profiled_term_then t ts) n s h (inr o) = all_occurring_sort signature ts n s h.1 o
-
 variables_normal : (rules : Rules) (t : ProfiledTerm) (pairs : Pairs) → pairs ≡ [] → IsOf (signature_in rules) t
     → AreNormalFor (signature_in rules) (plain_rules_in rules) t pairs
 variables_normal rules t pairs none h =
     subst (λ (ps : Pairs). AreNormalFor (signature_in rules) (plain_rules_in rules) t ps) (sym none)
     (λ n s o. record {
-      is_of = occurring_sort (signature_in rules) t n s h o;
+      is_of = occurs_sort_of (signature_in rules) t n s h o;
       normal = stuck_by_links (variable_stuck n s (rules_well_formed rules));
     })
 
 pub reduced_self : (rules : Rules) (t : ProfiledTerm) → IsOf (signature_in rules) t
     → IsReducedBelow (signature_in rules) (plain_rules_in rules) t t
 reduced_self rules t h =
-    subst (λ (u : ProfiledTerm). IsReducedBelow (signature_in rules) (plain_rules_in rules) t u) (without_pairs t)
+    subst (λ (u : ProfiledTerm). IsReducedBelow (signature_in rules) (plain_rules_in rules) t u) (nothing_put t)
     (reduced_by (signature_in rules) (plain_rules_in rules) [] t (variables_normal rules t [] refl h))
 
 pub form_fits : (rules : Rules) (term : Sorted) (made : ProfiledTerm) → IsOf (signature_in rules) (profiled_in term)

@@ -1,7 +1,6 @@
 -- Rules found by the operation at the head of their left sides.
-use Rattle.std.proofs.Common.{◌≡◌, ℕ, zero, suc, ◌+◌, ◌<◌, List, [], ◌∷◌, ◌++◌, length, get_or, Bool, true, false, nat_eq, refl, ap, sym, ◌∙◌, subst, inl, inr, arith}
-use Rattle.std.specs.Prelude.{Some, slice_get, if◌then◌else◌, ◌⊎◌}
-use Rattle.std.proofs.lemmas.Grind.{get_or_default_zero}
+use Rattle.std.proofs.Common.{◌≡◌, ℕ, zero, suc, ◌+◌, ◌<◌, List, [], ◌∷◌, ◌++◌, Bool, true, false, nat_eq, refl, ap, sym, ◌∙◌, subst, arith}
+use Rattle.std.specs.Prelude.{Some, slice_get, if◌then◌else◌}
 use Rattle.std.proofs.lemmas.Option.{same_Some}
 use Rattle.std.proofs.lemmas.Bool.Decides.{Decides-eqb}
 use Rattle.lotos_base.specs.Term.{Term, variable, node, Terms}
@@ -115,31 +114,3 @@ no_variable (variable m r) n s is found = absurd is
 no_variable (node g ls) n s is found = let e = found.1 in cc
 
 -- ---- what holds of the numbers so far, and of one more
-
-split_last : (k i : ℕ) → k < i + 1 → (k < i) ⊎ (k ≡ i)
-split_last zero zero h = inr refl
-split_last zero (suc i) h = inl (omega arith)
-split_last (suc k) zero h = absurd (omega (arith, h))
-split_last (suc k) (suc i) h = go (split_last k i (omega (arith, h)))
-  where
-    go : (k < i) ⊎ (k ≡ i) → (suc k < suc i) ⊎ (suc k ≡ suc i)
-    go (inl less) = inl (omega (arith, less))
-    go (inr same) = inr (ap (λ (n : ℕ). suc n) same)
-
-get_at : (xs : List ℕ) (i x m : ℕ) → x ≡ get_or xs i x → slice_get xs i ≡ Some m → x ≡ m
-get_at [] i x m is at = cc
-get_at (y ∷ ys) zero x m is at = is ∙ same_Some y m at
-get_at (y ∷ ys) (suc i) x m is at = get_at ys i x m is at
-
-pub numbers_more : (P : ℕ → Type 0) (xs : List ℕ) (i x : ℕ) → x ≡ get_or xs i x
-    → ((k m : ℕ) → k < i → slice_get xs k ≡ Some m → P m) → P x
-    → (k m : ℕ) → k < i + 1 → slice_get xs k ≡ Some m → P m
-numbers_more P xs i x is so_far one k m before at = go (split_last k i before)
-  where
-    go : (k < i) ⊎ (k ≡ i) → P m
-    go (inl less) = so_far k m less at
-    go (inr same) = subst P (get_at xs i x m is (ap (λ (j : ℕ). slice_get xs j) (sym same) ∙ at)) one
-
--- a number as the code reads it
-pub read_at : (xs : List ℕ) (i : ℕ) → i < length xs → get_or xs i 0 ≡ get_or xs i (get_or xs i 0)
-read_at xs i within = sym (get_or_default_zero xs i (get_or xs i 0) within)

@@ -1,24 +1,20 @@
 -- Parts of a term taken out of it, as the search for the pattern finds them.
-use Rattle.std.proofs.Common.{◌≡◌, ℕ, ◌+◌, ◌-◌, ◌<◌, List, [], ◌∷◌, ◌++◌, length, get_or, take, drop, Bool, true, false, nat_eq, refl, ap, sym, ◌∙◌, subst, arith}
+use Rattle.std.proofs.Common.{◌≡◌, ℕ, List, [], ◌∷◌, ◌++◌, length, drop, Bool, true, false, nat_eq, ap, sym, ◌∙◌, subst}
 use Rattle.std.specs.Prelude.{Option, Some, None, if◌then◌else◌}
-use Rattle.std.proofs.lemmas.List.{drop_more, map-append, length-drop}
-use Rattle.std.proofs.Math.Seq.{take-length, drop-length}
+use Rattle.std.proofs.lemmas.List.{map-append}
+use Rattle.std.proofs.Math.Seq.{drop-length}
 use Rattle.std.proofs.lemmas.Option.{same_Some}
+use Rattle.lotos_base.proofs.Options.{chained}
 use Rattle.lotos_base.specs.Signature.{Operation}
 use Rattle.lotos_base.specs.Tests.{term_eq}
 use Rattle.sort_terms.specs.ProfiledTerm.{ProfiledTerm, ProfiledTerms, profiled_variable, profiled_node, no_profiled_terms, bare}
 use Rattle.sort_terms.specs.TermView.{profiled_of, all_profiled}
 use Rattle.sort_terms.specs.declared.terms.Term.{Term}
 use Rattle.term_match.specs.Search.{looked_up, bound, searched, all_searched}
-use Rattle.term_match.proofs.PathLemmas.{and_then_some}
 use Rattle.term_rewriter.specs.Taken.{owned_pair, owned_pairs, AreTaken, AreAllTaken, IsTakenAtVariable}
 
 abbrev Pairs : Type 0
 Pairs = List (ℕ × ProfiledTerm)
-
--- an item of a list and what is after it
-pub rest_at : {X : Type 0} (xs : List X) (i : ℕ) (x : X) → i < length xs → x ≡ get_or xs i x → drop i xs ≡ x ∷ drop (i + 1) xs
-rest_at xs i x within is = drop_more xs i x within ∙ ap (λ y. y ∷ drop (i + 1) xs) (sym is)
 
 owned-append : (values : List (ℕ × Term)) (n : ℕ) (t : Term)
     → owned_pairs (values ++ (n, t) ∷ []) ≡ owned_pairs values ++ (n, profiled_of t) ∷ []
@@ -86,8 +82,8 @@ pub left_more : (patterns terms later after rest left : List Term) (x t : Term) 
 left_more patterns terms later after rest left x t before now more later_is rest_is so_far one found e =
     let here : all_searched (all_profiled (x ∷ after)) (all_profiled (t ∷ left)) now ≡ Some found =
     (λ i. all_searched (all_profiled (sym later_is i)) (all_profiled (sym rest_is i)) now) ∙ so_far found e in
-    let step = and_then_some (all_searched (all_profiled after) (all_profiled left)) (searched (profiled_of x)
-    (profiled_of t) now) found here in
+    let step = chained (all_searched (all_profiled after) (all_profiled left)) (searched (profiled_of x)
+    (profiled_of t) now) {y = found} here in
     ap (λ (pairs : Pairs). all_searched (all_profiled after) (all_profiled left) pairs) (one step.0 step.1) ∙ step.2
 
 pub left_short : (patterns terms later after rest : List Term) (x : Term) (before now : Pairs) → later ≡ x ∷ after → rest ≡ []
@@ -106,12 +102,5 @@ left_none patterns terms later (t ∷ rest) before now none so_far found e =
 
 -- ---- the ends of lists
 
-pub empty_list : {X : Type 0} (xs : List X) → length xs ≡ 0 → xs ≡ []
-empty_list [] e = refl
-empty_list (x ∷ xs) e = absurd (omega (arith, e))
-
 pub nothing_left : {X : Type 0} (xs : List X) (i : ℕ) → i ≡ length xs → drop i xs ≡ []
 nothing_left xs i e = ap (λ (k : ℕ). drop k xs) e ∙ drop-length xs
-
-pub rest_taken : {X : Type 0} (xs : List X) (k : ℕ) → take (length xs - k) (drop k xs) ≡ drop k xs
-rest_taken xs k = ap (λ (n : ℕ). take n (drop k xs)) (sym (length-drop k xs)) ∙ take-length (drop k xs)

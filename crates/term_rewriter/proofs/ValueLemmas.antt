@@ -1,13 +1,8 @@
 -- What pairs have for a variable, and what terms of the code stand for.
-use Rattle.std.proofs.Common.{◌≡◌, ℕ, List, [], ◌∷◌, Bool, true, false, nat_eq, refl, Vec, Global, rules}
+use Rattle.std.proofs.Common.{◌≡◌, ℕ, List, [], ◌∷◌, Bool, true, false, nat_eq, refl}
 use Rattle.std.specs.Prelude.{Some, None, if◌then◌else◌}
-use Rattle.std.specs.declared.rc.Rc.{Rc}
 use Rattle.std.proofs.lemmas.Option.{same_Some}
-use Rattle.sort_terms.specs.Operations.{operation_of}
-use Rattle.sort_terms.specs.ProfiledTerm.{ProfiledTerm, profiled_variable, profiled_node}
-use Rattle.sort_terms.specs.TermView.{profiled_of, all_profiled}
-use Rattle.sort_terms.specs.declared.operations.Op.{Op}
-use Rattle.sort_terms.specs.declared.terms.Term.{Term, Var, Node, the_lemmas}
+use Rattle.sort_terms.specs.ProfiledTerm.{ProfiledTerm, profiled_variable}
 use Rattle.term_match.specs.ProfiledInstance.{profiled_binding}
 use Rattle.term_match.specs.Search.{looked_up}
 
@@ -31,10 +26,3 @@ unbound_value (pair ∷ pairs) n s e = go (nat_eq pair.0 n) e (λ h. unbound_val
         → profiled_variable n s ≡ (if b then pair.1 else profiled_binding pairs n s)
     go true h later = let clash : None ≡ Some pair.1 = h in cc
     go false h later = later h
-
-pub profiled_of-Var : (n s : ℕ) → profiled_of (Var n s) ≡ profiled_variable n s
-profiled_of-Var n s = search (rules, the_lemmas)
-
-pub profiled_of-Node : (f : ℕ) (profile : Rc Op Global) (ts : Vec Term Global)
-    → profiled_of (Node f profile ts) ≡ profiled_node f (operation_of profile.value) (all_profiled ts.items)
-profiled_of-Node f profile ts = search (rules, the_lemmas)

@@ -9,50 +9,27 @@ use Rattle.text_depth.specs.MeaningNodes.{nodes_in}
 use Rattle.text_depth.proofs.Facts.{closable, closed_is}
 use Rattle.text_depth.specs.declared.part.KeptPart.{KeptPart}
 use Rattle.text_depth.specs.PartView.{kept_of}
-use Rattle.std.specs.List.{list_all}
 use Rattle.ll_engine.specs.declared.symbol.Symbol.TheVariants.{Part}
 use Rattle.ll_engine.specs.Derivation.{Production, Forest, DerivesSymbols, leaves}
 use Rattle.ll_engine.specs.Language.{ContextFree}
-use Rattle.ll_engine.proofs.KeptSets.{predictive_after}
 use Rattle.ll_engine.proofs.Uniqueness.{one_tree}
-use Rattle.ll_engine.specs.Fold.{kept_in_front, first_value, value_of_tree}
+use Rattle.ll_engine.specs.Fold.{first_value, value_of_tree}
 use Rattle.lotos_lexer.specs.declared.tokens.Token.{Token}
-use Rattle.lotos_rows.specs.declared.starts.TheConstants as starts
 use Rattle.lotos_rows.specs.Kept.{is_kept_kind}
-use Rattle.lotos_rows.specs.Rows as lotos
 use Rattle.lotos_rows.specs.Rows.{grammar_from}
 use Rattle.tree_building.specs.Meaning.{Meaning}
 use Rattle.sentence_trees.specs.Sentences.{kind_of, Derived}
 use Rattle.text_depth.specs.DepthPart.{DepthPart, depth_of}
 use Rattle.text_depth.specs.RowDepth.{closed_part, numbered_row_depth}
 use Rattle.text_depth.proofs.FoldedDepths.{depths_hold}
-use Rattle.text_depth.specs.LotosRows.{HasLotosRows}
+use Rattle.sentence_trees.specs.LotosGrammar.{IsLotosGrammar}
 
-pub of_specifications : HasLotosRows (grammar_from starts.SPEC)
-unfolding lotos.rows grammar_from
-of_specifications = record { rows_are = refl; well_formed = refl; predictive = predictive_after 6 (grammar_from starts.SPEC) refl }
-
-pub of_types : HasLotosRows (grammar_from starts.TYPETEXT)
-unfolding lotos.rows grammar_from
-of_types = record { rows_are = refl; well_formed = refl; predictive = predictive_after 6 (grammar_from starts.TYPETEXT) refl }
-
-pub of_terms : HasLotosRows (grammar_from starts.TERMS)
-unfolding lotos.rows grammar_from
-of_terms = record { rows_are = refl; well_formed = refl; predictive = predictive_after 6 (grammar_from starts.TERMS) refl }
-
-kept_rows : list_all (λ row. kept_in_front is_kept_kind row.right) lotos.rows ≡ true
-unfolding lotos.rows
-kept_rows = refl
-
-pub kept_in_rows : (g : ContextFree) → HasLotosRows g → list_all (λ row. kept_in_front is_kept_kind row.right) g.rows ≡ true
-kept_in_rows g is = ap (λ (all : List Production). list_all (λ row. kept_in_front is_kept_kind row.right) all) is.rows_are ∙ kept_rows
-
-pub value_is : (limit : ℕ) (text : List ℕ) (g : ContextFree) → HasLotosRows g → (tokens : List Token) (tree : Forest) →
+pub value_is : (limit : ℕ) (text : List ℕ) (g : ContextFree) → IsLotosGrammar g → (tokens : List Token) (tree : Forest) →
     DerivesSymbols g.rows tree (Part g.start ∷ []) → leaves tree ≡ map kind_of tokens → (found : Meaning) → Derived text g.start tokens found →
     value_of_tree (numbered_row_depth limit) is_kept_kind tree tokens ≡ Some (depth_of limit found)
 value_is limit text g is tokens tree derives leaves_are found derived =
     let other : DerivesSymbols g.rows derived.0 (Part g.start ∷ []) =
-    subst (λ (all : List Production). DerivesSymbols all derived.0 (Part g.start ∷ [])) (sym is.rows_are) derived.1 in
+    subst (λ (all : List Production). DerivesSymbols all derived.0 (Part g.start ∷ [])) (sym is.lotos_rows) derived.1 in
     let same : tree ≡ derived.0 = one_tree g is.well_formed is.predictive tree derived.0 derives other (leaves_are ∙ sym derived.2) in
     ap (λ (it : Forest). value_of_tree (numbered_row_depth limit) is_kept_kind it tokens) same
     ∙ ap (option_and_then first_value) (depths_hold limit text g.start derived.0 tokens found derived.1 derived.3)

@@ -3,6 +3,7 @@ use Rattle.std.proofs.Common.{◌≡◌, ◌∙◌, ℕ, Bool, true, false, List
 use Rattle.std.specs.Prelude.{◌&&◌, Option, option_map, flat_map, fold}
 use Rattle.std.specs.Option.{option_or}
 use Rattle.std.proofs.lemmas.List.{map-append}
+use Rattle.std.proofs.lemmas.Bool.{and_parts}
 use Rattle.lotos_base.specs.Equation.{Place}
 use Rattle.lotos_base.specs.WrittenTerm.{PlacedName, WrittenTerm, written, no_written, written_then, written_terms}
 use Rattle.lotos_rows.specs.Names.{variables_of_sort}
@@ -94,10 +95,6 @@ abbrev pub all_closable : List Meaning → Bool
 all_closable [] = true
 all_closable (part ∷ parts) = closable part && all_closable parts
 
-both_true : (a b : Bool) → (a && b) ≡ true → (a ≡ true) × (b ≡ true)
-both_true true b e = (refl, e)
-both_true false b e = let no : false ≡ true = e in absurd (cc)
-
 pub one_more_closed : (limit : ℕ) (part : DepthPart) (parts : List DepthPart) (some others : List TreeNode) →
     closed_part limit part ≡ everywhere (first_deeper limit some) → closed_parts limit parts ≡ everywhere (first_deeper limit others) →
     closed_parts limit (part ∷ parts) ≡ everywhere (first_deeper limit (some ++ others))
@@ -109,7 +106,7 @@ pub all_closed : (limit : ℕ) (parts : List Meaning) → all_closable parts ≡
     closed_parts limit (map (depth_of limit) parts) ≡ everywhere (first_deeper limit (flat_map nodes_in parts))
 all_closed limit [] h = refl
 all_closed limit (part ∷ parts) h =
-    let both = both_true (closable part) (all_closable parts) h in
+    let both = and_parts (closable part) (all_closable parts) h in
     one_more_closed limit (depth_of limit part) (map (depth_of limit) parts) (nodes_in part) (flat_map nodes_in parts)
     (closed_is limit part both.0) (all_closed limit parts both.1)
 

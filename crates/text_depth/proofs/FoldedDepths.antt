@@ -1,7 +1,8 @@
 -- The fold over a derivation keeps of each part what is kept of what it means.
-use Rattle.std.proofs.Common.{◌≡◌, ◌∙◌, ℕ, zero, suc, ◌+◌, Bool, true, false, List, [], ◌∷◌, map, length, take, drop, Some, None, refl, ap, sym, arith, eqb-true}
-use Rattle.std.specs.Prelude.{Option, option_and_then, slice_get, ◌&&◌, ◌==◌}
+use Rattle.std.proofs.Common.{◌≡◌, ◌∙◌, ℕ, zero, suc, ◌+◌, Bool, true, List, [], ◌∷◌, map, length, take, drop, Some, None, refl, ap, sym, arith, eqb-true}
+use Rattle.std.specs.Prelude.{Option, option_and_then, slice_get, ◌==◌}
 use Rattle.std.specs.List.{list_all}
+use Rattle.std.proofs.lemmas.Bool.{and_parts}
 use Rattle.ll_engine.specs.declared.symbol.Symbol.{Symbol}
 use Rattle.ll_engine.specs.declared.symbol.Symbol.TheVariants.{Token, Part}
 use Rattle.ll_engine.specs.Derivation.{Production, Forest, empty, leaf, node, DerivesSymbols, leaves}
@@ -26,11 +27,6 @@ has_arity row = count_parts row.production.right == arity row.name
 arities : list_all has_arity grammar_rows ≡ true
 arities = refl
 
--- the member of a list at a place has what all have
-both_true : (a b : Bool) → (a && b) ≡ true → (a ≡ true) × (b ≡ true)
-both_true true b e = (refl, e)
-both_true false b e = let no : false ≡ true = e in absurd (cc)
-
 -- the row with a number and the name with it
 same_place : (list : List GrammarRow) (number : ℕ) (row : Production) (name : RowName) → list_all has_arity list ≡ true →
     slice_get (map (λ it. it.production) list) number ≡ Some row → slice_get (map (λ it. it.name) list) number ≡ Some name →
@@ -38,10 +34,10 @@ same_place : (list : List GrammarRow) (number : ℕ) (row : Production) (name : 
 same_place [] number row name all e f = let none : None ≡ Some row = e in absurd (cc)
 same_place (first ∷ list) zero row name all e f =
     let one : first.production ≡ row = cc (e) in let two : first.name ≡ name = cc (f) in
-    let here = both_true (has_arity first) (list_all has_arity list) all in
+    let here = and_parts (has_arity first) (list_all has_arity list) all in
     ap (λ it. count_parts it.right) (sym one) ∙ eqb-true (count_parts first.production.right) (arity first.name) here.0 ∙ ap arity two
 same_place (first ∷ list) (suc number) row name all e f =
-    same_place list number row name (both_true (has_arity first) (list_all has_arity list) all).1 e f
+    same_place list number row name (and_parts (has_arity first) (list_all has_arity list) all).1 e f
 
 row_and_name : (number : ℕ) (row : Production) (name : RowName) → slice_get rows number ≡ Some row → slice_get row_names number ≡ Some name →
     count_parts row.right ≡ arity name

@@ -7,6 +7,7 @@ use Rattle.lotos_base.specs.WrittenView.{text_place_of}
 use Rattle.std.proofs.lemmas.List.{length-map, length-reverse}
 use Rattle.lotos_base.specs.Equation.{Place}
 use Rattle.ll_engine.specs.Run.{from_last}
+use Rattle.ll_engine.proofs.Running.{length-from_last}
 use Rattle.syntax_trees.specs.Grouping.{leftmost, grouped}
 use Rattle.syntax_trees.specs.Firsts.{Firsts, between, everywhere, followed, below}
 use Rattle.syntax_trees.specs.TreeFirsts.{names_firsts}
@@ -32,14 +33,6 @@ no_leftmost (first ∷ second ∷ operands) (sign ∷ strengths) h =
 pub no_tree : (operands : List Firsts) (strengths : List ℕ) → ¬ (length operands ≡ length strengths + 1) →
     grouped (λ strength. strength) (λ strength. between) operands strengths ≡ None
 no_tree operands strengths h = ap (option_map _) (no_leftmost operands strengths h)
-
-pub length-from_last : {A B : Type 0} (f : A → B) (list : List A) → length (from_last f list) ≡ length list
-unfolding from_last
-length-from_last f list = length-reverse (map f list) ∙ length-map list f
-
-pub empty_is : {A : Type 0} (list : List A) → length list ≡ 0 → list ≡ []
-empty_is [] e = refl
-empty_is (first ∷ list) e = absurd (omega arith)
 
 found_stays : (found : Option code.Place) (others : Firsts) → is_some found ≡ true →
     followed (everywhere (option_map text_place_of found)) others ≡ everywhere (option_map text_place_of found)

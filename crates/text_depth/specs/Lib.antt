@@ -1,5 +1,4 @@
 pub mod PartView
-pub mod LotosRows
 pub mod MeaningNodes
 pub mod DepthPart
 pub mod RowDepth

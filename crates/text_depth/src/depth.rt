@@ -17,7 +17,7 @@ ghost use Rattle.text_depth.specs.DepthPart.{depth_of};
 ghost use Rattle.text_depth.specs.RowDepth.{closed_part};
 ghost use Rattle.syntax_trees.specs.Firsts.{everywhere};
 ghost use Rattle.sentence_trees.specs.Reading.{node_limit, nodes_of_items};
-ghost use Rattle.text_depth.specs.LotosRows.{HasLotosRows};
+ghost use Rattle.sentence_trees.specs.LotosGrammar.{IsLotosGrammar};
 
 use crate::lists::closed_part;
 use crate::rows::Depths;
@@ -37,7 +37,7 @@ fn depth(
     tokens: &[Token],
     rows: &[u32],
 ) -> Result<Option<Place>, AllocError>
-    requires lotos { HasLotosRows grammar.now }
+    requires lotos { IsLotosGrammar grammar.now }
     requires derivation { IsLeftmostDerivation grammar.now rows.now (map kind_of tokens.now) }
     ensures { IfOk result (λ deep. (text : List ℕ) (found : Meaning) → Derived text grammar.now.start tokens.now found → everywhere (option_map text_place_of deep) ≡ closed_part node_limit (depth_of node_limit found)) }
 {

@@ -16,6 +16,7 @@ use Rattle.lotos_lexer.specs.Lexemes.{underscore_before, word_length, kind_in, w
 use Rattle.lotos_lexer.specs.Pieces.{close_at, comment, token, piece_at}
 use Rattle.lotos_lexer.specs.Spellings.{Spelling, reserved_words, operators, reserved_runs}
 use Rattle.texts_read_back.specs.TextNames.{IsWordSpelling, IsDigitSpelling, IsSignSpelling}
+use Rattle.lotos_base.proofs.Bytes.{letter_or_digit, digit_or_letter}
 
 -- no word and no run of signs goes on with these bytes
 pub record IsApart (rest : List ℕ) : Type 0 where
@@ -229,20 +230,6 @@ sign_lexeme b bs rest is apart =
 
     l : Lexeme
     l = lexeme_of SIGN_NAME (length (b ∷ bs))
-
-letter_or_digit : (b : ℕ) → is_ascii_alphabetic b ≡ true → is_ascii_alphanumeric b ≡ true
-letter_or_digit b letter = three (is_in_range 48 57 b) (is_in_range 65 90 b) (is_in_range 97 122 b) letter
-  where
-    three : (digit upper lower : Bool) → (upper || lower) ≡ true → ((digit || upper) || lower) ≡ true
-    three true upper lower h = refl
-    three false upper lower h = h
-
-digit_or_letter : (b : ℕ) → is_ascii_digit b ≡ true → is_ascii_alphanumeric b ≡ true
-digit_or_letter b digit = three (is_in_range 48 57 b) (is_in_range 65 90 b) (is_in_range 97 122 b) digit
-  where
-    three : (digit upper lower : Bool) → digit ≡ true → ((digit || upper) || lower) ≡ true
-    three true upper lower h = refl
-    three false upper lower h = cc
 
 -- a piece that is the name, with this kind
 abbrev pub IsNamePiece : ℕ → List ℕ → List ℕ → Type 0

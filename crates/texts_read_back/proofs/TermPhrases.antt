@@ -9,6 +9,7 @@ use Rattle.lotos_base.specs.Term.{Term, Terms, variable, node, no_terms, term_th
 use Rattle.lotos_base.proofs.SignatureLemmas.{Decides-has_twin}
 use Rattle.std.proofs.lemmas.Bool.Decides.{not_from_Decides}
 use Rattle.lotos_base.specs.WrittenTerm.{PlacedName, WrittenTerm, no_written, written_then, written_terms}
+use Rattle.lotos_base.proofs.Members.{member_at}
 use Rattle.lotos_lexer.specs.declared.tokens.Token.{Token}
 use Rattle.lotos_lexer.specs.declared.kinds.TheConstants.{LEFT_PARENTHESIS, RIGHT_PARENTHESIS}
 use Rattle.syntax_trees.specs.LeftGrouping.{only, at_last}
@@ -22,12 +23,6 @@ use Rattle.texts_read_back.specs.TextNames.{IsOperationSpelling, HasTextNames}
 use Rattle.texts_read_back.proofs.CutPieces.{IsCut, cut_joined}
 use Rattle.texts_read_back.proofs.PartsOfText.{Stands, StandsAnywhere, first_part, second_part, apart, name_stands, behind_blank, before_blank, round_stands, comma_token, comma_cut, comma_is}
 use Rattle.texts_read_back.proofs.PrintedTerms.{IsUnmarked, unmarked_is, OneOf, PhraseStands, phrase_term, round_base, operand_stands, marked_stands, alone_stands, stands_as}
-
--- the sort with a number that is one
-sort_at : (sorts : List Sort) (i : ℕ) → i < length sorts → (s : Sort) × (slice_get sorts i ≡ Some s)
-sort_at [] i within = absurd (omega arith)
-sort_at (s ∷ ss) zero within = (s, refl)
-sort_at (s ∷ ss) (suc i) within = sort_at ss i (omega arith)
 
 -- two arguments
 has_two : (signature : Signature) (ts : Terms) (sorts : List ℕ) → HaveSorts signature ts sorts → length sorts ≡ 2
@@ -262,7 +257,7 @@ module _ (number : ℕ) (text : List ℕ) (signature : Signature) (well : IsWell
         (spelled.sorts operation.result sort.0 sort.1) stands)
       where
         sort : (s : Sort) × (slice_get signature.sorts operation.result ≡ Some s)
-        sort = sort_at signature.sorts operation.result (well.results f operation is_there)
+        sort = member_at signature.sorts operation.result (well.results f operation is_there)
 
     -- an operation before its arguments
     prefix_stands : (ts : Terms) → operation.form ≡ prefix_form → AllStand ts

@@ -7,6 +7,7 @@ use Rattle.lotos_base.specs.Signature.{Signature, Sort, Operation, IsWellFormedS
 use Rattle.lotos_base.specs.Term.{Term}
 use Rattle.behaviour_semantics.specs.Rule.{AreValues}
 use Rattle.behaviour_semantics.specs.WellFormed.{Every}
+use Rattle.behaviour_semantics.proofs.RaisedDrafts.{every_map}
 use Rattle.sentence_trees.specs.Reading.{node_limit}
 use Rattle.texts_read_back.specs.TextNames.{IsWordSpelling, IsOperationSpelling, HasTextNames}
 use Rattle.texts_read_back.specs.TermDepth.{term_depth}
@@ -31,10 +32,6 @@ every_at P [] every i x found = absurd (none-some x found)
 every_at P (y ∷ ys) every zero x found = subst P (same_Some y x found) every.0
 every_at P (y ∷ ys) every (suc i) x found = every_at P ys every.1 i x found
 
-every_also : {A : Type 0} (P Q : A → Type 0) → ((x : A) → P x → Q x) → (xs : List A) → Every P xs → Every Q xs
-every_also P Q to [] every = tt
-every_also P Q to (x ∷ xs) every = (to x every.0, every_also P Q to xs every.1)
-
 plain_name : (name : List ℕ) → IsOperationSpelling name → IsPlainName name
 plain_name name is = let plain : IsPlainSpelling name = names_are_plain name is in record { no_blank = plain.no_blank; no_arrow = plain.no_arrow }
 
@@ -46,7 +43,7 @@ plain_names basis names = record {
   operations =
       every_from (λ (o : Operation). IsPlainName o.name) basis.data_.signature.operations
       (λ i o found. plain_name o.name (names.signature.operations i o found));
-  gates = every_also IsWordSpelling IsPlainName (λ name is. plain_name name (inl is)) basis.specification.gate_names names.gates;
+  gates = every_map IsWordSpelling IsPlainName (λ name is. plain_name name (inl is)) basis.specification.gate_names names.gates;
 }
 
 -- terms that are read one by one, in the words of replay
@@ -76,7 +73,7 @@ is_traceable basis first last steps h = record {
   lead = h.lead;
   names = plain_names basis h.names;
   items =
-      every_also IsWithinLine (IsReadable basis)
+      every_map IsWithinLine (IsReadable basis)
       (λ item is. record {
         number = is.number;
         values = values_back basis.data_.signature h.over.signature h.names.signature item.values is.values;

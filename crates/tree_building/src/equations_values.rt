@@ -1,14 +1,13 @@
 //! What the parts of equations are built into. Lists are held from the last member to the first
 //! until they enter a tree.
 
-ghost use Rattle.std.specs.Prelude.{◌≡◌, List, Option, option_map};
+ghost use Rattle.std.specs.Prelude.{List, Option, option_map};
 ghost use Rattle.lotos_base.specs.WrittenTerm.{WrittenTerm};
 ghost use Rattle.syntax_trees.specs.WrittenEquation.{WrittenEquation, WrittenGroup, WrittenPremiss};
 ghost use Rattle.lotos_base.specs.WrittenView.{written_term_of};
 ghost use Rattle.syntax_trees.specs.TreeViews.{group_of, equation_of, premiss_of};
 ghost use Rattle.lotos_rows.specs.HandedOn.{from_last};
 ghost use Rattle.tree_building.specs.Meaning.{PlainAfterTerm, PlainConclusion};
-ghost use Rattle.tree_building.specs.MeaningView.{meaning};
 ghost use Rattle.tree_building.specs.Parts.{groups_in, equations_in, equation_in, conclusion_in, maybe_conclusion_in, after_term_in, premiss_in, maybe_term_in};
 ghost use Rattle.tree_building.specs.EquationsViews.{after_term_of, conclusion_of};
 
@@ -44,9 +43,7 @@ impl Part for Vec<GroupText> {
 
     ghost found = { groups_in };
 
-    fn of(value: Value) -> Option<Self>
-        ensures { option_map (λ x. from_last group_of x.items) result ≡ groups_in (meaning value) }
-    {
+    fn of(value: Value) -> Option<Self> {
         match value {
             Value::Groups(value) => Some(value),
             other => of_another_kind(other),
@@ -62,9 +59,7 @@ impl Part for Vec<EqText> {
 
     ghost found = { equations_in };
 
-    fn of(value: Value) -> Option<Self>
-        ensures { option_map (λ x. from_last equation_of x.items) result ≡ equations_in (meaning value) }
-    {
+    fn of(value: Value) -> Option<Self> {
         match value {
             Value::Equations(value) => Some(value),
             other => of_another_kind(other),
@@ -80,9 +75,7 @@ impl Part for EqText {
 
     ghost found = { equation_in };
 
-    fn of(value: Value) -> Option<Self>
-        ensures { option_map (λ x. equation_of x) result ≡ equation_in (meaning value) }
-    {
+    fn of(value: Value) -> Option<Self> {
         match value {
             Value::Equation(value) => Some(Box::into_inner(value)),
             other => of_another_kind(other),
@@ -98,9 +91,7 @@ impl Part for Conclusion {
 
     ghost found = { conclusion_in };
 
-    fn of(value: Value) -> Option<Self>
-        ensures { option_map (λ x. conclusion_of x) result ≡ conclusion_in (meaning value) }
-    {
+    fn of(value: Value) -> Option<Self> {
         match value {
             Value::Conclusion(value) => Some(value),
             other => of_another_kind(other),
@@ -116,9 +107,7 @@ impl Part for Option<Conclusion> {
 
     ghost found = { maybe_conclusion_in };
 
-    fn of(value: Value) -> Option<Self>
-        ensures { option_map (λ x. option_map conclusion_of x) result ≡ maybe_conclusion_in (meaning value) }
-    {
+    fn of(value: Value) -> Option<Self> {
         match value {
             Value::MaybeConclusion(value) => Some(value),
             other => of_another_kind(other),
@@ -134,9 +123,7 @@ impl Part for AfterTerm {
 
     ghost found = { after_term_in };
 
-    fn of(value: Value) -> Option<Self>
-        ensures { option_map (λ x. after_term_of x) result ≡ after_term_in (meaning value) }
-    {
+    fn of(value: Value) -> Option<Self> {
         match value {
             Value::AfterTerm(value) => Some(Box::into_inner(value)),
             other => of_another_kind(other),
@@ -152,9 +139,7 @@ impl Part for TestText {
 
     ghost found = { premiss_in };
 
-    fn of(value: Value) -> Option<Self>
-        ensures { option_map (λ x. premiss_of x) result ≡ premiss_in (meaning value) }
-    {
+    fn of(value: Value) -> Option<Self> {
         match value {
             Value::Premiss(value) => Some(Box::into_inner(value)),
             other => of_another_kind(other),
@@ -170,9 +155,7 @@ impl Part for Option<Written> {
 
     ghost found = { maybe_term_in };
 
-    fn of(value: Value) -> Option<Self>
-        ensures { option_map (λ x. option_map written_term_of x) result ≡ maybe_term_in (meaning value) }
-    {
+    fn of(value: Value) -> Option<Self> {
         match value {
             Value::MaybeTerm(value) => Some(value),
             other => of_another_kind(other),

@@ -1,14 +1,13 @@
 //! What the parts of names and lists of them are built into. Lists are held from the last member to the first
 //! until they enter a tree.
 
-ghost use Rattle.std.specs.Prelude.{◌≡◌, List, Option, option_map};
+ghost use Rattle.std.specs.Prelude.{List, Option, option_map};
 ghost use Rattle.lotos_base.specs.WrittenTerm.{PlacedName};
 ghost use Rattle.syntax_trees.specs.WrittenVariable.{WrittenVariable};
 ghost use Rattle.lotos_rows.specs.Names.{NamedOperation, PlacedProfile};
 ghost use Rattle.lotos_base.specs.WrittenView.{placed_name_of};
 ghost use Rattle.syntax_trees.specs.TreeViews.{variable_of};
 ghost use Rattle.lotos_rows.specs.HandedOn.{from_last};
-ghost use Rattle.tree_building.specs.MeaningView.{meaning};
 ghost use Rattle.tree_building.specs.Parts.{name_in, names_in, variables_in, operation_in, operations_in, profile_in, maybe_profile_in};
 ghost use Rattle.tree_building.specs.NamesViews.{named_operation_of, profile_of};
 
@@ -42,9 +41,7 @@ impl Part for Named {
 
     ghost found = { name_in };
 
-    fn of(value: Value) -> Option<Self>
-        ensures { option_map (λ x. placed_name_of x) result ≡ name_in (meaning value) }
-    {
+    fn of(value: Value) -> Option<Self> {
         match value {
             Value::Name(value) => Some(value),
             other => of_another_kind(other),
@@ -60,9 +57,7 @@ impl Part for Vec<Named> {
 
     ghost found = { names_in };
 
-    fn of(value: Value) -> Option<Self>
-        ensures { option_map (λ x. from_last placed_name_of x.items) result ≡ names_in (meaning value) }
-    {
+    fn of(value: Value) -> Option<Self> {
         match value {
             Value::Names(value) => Some(value),
             other => of_another_kind(other),
@@ -78,9 +73,7 @@ impl Part for Vec<VarText> {
 
     ghost found = { variables_in };
 
-    fn of(value: Value) -> Option<Self>
-        ensures { option_map (λ x. from_last variable_of x.items) result ≡ variables_in (meaning value) }
-    {
+    fn of(value: Value) -> Option<Self> {
         match value {
             Value::Variables(value) => Some(value),
             other => of_another_kind(other),
@@ -96,9 +89,7 @@ impl Part for NamedOp {
 
     ghost found = { operation_in };
 
-    fn of(value: Value) -> Option<Self>
-        ensures { option_map (λ x. named_operation_of x) result ≡ operation_in (meaning value) }
-    {
+    fn of(value: Value) -> Option<Self> {
         match value {
             Value::Operation(value) => Some(value),
             other => of_another_kind(other),
@@ -114,9 +105,7 @@ impl Part for Vec<NamedOp> {
 
     ghost found = { operations_in };
 
-    fn of(value: Value) -> Option<Self>
-        ensures { option_map (λ x. from_last named_operation_of x.items) result ≡ operations_in (meaning value) }
-    {
+    fn of(value: Value) -> Option<Self> {
         match value {
             Value::NamedOperations(value) => Some(value),
             other => of_another_kind(other),
@@ -132,9 +121,7 @@ impl Part for OpProfile {
 
     ghost found = { profile_in };
 
-    fn of(value: Value) -> Option<Self>
-        ensures { option_map (λ x. profile_of x) result ≡ profile_in (meaning value) }
-    {
+    fn of(value: Value) -> Option<Self> {
         match value {
             Value::Profile(value) => Some(value),
             other => of_another_kind(other),
@@ -150,9 +137,7 @@ impl Part for Option<OpProfile> {
 
     ghost found = { maybe_profile_in };
 
-    fn of(value: Value) -> Option<Self>
-        ensures { option_map (λ x. option_map profile_of x) result ≡ maybe_profile_in (meaning value) }
-    {
+    fn of(value: Value) -> Option<Self> {
         match value {
             Value::MaybeProfile(value) => Some(value),
             other => of_another_kind(other),

@@ -1,11 +1,10 @@
 //! What the parts of renamings are built into. Lists are held from the last member to the first
 //! until they enter a tree.
 
-ghost use Rattle.std.specs.Prelude.{◌≡◌, List, option_map};
+ghost use Rattle.std.specs.Prelude.{List};
 ghost use Rattle.syntax_trees.specs.WrittenItem.{WrittenPair, WrittenPairs};
 ghost use Rattle.syntax_trees.specs.TreeViews.{pair_of};
 ghost use Rattle.lotos_rows.specs.HandedOn.{from_last};
-ghost use Rattle.tree_building.specs.MeaningView.{meaning};
 ghost use Rattle.tree_building.specs.Parts.{pairs_in, both_pairs_in};
 ghost use Rattle.tree_building.specs.RenamingsViews.{both_pairs_of};
 
@@ -29,9 +28,7 @@ impl Part for Vec<PairText> {
 
     ghost found = { pairs_in };
 
-    fn of(value: Value) -> Option<Self>
-        ensures { option_map (λ x. from_last pair_of x.items) result ≡ pairs_in (meaning value) }
-    {
+    fn of(value: Value) -> Option<Self> {
         match value {
             Value::Pairs(value) => Some(value),
             other => of_another_kind(other),
@@ -47,9 +44,7 @@ impl Part for BothPairs {
 
     ghost found = { both_pairs_in };
 
-    fn of(value: Value) -> Option<Self>
-        ensures { option_map (λ x. both_pairs_of x) result ≡ both_pairs_in (meaning value) }
-    {
+    fn of(value: Value) -> Option<Self> {
         match value {
             Value::BothPairs(value) => Some(value),
             other => of_another_kind(other),

@@ -1,13 +1,12 @@
 //! What the parts of the four texts are built into. Lists are held from the last member to the first
 //! until they enter a tree.
 
-ghost use Rattle.std.specs.Prelude.{◌≡◌, List, option_map};
+ghost use Rattle.std.specs.Prelude.{List};
 ghost use Rattle.lotos_base.specs.WrittenTerm.{ListedOperation};
 ghost use Rattle.syntax_trees.specs.WrittenDefinition.{WrittenSpecification};
 ghost use Rattle.lotos_base.specs.WrittenView.{listed_operation_of};
 ghost use Rattle.syntax_trees.specs.TreeViews.{specification_of};
 ghost use Rattle.lotos_rows.specs.HandedOn.{from_last};
-ghost use Rattle.tree_building.specs.MeaningView.{meaning};
 ghost use Rattle.tree_building.specs.Parts.{word_in, specification_in, order_items_in};
 
 use crate::value::{Part, Value, of_another_kind};
@@ -22,9 +21,7 @@ impl Part for () {
 
     ghost found = { word_in };
 
-    fn of(value: Value) -> Option<Self>
-        ensures { option_map (λ x. tt) result ≡ word_in (meaning value) }
-    {
+    fn of(value: Value) -> Option<Self> {
         match value {
             Value::Word(value) => Some(value),
             other => of_another_kind(other),
@@ -40,9 +37,7 @@ impl Part for SpecText {
 
     ghost found = { specification_in };
 
-    fn of(value: Value) -> Option<Self>
-        ensures { option_map (λ x. specification_of x) result ≡ specification_in (meaning value) }
-    {
+    fn of(value: Value) -> Option<Self> {
         match value {
             Value::Specification(value) => Some(Box::into_inner(value)),
             other => of_another_kind(other),
@@ -58,9 +53,7 @@ impl Part for Vec<OrderItem> {
 
     ghost found = { order_items_in };
 
-    fn of(value: Value) -> Option<Self>
-        ensures { option_map (λ x. from_last listed_operation_of x.items) result ≡ order_items_in (meaning value) }
-    {
+    fn of(value: Value) -> Option<Self> {
         match value {
             Value::OrderItems(value) => Some(value),
             other => of_another_kind(other),

@@ -1,12 +1,11 @@
 //! What the parts of terms are built into. Lists are held from the last member to the first
 //! until they enter a tree.
 
-ghost use Rattle.std.specs.Prelude.{◌≡◌, List, option_map};
+ghost use Rattle.std.specs.Prelude.{List};
 ghost use Rattle.lotos_base.specs.WrittenTerm.{PlacedName, WrittenTerm};
 ghost use Rattle.lotos_base.specs.WrittenView.{written_term_of};
 ghost use Rattle.lotos_rows.specs.HandedOn.{from_last};
 ghost use Rattle.tree_building.specs.Meaning.{PlainStartedTerm};
-ghost use Rattle.tree_building.specs.MeaningView.{meaning};
 ghost use Rattle.tree_building.specs.Parts.{term_in, factors_in, terms_in};
 ghost use Rattle.tree_building.specs.TermsViews.{factor_of, started_term_of};
 
@@ -31,9 +30,7 @@ impl Part for StartedTerm {
 
     ghost found = { term_in };
 
-    fn of(value: Value) -> Option<Self>
-        ensures { option_map (λ x. started_term_of x) result ≡ term_in (meaning value) }
-    {
+    fn of(value: Value) -> Option<Self> {
         match value {
             Value::Term(value) => Some(value),
             other => of_another_kind(other),
@@ -49,9 +46,7 @@ impl Part for Vec<(Named, Written)> {
 
     ghost found = { factors_in };
 
-    fn of(value: Value) -> Option<Self>
-        ensures { option_map (λ x. from_last factor_of x.items) result ≡ factors_in (meaning value) }
-    {
+    fn of(value: Value) -> Option<Self> {
         match value {
             Value::Factors(value) => Some(value),
             other => of_another_kind(other),
@@ -67,9 +62,7 @@ impl Part for Vec<Written> {
 
     ghost found = { terms_in };
 
-    fn of(value: Value) -> Option<Self>
-        ensures { option_map (λ x. from_last written_term_of x.items) result ≡ terms_in (meaning value) }
-    {
+    fn of(value: Value) -> Option<Self> {
         match value {
             Value::Terms(value) => Some(value),
             other => of_another_kind(other),

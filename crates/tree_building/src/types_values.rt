@@ -1,13 +1,12 @@
 //! What the parts of types are built into. Lists are held from the last member to the first
 //! until they enter a tree.
 
-ghost use Rattle.std.specs.Prelude.{◌≡◌, List, option_map};
+ghost use Rattle.std.specs.Prelude.{List};
 ghost use Rattle.syntax_trees.specs.WrittenEquation.{WrittenEquations};
 ghost use Rattle.syntax_trees.specs.WrittenItem.{WrittenItem, WrittenOperation, WrittenSections, WrittenTypeBody};
 ghost use Rattle.syntax_trees.specs.TreeViews.{item_of, operation_of, equations_of};
 ghost use Rattle.lotos_rows.specs.HandedOn.{from_last};
 ghost use Rattle.tree_building.specs.Meaning.{PlainAfterBase};
-ghost use Rattle.tree_building.specs.MeaningView.{meaning};
 ghost use Rattle.tree_building.specs.Parts.{item_in, items_in, body_in, after_base_in, sections_in, declared_operations_in, equation_section_in};
 ghost use Rattle.tree_building.specs.TypesViews.{after_base_of, sections_of, type_body_of};
 
@@ -62,9 +61,7 @@ impl Part for ItemText {
 
     ghost found = { item_in };
 
-    fn of(value: Value) -> Option<Self>
-        ensures { option_map (λ x. item_of x) result ≡ item_in (meaning value) }
-    {
+    fn of(value: Value) -> Option<Self> {
         match value {
             Value::Item(value) => Some(Box::into_inner(value)),
             other => of_another_kind(other),
@@ -80,9 +77,7 @@ impl Part for Vec<ItemText> {
 
     ghost found = { items_in };
 
-    fn of(value: Value) -> Option<Self>
-        ensures { option_map (λ x. from_last item_of x.items) result ≡ items_in (meaning value) }
-    {
+    fn of(value: Value) -> Option<Self> {
         match value {
             Value::Items(value) => Some(value),
             other => of_another_kind(other),
@@ -98,9 +93,7 @@ impl Part for TypeBody {
 
     ghost found = { body_in };
 
-    fn of(value: Value) -> Option<Self>
-        ensures { option_map (λ x. type_body_of x) result ≡ body_in (meaning value) }
-    {
+    fn of(value: Value) -> Option<Self> {
         match value {
             Value::Body(value) => Some(value),
             other => of_another_kind(other),
@@ -116,9 +109,7 @@ impl Part for AfterBase {
 
     ghost found = { after_base_in };
 
-    fn of(value: Value) -> Option<Self>
-        ensures { option_map (λ x. after_base_of x) result ≡ after_base_in (meaning value) }
-    {
+    fn of(value: Value) -> Option<Self> {
         match value {
             Value::AfterBase(value) => Some(value),
             other => of_another_kind(other),
@@ -134,9 +125,7 @@ impl Part for Box<Sections> {
 
     ghost found = { sections_in };
 
-    fn of(value: Value) -> Option<Self>
-        ensures { option_map (λ x. sections_of x.value) result ≡ sections_in (meaning value) }
-    {
+    fn of(value: Value) -> Option<Self> {
         match value {
             Value::Sections(value) => Some(value),
             other => of_another_kind(other),
@@ -152,9 +141,7 @@ impl Part for Vec<OpText> {
 
     ghost found = { declared_operations_in };
 
-    fn of(value: Value) -> Option<Self>
-        ensures { option_map (λ x. from_last operation_of x.items) result ≡ declared_operations_in (meaning value) }
-    {
+    fn of(value: Value) -> Option<Self> {
         match value {
             Value::DeclaredOperations(value) => Some(value),
             other => of_another_kind(other),
@@ -170,9 +157,7 @@ impl Part for EqnsText {
 
     ghost found = { equation_section_in };
 
-    fn of(value: Value) -> Option<Self>
-        ensures { option_map (λ x. equations_of x) result ≡ equation_section_in (meaning value) }
-    {
+    fn of(value: Value) -> Option<Self> {
         match value {
             Value::EquationSection(value) => Some(value),
             other => of_another_kind(other),

@@ -19,6 +19,7 @@ use Rattle.type_presentations.specs.SortListView.{HasSortKeys, SortList, sorts_i
 use Rattle.type_presentations.specs.EquationListView.{HasEquationKeys, HaveSidesOf, equations_in}
 use Rattle.type_presentations.specs.declared.equation_list.EquationList.{EquationList}
 use Rattle.type_definitions.specs.ProfiledImage.{number_in}
+use Rattle.type_definitions.proofs.FaultLemmas.{not_past, none_first}
 use Rattle.type_presentations.specs.MarksView.{IsKnown, marks_in}
 use Rattle.type_presentations.specs.PresentationView.{IsSound, IsWithinLimits, presentation_of}
 use Rattle.type_presentations.specs.declared.presentations.Presentation.{Presentation}
@@ -30,7 +31,7 @@ use Rattle.actual_members.specs.SourceView.{AreOperationsComing, AreSortsComing}
 use Rattle.actual_members.specs.declared.came.Came.{Came}
 use Rattle.actual_members.specs.declared.source.Source.{Source}
 use Rattle.type_actualisation.specs.Parts.{HasBroughtOperations, HasBroughtSorts, HasOperationParts, HasParts, HasSortParts, HaveCome, IsBroughtIn, IsComingFault, HasBroughtRest, IsFaultBehindPairs, IsFormalOperationFault, IsFormalSortFault, fault_behind_pairs, fault_kept}
-use Rattle.type_actualisation.proofs.FaultLemmas.{found_first, found_later, found_same, later_is, none_at, none_first, operation_twice, sort_twice, too_much}
+use Rattle.type_actualisation.proofs.FaultLemmas.{found_first, found_later, found_same, later_is, none_at, operation_twice, sort_twice, too_much}
 
 -- ---- Numbers.
 
@@ -117,10 +118,6 @@ pub behind_pairs_refused : (a : Actualising) (fault : CodeFault) → IsFaultFoun
 behind_pairs_refused a fault h = record { found = h }
 
 -- ---- Too many.
-
-not_past : (b : Bool) (fault : TypeFault) → fault_if b fault ≡ None → b ≡ false
-not_past true fault none = let e : Some fault ≡ None = none in cc
-not_past false fault none = refl
 
 images : {A : Type 0} (image : A → A) (come : A → Coming A) → ((x : A) → (come x).image ≡ image x) → (xs : List A)
     → map (λ (c : Coming A). c.image) (map come xs) ≡ map image xs

@@ -1,6 +1,7 @@
 -- The data of an actualisation are well formed.
 use Rattle.std.proofs.Common.{◌≡◌, ℕ, true, List, ◌⊎◌, inl, inr, map, ap, sym, ◌∙◌, subst}
 use Rattle.std.specs.Prelude.{Some, slice_get}
+use Rattle.type_unions.proofs.UnionSignatures.{image_in}
 use Rattle.lotos_base.specs.Signature.{Operation, IsSort, IsWellFormedSignature}
 use Rattle.lotos_base.specs.Equation.{Equation, IsEquationOver, IsWellFormedData}
 use Rattle.sort_terms.specs.WellFormedTest.{all_differ, are_one_sort, are_one_operation}
@@ -13,7 +14,7 @@ use Rattle.type_presentations.proofs.EquationImageLemmas.{image_over}
 use Rattle.type_presentations.proofs.SignatureLemmas.{larger_sort, made_well_formed, over_larger}
 use Rattle.type_actualisation.specs.ActualisationLaws.{HasActuals, ActualisedDataAreWellFormed}
 use Rattle.type_actualisation.proofs.FormalLemmas.{unmarked_in}
-use Rattle.type_actualisation.proofs.MapLemmas.{image_in, actual_is_within, base_goes, under_profile}
+use Rattle.type_actualisation.proofs.MapLemmas.{actual_is_within, base_goes, under_profile}
 
 -- ---- The signature.
 

@@ -7,20 +7,14 @@ use Rattle.type_definitions.specs.FaultView.{HoldsOfFault, IsFaultFound}
 use Rattle.type_definitions.specs.declared.type_faults.TypeFault.{TypeFault as CodeFault}
 use Rattle.type_definitions.proofs.HoldsLemmas.{holds_weaker}
 use Rattle.type_definitions.specs.TypeFault.{TypeFault, double_operation, double_sort, first_fault, too_large}
+use Rattle.type_definitions.proofs.FaultLemmas.{first_fails}
 use Rattle.actual_members.specs.CameView.{place_kept}
 use Rattle.actual_members.specs.FaultPlaces.{fault_at}
 use Rattle.actual_members.specs.declared.came.Came.{Came}
 use Rattle.type_actualisation.specs.Parts.{fault_kept}
 
-pub first_fails : (a rest : Option TypeFault) (fault : TypeFault) → a ≡ Some fault → first_fault a rest ≡ Some fault
-first_fails a rest fault found = ap (λ (o : Option TypeFault). first_fault o rest) found
-
 pub later_is : (a rest : Option TypeFault) → a ≡ None → first_fault a rest ≡ rest
 later_is a rest none = ap (λ (o : Option TypeFault). first_fault o rest) none
-
-pub none_first : (a rest : Option TypeFault) → first_fault a rest ≡ None → (a ≡ None) × (rest ≡ None)
-none_first None rest none = (refl, none)
-none_first (Some fault) rest none = let e : Some fault ≡ None = none in cc
 
 -- ---- Of the code.
 

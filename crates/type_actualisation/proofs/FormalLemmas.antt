@@ -1,21 +1,20 @@
 -- What is formal and what is not, and the actual ones of what is formal.
 use Rattle.std.proofs.Common.{◌≡◌, ℕ, zero, suc, ◌+◌, Bool, true, false, List, [], ◌∷◌, map, refl, sym, subst, arith}
-use Rattle.std.specs.Prelude.{Option, Some, None, slice_get, ◌||◌, ◌&&◌, not, nat_eq, if◌then◌else◌}
-use Rattle.std.specs.List.{list_any}
+use Rattle.std.specs.Prelude.{Some, None, slice_get, ◌||◌, ◌&&◌, not, nat_eq, if◌then◌else◌}
 use Rattle.std.specs.Str.{bytes_eq}
-use Rattle.std.proofs.lemmas.Bool.{eqb-true, and_parts}
+use Rattle.std.proofs.lemmas.Bool.{eqb-true, and_parts, both_ways}
 use Rattle.std.proofs.lemmas.Option.{none-some, same_Some}
 use Rattle.std.proofs.lemmas.Slice.Eq.{bytes_eq-Decides}
 use Rattle.lotos_base.specs.Signature.{Sort, Operation, Form}
 use Rattle.lotos_base.specs.Twins.{form_eq}
 use Rattle.sort_terms.specs.ReadingOutcome.{one_name, is_sort_name}
-use Rattle.type_definitions.proofs.NumberLists.{both_ways}
-use Rattle.type_definitions.specs.TypeFault.{TypeFault, fault_if, first_fault}
-use Rattle.type_definitions.specs.Presentation.{first_position, is_marked}
+use Rattle.type_definitions.specs.TypeFault.{TypeFault, fault_if}
+use Rattle.type_definitions.specs.Presentation.{is_marked}
 use Rattle.type_definitions.specs.UnionLaws.{IsIn}
 use Rattle.type_definitions.specs.Renaming.{pair_for}
 use Rattle.type_definitions.specs.Actualisation.{Actualising, marked_from, unmarked_from, actual_name, actualised_sort, is_actual, has_actual, other_form}
 use Rattle.type_definitions.specs.ActualisationFaults.{formal_sort_fault, formal_operation_fault, no_actual_sort, missing}
+use Rattle.type_definitions.proofs.FaultLemmas.{none_first}
 
 -- ---- Marked and unmarked members.
 
@@ -31,7 +30,7 @@ marked_there {A = A} marks n zero (y ∷ ys) x found h =
     go : (b : Bool) → is_marked marks n ≡ b
         → IsIn (if b then y ∷ marked_from marks (suc n) ys else marked_from marks (suc n) ys) x
     go true is = (0, found)
-    go false is = both_ways (is_marked marks n) here is
+    go false is = absurd (both_ways (is_marked marks n) is here)
 marked_there {A = A} marks n (suc i) (y ∷ ys) x found h =
     go (is_marked marks n) (marked_there marks (suc n) i ys x found (subst (λ (k : ℕ). is_marked marks k ≡ true) at h))
   where
@@ -54,7 +53,7 @@ unmarked_there {A = A} marks n zero (y ∷ ys) x found h =
 
     go : (b : Bool) → is_marked marks n ≡ b
         → IsIn (if b then unmarked_from marks (suc n) ys else y ∷ unmarked_from marks (suc n) ys) x
-    go true is = both_ways (is_marked marks n) is here
+    go true is = absurd (both_ways (is_marked marks n) here is)
     go false is = (0, found)
 unmarked_there {A = A} marks n (suc i) (y ∷ ys) x found h =
     go (is_marked marks n) (unmarked_there marks (suc n) i ys x found (subst (λ (k : ℕ). is_marked marks k ≡ false) at h))
@@ -87,10 +86,6 @@ unmarked_in {A = A} marks n (y ∷ ys) x at =
 
 -- ---- No fault.
 
-pub neither : (one other : Option TypeFault) → first_fault one other ≡ None → (one ≡ None) × (other ≡ None)
-neither None other h = (refl, h)
-neither (Some fault) other h = absurd (none-some fault (sym h))
-
 not_so : (test : Bool) (fault : TypeFault) → fault_if (not test) fault ≡ None → test ≡ true
 not_so true fault h = refl
 not_so false fault h = absurd (none-some fault (sym h))
@@ -102,7 +97,7 @@ sort_has_actual a (r ∷ ss) zero s fine found =
     let here : is_sort_name a.actual.signature (actual_name r.name (pair_for a.pairs.sort_pairs r.name)) ≡ true =
     not_so (is_sort_name a.actual.signature (actual_name r.name (pair_for a.pairs.sort_pairs r.name)))
     (no_actual_sort a r.name (pair_for a.pairs.sort_pairs r.name))
-    (neither
+    (none_first
     (fault_if (not (is_sort_name a.actual.signature (actual_name r.name (pair_for a.pairs.sort_pairs r.name))))
     (no_actual_sort a r.name (pair_for a.pairs.sort_pairs r.name)))
     (formal_sort_fault a ss) fine).0 in
@@ -110,7 +105,7 @@ sort_has_actual a (r ∷ ss) zero s fine found =
     (same_Some _ _ found) here
 sort_has_actual a (r ∷ ss) (suc i) s fine found =
     sort_has_actual a ss i s
-    (neither
+    (none_first
     (fault_if (not (is_sort_name a.actual.signature (actual_name r.name (pair_for a.pairs.sort_pairs r.name))))
     (no_actual_sort a r.name (pair_for a.pairs.sort_pairs r.name)))
     (formal_sort_fault a ss) fine).1
@@ -126,28 +121,13 @@ operation_has_actual a [] i o fine found = absurd (none-some o found)
 operation_has_actual a (u ∷ os) zero o fine found =
     subst (λ (q : Operation). has_some a q ≡ true) (same_Some _ _ found)
     (not_so (has_some a u) (missing a u.name)
-    (neither (fault_if (not (has_some a u)) (missing a u.name)) (formal_operation_fault a os) fine).0)
+    (none_first (fault_if (not (has_some a u)) (missing a u.name)) (formal_operation_fault a os) fine).0)
 operation_has_actual a (u ∷ os) (suc i) o fine found =
     operation_has_actual a os i o
-    (neither (fault_if (not (has_some a u)) (missing a u.name)) (formal_operation_fault a os) fine).1
+    (none_first (fault_if (not (has_some a u)) (missing a u.name)) (formal_operation_fault a os) fine).1
     found
 
 -- ---- What stands at a first position.
-
-pub position_found : {A : Type 0} (test : A → Bool) (xs : List A) → list_any test xs ≡ true
-    → (y : A) × (slice_get xs (first_position test xs) ≡ Some y) × (test y ≡ true)
-position_found test [] h = let e : false ≡ true = h in cc
-position_found {A = A} test (x ∷ xs) h = go (test x) refl (position_found test xs)
-  where
-    go : (b : Bool) → test x ≡ b
-        → (list_any test xs ≡ true → (y : A) × (slice_get xs (first_position test xs) ≡ Some y) × (test y ≡ true))
-        → (y : A) × (slice_get (x ∷ xs) (first_position test (x ∷ xs)) ≡ Some y) × (test y ≡ true)
-    go true is rest = let first : slice_get (x ∷ xs) (first_position test (x ∷ xs)) ≡ Some x = rw is refl in (x, first, is)
-    go false is rest =
-        let later : list_any test xs ≡ true = rw is at h in
-        let found = rest later in
-        let there : slice_get (x ∷ xs) (first_position test (x ∷ xs)) ≡ Some found.0 = rw is found.1 in
-        (found.0, there, found.2)
 
 -- the form in which the actual operation is taken
 abbrev pub taken_form : Actualising → Operation → Form

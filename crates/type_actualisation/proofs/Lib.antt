@@ -1,5 +1,5 @@
-mod FaultLemmas
-mod BringingLemmas
+pub mod FaultLemmas
+pub mod BringingLemmas
 mod PairLemmas
 pub mod FormalLemmas
 pub mod MapLemmas

@@ -1,50 +1,31 @@
 -- The maps of sorts and operations from the base into an actualisation.
-use Rattle.std.proofs.Common.{◌≡◌, ℕ, ◌+◌, ◌<◌, ◌≤◌, Bool, true, false, List, [], ◌∷◌, length, map, get_or, refl, ap, sym, ◌∙◌, subst, arith}
-use Rattle.std.specs.Prelude.{Option, Some, None, slice_get, ◌&&◌, nat_eq, if◌then◌else◌}
+use Rattle.std.proofs.Common.{◌≡◌, ℕ, ◌+◌, ◌<◌, Bool, true, false, List, [], ◌∷◌, length, map, get_or, refl, ap, sym, ◌∙◌, subst, arith}
+use Rattle.std.specs.Prelude.{Option, Some, None, slice_get, if◌then◌else◌}
 use Rattle.std.specs.Option.{option_map}
-use Rattle.std.specs.Str.{bytes_eq}
-use Rattle.std.proofs.lemmas.Bool.{eqb-true, and_parts}
-use Rattle.std.proofs.lemmas.Option.{none-some, same_Some, slice_get_within, slice_get-get_or, slice_get-map, get_or_from_slice_get}
-use Rattle.std.proofs.lemmas.Slice.Eq.{bytes_eq-Decides}
+use Rattle.std.proofs.lemmas.Option.{slice_get_within, slice_get-get_or, slice_get-map, get_or_from_slice_get}
+use Rattle.type_unions.proofs.UnionSignatures.{one_profile}
+use Rattle.lotos_base.proofs.Members.{as_long}
 use Rattle.lotos_base.specs.Signature.{Sort, Operation}
-use Rattle.lotos_base.specs.Twins.{form_eq}
 use Rattle.syntax_trees.specs.WrittenItem.{WrittenPair}
 use Rattle.sort_terms.specs.ReadingOutcome.{one_name}
-use Rattle.sort_terms.specs.WellFormedTest.{are_one_operation}
 use Rattle.type_definitions.specs.Images.{operation_image}
 use Rattle.type_definitions.specs.ProfiledImage.{profile_in, IsImageProfile}
 use Rattle.type_definitions.specs.ImageLaws.{IsSignatureMap}
-use Rattle.type_definitions.specs.Presentation.{is_same_sort, is_same_operation, is_marked, first_position}
+use Rattle.type_definitions.specs.Presentation.{is_same_sort, is_marked, first_position}
 use Rattle.type_definitions.specs.Union.{sort_in, operation_in}
 use Rattle.type_definitions.specs.UnionLaws.{IsIn}
 use Rattle.type_definitions.specs.Renaming.{pair_for, operation_under}
 use Rattle.type_definitions.specs.Actualisation.{Actualising, actualisation, actualised_sort, actualised_sorts, actualised_operation, actualised_operations, actual_sort, actual_name, actual_operation, formal_sorts_of, formal_operations_of, other_sorts_of, other_operations_of, other_sort_image, other_operation_image, sort_becomes, operation_becomes, operation_renamer, is_actual}
-use Rattle.type_definitions.proofs.WithNewLemmas.{first_appearances}
+use Rattle.type_definitions.proofs.WithNewLemmas.{first_appearances, position_found}
 use Rattle.type_presentations.proofs.SignatureLemmas.{IsLarger}
 use Rattle.type_actualisation.specs.ActualisationLaws.{HasActuals}
-use Rattle.type_actualisation.proofs.FormalLemmas.{marked_there, unmarked_there, sort_has_actual, operation_has_actual, position_found, taken_form, form_taken, actual_profile}
+use Rattle.type_actualisation.proofs.FormalLemmas.{marked_there, unmarked_there, sort_has_actual, operation_has_actual, taken_form, form_taken, actual_profile}
 
 -- ---- Lists.
 
--- what a list of images has is the image of a member
-pub image_in : {A B : Type 0} (f : A → B) (xs : List A) (y : B) → IsIn (map f xs) y → (x : A) × IsIn xs x × (f x ≡ y)
-image_in {A = A} {B = B} f xs y at = go (slice_get xs at.0) refl (sym (slice_get-map f xs at.0) ∙ at.1)
-  where
-    go : (o : Option A) → slice_get xs at.0 ≡ o → option_map f o ≡ Some y → (x : A) × IsIn xs x × (f x ≡ y)
-    go None is h = absurd (none-some y h)
-    go (Some x) is h = (x, (at.0, is), same_Some _ _ h)
-
 -- and each member has its image there
-image_there : {A B : Type 0} (f : A → B) (xs : List A) (x : A) → IsIn xs x → IsIn (map f xs) (f x)
+pub image_there : {A B : Type 0} (f : A → B) (xs : List A) (x : A) → IsIn xs x → IsIn (map f xs) (f x)
 image_there {A = A} f xs x at = (at.0, slice_get-map f xs at.0 ∙ ap (λ (o : Option A). option_map f o) at.1)
-
-as_long : {A : Type 0} (xs ys : List A) → ((i : ℕ) (x : A) → slice_get xs i ≡ Some x → slice_get ys i ≡ Some x) → length xs ≤ length ys
-as_long [] ys stays = omega arith
-as_long (x ∷ xs) ys stays =
-    let n : ℕ = length xs in
-    let last : slice_get (x ∷ xs) n ≡ Some (get_or (x ∷ xs) n x) = slice_get-get_or (x ∷ xs) n x (omega arith) in
-    let there : n < length ys = slice_get_within ys n (get_or (x ∷ xs) n x) (stays n (get_or (x ∷ xs) n x) last) in
-    omega (arith, there)
 
 -- counted from the first
 from_zero : {b : Bool} (marks : List ℕ) (n : ℕ) → is_marked marks n ≡ b → is_marked marks (0 + n) ≡ b
@@ -105,16 +86,6 @@ sort_goes a has s (x ∷ xs) is within =
     (sort_becomes_one a has s (get_or (x ∷ xs) s x) found)
 
 -- ---- Operations of the base.
-
--- operations that are one have one profile
-one_profile : (o p : Operation) → is_same_operation o p ≡ true → (p.arguments ≡ o.arguments) × (p.result ≡ o.result)
-one_profile o p h =
-    let names : Bool = one_name o.name p.name && form_eq o.form p.form in
-    let profiles : Bool = bytes_eq o.arguments p.arguments && nat_eq o.result p.result in
-    let one = and_parts (are_one_operation o p) (one_name o.origin p.origin) h in
-    let back = and_parts names profiles one.0 in
-    let parts = and_parts (bytes_eq o.arguments p.arguments) (nat_eq o.result p.result) back.1 in
-    (sym ((bytes_eq-Decides o.arguments p.arguments).0 parts.0), sym (eqb-true o.result p.result parts.1))
 
 -- a pair changes no profile
 pub under_profile : (type_name : List ℕ) (pair : Option WrittenPair) (o : Operation)

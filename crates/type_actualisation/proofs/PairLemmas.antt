@@ -3,12 +3,11 @@ use Rattle.std.proofs.Common.{◌≡◌, List, [], map, ap, sym, ◌∙◌, subs
 use Rattle.std.specs.Prelude.{Option, None}
 use Rattle.lotos_base.specs.Name.{spelling}
 use Rattle.lotos_base.specs.WrittenView.{placed_name_of}
-use Rattle.lotos_base.specs.Signature.{Sort, Operation}
+use Rattle.lotos_base.specs.Signature.{Operation}
 use Rattle.syntax_trees.specs.WrittenItem.{WrittenPair}
 use Rattle.syntax_trees.specs.TreeViews.{pair_of}
 use Rattle.syntax_trees.specs.declared.items.PairText.{PairText}
 use Rattle.type_presentations.specs.NamesView.{HasNames}
-use Rattle.type_presentations.specs.declared.names.NamePositions.{NamePositions}
 use Rattle.type_definitions.specs.FaultView.{IsFaultFound}
 use Rattle.type_definitions.specs.declared.type_faults.TypeFault.{TypeFault as CodeFault}
 use Rattle.type_definitions.specs.TypeFault.{TypeFault}
@@ -26,15 +25,6 @@ use Rattle.type_actualisation.specs.Parts.{HasParts, IsBroughtIn, IsFaultBehindP
 use Rattle.type_actualisation.proofs.FaultLemmas.{found_first, found_later, found_same, later_is}
 
 -- ---- Names of the members of a list that is another one.
-
-pub sorts_named : (names : NamePositions) (ss ts : List Sort) → ss ≡ ts → HasNames names (map (λ s. s.name) ss)
-    → HasNames names (map (λ s. s.name) ts)
-sorts_named names ss ts same has = subst (λ (us : List Sort). HasNames names (map (λ (s : Sort). s.name) us)) same has
-
-pub operations_named : (names : NamePositions) (os ps : List Operation) → os ≡ ps → HasNames names (map (λ o. o.name) os)
-    → HasNames names (map (λ o. o.name) ps)
-operations_named names os ps same has =
-    subst (λ (us : List Operation). HasNames names (map (λ (o : Operation). o.name) us)) same has
 
 -- ---- Refusals.
 

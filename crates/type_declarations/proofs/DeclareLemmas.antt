@@ -1,10 +1,11 @@
 -- What declarations come to, once their parts were looked at.
-use Rattle.std.proofs.Common.{◌≡◌, ℕ, ◌<◌, ◌≤◌, ◌^◌, Bool, true, false, List, [], ◌∷◌, ◌++◌, map, length, take, drop, get_or, ◌+◌, refl, ap, sym, ◌∙◌, arith}
-use Rattle.std.specs.Prelude.{Option, Some, None, ◌&&◌, not, nat_lt, suc, fold, if◌then◌else◌}
+use Rattle.std.proofs.Common.{◌≡◌, ℕ, ◌<◌, ◌^◌, Bool, true, false, List, [], ◌∷◌, ◌++◌, map, length, take, drop, get_or, ◌+◌, refl, ap, sym, ◌∙◌, arith}
+use Rattle.std.specs.Prelude.{Option, Some, None, not, nat_lt, fold, if◌then◌else◌}
 use Rattle.std.specs.List.{list_any}
-use Rattle.std.proofs.lemmas.Bool.{lt-ltb, ltb-true}
+use Rattle.std.proofs.lemmas.Bool.{lt-ltb, ltb-true, and_from}
 use Rattle.std.proofs.lemmas.List.{map-append, length-map, take-append-drop}
 use Rattle.std.proofs.lemmas.Option.{same_Some}
+use Rattle.lotos_base.proofs.Numbers.{below_limit}
 use Rattle.lotos_base.specs.WrittenTerm.{PlacedName}
 use Rattle.lotos_base.specs.WrittenView.{placed_name_of}
 use Rattle.lotos_base.specs.declared.places.Place.{Place as CodePlace}
@@ -26,6 +27,7 @@ use Rattle.type_presentations.proofs.SizeLemmas.{within_limits}
 use Rattle.type_definitions.proofs.WalkLemmas.{next_of, so_far}
 use Rattle.type_definitions.specs.FaultView.{IsFaultFound}
 use Rattle.type_definitions.specs.declared.type_faults.TypeFault.{TypeFault as CodeFault}
+use Rattle.type_definitions.proofs.WithNewLemmas.{position_within}
 use Rattle.type_declarations.specs.DeclarationMade.{IsFaultOfSorts, IsFaultOfOperations}
 use Rattle.type_declarations.specs.DeclaredOperation.{declared_operation, sort_names}
 
@@ -203,20 +205,6 @@ operation_made form name name' arguments arguments' result result' origin origin
     ∙ ap (λ (n : ℕ). an_operation form name' arguments' n origin) g
     ∙ ap (λ (n : List ℕ). an_operation form name' arguments' result' n) h
 
--- the sorts of an operation are there where no name is that of no sort
-position_within : {A : Type 0} (test : A → Bool) (xs : List A) → list_any test xs ≡ true → first_position test xs < length xs
-position_within test [] h = cc
-position_within {A = A} test (x ∷ xs) h = go (test x) refl (position_within test xs)
-  where
-    go : (b : Bool) → test x ≡ b → (list_any test xs ≡ true → first_position test xs < length xs)
-        → (if b then 0 else suc (first_position test xs)) < suc (length xs)
-    go true is rest = omega arith
-    go false is rest = let there : first_position test xs < length xs = rest (rw is at h) in omega (arith, there)
-
-both_true : (a b : Bool) → a ≡ true → b ≡ true → (a && b) ≡ true
-both_true true b e f = f
-both_true false b e f = cc
-
 known_parts : (b : Bool) (fault : TypeFault) (rest : Option TypeFault) → first_fault (if not b then Some fault else None) rest ≡ None
     → (b ≡ true) × (rest ≡ None)
 known_parts true fault rest e = (refl, e)
@@ -230,7 +218,7 @@ numbers_below : (p : Presentation) (xs : List PlacedName) → unknown_sort_among
 numbers_below p [] known = refl
 numbers_below p (x ∷ xs) known =
     let parts = known_parts (is_sort_name p.signature x.name) (unknown_sort x.place (Some x.name)) (unknown_sort_among p xs) known in
-    both_true (nat_lt (sort_numbered p x.name) (length p.signature.sorts))
+    and_from (nat_lt (sort_numbered p x.name) (length p.signature.sorts))
     (all_below (length p.signature.sorts) (map (λ (s : PlacedName). sort_numbered p s.name) xs))
     (lt-ltb (sort_numbered p x.name) (length p.signature.sorts)
     (position_within (λ (s : Sort). one_name s.name x.name) p.signature.sorts parts.0))
@@ -245,7 +233,7 @@ sorts_are_known origin p declared made known is =
     (sym (unknown_append p declared.arguments (declared.result ∷ [])) ∙ known) in
     let result = known_parts (is_sort_name p.signature declared.result.name)
     (unknown_sort declared.result.place (Some declared.result.name)) None parts.1 in
-    both_true (nat_lt (sort_numbered p declared.result.name) (length p.signature.sorts))
+    and_from (nat_lt (sort_numbered p declared.result.name) (length p.signature.sorts))
     (all_below (length p.signature.sorts) (map (λ (s : PlacedName). sort_numbered p s.name) declared.arguments))
     (lt-ltb (sort_numbered p declared.result.name) (length p.signature.sorts)
     (position_within (λ (s : Sort). one_name s.name declared.result.name) p.signature.sorts result.0))
@@ -255,13 +243,9 @@ sorts_are_known origin p declared made known is =
     apart None b e = (refl, e)
     apart (Some f) b e = absurd (let h : Some f ≡ None = e in cc)
 
--- there are fewer sorts than numbers of 32 bits
-below : (n m limit top : ℕ) → n ≡ m → m ≤ limit → limit < top → n < top
-below n m limit top as_many few small = omega (arith, as_many, few, small)
-
 pub few_names : (p : Presentation) → is_too_large p ≡ false → length (map (λ (s : Sort). s.name) p.signature.sorts) < 2 ^ 32
 few_names p within =
-    below (length (map (λ (s : Sort). s.name) p.signature.sorts)) (length p.signature.sorts) presentation_limit (2 ^ 32)
+    below_limit (length (map (λ (s : Sort). s.name) p.signature.sorts)) (length p.signature.sorts) presentation_limit (2 ^ 32)
     (length-map p.signature.sorts (λ (s : Sort). s.name)) (within_limits p within).sorts (ltb-true presentation_limit (2 ^ 32) refl)
 
 -- the number of a name is one of 32 bits
@@ -295,9 +279,6 @@ later_fails a rest fault one found = ap (λ (o : Option TypeFault). first_fault 
 
 pub none_fails : (a rest : Option TypeFault) → a ≡ None → rest ≡ None → first_fault a rest ≡ None
 none_fails a rest one other = ap (λ (o : Option TypeFault). first_fault o rest) one ∙ other
-
-pub first_fails : (a rest : Option TypeFault) (fault : TypeFault) → a ≡ Some fault → first_fault a rest ≡ Some fault
-first_fails a rest fault found = ap (λ (o : Option TypeFault). first_fault o rest) found
 
 pub ops_keep_sorts : (origin : List ℕ) (is_formal : Bool) (p : Presentation) (ds : List WrittenOperation)
     → sort_names (fold (with_operation origin is_formal) p ds) ≡ sort_names p

@@ -7,9 +7,10 @@ use Rattle.type_definitions.specs.Presentation.{Presentation}
 use Rattle.type_definitions.specs.Declarations.{with_sort, sort_fault, with_operation, operation_fault, with_formal_sorts, with_sorts, with_formal_operations, with_declarations, declaration_fault}
 use Rattle.type_definitions.specs.FaultView.{IsFaultFound}
 use Rattle.type_definitions.specs.declared.type_faults.TypeFault.{TypeFault as CodeFault}
+use Rattle.type_definitions.proofs.FaultLemmas.{first_fails}
 use Rattle.type_declarations.specs.DeclarationMade.{IsDeclarationFault}
 use Rattle.type_declarations.specs.DeclaredOperation.{sort_names}
-use Rattle.type_declarations.proofs.DeclareLemmas.{first_fails, later_fails, none_fails, ops_keep_sorts}
+use Rattle.type_declarations.proofs.DeclareLemmas.{later_fails, none_fails, ops_keep_sorts}
 
 moved : {S D : Type 0} (fault_of : S → D → Option TypeFault) (after : S → D → S) (now then : S) (ds : List D) (found : Option TypeFault)
     → now ≡ then → fault_along fault_of after now ds ≡ found → fault_along fault_of after then ds ≡ found

@@ -11,3 +11,5 @@ pub mod CycleLemmas
 pub mod OrderingLemmas
 pub mod NameLemmas
 pub mod UnknownLemmas
+pub mod FaultLemmas
+pub mod RenamingLemmas

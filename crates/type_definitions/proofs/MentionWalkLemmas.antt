@@ -3,7 +3,7 @@ use Rattle.std.proofs.Common.{◌≡◌, ℕ, zero, suc, ◌+◌, ◌-◌, ◌*�
 use Rattle.std.specs.Prelude.{Some, slice_get, nat_eq}
 use Rattle.std.specs.List.{All, count_by}
 use Rattle.std.proofs.Math.Seq.{drop-cons}
-use Rattle.std.proofs.lemmas.Bool.{cases_lt, eq-eqb}
+use Rattle.std.proofs.lemmas.Bool.{cases_lt, eq-eqb, or_cases, or_left, or_right}
 use Rattle.std.proofs.lemmas.List.{length-append, length-set, map-append, get_or-set_same, get_or-set_other, get_or_past, get_or-replicate, length-replicate}
 use Rattle.std.proofs.lemmas.List.Elements.{All-nil, All-push, All-pop, All-weaker}
 use Rattle.std.proofs.lemmas.List.Sums.{sum_by-set}
@@ -15,7 +15,7 @@ use Rattle.type_definitions.specs.Walking.{progress_at, work_left, IsSorted, non
 use Rattle.type_definitions.specs.declared.walk.Frame.{Frame}
 use Rattle.type_definitions.specs.declared.walk.Progress.{Progress}
 use Rattle.type_definitions.specs.declared.walk.Progress.TheVariants.{Unseen, Open, Done}
-use Rattle.type_definitions.proofs.NumberLists.{both_ways, not_true, same_or_not, or_cases, or_left, or_right, among_none, among_left, among_right, among_cases, among_one, one_among, among_at, at_among, among_drop}
+use Rattle.type_definitions.proofs.NumberLists.{not_true, same_or_not, among_none, among_left, among_right, among_cases, among_one, one_among, among_at, at_among, among_drop}
 use Rattle.type_definitions.proofs.OrderLemmas.{done_already, all_done, pass_over, each_first, runs_back, runs_front}
 use Rattle.type_definitions.proofs.ReachLemmas.{leads_end}
 

@@ -1,8 +1,8 @@
 -- Numbers among the numbers of a list.
 use Rattle.std.proofs.Common.{◌≡◌, ℕ, zero, suc, ◌<◌, ◌≤◌, Bool, true, false, List, [], ◌∷◌, ◌++◌, ◌⊎◌, length, get_or, take, drop, inl, inr, refl, ap, sym, ◌∙◌, subst, arith}
-use Rattle.std.specs.Prelude.{Some, slice_get, ◌||◌, nat_eq}
+use Rattle.std.specs.Prelude.{Some, slice_get, nat_eq}
 use Rattle.std.proofs.Math.Seq.{take-append_seam}
-use Rattle.std.proofs.lemmas.Bool.{cases_lt, eq-eqb, eqb-true}
+use Rattle.std.proofs.lemmas.Bool.{cases_lt, eq-eqb, eqb-true, or_cases, or_left, or_right}
 use Rattle.std.proofs.lemmas.List.{get_or_past}
 use Rattle.std.proofs.lemmas.List.Folds.{list_any-append}
 use Rattle.std.proofs.lemmas.Option.{none-some, same_Some, slice_get_within}
@@ -11,21 +11,6 @@ use Rattle.type_definitions.specs.TypeGraph.{is_among, mentioned_by, Mentions}
 pub not_true : (b : Bool) → ¬ (b ≡ true) → b ≡ false
 not_true true never = absurd (never refl)
 not_true false never = refl
-
-pub both_ways : {A : Type 0} (b : Bool) → b ≡ true → b ≡ false → A
-both_ways b is not = let e : true ≡ false = sym is ∙ not in cc
-
-pub or_cases : (a b : Bool) → (a || b) ≡ true → (a ≡ true) ⊎ (b ≡ true)
-or_cases true b e = inl refl
-or_cases false b e = inr e
-
-pub or_left : (a b : Bool) → a ≡ true → (a || b) ≡ true
-or_left true b e = refl
-or_left false b e = cc
-
-pub or_right : (a b : Bool) → b ≡ true → (a || b) ≡ true
-or_right true b e = refl
-or_right false b e = e
 
 pub same_or_not : (i j : ℕ) → (i ≡ j) ⊎ (¬ (i ≡ j))
 same_or_not i j =
@@ -69,10 +54,6 @@ pub among_drop : (k : ℕ) (xs : List ℕ) (j : ℕ) → is_among (drop k xs) j 
 among_drop zero xs j h = h
 among_drop (suc k) [] j h = h
 among_drop (suc k) (x ∷ xs) j h = or_right (nat_eq j x) (is_among xs j) (among_drop k xs j h)
-
-pub nothing_left : {A : Type 0} (xs : List A) → length xs ≡ 0 → xs ≡ []
-nothing_left [] e = refl
-nothing_left (x ∷ xs) e = absurd (omega arith)
 
 -- what is written back behind a slice of a whole list
 pub written_back : {A : Type 0} (n : ℕ) (new old : List A) → n ≡ length old → length new ≡ length old

@@ -2,12 +2,12 @@
 use Rattle.std.proofs.Common.{◌≡◌, ℕ, zero, suc, ◌+◌, ◌<◌, ◌≤◌, Bool, true, false, List, [], ◌∷◌, ◌++◌, ◌⊎◌, length, get_or, drop, inl, inr, refl, ap, sym, ◌∙◌, subst, arith}
 use Rattle.std.specs.Prelude.{nat_eq}
 use Rattle.std.proofs.Math.Seq.{drop-cons}
-use Rattle.std.proofs.lemmas.Bool.{eq-eqb}
+use Rattle.std.proofs.lemmas.Bool.{eq-eqb, both_ways, or_left, or_right}
 use Rattle.type_definitions.specs.TypeGraph.{is_among, mentioned_by, Mentions, MentionsLead, leads_at_once, leads_on, IsOnCycle, IsAcyclic}
 use Rattle.type_definitions.specs.FlatteningOrder.{ComesTo, flattened_already, flattened_now, ComesToEach, none_left, next_come_to}
 use Rattle.type_definitions.specs.Walking.{IsSorted, none_sorted, one_sorted, Finishes, Runs}
 use Rattle.type_definitions.specs.declared.walk.Frame.{Frame}
-use Rattle.type_definitions.proofs.NumberLists.{both_ways, not_true, or_left, or_right, among_none, among_left, among_right, among_cases, among_one, one_among, mentioner_within}
+use Rattle.type_definitions.proofs.NumberLists.{not_true, among_none, among_left, among_right, among_cases, among_one, one_among, mentioner_within}
 
 -- ---- Coming to types.
 
@@ -15,7 +15,7 @@ use Rattle.type_definitions.proofs.NumberLists.{both_ways, not_true, or_left, or
 pub done_already : (graph : List (List ℕ)) (done : List ℕ) (i : ℕ) (all : List ℕ) → ComesTo graph done i all
     → is_among done i ≡ true → all ≡ done
 done_already graph done i all (flattened_already _ _ is) h = refl
-done_already graph done i all (flattened_now _ more _ is each) h = both_ways (is_among done i) h is
+done_already graph done i all (flattened_now _ more _ is each) h = absurd (both_ways (is_among done i) is h)
 
 mutual
   -- what is done stays so
@@ -113,13 +113,13 @@ no_loop graph order i (one_sorted done n sorted are) h =
     by_cases false is below = λ l.
         let step = first_step graph i i l in
         let same : i ≡ n = elim (among_cases done (n ∷ []) i h) [
-          | inl before ↦ both_ways (is_among done i) before is
+          | inl before ↦ absurd (both_ways (is_among done i) is before)
           | inr one ↦ among_one n i one
         ] in
         let there = are step.0 (subst (λ (k : ℕ). Mentions graph k step.0) same step.1) in
         elim step.2 [
-          | inl back ↦ both_ways (is_among done i) (subst (λ (k : ℕ). is_among done k ≡ true) back there) is
-          | inr back ↦ both_ways (is_among done i) (sorted_leads graph done step.0 i sorted there back) is
+          | inl back ↦ absurd (both_ways (is_among done i) is (subst (λ (k : ℕ). is_among done k ≡ true) back there))
+          | inr back ↦ absurd (both_ways (is_among done i) is (sorted_leads graph done step.0 i sorted there back))
         ]
 
 pub no_cycle : (graph : List (List ℕ)) (order : List ℕ) → IsSorted graph order

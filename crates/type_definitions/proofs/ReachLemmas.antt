@@ -1,11 +1,11 @@
 -- The search for what a type leads to: one type more is seen, one type's mentions are passed on, the end.
 use Rattle.std.proofs.Common.{◌≡◌, ℕ, suc, ◌+◌, ◌<◌, ◌≤◌, Bool, true, false, List, [], ◌∷◌, ◌++◌, ◌⊎◌, length, get_or, set, replicate, inl, inr, refl, ap, sym, ◌∙◌, subst, arith, cond, not}
-use Rattle.std.proofs.lemmas.Bool.{cases_lt}
+use Rattle.std.proofs.lemmas.Bool.{cases_lt, both_ways}
 use Rattle.std.proofs.lemmas.List.{length-append, length-set, get_or-set_same, get_or-set_other, get_or_past, get_or-replicate, length-replicate}
 use Rattle.std.proofs.lemmas.List.Sums.{sum_by-set}
 use Rattle.type_definitions.specs.TypeGraph.{is_among, mentioned_by, Mentions, MentionsLead, leads_at_once, leads_on, IsOnCycle}
 use Rattle.type_definitions.specs.Reaching.{IsSeen, unseen_count, Sees, IsReaching}
-use Rattle.type_definitions.proofs.NumberLists.{both_ways, same_or_not, among_none, among_left, among_right, among_cases, among_one, one_among}
+use Rattle.type_definitions.proofs.NumberLists.{same_or_not, among_none, among_left, among_right, among_cases, among_one, one_among}
 
 -- ---- Marks.
 
@@ -28,7 +28,7 @@ seen_kept seen n i within h =
     ]
 
 one_less : (b : Bool) (u v : ℕ) → b ≡ false → u + cond (not b) 1 0 ≡ v + cond (not true) 1 0 → u + 1 ≡ v
-one_less true u v e h = both_ways true refl e
+one_less true u v e h = absurd (both_ways true e refl)
 one_less false u v e h = omega arith
 
 pub unseen_less : (seen : List Bool) (n : ℕ) → n < length seen → get_or seen n false ≡ false
@@ -39,10 +39,10 @@ unseen_less seen n within unseen =
 none_seen : (n i : ℕ) → IsSeen (replicate n false) i → ⊥
 none_seen n i h =
     elim (cases_lt i n) [
-      | inl within ↦ both_ways _ h (get_or-replicate n i false false within)
+      | inl within ↦ absurd (both_ways _ (get_or-replicate n i false false within) h)
       | inr past ↦
           let outside : length (replicate n false) ≤ i = omega (arith, length-replicate n false) in
-          both_ways _ h (get_or_past (replicate n false) i false outside)
+          absurd (both_ways _ (get_or_past (replicate n false) i false outside) h)
     ]
 
 -- ---- What is seen.
@@ -145,7 +145,7 @@ pub top_within : (graph : List (List ℕ)) (from to : ℕ) (seen : List Bool) (w
 top_within graph from to seen work n r =
     elim (cases_lt n (length seen)) [
       | inl within ↦ subst (λ (k : ℕ). n < k) r.covers within
-      | inr past ↦ both_ways _ (top_seen graph from to seen work n r) (get_or_past seen n false past)
+      | inr past ↦ absurd (both_ways _ (get_or_past seen n false past) (top_seen graph from to seen work n r))
     ]
 
 pub reach_further : (graph : List (List ℕ)) (from to : ℕ) (seen : List Bool) (work : List ℕ) (n : ℕ) (seen' : List Bool) (work' : List ℕ)

@@ -1,10 +1,10 @@
 -- Mentions as numbers: one mention more, one type more, a mention of no type; the graph of known mentions.
 use Rattle.std.proofs.Common.{◌≡◌, ℕ, zero, suc, ◌+◌, ◌<◌, Bool, true, false, List, [], ◌∷◌, ◌++◌, length, get_or, map, take, drop, inl, inr, refl, ap, sym, ◌∙◌, subst, arith}
 use Rattle.std.specs.Prelude.{Option, Some, None, slice_get, nat_eq, if◌then◌else◌}
-use Rattle.std.proofs.lemmas.Bool.{eqb-true}
+use Rattle.std.proofs.lemmas.Bool.{eqb-true, or_cases}
 use Rattle.std.proofs.lemmas.Option.{none-some, same_Some, slice_get-get_or}
 use Rattle.std.proofs.lemmas.List.{length-map, get_or-map, get_or_past}
-use Rattle.sort_terms.proofs.ScopeLemmas.{member_mapped}
+use Rattle.lotos_base.proofs.Members.{at_map}
 use Rattle.lotos_base.specs.WrittenTerm.{PlacedName}
 use Rattle.type_definitions.specs.DeclaredTypes.{DeclaredType, mentions_in, is_type_name, type_number, type_numbers, mention_graph}
 use Rattle.type_definitions.specs.MentionFaults.{unknown_among, unknown_mention, first_of, AreDeclaredOnce, AreAllKnown, mentions_of, mention_at}
@@ -12,7 +12,7 @@ use Rattle.type_definitions.specs.NameFaultView.{IsNameUnknown, IsNameFault, IsC
 use Rattle.type_definitions.specs.TypeGraph.{is_among, mentioned_by, Mentions, IsWithin, IsMention, IsFirstMentionOnCycle}
 use Rattle.type_definitions.specs.TypeView.{declared_type_of, declared_types_of, type_body_of}
 use Rattle.type_definitions.specs.declared.type_texts.TypeText.{TypeText}
-use Rattle.type_definitions.proofs.NumberLists.{or_cases, among_none, among_at, mentioner_within}
+use Rattle.type_definitions.proofs.NumberLists.{among_none, among_at, mentioner_within}
 use Rattle.type_definitions.proofs.NameLemmas.{number_within}
 use Rattle.type_definitions.specs.declared.name_faults.TypeNameFault.{TypeNameFault}
 use Rattle.type_definitions.specs.declared.name_faults.TypeNameFault.TheVariants.{DoubleType, UnknownType, TypeCycle, NoMemory}
@@ -152,7 +152,7 @@ mention_read types xs by position d same f =
     ≡ slice_get (mentions_in (type_body_of (get_or ys by d).body.now)) position)
     (sym same)
     (ap (λ (o : Option DeclaredType). slice_get (mentions_of o) position)
-    (member_mapped declared_type_of types by (get_or types by d) (slice_get-get_or types by d within)))
+    (at_map declared_type_of types by (get_or types by d) (slice_get-get_or types by d within)))
   where
     as_many : length (mention_graph (declared_types_of types)) ≡ length types
     as_many =

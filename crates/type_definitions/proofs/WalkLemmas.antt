@@ -1,7 +1,7 @@
 -- Steps one after another, each of which may have a fault.
-use Rattle.std.proofs.Common.{◌≡◌, ℕ, zero, suc, ◌+◌, ◌<◌, ◌≤◌, List, [], ◌∷◌, ◌++◌, map, length, take, drop, get_or, refl, ap, sym, ◌∙◌, arith}
+use Rattle.std.proofs.Common.{◌≡◌, ℕ, ◌+◌, ◌<◌, ◌≤◌, List, [], ◌∷◌, ◌++◌, map, length, take, drop, get_or, refl, ap, sym, ◌∙◌}
 use Rattle.std.specs.Prelude.{Option, Some, None, fold}
-use Rattle.std.proofs.lemmas.List.{drop_more, map_more}
+use Rattle.std.proofs.lemmas.List.{drop_more, map_more, drop_all}
 use Rattle.type_definitions.specs.TypeFault.{TypeFault, first_fault, fault_along}
 
 -- ---- Members of a list that are still to come.
@@ -11,14 +11,8 @@ pub next_of : {A B : Type 0} (f : A → B) (xs : List A) (i : ℕ) (x : A) → i
 next_of {A = A} f xs i x within is =
     ap (λ (ys : List A). map f ys) (drop_more xs i x within) ∙ ap (λ (y : A). f y ∷ map f (drop (i + 1) xs)) (sym is)
 
-pub nothing_left : {A : Type 0} (xs : List A) (i : ℕ) → length xs ≤ i → drop i xs ≡ []
-nothing_left [] zero h = refl
-nothing_left [] (suc i) h = refl
-nothing_left (x ∷ xs) zero h = absurd (omega arith)
-nothing_left (x ∷ xs) (suc i) h = nothing_left xs i (omega arith)
-
 pub none_of : {A B : Type 0} (f : A → B) (xs : List A) (i : ℕ) → length xs ≤ i → map f (drop i xs) ≡ []
-none_of {A = A} f xs i past = ap (λ (ys : List A). map f ys) (nothing_left xs i past)
+none_of {A = A} f xs i past = ap (λ (ys : List A). map f ys) (drop_all i xs past)
 
 -- those that have come, and one more
 pub so_far : {A B : Type 0} (f : A → B) (xs : List A) (i : ℕ) (x : A) → i < length xs → x ≡ get_or xs i x

@@ -1,28 +1,23 @@
 -- Lists that keep first appearances, and unions.
-use Rattle.std.proofs.Common.{◌≡◌, ℕ, zero, suc, ◌<◌, Bool, true, false, List, [], ◌∷◌, ◌++◌, ◌⊎◌, inl, inr, refl, ap, sym, ◌∙◌, subst}
-use Rattle.std.specs.Prelude.{Option, Some, None, slice_get, ◌||◌, ◌&&◌, nat_eq, if◌then◌else◌}
+use Rattle.std.proofs.Common.{◌≡◌, ℕ, zero, suc, ◌<◌, Bool, true, false, List, [], ◌∷◌, ◌++◌, ◌⊎◌, inl, inr, refl, ap, sym, ◌∙◌, subst, length, arith}
+use Rattle.std.specs.Prelude.{Option, Some, None, slice_get, ◌||◌, nat_eq, if◌then◌else◌}
 use Rattle.std.specs.List.{list_any}
 use Rattle.std.specs.Str.{bytes_eq}
-use Rattle.std.proofs.lemmas.Bool.{eq-eqb}
+use Rattle.std.proofs.lemmas.Bool.{eq-eqb, and_from, or_left, or_right}
 use Rattle.std.proofs.lemmas.List.Folds.{list_any-append}
 use Rattle.std.proofs.lemmas.Option.{none-some, same_Some}
 use Rattle.std.proofs.lemmas.Slice.Eq.{bytes_eq-Decides}
+use Rattle.lotos_base.proofs.Members.{at_front}
 use Rattle.lotos_base.specs.Names.{folded}
 use Rattle.lotos_base.specs.Signature.{Sort, Operation}
 use Rattle.lotos_base.specs.Equation.{Equation}
 use Rattle.lotos_base.proofs.TestLemmas.{Decides-term_eq}
 use Rattle.sort_terms.proofs.NodeLemmas.{eq_forms}
-use Rattle.type_definitions.proofs.NumberLists.{both_ways, or_cases, or_left, or_right}
 use Rattle.type_definitions.specs.Presentation.{Presentation, is_same_sort, is_same_operation, is_same_equation, with_new, first_position}
 use Rattle.type_definitions.specs.Union.{joined, joined_sort, joined_sorts, joined_operation, joined_operations, coming_operations, sort_in, operation_in}
 use Rattle.type_definitions.specs.UnionLaws.{IsIn, KeepsFirstAppearances, FirstAppearancesAreKept, UnionsKeepAndAdd}
 
 -- ---- Lists.
-
-in_front : {A : Type 0} (xs ys : List A) (i : ℕ) (x : A) → slice_get xs i ≡ Some x → slice_get (xs ++ ys) i ≡ Some x
-in_front [] ys i x found = absurd (none-some x found)
-in_front (z ∷ xs) ys zero x found = found
-in_front (z ∷ xs) ys (suc i) x found = in_front xs ys i x found
 
 front_or_last : {A : Type 0} (xs : List A) (y : A) (i : ℕ) (x : A) → slice_get (xs ++ y ∷ []) i ≡ Some x → IsIn xs x ⊎ (x ≡ y)
 front_or_last [] y zero x found = inr (sym (same_Some _ _ found))
@@ -32,7 +27,7 @@ front_or_last (z ∷ xs) y (suc i) x found =
     elim (front_or_last xs y i x found) [ inl there ↦ inl (suc there.0, there.1) | inr last ↦ inr last ]
 
 -- the member that the first position has
-position_found : {A : Type 0} (test : A → Bool) (xs : List A) → list_any test xs ≡ true
+pub position_found : {A : Type 0} (test : A → Bool) (xs : List A) → list_any test xs ≡ true
     → (y : A) × (slice_get xs (first_position test xs) ≡ Some y) × (test y ≡ true)
 position_found test [] h = let e : false ≡ true = h in cc
 position_found {A = A} test (x ∷ xs) h = go (test x) refl (position_found test xs)
@@ -58,7 +53,7 @@ stays {A = A} same kept (z ∷ xs) i x found =
     go : (b : Bool) → ((more : List A) → slice_get more i ≡ Some x → slice_get (with_new same more xs) i ≡ Some x)
         → slice_get (with_new same (if b then kept else kept ++ z ∷ []) xs) i ≡ Some x
     go true rest = rest kept found
-    go false rest = rest (kept ++ z ∷ []) (in_front kept (z ∷ []) i x found)
+    go false rest = rest (kept ++ z ∷ []) (at_front kept (z ∷ []) i x found)
 
 any_stays : {A : Type 0} (same : A → A → Bool) (test : A → Bool) (kept xs : List A) → list_any test kept ≡ true
     → list_any test (with_new same kept xs) ≡ true
@@ -120,29 +115,25 @@ keeps_first A same itself = record {
 
 -- ---- What is the same as itself.
 
-both : (a b : Bool) → a ≡ true → b ≡ true → (a && b) ≡ true
-both true b e f = f
-both false b e f = cc
-
 name_itself : (name : List ℕ) → bytes_eq (folded name) (folded name) ≡ true
 name_itself name = (bytes_eq-Decides (folded name) (folded name)).1 refl
 
 sort_itself : (s : Sort) → is_same_sort s s ≡ true
-sort_itself s = both _ _ (name_itself s.name) (name_itself s.origin)
+sort_itself s = and_from _ _ (name_itself s.name) (name_itself s.origin)
 
 operation_itself : (o : Operation) → is_same_operation o o ≡ true
 operation_itself o =
-    both _ _
-    (both _ _ (both _ _ (name_itself o.name) (eq_forms o.form o.form refl))
-    (both _ _ ((bytes_eq-Decides o.arguments o.arguments).1 refl) (eq-eqb o.result o.result refl)))
+    and_from _ _
+    (and_from _ _ (and_from _ _ (name_itself o.name) (eq_forms o.form o.form refl))
+    (and_from _ _ ((bytes_eq-Decides o.arguments o.arguments).1 refl) (eq-eqb o.result o.result refl)))
     (name_itself o.origin)
 
 equation_itself : (e : Equation) → is_same_equation e e ≡ true
 equation_itself e =
-    both _ _
-    (both _ _ (eq-eqb e.place.text e.place.text refl)
-    (both _ _ (eq-eqb e.place.line e.place.line refl) (eq-eqb e.place.column e.place.column refl)))
-    (both _ _ ((Decides-term_eq e.left e.left).1 refl) ((Decides-term_eq e.right e.right).1 refl))
+    and_from _ _
+    (and_from _ _ (eq-eqb e.place.text e.place.text refl)
+    (and_from _ _ (eq-eqb e.place.line e.place.line refl) (eq-eqb e.place.column e.place.column refl)))
+    (and_from _ _ ((Decides-term_eq e.left e.left).1 refl) ((Decides-term_eq e.right e.right).1 refl))
 
 pub first_appearances : FirstAppearancesAreKept
 first_appearances = record {
@@ -170,3 +161,12 @@ unions = record {
   no_other_sorts = λ p q s at. first_appearances.sorts.adds_nothing p.signature.sorts q.signature.sorts s at;
   no_other_operations = λ p q o at. first_appearances.operations.adds_nothing p.signature.operations (coming_operations p q) o at;
 }
+
+pub position_within : {A : Type 0} (test : A → Bool) (xs : List A) → list_any test xs ≡ true → first_position test xs < length xs
+position_within test [] h = cc
+position_within {A = A} test (x ∷ xs) h = go (test x) refl (position_within test xs)
+  where
+    go : (b : Bool) → test x ≡ b → (list_any test xs ≡ true → first_position test xs < length xs)
+        → (if b then 0 else suc (first_position test xs)) < suc (length xs)
+    go true is rest = omega arith
+    go false is rest = let there : first_position test xs < length xs = rest (rw is at h) in omega (arith, there)

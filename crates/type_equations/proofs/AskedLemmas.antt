@@ -1,10 +1,9 @@
 -- Questions one after another, and variables that come into scope one after another.
-use Rattle.std.proofs.Common.{◌≡◌, ℕ, zero, suc, ◌+◌, ◌<◌, Bool, true, false, List, [], ◌∷◌, ◌++◌, map, length, take, drop, get_or, append_assoc, refl, ap, sym, ◌∙◌, subst, arith}
-use Rattle.std.specs.Prelude.{Some, slice_get, if◌then◌else◌}
-use Rattle.std.specs.List.{list_any}
+use Rattle.std.proofs.Common.{◌≡◌, ℕ, zero, suc, ◌+◌, ◌<◌, true, false, List, [], ◌∷◌, ◌++◌, map, length, take, drop, get_or, append_assoc, refl, ap, sym, ◌∙◌, subst, arith}
+use Rattle.std.specs.Prelude.{Some, slice_get}
 use Rattle.std.proofs.lemmas.List.{map-append, length-append, take-append-drop}
 use Rattle.std.proofs.lemmas.Option.{none-some, same_Some}
-use Rattle.std.proofs.Math.Seq.{take-length}
+use Rattle.lotos_base.proofs.Pieces.{take_whole}
 use Rattle.lotos_base.specs.Name.{spelling}
 use Rattle.lotos_base.specs.WrittenView.{text_place_of}
 use Rattle.lotos_base.specs.Signature.{Sort, IsSort}
@@ -17,9 +16,10 @@ use Rattle.type_definitions.proofs.WalkLemmas.{next_of, so_far}
 use Rattle.syntax_trees.specs.WrittenVariable.{WrittenVariable}
 use Rattle.lotos_base.specs.Equation.{Variable}
 use Rattle.type_definitions.specs.TypeFault.{TypeFault, unknown_sort}
-use Rattle.type_definitions.specs.Presentation.{Presentation, first_position}
+use Rattle.type_definitions.specs.Presentation.{Presentation}
 use Rattle.type_definitions.specs.Declarations.{sort_numbered}
 use Rattle.type_definitions.specs.DeclaredEquations.{EquationQuestion, sort_asked, asked_of_variables, sort_is_there, sort_is_unknown, GiveAll, none_asked, next_gives, HasFirstFault, at_once, further_on, scope_from}
+use Rattle.type_definitions.proofs.WithNewLemmas.{position_within}
 
 pub give_append : (p q r : Presentation) (xs ys : List EquationQuestion) → GiveAll p xs q → GiveAll q ys r → GiveAll p (xs ++ ys) r
 give_append p q r [] ys (none_asked _) later = later
@@ -69,7 +69,7 @@ pub faulty_here : (type_name : List ℕ) (p : Presentation) (xs : List VarText) 
     → HasFirstFault type_name p (asked_of_variables (variables_of xs)) (unknown_sort (text_place_of x.sort_place) (Some (spelling x.sort)))
 faulty_here type_name p xs i x within is before none =
     subst (λ (asked : List EquationQuestion). HasFirstFault type_name p asked (unknown_sort (text_place_of x.sort_place) (Some (spelling x.sort))))
-    (sym whole)
+    (sym take_whole)
     (fault_later type_name p p (asked_of_variables (variables_of (take i xs)))
     (asked_for (written_of x) ∷ asked_of_variables (variables_of (drop (i + 1) xs)))
     (unknown_sort (text_place_of x.sort_place) (Some (spelling x.sort))) before
@@ -77,9 +77,9 @@ faulty_here type_name p xs i x within is before none =
     (unknown_sort (text_place_of x.sort_place) (Some (spelling x.sort)))
     (sort_is_unknown (text_place_of x.sort_place) (spelling x.sort) none)))
   where
-    whole : asked_of_variables (variables_of xs)
+    take_whole : asked_of_variables (variables_of xs)
         ≡ asked_of_variables (variables_of (take i xs)) ++ asked_for (written_of x) ∷ asked_of_variables (variables_of (drop (i + 1) xs))
-    whole =
+    take_whole =
         ap (λ (ys : List VarText). asked_of_variables (variables_of ys)) (sym (take-append-drop i xs))
         ∙ ap (λ (vs : List WrittenVariable). asked_of_variables vs) (map-append written_of (take i xs) (drop i xs))
         ∙ map-append asked_for (variables_of (take i xs)) (variables_of (drop i xs))
@@ -119,16 +119,6 @@ scope_more p xs i x old now new start number v within at is from count grown mad
         ap (λ (vs : List WrittenVariable). scope_from p start vs) (so_far written_of xs i x within at)
         ∙ scope_append p start (variables_of (take i xs)) (written_of x ∷ [])
 
--- the sorts of variables in scope are there
-position_within : {A : Type 0} (test : A → Bool) (xs : List A) → list_any test xs ≡ true → first_position test xs < length xs
-position_within test [] h = let e : false ≡ true = h in cc
-position_within {A = A} test (x ∷ xs) h = go (test x) refl (position_within test xs)
-  where
-    go : (b : Bool) → test x ≡ b → (list_any test xs ≡ true → first_position test xs < length xs)
-        → (if b then 0 else suc (first_position test xs)) < suc (length xs)
-    go true is rest = omega arith
-    go false is rest = let there : first_position test xs < length xs = rest (rw is at h) in omega (arith, there)
-
 pub sorts_there : (p : Presentation) (first : ℕ) (vs : List WrittenVariable) → GiveAll p (asked_of_variables vs) p
     → (i : ℕ) (v : Variable) → slice_get (scope_from p first vs) i ≡ Some v → IsSort p.signature v.sort
 sorts_there p first [] given i v found = absurd (none-some v found)
@@ -137,9 +127,6 @@ sorts_there p first (w ∷ ws) (next_gives _ _ _ _ _ (sort_is_there _ _ there) r
     (position_within (λ (s : Sort). one_name s.name w.sort) p.signature.sorts there)
 sorts_there p first (w ∷ ws) (next_gives _ _ _ _ _ (sort_is_there _ _ there) rest) (suc i) v found =
     sorts_there p (suc first) ws rest i v found
-
-pub whole : {A : Type 0} (xs : List A) (n : ℕ) → n ≡ length xs → take n xs ≡ xs
-whole {A = A} xs n is = ap (λ (m : ℕ). take m xs) is ∙ take-length xs
 
 -- variables behind those of a section
 pub scope_behind : (p : Presentation) (section variables : List WrittenVariable) (before : List Variable) (count : ℕ) (all : List Variable)

@@ -1,10 +1,10 @@
 -- Numbers of variables that are collected one after another.
-use Rattle.std.proofs.Common.{◌≡◌, ℕ, zero, suc, ◌+◌, ◌<◌, ◌≤◌, Bool, true, false, List, [], ◌∷◌, ◌++◌, map, length, drop, get_or, append_assoc, cond, refl, ap, sym, ◌∙◌, arith}
+use Rattle.std.proofs.Common.{◌≡◌, ℕ, suc, ◌+◌, ◌<◌, ◌≤◌, Bool, true, false, List, [], ◌∷◌, ◌++◌, map, length, drop, get_or, append_assoc, cond, refl, ap, sym, ◌∙◌, arith}
 use Rattle.std.specs.Prelude.{Option, Some, None, slice_get, nat_eq, nat_lt, position, if◌then◌else◌}
 use Rattle.std.specs.Option.{option_map}
 use Rattle.std.specs.List.{list_any, position_or_len}
 use Rattle.std.proofs.lemmas.Bool.{ltb-false}
-use Rattle.std.proofs.lemmas.List.{append-nil, drop_more, map-append}
+use Rattle.std.proofs.lemmas.List.{append-nil, drop_more, map-append, drop_all}
 use Rattle.std.proofs.lemmas.List.Recursion.{is_position_or_len}
 use Rattle.std.proofs.lemmas.Option.{slice_get-map}
 use Rattle.lotos_base.specs.Equation.{Variable}
@@ -31,16 +31,10 @@ collected_more terms i t now new start within is so_far one =
     ap (λ (ns : List ℕ). with_new nat_eq ns rest) one ∙ sym (new_twice now (variable_numbers (term_of t)) rest)
     ∙ ap (λ (ts : List Term). with_new nat_eq now (variable_numbers_among (terms_of ts))) (sym next) ∙ so_far
 
-pub nothing_left : {A : Type 0} (xs : List A) (i : ℕ) → length xs ≤ i → drop i xs ≡ []
-nothing_left [] zero h = refl
-nothing_left [] (suc i) h = refl
-nothing_left (x ∷ xs) zero h = absurd (omega arith)
-nothing_left (x ∷ xs) (suc i) h = nothing_left xs i (omega arith)
-
 pub collected_all : (terms : List Term) (i : ℕ) (now start : List ℕ) → length terms ≤ i
     → with_new nat_eq now (variable_numbers_among (terms_of (drop i terms))) ≡ start → now ≡ start
 collected_all terms i now start past so_far =
-    ap (λ (ts : List Term). with_new nat_eq now (variable_numbers_among (terms_of ts))) (sym (nothing_left terms i past)) ∙ so_far
+    ap (λ (ts : List Term). with_new nat_eq now (variable_numbers_among (terms_of ts))) (sym (drop_all i terms past)) ∙ so_far
 
 -- ---- Where a number stands.
 
@@ -107,7 +101,7 @@ variables_more scope order i n made more whole inside is grown so_far =
 pub variables_all : (scope : List Variable) (order : List ℕ) (i : ℕ) (made whole : List Variable) → length order ≤ i
     → made ++ declared_from scope i (drop i order) ≡ whole → made ≡ whole
 variables_all scope order i made whole past so_far =
-    sym (append-nil made) ∙ ap (λ (ns : List ℕ). made ++ declared_from scope i ns) (sym (nothing_left order i past)) ∙ so_far
+    sym (append-nil made) ∙ ap (λ (ns : List ℕ). made ++ declared_from scope i ns) (sym (drop_all i order past)) ∙ so_far
 
 -- a variable that is in scope, or none
 pub not_in_scope : (made : List Variable) (scope : List CodeVariable) (number old : ℕ) → slice_get scope old ≡ None

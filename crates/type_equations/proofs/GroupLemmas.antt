@@ -1,6 +1,7 @@
 -- A group is its sorts and then its equations, and a section its variables and then its groups.
 use Rattle.std.proofs.Common.{◌≡◌, ℕ, Bool, List, map, length, take, ◌∙◌, subst}
 use Rattle.std.specs.List.{flat_map}
+use Rattle.lotos_base.proofs.Pieces.{take_whole}
 use Rattle.syntax_trees.specs.TreeViews.{equation_of, equations_of, group_of, variables_of}
 use Rattle.syntax_trees.specs.WrittenVariable.{WrittenVariable}
 use Rattle.syntax_trees.specs.declared.equations.EqText.{EqText}
@@ -9,7 +10,7 @@ use Rattle.syntax_trees.specs.declared.equations.GroupText.{GroupText}
 use Rattle.type_definitions.specs.TypeFault.{TypeFault}
 use Rattle.type_definitions.specs.Presentation.{Presentation}
 use Rattle.type_definitions.specs.DeclaredEquations.{GiveAll, HasFirstFault, asked_of_group, asked_of_section, asked_of_variables}
-use Rattle.type_equations.proofs.AskedLemmas.{give_append, fault_later, whole}
+use Rattle.type_equations.proofs.AskedLemmas.{give_append, fault_later}
 use Rattle.type_equations.specs.ScopeFor.{sorts_asked}
 use Rattle.type_equations.specs.SectionScope.{question_in}
 use Rattle.type_equations.proofs.GivenLemmas.{fault_first}
@@ -23,7 +24,7 @@ pub group_given : (is_formal : Bool) (written : List WrittenVariable) (g : Group
 group_given is_formal written g p q items i are all sorts given =
     give_append p p q (sorts_asked (group_of g)) (map (question_in is_formal written (group_of g)) (map equation_of g.equations.items)) sorts
     (subst (λ (es : List EqText). GiveAll p (map (question_in is_formal written (group_of g)) (map equation_of es)) q)
-    (whole items i all ∙ are) given)
+    (take_whole items i all ∙ are) given)
 
 pub group_sorts_fault : (is_formal : Bool) (written : List WrittenVariable) (g : GroupText) (type_name : List ℕ) (p : Presentation)
     (fault : TypeFault) → HasFirstFault type_name p (sorts_asked (group_of g)) fault
@@ -52,7 +53,7 @@ section_given is_formal s p q items i are all sorts given =
     give_append p p q (asked_of_variables (variables_of s.variables.items))
     (flat_map (asked_of_group is_formal (variables_of s.variables.items)) (map group_of s.groups.items)) sorts
     (subst (λ (gs : List GroupText). GiveAll p (flat_map (asked_of_group is_formal (variables_of s.variables.items)) (map group_of gs)) q)
-    (whole items i all ∙ are) given)
+    (take_whole items i all ∙ are) given)
 
 pub section_sorts_fault : (is_formal : Bool) (s : EqnsText) (type_name : List ℕ) (p : Presentation) (fault : TypeFault)
     → HasFirstFault type_name p (asked_of_variables (variables_of s.variables.items)) fault

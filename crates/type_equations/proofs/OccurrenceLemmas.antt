@@ -2,6 +2,7 @@
 use Rattle.std.proofs.Common.{◌≡◌, ℕ, suc, Bool, true, false, List, [], ◌∷◌, ◌++◌, ◌⊎◌, inl, inr, refl, ap, sym, ◌∙◌, subst}
 use Rattle.std.specs.Prelude.{Some, slice_get, nat_eq, if◌then◌else◌}
 use Rattle.std.specs.List.{list_any}
+use Rattle.std.proofs.lemmas.Bool.{or_left}
 use Rattle.lotos_base.specs.WrittenTerm.{WrittenTerm, WrittenTerms, written, no_written, written_then}
 use Rattle.lotos_base.specs.Signature.{Signature}
 use Rattle.lotos_base.specs.Equation.{Variable}
@@ -9,7 +10,7 @@ use Rattle.lotos_base.specs.Term.{Term, Terms, variable, node, no_terms, term_th
 use Rattle.lotos_base.specs.Sorting.{HasSort, HaveSorts, Occurs, OccursAmong}
 use Rattle.sort_terms.specs.Reading.{Reads, AllRead}
 use Rattle.type_definitions.specs.TypeGraph.{is_among}
-use Rattle.type_definitions.proofs.NumberLists.{or_left, among_left, among_right, among_cases, among_one, one_among, among_none}
+use Rattle.type_definitions.proofs.NumberLists.{among_left, among_right, among_cases, among_one, one_among, among_none}
 use Rattle.type_definitions.specs.Presentation.{with_new, first_position}
 use Rattle.type_definitions.specs.DeclaredEquations.{variable_numbers, variable_numbers_among, renumbered, renumbered_among}
 use Rattle.type_equations.specs.SideLaws.{AreNumberedByPosition}

@@ -1,7 +1,7 @@
 -- The equation of two readings is well formed.
 use Rattle.std.proofs.Common.{◌≡◌, ℕ, zero, suc, ◌+◌, true, List, [], ◌∷◌, ◌++◌, inl, inr, refl, ap, sym, ◌∙◌, subst, arith}
 use Rattle.std.specs.Prelude.{Option, Some, slice_get, nat_eq}
-use Rattle.std.proofs.lemmas.Bool.{eq-eqb}
+use Rattle.std.proofs.lemmas.Bool.{eq-eqb, or_left, or_right}
 use Rattle.std.proofs.lemmas.Option.{none-some, same_Some}
 use Rattle.lotos_base.specs.WrittenTerm.{WrittenTerm}
 use Rattle.lotos_base.specs.Signature.{Signature, IsSort}
@@ -12,7 +12,7 @@ use Rattle.syntax_trees.specs.WrittenVariable.{WrittenVariable}
 use Rattle.sort_terms.specs.Reading.{Reads}
 use Rattle.sort_terms.proofs.ReadsLemmas.{reads_sorted}
 use Rattle.type_definitions.specs.TypeGraph.{is_among}
-use Rattle.type_definitions.proofs.NumberLists.{among_left, among_right, among_cases, among_none, or_left, or_right}
+use Rattle.type_definitions.proofs.NumberLists.{among_left, among_right, among_cases, among_none}
 use Rattle.type_definitions.specs.Presentation.{Presentation}
 use Rattle.type_definitions.specs.DeclaredEquations.{variable_numbers, appearing, renumbered, declared_as, declared_from, scope_from, equation_of_sides}
 use Rattle.type_equations.specs.SideLaws.{AreNumberedByPosition, ScopesAreNumbered, SidesMakeAnEquation}

@@ -48,7 +48,7 @@ scope_over p q n (v ∷ vs) same =
     row : ℕ → Variable
     row s = record { name = v.name; number = n; sort = s }
 
-variables_over : (p q : Presentation) (vs : List WrittenVariable) → q.signature ≡ p.signature → GiveAll p (asked_of_variables vs) p
+pub variables_over : (p q : Presentation) (vs : List WrittenVariable) → q.signature ≡ p.signature → GiveAll p (asked_of_variables vs) p
     → GiveAll q (asked_of_variables vs) q
 variables_over p q [] same given = none_asked q
 variables_over p q (v ∷ vs) same (next_gives _ _ _ _ _ (sort_is_there _ _ there) rest) =
@@ -76,7 +76,7 @@ scope_for_over p q variables sort scope same is = record {
 -- ---- Two sides.
 
 -- a side is read at the sort of its group
-side_reads : (p : Presentation) (asked : AskedEquation) (side : WrittenTerm) (t : Term) → IsSide p asked side t
+pub side_reads : (p : Presentation) (asked : AskedEquation) (side : WrittenTerm) (t : Term) → IsSide p asked side t
     → Reads p.signature (scope_of p asked) side t (sort_numbered p asked.sort)
 side_reads p asked side t is =
     go (unknown_in p.signature (scope_of p asked) side) is.1

@@ -1,52 +1,27 @@
 -- Sorts by their names: that there is none, or the number of the one.
-use Rattle.std.proofs.Common.{◌≡◌, ℕ, Bool, true, false, List, [], ◌∷◌, refl, ap, sym, ◌∙◌}
-use Rattle.std.specs.Prelude.{Some, slice_get, ◌&&◌, nat_eq, length, codes}
+use Rattle.std.proofs.Common.{◌≡◌, ℕ, Bool, true, false, List, [], ap, sym, ◌∙◌}
+use Rattle.std.specs.Prelude.{◌&&◌, nat_eq, length, codes}
 use Rattle.std.specs.List.{list_any}
+use Rattle.std.proofs.lemmas.Map.Keys.{any_passes_from_place}
+use Rattle.lotos_base.proofs.Bytes.{same_bytes, bytes_same}
 use Rattle.lotos_base.specs.Names.{folded}
-use Rattle.lotos_base.specs.Signature.{Signature, Sort, Operation, prefix_form}
+use Rattle.lotos_base.specs.Signature.{Sort, Operation, prefix_form}
 use Rattle.lotos_base.specs.Twins.{form_eq}
 use Rattle.type_definitions.specs.DeclaredEquations.{bool_sort, has_truth}
 use Rattle.sort_terms.specs.Reading.{IsSortNamed}
 use Rattle.sort_terms.specs.ReadingOutcome.{one_name, is_sort_name}
-use Rattle.sort_terms.proofs.NameIndexLemmas.{same_key, key_eq}
-use Rattle.sort_terms.proofs.UnknownLemmas.{any_member, member_any}
 use Rattle.type_definitions.specs.Presentation.{Presentation, first_position}
 use Rattle.type_definitions.specs.Declarations.{sort_numbered}
-
-false_unless : (test : Bool) → (test ≡ true → ⊥) → test ≡ false
-false_unless true never = absurd (never refl)
-false_unless false never = refl
-
-pub sort_none : (signature : Signature) (name : List ℕ) → ((s : ℕ) → ¬ IsSortNamed signature s name) → is_sort_name signature name ≡ false
-sort_none signature name none =
-    false_unless (is_sort_name signature name) (λ there.
-    let member = member_any (λ (s : Sort). one_name s.name name) signature.sorts there in
-    none member.0 (member.1, member.2, same_key (folded member.1.name) (folded name) member.3))
-
--- the member that the first position has
-position_found : {A : Type 0} (test : A → Bool) (xs : List A) → list_any test xs ≡ true
-    → (y : A) × (slice_get xs (first_position test xs) ≡ Some y) × (test y ≡ true)
-position_found test [] h = let e : false ≡ true = h in cc
-position_found {A = A} test (x ∷ xs) h = go (test x) refl (position_found test xs)
-  where
-    go : (b : Bool) → test x ≡ b
-        → (list_any test xs ≡ true → (y : A) × (slice_get xs (first_position test xs) ≡ Some y) × (test y ≡ true))
-        → (y : A) × (slice_get (x ∷ xs) (first_position test (x ∷ xs)) ≡ Some y) × (test y ≡ true)
-    go true is rest = let first : slice_get (x ∷ xs) (first_position test (x ∷ xs)) ≡ Some x = rw is refl in (x, first, is)
-    go false is rest =
-        let later : list_any test xs ≡ true = rw is at h in
-        let found = rest later in
-        let there : slice_get (x ∷ xs) (first_position test (x ∷ xs)) ≡ Some found.0 = rw is found.1 in
-        (found.0, there, found.2)
+use Rattle.type_definitions.proofs.WithNewLemmas.{position_found}
 
 pub sort_found : (p : Presentation) (name : List ℕ) (n : ℕ) → IsSortNamed p.signature n name
     → ((s : ℕ) → IsSortNamed p.signature s name → s ≡ n) → (is_sort_name p.signature name ≡ true) × (n ≡ sort_numbered p name)
 sort_found p name n named only =
     let test : Sort → Bool = λ s. one_name s.name name in
     let there : is_sort_name p.signature name ≡ true =
-    any_member test p.signature.sorts n named.0 named.1 (key_eq (folded named.0.name) (folded name) named.2) in
+    any_passes_from_place test p.signature.sorts n named.0 named.1 (bytes_same (folded named.0.name) (folded name) named.2) in
     let first = position_found test p.signature.sorts there in
-    (there, sym (only (first_position test p.signature.sorts) (first.0, first.1, same_key (folded first.0.name) (folded name) first.2)))
+    (there, sym (only (first_position test p.signature.sorts) (first.0, first.1, same_bytes (folded first.0.name) (folded name) first.2)))
 
 -- ---- The sort `Bool` with its constant `true`.
 

@@ -1,8 +1,8 @@
 -- What an actualisation has.
 use Rattle.std.proofs.Common.{◌≡◌, ℕ, zero, suc, ◌+◌, Bool, true, false, List, [], ◌∷◌, map, refl, ap, sym, ◌∙◌, subst, arith}
 use Rattle.std.specs.Prelude.{Option, Some, slice_get, if◌then◌else◌}
-use Rattle.std.specs.Option.{option_map}
-use Rattle.std.proofs.lemmas.Option.{none-some, slice_get-map}
+use Rattle.std.proofs.lemmas.Option.{none-some}
+use Rattle.type_actualisation.proofs.MapLemmas.{image_there}
 use Rattle.lotos_base.specs.Signature.{Sort, Operation}
 use Rattle.lotos_base.specs.Equation.{Equation}
 use Rattle.type_definitions.specs.Images.{equation_image}
@@ -29,10 +29,6 @@ is_other {A = A} marks number (z ∷ xs) (suc i) n x found at plain =
         → IsIn (if b then unmarked_from marks (suc number) xs else z ∷ unmarked_from marks (suc number) xs) x
     go true there = there
     go false there = (suc there.0, there.1)
-
-image_in : {A B : Type 0} (f : A → B) (xs : List A) (x : A) → IsIn xs x → IsIn (map f xs) (f x)
-image_in {A = A} {B = B} f xs x at =
-    (at.0, slice_get-map f xs at.0 ∙ ap (λ (o : Option A). option_map f o) at.1)
 
 unmarked : {A : Type 0} (b : Bool) (one other : A) → b ≡ false → (if b then one else other) ≡ other
 unmarked true one other h = cc
@@ -75,7 +71,7 @@ actualisations = record {
       let at =
       first_appearances.sorts.comes a.actual.signature.sorts (map (other_sort_image a) (other_sorts_of a.base.presentation))
       (other_sort_image a s)
-      (image_in (other_sort_image a) (other_sorts_of a.base.presentation) s
+      (image_there (other_sort_image a) (other_sorts_of a.base.presentation) s
       (is_other a.base.presentation.formal_sorts 0 a.base.presentation.signature.sorts i i s found (omega arith) plain)) in
       let there : slice_get (actualised_sorts a) (actualised_sort a i) ≡ Some at.0 =
       ap (λ (n : ℕ). slice_get (actualised_sorts a) n) (sort_number a i s found plain) ∙ at.1 in
@@ -84,7 +80,7 @@ actualisations = record {
       let at =
       first_appearances.operations.comes a.actual.signature.operations
       (map (other_operation_image a) (other_operations_of a.base.presentation)) (other_operation_image a o)
-      (image_in (other_operation_image a) (other_operations_of a.base.presentation) o
+      (image_there (other_operation_image a) (other_operations_of a.base.presentation) o
       (is_other a.base.presentation.formal_operations 0 a.base.presentation.signature.operations i i o found (omega arith) plain)) in
       let there : slice_get (actualised_operations a) (actualised_operation a i) ≡ Some at.0 =
       ap (λ (n : ℕ). slice_get (actualised_operations a) n) (operation_number a i o found plain) ∙ at.1 in
@@ -93,7 +89,7 @@ actualisations = record {
       let image : Equation → Equation = equation_image (actualised_sort a) (actualised_operation a) in
       let at =
       first_appearances.equations.comes a.actual.equations (map image a.base.presentation.equations) (image e)
-      (image_in image a.base.presentation.equations e (i, found)) in
+      (image_there image a.base.presentation.equations e (i, found)) in
       (at.0, first_position (is_same_equation (image e)) (actualised_equations a), at.1, at.2);
   no_other_sorts = λ a s at.
       first_appearances.sorts.adds_nothing a.actual.signature.sorts (map (other_sort_image a) (other_sorts_of a.base.presentation)) s at;

@@ -4,7 +4,7 @@ use Rattle.std.specs.Prelude.{None, ◌||◌, ◌&&◌, not, if◌then◌else◌
 use Rattle.std.specs.List.{list_any}
 use Rattle.std.proofs.lemmas.List.Folds.{list_any-append}
 use Rattle.std.proofs.lemmas.Bool.{or_right, or_left, false_from_ne_true, both_ways}
-use Rattle.list_laws.proofs.Tests.{list_any-weaker}
+use Rattle.lotos_base.proofs.Tests.{list_any-weaker}
 use Rattle.lotos_base.specs.Equation.{Place}
 use Rattle.lotos_base.specs.Signature.{Sort, Operation}
 use Rattle.sort_terms.specs.ReadingOutcome.{one_name}
@@ -13,6 +13,7 @@ use Rattle.type_definitions.specs.TypeFault.{TypeFault, double_sort, double_oper
 use Rattle.type_definitions.specs.Presentation.{with_new, is_same_sort, is_same_operation}
 use Rattle.type_definitions.specs.Actualisation.{Actualising, actualisation, other_sorts_of, other_operations_of, other_sort_image, other_operation_image, sort_renamer, operation_renamer}
 use Rattle.type_definitions.specs.ActualisationFaults.{Coming, there_already, coming_clash, coming_at, coming_sorts, coming_operations, sorts_clash, operations_clash, made_by_two, actualising_fault}
+use Rattle.type_definitions.proofs.FaultLemmas.{none_first, not_past}
 use Rattle.type_presentations.proofs.AddedLemmas.{by_name, by_profile}
 use Rattle.type_presentations.proofs.KeptLemmas.{differ_and_one}
 use Rattle.type_presentations.proofs.KeyedLemmas.{mutual_by_key}
@@ -20,7 +21,6 @@ use Rattle.type_presentations.proofs.SignatureLemmas.{sorts_differ, operations_d
 use Rattle.type_actualisation.specs.ActualisationLaws.{HasActuals}
 use Rattle.type_actualisation.proofs.DataLemmas.{actualised_data}
 use Rattle.type_laws.specs.FlattenedData.{IsFine}
-use Rattle.type_laws.proofs.UnionsFine.{neither, test_fails}
 
 -- ---- Tests over lists.
 
@@ -94,9 +94,9 @@ stay_different : {A : Type 0} (a : Actualising) (one same : A → A → Bool) (c
     → all_differ one (with_new same kept (map (λ (c : Coming A). c.image) coming)) ≡ true
 stay_different a one same clash kind turned apart kept earlier [] among differ none = differ
 stay_different {A = A} a one same clash kind turned apart kept earlier (x ∷ xs) among differ none =
-    let parts = neither (fault_if (list_any (clash x) earlier) (coming_at a kind x)) (coming_clash a clash kind (earlier ++ x ∷ []) xs)
+    let parts = none_first (fault_if (list_any (clash x) earlier) (coming_at a kind x)) (coming_clash a clash kind (earlier ++ x ∷ []) xs)
     none in
-    go (test_fails (list_any (clash x) earlier) (coming_at a kind x) parts.0)
+    go (not_past (list_any (clash x) earlier) (coming_at a kind x) parts.0)
     (λ (next : List A) (are : AreAmong next (earlier ++ x ∷ [])) (still : all_differ one next ≡ true).
     stay_different a one same clash kind turned apart next (earlier ++ x ∷ []) xs are still parts.1)
     (list_any (same x.image) kept) refl
@@ -174,12 +174,12 @@ record IsFaultless (a : Actualising) : Type 0 where
 
 faultless : (a : Actualising) → actualising_fault a ≡ None → IsFaultless a
 faultless a none =
-    let one = neither _ _ none in
-    let two = neither _ _ one.1 in
-    let three = neither _ _ two.1 in
-    let four = neither _ _ three.1 in
-    let five = neither _ _ four.1 in
-    let six = neither _ _ five.1 in record {
+    let one = none_first _ _ none in
+    let two = none_first _ _ one.1 in
+    let three = none_first _ _ two.1 in
+    let four = none_first _ _ three.1 in
+    let five = none_first _ _ four.1 in
+    let six = none_first _ _ five.1 in record {
       actuals = record { sorts = three.0; operations = four.0 };
       sorts = five.0;
       operations = six.0;

@@ -4,8 +4,8 @@ use Rattle.std.specs.Prelude.{Some, slice_get, if◌then◌else◌}
 use Rattle.std.specs.List.{list_any}
 use Rattle.std.proofs.lemmas.List.{append-nil}
 use Rattle.std.proofs.lemmas.Option.{none-some, same_Some, slice_get_within}
-use Rattle.list_laws.proofs.Members.{at_end, at_front, map_same}
-use Rattle.list_laws.proofs.Tests.{list_any-at}
+use Rattle.lotos_base.proofs.Members.{at_end, at_front, map_same, member_at}
+use Rattle.lotos_base.proofs.Tests.{list_any-at}
 use Rattle.lotos_base.specs.Signature.{Signature, Sort, Operation, IsSort, IsOperation, IsWellFormedSignature}
 use Rattle.type_definitions.specs.Images.{operation_image}
 use Rattle.type_definitions.specs.Presentation.{Presentation, nothing, with_new, is_same_sort, is_same_operation}
@@ -15,7 +15,7 @@ use Rattle.type_definitions.specs.Actualisation.{is_formal}
 use Rattle.type_definitions.specs.Flattened.{without_formals}
 use Rattle.type_laws.specs.Contributions.{ContributionsAreExact}
 use Rattle.type_laws.proofs.ContainmentLemmas.{second_lies}
-use Rattle.type_laws.proofs.OneToOneLemmas.{sort_at, sort_name, same_operation}
+use Rattle.type_laws.proofs.OneToOneLemmas.{sort_name, same_operation}
 
 -- ---- Types without formal marks.
 
@@ -82,7 +82,7 @@ sorts_alone q fine =
 
 number_stays : (q : Presentation) → IsWellFormedSignature q.signature → (n : ℕ) → IsSort q.signature n → joined_sort nothing q n ≡ n
 number_stays q fine n known =
-    let s = sort_at q.signature.sorts n known in
+    let s = member_at q.signature.sorts n known in
     let at = (second_lies nothing q).sorts n s.0 s.1 in
     let there : slice_get q.signature.sorts (joined_sort nothing q n) ≡ Some at.0 =
     ap (λ (ss : List Sort). slice_get ss (joined_sort nothing q n)) (sym (sorts_alone q fine)) ∙ at.1 in

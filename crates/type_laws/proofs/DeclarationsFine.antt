@@ -8,11 +8,12 @@ use Rattle.type_definitions.specs.TypeFault.{no_reading, fault_if, first_fault, 
 use Rattle.type_definitions.specs.Presentation.{Presentation}
 use Rattle.type_definitions.specs.Union.{presentation_fault}
 use Rattle.type_definitions.specs.Declarations.{with_sort, sort_fault, with_operation, operation_fault, fits_form, unknown_sort_among, with_formal_sorts, with_sorts, with_formal_operations, with_declarations, declaration_fault}
+use Rattle.type_definitions.proofs.FaultLemmas.{none_first}
 use Rattle.type_presentations.proofs.GrowthLemmas.{data_in_larger, larger_by_sort, larger_by_operation, well_formed_with_sort, well_formed_with_operation}
 use Rattle.type_declarations.specs.DeclaredOperation.{declared_operation}
 use Rattle.type_declarations.proofs.DeclareLemmas.{sorts_are_known}
 use Rattle.type_laws.specs.FlattenedData.{IsFine}
-use Rattle.type_laws.proofs.UnionsFine.{neither, nothing_clashes, all_along}
+use Rattle.type_laws.proofs.UnionsFine.{nothing_clashes, all_along}
 
 abbrev declared_sort : List ℕ → PlacedName → Sort
 declared_sort origin declared = record { name = declared.name; origin = origin }
@@ -31,9 +32,9 @@ operation_fine origin is_formal p declared fine none =
     let made = with_operation origin is_formal p declared in
     let wrong = presentation_fault declared.place declared.name made in
     let missing = unknown_sort_among p (declared.arguments ++ declared.result ∷ []) in
-    let parts = neither (fault_if (not (fits_form declared.form (length declared.arguments))) (no_reading declared.place))
+    let parts = none_first (fault_if (not (fits_form declared.form (length declared.arguments))) (no_reading declared.place))
     (first_fault missing wrong) none in
-    let later = neither missing wrong parts.1 in
+    let later = none_first missing wrong parts.1 in
     let apart = nothing_clashes declared.place declared.name made later.1 in
     data_in_larger p.signature made.signature p.equations (larger_by_operation p.signature (declared_operation origin p declared))
     (well_formed_with_operation p.signature (declared_operation origin p declared) fine.signature
@@ -60,10 +61,10 @@ declarations_fine origin p sections fine none =
     let formal_operations = fault_along (operation_fault origin true) (with_operation origin true) (with_sorts origin p sections)
     sections.formal_operations in
     let sorts = fault_along (sort_fault origin false) (with_sort origin false) (with_formal_sorts origin p sections) sections.sorts in
-    let one = neither (fault_along (sort_fault origin true) (with_sort origin true) p sections.formal_sorts)
+    let one = none_first (fault_along (sort_fault origin true) (with_sort origin true) p sections.formal_sorts)
     (first_fault sorts (first_fault formal_operations operations)) none in
-    let two = neither sorts (first_fault formal_operations operations) one.1 in
-    let three = neither formal_operations operations two.1 in
+    let two = none_first sorts (first_fault formal_operations operations) one.1 in
+    let three = none_first formal_operations operations two.1 in
     operations_fine origin false (with_formal_operations origin p sections) sections.operations
     (operations_fine origin true (with_sorts origin p sections) sections.formal_operations
     (sorts_fine origin false (with_formal_sorts origin p sections) sections.sorts

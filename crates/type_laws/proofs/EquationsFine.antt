@@ -1,22 +1,17 @@
 -- Equations that a type declares without a fault.
-use Rattle.std.proofs.Common.{◌≡◌, ℕ, Bool, true, false, List, [], ◌∷◌, ◌++◌, map, refl, ap, ◌∙◌, subst}
-use Rattle.std.specs.Prelude.{Some}
+use Rattle.std.proofs.Common.{◌≡◌, ℕ, Bool, true, false, List, [], ◌∷◌, ◌++◌, map, refl, subst}
 use Rattle.std.specs.List.{flat_map}
 use Rattle.type_equations.proofs.GivenLemmas.{gives_same, give_all_same}
-use Rattle.lotos_base.specs.WrittenTerm.{WrittenTerm, written_head}
-use Rattle.lotos_base.specs.Signature.{Signature}
-use Rattle.lotos_base.specs.Term.{Term}
 use Rattle.syntax_trees.specs.WrittenVariable.{WrittenVariable}
 use Rattle.syntax_trees.specs.WrittenEquation.{WrittenEquation, WrittenGroup, WrittenEquations}
 use Rattle.syntax_trees.specs.WrittenItem.{WrittenSections}
-use Rattle.sort_terms.specs.Reading.{Reads}
-use Rattle.sort_terms.specs.ReadingOutcome.{ReadingRefusal, answered, ComesTo, IsReading, unknown_in, is_sort_name}
 use Rattle.type_definitions.specs.Presentation.{Presentation}
 use Rattle.type_definitions.specs.Declarations.{sort_numbered}
-use Rattle.type_definitions.specs.DeclaredEquations.{EquationQuestion, AskedEquation, sort_asked, formal_asked, own_asked, equation_asked, asked_of_variables, asked_of_group, asked_of_section, GivesPresentation, sort_is_there, formal_is_read, own_is_read, GiveAll, none_asked, next_gives, scope_of, IsSide, equation_of_sides}
+use Rattle.type_definitions.specs.DeclaredEquations.{EquationQuestion, AskedEquation, formal_asked, own_asked, equation_asked, asked_of_variables, asked_of_group, asked_of_section, GivesPresentation, sort_is_there, formal_is_read, own_is_read, GiveAll, none_asked, next_gives, scope_of, equation_of_sides}
 use Rattle.type_definitions.specs.Extension.{asked_of}
 use Rattle.type_equations.proofs.OverLemmas.{sides_over, scopes_numbered}
 use Rattle.type_equations.proofs.AskedLemmas.{sorts_there, give_both}
+use Rattle.type_equations.proofs.SectionLemmas.{variables_over, side_reads}
 use Rattle.type_presentations.proofs.GrowthLemmas.{data_with_equation}
 use Rattle.type_laws.specs.FlattenedData.{IsFine}
 
@@ -37,31 +32,7 @@ variables_given : (p q : Presentation) (vs : List WrittenVariable) → GiveAll p
 variables_given p q vs given =
     subst (λ (x : Presentation). GiveAll p (asked_of_variables vs) x) (variables_same p q vs given) given
 
--- and so sorts that are there stay there
-variables_stay : (p q : Presentation) (vs : List WrittenVariable) → q.signature ≡ p.signature → GiveAll p (asked_of_variables vs) p
-    → GiveAll q (asked_of_variables vs) q
-variables_stay p q [] same given = none_asked q
-variables_stay p q (v ∷ vs) same (next_gives _ _ _ _ _ (sort_is_there _ _ there) rest) =
-    next_gives q q q (sort_asked v.sort_place v.sort) (asked_of_variables vs)
-    (sort_is_there v.sort_place v.sort (ap (λ (s : Signature). is_sort_name s v.sort) same ∙ there))
-    (variables_stay p q vs same rest)
-
 -- ---- One equation.
-
-side_reads : (p : Presentation) (asked : AskedEquation) (side : WrittenTerm) (t : Term) → IsSide p asked side t
-    → Reads p.signature (scope_of p asked) side t (sort_numbered p asked.sort)
-side_reads p asked side t is = go (unknown_in p.signature (scope_of p asked) side) is.1
-  where
-    at : ℕ
-    at = sort_numbered p asked.sort
-
-    go : (refusals : List ReadingRefusal)
-        → ComesTo refusals (written_head side).place (IsReading p.signature (scope_of p asked) side (Some at)) (answered is.0)
-        → Reads p.signature (scope_of p asked) side t at
-    go [] only =
-        subst (λ (u : Term). Reads p.signature (scope_of p asked) side u at) is.2
-        (subst (λ (s : ℕ). Reads p.signature (scope_of p asked) side is.0.term s) only.is_answer.1 only.is_answer.0)
-    go (first ∷ rest) none = absurd none
 
 own_fine : (p q : Presentation) (asked : AskedEquation) → IsFine p → GiveAll p (asked_of_variables asked.variables) p
     → GivesPresentation p (own_asked asked) q → IsFine q
@@ -90,7 +61,7 @@ equations_fine : (p q : Presentation) (is_formal : Bool) (vs : List WrittenVaria
 equations_fine p q is_formal vs sort [] fine there (none_asked _) = fine
 equations_fine p q is_formal vs sort (e ∷ es) fine there (next_gives _ s _ _ _ one rest) =
     equations_fine s q is_formal vs sort es (equation_fine p s is_formal (asked_in vs sort e) fine there one)
-    (variables_stay p s vs (gives_same p s (equation_asked is_formal (asked_in vs sort e)) one) there) rest
+    (variables_over p s vs (gives_same p s (equation_asked is_formal (asked_in vs sort e)) one) there) rest
 
 abbrev group_equations : Bool → List WrittenVariable → WrittenGroup → List EquationQuestion
 group_equations is_formal vs group =
@@ -111,7 +82,7 @@ groups_fine p q is_formal vs [] fine there (none_asked _) = fine
 groups_fine p q is_formal vs (group ∷ groups) fine there given =
     let parts = split p q (asked_of_group is_formal vs group) (flat_map (asked_of_group is_formal vs) groups) given in
     groups_fine parts.0 q is_formal vs groups (group_fine p parts.0 is_formal vs group fine there parts.1)
-    (variables_stay p parts.0 vs (give_all_same p parts.0 (asked_of_group is_formal vs group) parts.1) there) parts.2
+    (variables_over p parts.0 vs (give_all_same p parts.0 (asked_of_group is_formal vs group) parts.1) there) parts.2
 
 section_fine : (p q : Presentation) (is_formal : Bool) (section : WrittenEquations) → IsFine p
     → GiveAll p (asked_of_section is_formal section) q → IsFine q

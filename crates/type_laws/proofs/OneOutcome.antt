@@ -1,7 +1,7 @@
 -- Types have one presentation each, or the first of them with a fault has one.
 use Rattle.std.proofs.Common.{refl, ap, sym, ◌∙◌, ◌≡◌, inl, inr, subst, ℕ, List, [], ◌∷◌, ◌++◌, Some}
 use Rattle.std.proofs.lemmas.Option.{same_Some}
-use Rattle.list_laws.proofs.Options.{none_and_some}
+use Rattle.lotos_base.proofs.Options.{none_and_some}
 use Rattle.lotos_base.specs.Equation.{Data}
 use Rattle.syntax_trees.specs.WrittenItem.{WrittenTypeBody, extends, renames, actualises}
 use Rattle.type_definitions.specs.DeclaredTypes.{DeclaredType, mention_graph}

@@ -2,13 +2,14 @@
 use Rattle.std.proofs.Common.{refl, ap, sym, ◌∙◌, ◌≡◌, inl, inr, subst, ℕ, List, [], ◌∷◌, true, false, Option, None, Some}
 use Rattle.std.proofs.lemmas.Option.{same_Some}
 use Rattle.std.proofs.lemmas.Bool.{both_ways}
-use Rattle.list_laws.proofs.Options.{none_and_some}
+use Rattle.lotos_base.proofs.Options.{none_and_some}
 use Rattle.lotos_base.specs.WrittenTerm.{WrittenTerm}
 use Rattle.lotos_base.specs.Equation.{Place}
 use Rattle.lotos_base.specs.Term.{Term}
 use Rattle.syntax_trees.specs.WrittenEquation.{WrittenPremiss}
 use Rattle.sort_terms.specs.ReadingOutcome.{ReadingRefusal, ReadingOutcome, answered, refused, SortedTerm, SortedPair, ReadingIs, PairReadingIs}
 use Rattle.sort_terms.proofs.ReadsLemmas.{comes_once}
+use Rattle.sort_terms.proofs.OutcomeLemmas.{not_answered_and_refused}
 use Rattle.type_definitions.specs.TypeFault.{TypeFault, premised}
 use Rattle.type_definitions.specs.Presentation.{Presentation, is_too_large}
 use Rattle.type_definitions.specs.Declarations.{sort_numbered}
@@ -28,9 +29,6 @@ refusal_in other (refused refusal) = refusal
 abbrev IsAnswered : {A : Type 0} → ReadingOutcome A → Type 0
 IsAnswered (answered x) = Unit {0}
 IsAnswered (refused refusal) = ⊥
-
-not_answered_and_refused : {A : Type 0} (x : A) (refusal : ReadingRefusal) → answered x ≡ refused refusal → ⊥
-not_answered_and_refused {A} x refusal same = subst (λ (o : ReadingOutcome A). IsAnswered o) same tt
 
 refusals_once : {A : Type 0} (one other : ReadingRefusal) → ◌≡◌ {A = ReadingOutcome A} (refused one) (refused other) → fault_of one ≡ fault_of other
 refusals_once {A} one other same = ap (λ (o : ReadingOutcome A). fault_of (refusal_in one o)) same

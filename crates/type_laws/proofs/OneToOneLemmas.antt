@@ -8,6 +8,7 @@ use Rattle.std.proofs.lemmas.Slice.Eq.{bytes_eq-Decides}
 use Rattle.lotos_base.specs.Names.{folded}
 use Rattle.lotos_base.specs.Signature.{Sort, Operation, IsSort, IsOperation, IsWellFormedSignature}
 use Rattle.lotos_base.specs.Twins.{form_eq}
+use Rattle.lotos_base.proofs.Members.{member_at}
 use Rattle.sort_terms.specs.ReadingOutcome.{one_name}
 use Rattle.sort_terms.specs.WellFormedTest.{are_one_sort, are_one_operation}
 use Rattle.sort_terms.proofs.NodeLemmas.{forms_eq}
@@ -56,11 +57,6 @@ both_alike o p u one other = record {
 
 -- ---- Lists of numbers.
 
-pub sort_at : (ss : List Sort) (n : ℕ) → n < length ss → (s : Sort) × (slice_get ss n ≡ Some s)
-sort_at [] n within = absurd (omega (arith, within))
-sort_at (s ∷ ss) zero within = (s, refl)
-sort_at (s ∷ ss) (suc n) within = sort_at ss n (omega (arith, within))
-
 abbrev head_or : List ℕ → ℕ
 head_or [] = 0
 head_or (x ∷ xs) = x
@@ -87,8 +83,8 @@ same_before f known apart (x ∷ xs) (y ∷ ys) these those same =
 sorts_apart : (p q : Presentation) → IsWellFormedSignature q.signature → (s t : ℕ) → IsSort q.signature s → IsSort q.signature t
     → joined_sort p q s ≡ joined_sort p q t → s ≡ t
 sorts_apart p q fine s t known other same =
-    let x = sort_at q.signature.sorts s known in
-    let y = sort_at q.signature.sorts t other in
+    let x = member_at q.signature.sorts s known in
+    let y = member_at q.signature.sorts t other in
     let one = (second_lies p q).sorts s x.0 x.1 in
     let two = (second_lies p q).sorts t y.0 y.1 in
     let alike : one.0 ≡ two.0 =

@@ -8,7 +8,7 @@ use Rattle.std.proofs.lemmas.Option.{none-some, same_Some, slice_get_within, sli
 use Rattle.std.proofs.lemmas.Slice.Eq.{bytes_eq-Decides}
 use Rattle.std.specs.Str.{bytes_eq}
 use Rattle.std.specs.Prelude.{◌&&◌, nat_eq}
-use Rattle.list_laws.proofs.Members.{at_front, at_end}
+use Rattle.lotos_base.proofs.Members.{at_front, at_end}
 use Rattle.lotos_base.specs.Names.{folded}
 use Rattle.lotos_base.specs.Signature.{Sort, Operation, IsSort, IsOperation, IsWellFormedSignature}
 use Rattle.lotos_base.specs.Twins.{form_eq}
@@ -17,13 +17,15 @@ use Rattle.syntax_trees.specs.WrittenItem.{WrittenPair, WrittenPairs}
 use Rattle.sort_terms.specs.ReadingOutcome.{one_name}
 use Rattle.sort_terms.specs.WellFormedTest.{are_one_sort, are_one_operation}
 use Rattle.sort_terms.proofs.NodeLemmas.{eq_forms}
+use Rattle.sort_terms.proofs.WellFormedLemmas.{operations_mutual}
 use Rattle.type_definitions.specs.Images.{equation_image}
 use Rattle.type_definitions.specs.ProfiledImage.{profile_in}
 use Rattle.type_definitions.specs.ImageLaws.{IsSignatureMap}
 use Rattle.type_definitions.specs.TypeFault.{TypeFault, double_sort, double_operation, first_fault}
 use Rattle.type_definitions.specs.Presentation.{Presentation}
-use Rattle.type_definitions.specs.Renaming.{pair_for, sort_under, operation_under, renamed_sort, renamed_operation, renaming, renaming_fault, clash_at, clash_with, clash_among, renamed_sort_clash, renamed_operation_clash, sort_pairs_fault, operation_pairs_fault}
+use Rattle.type_definitions.specs.Renaming.{pair_for, operation_under, renamed_sort, renamed_operation, renaming, renaming_fault, clash_at, clash_with, clash_among, renamed_sort_clash, renamed_operation_clash, sort_pairs_fault, operation_pairs_fault}
 use Rattle.type_definitions.specs.Flattened.{data_of}
+use Rattle.type_definitions.proofs.RenamingLemmas.{unpaired_sort, unpaired_operation}
 use Rattle.type_presentations.proofs.EquationImageLemmas.{image_over, identity_image}
 use Rattle.type_laws.specs.ImagesOfRenamings.{RenamingsAreImages}
 use Rattle.type_laws.proofs.OneToOneLemmas.{AreAlike, one_operation}
@@ -129,10 +131,6 @@ alike_names a b e = (bytes_eq-Decides (folded a) (folded b)).1 e
 names_alike : (a b : List ℕ) → one_name a b ≡ true → folded a ≡ folded b
 names_alike a b h = (bytes_eq-Decides (folded a) (folded b)).0 h
 
-unpaired_sort : (name : List ℕ) (pairs : WrittenPairs) (s : Sort) → pair_for pairs.sort_pairs s.name ≡ None
-    → renamed_sort name pairs s ≡ s
-unpaired_sort name pairs s none = ap (λ (pair : Option WrittenPair). sort_under name pair s) none
-
 sorts_clash_not : (base : Presentation) (name : List ℕ) (pairs : WrittenPairs) → renaming_fault base name pairs ≡ None
     → AreNone (renamed_sort_clash base name pairs) (renamed_operation_clash base name pairs)
 sorts_clash_not base name pairs h =
@@ -168,20 +166,6 @@ alike_operations o p h =
     (and_from (bytes_eq o.arguments p.arguments) (nat_eq o.result p.result) ((bytes_eq-Decides o.arguments p.arguments).1 h.arguments)
     (eq-eqb o.result p.result h.result))
 
-other_way : (o p : Operation) → are_one_operation o p ≡ true → are_one_operation p o ≡ true
-other_way o p h =
-    let alike = one_operation o p h in
-    alike_operations p o (record {
-      name = sym alike.name;
-      form = sym alike.form;
-      arguments = sym alike.arguments;
-      result = sym alike.result;
-    })
-
-unpaired_operation : (name : List ℕ) (pairs : WrittenPairs) (o : Operation) → pair_for pairs.operation_pairs o.name ≡ None
-    → renamed_operation name pairs o ≡ o
-unpaired_operation name pairs o none = ap (λ (pair : Option WrittenPair). operation_under name pair o) none
-
 operations_apart : (base : Presentation) (name : List ℕ) (pairs : WrittenPairs) → IsWellFormedSignature base.signature
     → renaming_fault base name pairs ≡ None → (f g : ℕ) (o p : Operation) → IsOperation base.signature f o
     → IsOperation base.signature g p
@@ -192,7 +176,7 @@ operations_apart base name pairs fine none f g o p at there alike =
     are_one_operation (renamed_operation name pairs one) (renamed_operation name pairs other))
     (λ (operation : Operation). pair_for pairs.operation_pairs operation.name) double_operation base.signature.operations
     (sorts_clash_not base name pairs none).1
-    (λ x y h. other_way (renamed_operation name pairs x) (renamed_operation name pairs y) h)
+    (λ x y h. operations_mutual (renamed_operation name pairs x) (renamed_operation name pairs y) h)
     (λ k l x y found also h one other.
     let whole : AreAlike x y =
     subst (λ (u : Operation). AreAlike x u) (unpaired_operation name pairs y other)

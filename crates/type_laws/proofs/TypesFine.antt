@@ -16,13 +16,14 @@ use Rattle.type_definitions.specs.Renaming.{renaming, renaming_fault}
 use Rattle.type_definitions.specs.Actualisation.{actualisation, is_formal}
 use Rattle.type_definitions.specs.ActualisationFaults.{actualising_of, actualising_fault, actualisation_fault}
 use Rattle.type_definitions.specs.Flattened.{presentation_named, mention_of, mentions_with, IsPresentation, ArePresented, all_presented, next_presented, declared_with, without_formals, types_at, IsFlattening}
+use Rattle.type_definitions.proofs.FaultLemmas.{none_first}
 use Rattle.type_presentations.proofs.GrowthLemmas.{front_or_last}
 use Rattle.type_presentations.proofs.SignatureLemmas.{nothing_well_formed}
 use Rattle.type_actualisation.proofs.HandedOn.{image_in}
 use Rattle.type_laws.proofs.RenamingLemmas.{renamings}
 use Rattle.type_laws.proofs.ContributionLemmas.{contributions}
 use Rattle.type_laws.specs.FlattenedData.{IsFine, AreFine, FlattenedDataAreWellFormed}
-use Rattle.type_laws.proofs.UnionsFine.{neither, unions_fine}
+use Rattle.type_laws.proofs.UnionsFine.{unions_fine}
 use Rattle.type_laws.proofs.DeclarationsFine.{declarations_fine}
 use Rattle.type_laws.proofs.EquationsFine.{equations_are_fine}
 use Rattle.type_laws.proofs.ActualisationsFine.{actualisation_fine}
@@ -47,7 +48,7 @@ mentions_fine done names fine m at =
 extension_fine : (imports : List Mentioned) (name : List ℕ) (sections : WrittenSections) (p : Presentation) → AreFine imports
     → IsExtension imports name sections p → IsFine p
 extension_fine imports name sections p fine is =
-    let parts = neither (union_fault imports) (declaration_fault name (union_of imports) sections) is.0 in
+    let parts = none_first (union_fault imports) (declaration_fault name (union_of imports) sections) is.0 in
     equations_are_fine (extended imports name sections) p sections
     (declarations_fine name (union_of imports) sections (unions_fine imports fine parts.0) parts.1) is.1
 
@@ -60,9 +61,9 @@ actual_fine : (base : Mentioned) (actuals : List Mentioned) (name : List ℕ) (p
     → actualisation (actualising_of base actuals name pairs) ≡ p → IsFine p
 actual_fine base actuals name pairs p fine others none is =
     let a = actualising_of base actuals name pairs in
-    let one = neither (fault_if (not (is_formal base.presentation)) (not_formal base.at.place base.at.name))
+    let one = none_first (fault_if (not (is_formal base.presentation)) (not_formal base.at.place base.at.name))
     (first_fault (union_fault actuals) (actualising_fault a)) none in
-    let two = neither (union_fault actuals) (actualising_fault a) one.1 in
+    let two = none_first (union_fault actuals) (actualising_fault a) one.1 in
     subst (λ (x : Presentation). IsFine x) is (actualisation_fine a fine (unions_fine actuals others two.0) two.1)
 
 type_fine : (done : List Mentioned) (name : List ℕ) (body : WrittenTypeBody) (p : Presentation) → AreFine done

@@ -1,8 +1,9 @@
 -- What equal keys of equations say.
 use Rattle.std.proofs.Common.{◌≡◌, ℕ, zero, suc, Bool, true, false, List, [], ◌∷◌, ◌++◌, ◌+◌, ◌<◌, length, drop, get_or, append_assoc, refl, ap, sym, ◌∙◌, arith}
 use Rattle.std.specs.Prelude.{◌&&◌, ◌↔◌, nat_eq}
-use Rattle.std.proofs.lemmas.Bool.{eq-eqb, eqb-true}
+use Rattle.std.proofs.lemmas.Bool.{eq-eqb, eqb-true, and_from}
 use Rattle.std.proofs.lemmas.List.{append-nil}
+use Rattle.lotos_base.proofs.Pieces.{next_member}
 use Rattle.lotos_base.specs.Term.{Term, Terms, variable, node, no_terms, term_then}
 use Rattle.lotos_base.specs.Equation.{Place, Equation}
 use Rattle.lotos_base.specs.Tests.{term_eq}
@@ -10,7 +11,6 @@ use Rattle.lotos_base.proofs.TestLemmas.{Decides-term_eq}
 use Rattle.sort_terms.specs.TermView.{term_of, terms_of}
 use Rattle.sort_terms.specs.declared.terms.Term.{Term as CodeTerm}
 use Rattle.type_definitions.specs.Presentation.{is_same_place, is_same_equation}
-use Rattle.type_presentations.proofs.KeptLemmas.{drop_next}
 use Rattle.type_presentations.specs.EquationKeys.{term_key, terms_key, equation_key, EquationKeysTell}
 
 -- ---- Lists and tests.
@@ -23,10 +23,6 @@ rest_is x y xs ys e = cc
 
 not_both : (n : ℕ) → n ≡ 0 → n ≡ 1 → ⊥
 not_both n zero_is one_is = omega (arith, zero_is, one_is)
-
-both : (a b : Bool) → a ≡ true → b ≡ true → (a && b) ≡ true
-both true b e f = f
-both false b e f = cc
 
 left_of : (a b : Bool) → (a && b) ≡ true → a ≡ true
 left_of true b e = refl
@@ -84,7 +80,7 @@ same_place p q h =
 
 one_place : (p q : Place) → p.text ≡ q.text → p.line ≡ q.line → p.column ≡ q.column → is_same_place p q ≡ true
 one_place p q text line column =
-    both _ _ (eq-eqb p.text q.text text) (both _ _ (eq-eqb p.line q.line line) (eq-eqb p.column q.column column))
+    and_from _ _ (eq-eqb p.text q.text text) (and_from _ _ (eq-eqb p.line q.line line) (eq-eqb p.column q.column column))
 
 key_to_same : (a b : Equation) → equation_key a ≡ equation_key b → is_same_equation a b ≡ true
 key_to_same a b e =
@@ -101,9 +97,9 @@ key_to_same a b e =
     let left = read_term a.left b.left (term_key a.right) (term_key b.right) sides in
     let whole : term_key a.right ++ [] ≡ term_key b.right ++ [] = ap (λ (xs : List ℕ). xs ++ []) left.1 in
     let right = read_term a.right b.right [] [] whole in
-    both (is_same_place a.place b.place) (term_eq a.left b.left && term_eq a.right b.right)
+    and_from (is_same_place a.place b.place) (term_eq a.left b.left && term_eq a.right b.right)
     (one_place a.place b.place text line column)
-    (both (term_eq a.left b.left) (term_eq a.right b.right) ((Decides-term_eq a.left b.left).1 left.0)
+    (and_from (term_eq a.left b.left) (term_eq a.right b.right) ((Decides-term_eq a.left b.left).1 left.0)
     ((Decides-term_eq a.right b.right).1 right.0))
 
 same_to_key : (a b : Equation) → is_same_equation a b ≡ true → equation_key a ≡ equation_key b
@@ -133,4 +129,4 @@ terms_more terms before pushed new whole i t within is head body so_far =
     let this : List ℕ = term_key (term_of t) in
     ap (λ (xs : List ℕ). xs ++ rest) (body ∙ ap (λ (xs : List ℕ). xs ++ this) head)
     ∙ append_assoc (before ++ 1 ∷ []) this rest ∙ append_assoc before (1 ∷ []) (this ++ rest)
-    ∙ sym (ap (λ (ts : List CodeTerm). before ++ terms_key (terms_of ts)) (drop_next terms i t within is)) ∙ so_far
+    ∙ sym (ap (λ (ts : List CodeTerm). before ++ terms_key (terms_of ts)) (next_member terms i t within is)) ∙ so_far

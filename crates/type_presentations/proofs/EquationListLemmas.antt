@@ -1,11 +1,11 @@
 -- An equation that comes to a list of equations.
-use Rattle.std.proofs.Common.{◌≡◌, ℕ, zero, suc, Bool, true, false, List, [], ◌∷◌, ◌++◌, ◌+◌, ◌<◌, ◌⊎◌, inl, inr, map, length, get_or, refl, ap, sym, ◌∙◌, subst, arith}
+use Rattle.std.proofs.Common.{◌≡◌, ℕ, zero, suc, Bool, true, false, List, [], ◌∷◌, ◌++◌, ◌+◌, ◌<◌, inl, inr, map, length, get_or, refl, ap, sym, ◌∙◌, subst, arith}
 use Rattle.std.specs.Prelude.{Some, not, slice_get}
 use Rattle.std.specs.List.{list_any}
 use Rattle.std.specs.Str.{bytes_eq}
 use Rattle.std.proofs.lemmas.List.{map-append}
-use Rattle.std.proofs.lemmas.Option.{none-some, same_Some}
 use Rattle.std.proofs.lemmas.Slice.Eq.{bytes_eq-Decides}
+use Rattle.lotos_base.proofs.Members.{before_or_last}
 use Rattle.lotos_base.specs.Signature.{Signature}
 use Rattle.lotos_base.specs.Equation.{Equation}
 use Rattle.sort_terms.specs.EquationView.{equation_of}
@@ -47,13 +47,6 @@ pub pushed : (old new : List CodeEquation) (e : CodeEquation) → new ≡ old ++
 pushed old new e is = ap (λ (es : List CodeEquation). map equation_of es) is ∙ map-append equation_of old (e ∷ [])
 
 -- ---- Sides.
-
-before_or_last : {A : Type 0} (xs : List A) (y : A) (i : ℕ) (x : A) → slice_get (xs ++ y ∷ []) i ≡ Some x
-    → (slice_get xs i ≡ Some x) ⊎ (y ≡ x)
-before_or_last [] y zero x found = inr (same_Some _ _ found)
-before_or_last [] y (suc i) x found = absurd (none-some x found)
-before_or_last (z ∷ xs) y zero x found = inl found
-before_or_last (z ∷ xs) y (suc i) x found = before_or_last xs y i x found
 
 pub sides_of_pushed : (signature : Signature) (old new : List CodeEquation) (e : CodeEquation) → new ≡ old ++ e ∷ []
     → HaveSidesOf signature old → HasSidesOver signature e → HaveSidesOf signature new

@@ -2,9 +2,11 @@
 use Rattle.std.proofs.Common.{◌≡◌, ℕ, zero, suc, ◌+◌, ◌<◌, ◌≤◌, Bool, true, false, List, [], ◌∷◌, ◌++◌, ◌⊎◌, inl, inr, length, refl, ap, sym, ◌∙◌, subst, arith}
 use Rattle.std.specs.Prelude.{Some, slice_get, ◌||◌, ◌&&◌, not, nat_eq, if◌then◌else◌}
 use Rattle.std.specs.List.{list_all, list_any}
-use Rattle.std.proofs.lemmas.Bool.{eq-eqb, eqb-true, and_parts}
+use Rattle.std.proofs.lemmas.Bool.{eq-eqb, eqb-true, and_parts, not-false}
 use Rattle.std.proofs.lemmas.List.{length-append}
 use Rattle.std.proofs.lemmas.Option.{none-some, same_Some}
+use Rattle.lotos_base.proofs.Members.{at_front}
+use Rattle.lotos_base.proofs.Tests.{list_any-weaker}
 use Rattle.lotos_base.specs.Signature.{Signature, Sort, Operation, IsOperation, IsWellFormedSignature}
 use Rattle.lotos_base.specs.Term.{Term, Terms, variable, node, no_terms, term_then}
 use Rattle.lotos_base.specs.Sorting.{HasSort, HaveSorts}
@@ -69,30 +71,12 @@ data_in_larger old new es larger fine h = record {
 
 -- ---- Members at the end.
 
-pub in_front : {A : Type 0} (xs ys : List A) (i : ℕ) (x : A) → slice_get xs i ≡ Some x → slice_get (xs ++ ys) i ≡ Some x
-in_front [] ys i x found = absurd (none-some x found)
-in_front (z ∷ xs) ys zero x found = found
-in_front (z ∷ xs) ys (suc i) x found = in_front xs ys i x found
-
 pub front_or_last : {A : Type 0} (xs : List A) (y : A) (i : ℕ) (x : A) → slice_get (xs ++ y ∷ []) i ≡ Some x
     → (slice_get xs i ≡ Some x) ⊎ (x ≡ y)
 front_or_last [] y zero x found = inr (sym (same_Some _ _ found))
 front_or_last [] y (suc i) x found = absurd (none-some x found)
 front_or_last (z ∷ xs) y zero x found = inl found
 front_or_last (z ∷ xs) y (suc i) x found = front_or_last xs y i x found
-
-any_weaker : {A : Type 0} (test other : A → Bool) → ((x : A) → test x ≡ true → other x ≡ true) → (xs : List A)
-    → list_any test xs ≡ true → list_any other xs ≡ true
-any_weaker test other weaker [] h = h
-any_weaker {A = A} test other weaker (x ∷ xs) h = go (test x) refl (any_weaker test other weaker xs)
-  where
-    go : (b : Bool) → test x ≡ b → (list_any test xs ≡ true → list_any other xs ≡ true) → (other x || list_any other xs) ≡ true
-    go true is rest = rw (weaker x is) refl
-    go false is rest = or_true (other x) (list_any other xs) (rest (rw is at h))
-      where
-        or_true : (a b : Bool) → b ≡ true → (a || b) ≡ true
-        or_true true b e = refl
-        or_true false b e = e
 
 -- ---- One more member, where none may come twice.
 
@@ -134,7 +118,7 @@ grown {A = A} same clash alike turned old new x clashes is differ apart = go (li
         let as_long : nat_eq (length new) (length old) ≡ true = eq-eqb (length new) (length old) (ap (λ (xs : List A). length xs) unchanged) in
         let second : (clashes || nat_eq (length new) (length old)) ≡ true =
         ap (λ (b : Bool). clashes || b) as_long ∙ or_last clashes in
-        let clashing : list_any (clash x) old ≡ true = any_weaker (same x) (clash x) (λ y h. alike x y h) old there in record {
+        let clashing : list_any (clash x) old ≡ true = list_any-weaker (same x) (clash x) (λ y h. alike x y h) old there in record {
           told = ap not (behind ∙ ap (λ (b : Bool). not b && all_differ clash old) clashing) ∙ sym second;
           grown = λ none. let both : true ≡ false = sym second ∙ none in cc;
         }
@@ -163,10 +147,6 @@ pub first_alone : (a b : Bool) → a ≡ true → (a || b) ≡ a
 first_alone true b e = refl
 first_alone false b e = cc
 
-pub second_alone : (a b : Bool) → a ≡ false → (a || b) ≡ b
-second_alone true b e = cc
-second_alone false b e = refl
-
 -- sorts and operations that are one clash
 and_first : (a b : Bool) → (a && b) ≡ true → a ≡ true
 and_first true b e = refl
@@ -179,10 +159,6 @@ pub one_operation_clashes : (o p : Operation) → is_same_operation o p ≡ true
 one_operation_clashes o p h = and_first _ _ h
 
 -- ---- Signatures with one more sort or operation.
-
-not_clashing : (b : Bool) → not b ≡ false → b ≡ true
-not_clashing true e = refl
-not_clashing false e = cc
 
 pub sorts_differ : (signature : Signature) → IsWellFormedSignature signature → all_differ are_one_sort signature.sorts ≡ true
 sorts_differ signature fine =
@@ -198,7 +174,7 @@ operations_differ signature fine =
     (all_differ are_one_sort signature.sorts && all_differ are_one_operation signature.operations)
     (test_well_formed signature fine)).1).1
 
-known_sorts : (signature : Signature) → IsWellFormedSignature signature
+pub known_sorts : (signature : Signature) → IsWellFormedSignature signature
     → list_all (has_known_sorts (length signature.sorts)) signature.operations ≡ true
 known_sorts signature fine =
     (and_parts (list_all (has_known_sorts (length signature.sorts)) signature.operations)
@@ -221,7 +197,7 @@ pub larger_by_operation : (signature : Signature) (operation : Operation)
     → IsLarger signature (with_operation_behind signature operation)
 larger_by_operation signature operation = record {
   sorts = omega arith;
-  operations = λ f o at. in_front signature.operations (operation ∷ []) f o at;
+  operations = λ f o at. at_front signature.operations (operation ∷ []) f o at;
 }
 
 pub well_formed_with_sort : (signature : Signature) (sort : Sort) → IsWellFormedSignature signature
@@ -229,7 +205,7 @@ pub well_formed_with_sort : (signature : Signature) (sort : Sort) → IsWellForm
 well_formed_with_sort signature sort fine none =
     let alone : Signature = record { sorts = signature.sorts ++ sort ∷ []; operations = [] } in
     let differ : all_differ are_one_sort (signature.sorts ++ sort ∷ []) ≡ true =
-    not_clashing (all_differ are_one_sort (signature.sorts ++ sort ∷ [])) none in
+    not-false (all_differ are_one_sort (signature.sorts ++ sort ∷ [])) none in
     let test : is_well_formed alone ≡ true = rw differ refl in
     let more : length (signature.sorts ++ sort ∷ []) ≡ length signature.sorts + 1 = length-append signature.sorts (sort ∷ []) in record {
       results = λ f o at. let old : o.result < length signature.sorts = fine.results f o at in omega (arith, old, more);
@@ -250,7 +226,7 @@ pub well_formed_with_operation : (signature : Signature) (operation : Operation)
     → IsWellFormedSignature (with_operation_behind signature operation)
 well_formed_with_operation signature operation fine known none =
     let differ : all_differ are_one_operation (signature.operations ++ operation ∷ []) ≡ true =
-    not_clashing (all_differ are_one_operation (signature.operations ++ operation ∷ [])) none in
+    not-false (all_differ are_one_operation (signature.operations ++ operation ∷ [])) none in
     let sorts : all_differ are_one_sort signature.sorts ≡ true = sorts_differ signature fine in
     let all : list_all (has_known_sorts (length signature.sorts)) (signature.operations ++ operation ∷ []) ≡ true =
     all_and_one (has_known_sorts (length signature.sorts)) signature.operations operation (known_sorts signature fine) known in

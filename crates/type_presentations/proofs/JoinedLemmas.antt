@@ -1,10 +1,11 @@
 -- Members that come to a list one after another.
 use Rattle.std.proofs.Common.{◌≡◌, ℕ, zero, suc, ◌+◌, ◌<◌, ◌≤◌, Bool, true, false, List, [], ◌∷◌, ◌++◌, map, length, drop, get_or, append_assoc, subst, refl, ap, sym, ◌∙◌, arith}
-use Rattle.std.specs.Prelude.{Option, Some, None, slice_get, slice_index, ◌||◌, ◌&&◌, not}
-use Rattle.std.proofs.lemmas.List.{append-nil, length-map}
+use Rattle.std.specs.Prelude.{Option, Some, None, slice_get, slice_index, ◌||◌, ◌&&◌, not, if◌then◌else◌}
+use Rattle.std.proofs.lemmas.List.{append-nil, drop_all, length-map}
+use Rattle.lotos_base.proofs.Pieces.{next_member}
 use Rattle.sort_terms.specs.WellFormedTest.{all_differ}
 use Rattle.type_definitions.specs.Presentation.{with_new, first_position}
-use Rattle.type_presentations.proofs.KeptLemmas.{drop_next, at_number, numbers_along, numbers_stay, one_more}
+use Rattle.type_presentations.proofs.KeptLemmas.{at_number, numbers_along, numbers_stay, one_more}
 
 -- what is so once those from a position on are still to come
 pub record Coming {A : Type 0} (same clash : A → A → Bool) (start now rest all : List A) (numbers : List ℕ) (index : ℕ) (clashes : Bool)
@@ -67,12 +68,6 @@ numbers_at_end {A = A} same itself of none some start now all numbers is numbere
     (none (with_new same start all)) (some (with_new same start all)) all n
     ∙ ap (λ (ys : List A). of ys (slice_get all n)) (sym is)
 
-pub nothing_due : {A : Type 0} (xs : List A) (i : ℕ) → length xs ≤ i → drop i xs ≡ []
-nothing_due [] zero h = refl
-nothing_due [] (suc i) h = refl
-nothing_due (x ∷ xs) zero h = absurd (omega arith)
-nothing_due (x ∷ xs) (suc i) h = nothing_due xs i (omega arith)
-
 -- the state when nothing is left
 pub nothing_left : {A : Type 0} (same clash : A → A → Bool) (start now due all : List A) (numbers : List ℕ) (index : ℕ) (clashes : Bool)
     → Coming same clash start now due all numbers index clashes → due ≡ [] → Coming same clash start now [] all numbers index clashes
@@ -87,10 +82,10 @@ numbers_are same clash start now all numbers index clashes at_end = sym (append-
 
 pub due_next : {A B C : Type 0} (xs : List A) (i : ℕ) (x : A) (f : A → B) (g : B → C) → i < length xs → x ≡ get_or xs i x
     → map g (map f (drop i xs)) ≡ g (f x) ∷ map g (map f (drop (i + 1) xs))
-due_next {A = A} xs i x f g within is = ap (λ (ys : List A). map g (map f ys)) (drop_next xs i x within is)
+due_next {A = A} xs i x f g within is = ap (λ (ys : List A). map g (map f ys)) (next_member xs i x within is)
 
 pub none_due : {A B C : Type 0} (xs : List A) (i : ℕ) (f : A → B) (g : B → C) → length xs ≤ i → map g (map f (drop i xs)) ≡ []
-none_due {A = A} xs i f g past = ap (λ (ys : List A). map g (map f ys)) (nothing_due xs i past)
+none_due {A = A} xs i f g past = ap (λ (ys : List A). map g (map f ys)) (drop_all i xs past)
 
 -- what the same members come to
 pub as_many_images : {A B : Type 0} (f : A → B) (xs ys : List A) → xs ≡ ys → length xs ≡ length (map f ys)

@@ -1,5 +1,5 @@
 -- Lists that keep first appearances, member by member.
-use Rattle.std.proofs.Common.{◌≡◌, ℕ, zero, suc, ◌+◌, ◌<◌, ◌≤◌, Bool, true, false, List, [], ◌∷◌, ◌++◌, map, length, refl, ap, sym, ◌∙◌, subst, cond, get_or, take, drop, drop-cons, arith}
+use Rattle.std.proofs.Common.{◌≡◌, ℕ, zero, suc, ◌+◌, ◌≤◌, Bool, true, false, List, [], ◌∷◌, ◌++◌, map, length, refl, ap, sym, ◌∙◌, subst, cond, take, arith}
 use Rattle.std.specs.Prelude.{Option, Some, None, slice_get, ◌||◌, ◌&&◌, not, if◌then◌else◌, slice_index}
 use Rattle.std.specs.List.{list_any, position_or_len}
 use Rattle.std.proofs.lemmas.List.{length-append, append-nil}
@@ -154,8 +154,3 @@ pub at_number : {A : Type 0} (f : A → ℕ) (of : Option A → ℕ) → of None
 at_number f of none some [] n = sym none
 at_number f of none some (x ∷ xs) zero = sym (some x)
 at_number f of none some (x ∷ xs) (suc n) = at_number f of none some xs n
-
-pub drop_next : {A : Type 0} (xs : List A) (i : ℕ) (x : A) → i < length xs → x ≡ get_or xs i x → drop i xs ≡ x ∷ drop (i + 1) xs
-drop_next {A = A} xs i x within is =
-    let next : i + 1 ≡ suc i = omega arith in
-    rw next (drop-cons xs i x within ∙ ap (λ (y : A). y ∷ drop (suc i) xs) (sym is))

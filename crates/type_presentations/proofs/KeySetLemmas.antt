@@ -7,7 +7,7 @@ use Rattle.std.specs.Str.{bytes_eq}
 use Rattle.std.proofs.lemmas.List.{map-append}
 use Rattle.type_definitions.specs.Presentation.{with_new, first_position}
 use Rattle.type_presentations.proofs.KeptLemmas.{first_is_position, first_of_added}
-use Rattle.type_presentations.proofs.KeyedLemmas.{key_itself}
+use Rattle.lotos_base.proofs.Bytes.{bytes_same}
 
 -- the items of each key
 abbrev pub items_of : List (Vec ℕ Global) → List (List ℕ)
@@ -33,7 +33,7 @@ inserted keys new key is =
     go true = refl
     go false = map-append (λ (it : Vec ℕ Global). it.items) keys (key ∷ [])
 
-first_items : (keys : List (Vec ℕ Global)) (items : List ℕ)
+pub first_items : (keys : List (Vec ℕ Global)) (items : List ℕ)
     → first_position (has_items items) keys ≡ first_position (bytes_eq items) (items_of keys)
 first_items [] items = refl
 first_items (key ∷ keys) items =
@@ -45,5 +45,5 @@ pub numbered : (keys new : List (Vec ℕ Global)) (key : Vec ℕ Global) (number
     → number ≡ first_position (bytes_eq key.items) (items_of new)
 numbered keys new key number is at =
     at ∙ sym (first_is_position (has_items key.items) keys) ∙ first_items keys key.items
-    ∙ sym (first_of_added bytes_eq (items_of keys) key.items (key_itself key.items))
+    ∙ sym (first_of_added bytes_eq (items_of keys) key.items (bytes_same key.items key.items refl))
     ∙ ap (λ (ys : List (List ℕ)). first_position (bytes_eq key.items) ys) (sym (inserted keys new key is))

@@ -6,28 +6,20 @@ use Rattle.std.specs.Str.{bytes_eq}
 use Rattle.std.proofs.lemmas.List.{map-append}
 use Rattle.std.proofs.lemmas.List.Folds.{list_any-append}
 use Rattle.std.proofs.lemmas.Slice.Eq.{bytes_eq-Decides}
+use Rattle.lotos_base.proofs.Truth.{same_truth}
 use Rattle.type_definitions.specs.Presentation.{with_new, first_position}
-
-pub key_itself : (key : List ℕ) → bytes_eq key key ≡ true
-key_itself key = (bytes_eq-Decides key key).1 refl
-
--- tests that hold in the same cases are one
-both_or_neither : (a b : Bool) → (a ≡ true → b ≡ true) → (b ≡ true → a ≡ true) → a ≡ b
-both_or_neither true b there back = sym (there refl)
-both_or_neither false true there back = back refl
-both_or_neither false false there back = refl
 
 pub same_by_key : {A : Type 0} (key : A → List ℕ) (same : A → A → Bool)
     → ((x y : A) → (key x ≡ key y) ↔ (same x y ≡ true)) → (x y : A) → bytes_eq (key x) (key y) ≡ same x y
 same_by_key key same tell x y =
-    both_or_neither (bytes_eq (key x) (key y)) (same x y) (λ h. (tell x y).0 ((bytes_eq-Decides (key x) (key y)).0 h))
+    same_truth (bytes_eq (key x) (key y)) (same x y) (λ h. (tell x y).0 ((bytes_eq-Decides (key x) (key y)).0 h))
     (λ h. (bytes_eq-Decides (key x) (key y)).1 ((tell x y).1 h))
 
 -- keys that are equal either way round
 pub mutual_by_key : {A : Type 0} (key : A → List ℕ) (same : A → A → Bool)
     → ((x y : A) → (key x ≡ key y) ↔ (same x y ≡ true)) → (x y : A) → same x y ≡ same y x
 mutual_by_key key same tell x y =
-    both_or_neither (same x y) (same y x) (λ h. (tell y x).0 (sym ((tell x y).1 h))) (λ h. (tell x y).0 (sym ((tell y x).1 h)))
+    same_truth (same x y) (same y x) (λ h. (tell y x).0 (sym ((tell x y).1 h))) (λ h. (tell x y).0 (sym ((tell y x).1 h)))
 
 pub itself_by_key : {A : Type 0} (key : A → List ℕ) (same : A → A → Bool)
     → ((x y : A) → (key x ≡ key y) ↔ (same x y ≡ true)) → (x : A) → same x x ≡ true

@@ -1,33 +1,21 @@
 -- Positions of names: the first of them, and one name more.
-use Rattle.std.proofs.Common.{◌≡◌, ℕ, suc, ◌+◌, ◌<◌, ◌≤◌, Bool, true, false, List, [], ◌∷◌, ◌++◌, map, length, take, get_or, refl, ap, sym, ◌∙◌, arith}
+use Rattle.std.proofs.Common.{◌≡◌, ℕ, suc, ◌+◌, ◌<◌, ◌≤◌, Bool, true, false, List, [], ◌∷◌, ◌++◌, map, length, take, get_or, refl, ap, sym, ◌∙◌, arith, subst}
 use Rattle.std.specs.Prelude.{Option, Some, None, slice_get, ◌||◌, if◌then◌else◌}
 use Rattle.std.specs.List.{list_any}
 use Rattle.std.specs.Str.{bytes_eq}
 use Rattle.std.proofs.lemmas.List.{take_more, length-map, length-take-le, map-append}
-use Rattle.std.proofs.Math.Seq.{take-length}
-use Rattle.std.proofs.lemmas.Slice.Eq.{bytes_eq-Decides}
+use Rattle.lotos_base.proofs.Bytes.{bytes_turned}
 use Rattle.lotos_base.specs.Names.{folded}
+use Rattle.lotos_base.specs.Signature.{Operation, Sort}
 use Rattle.sort_terms.specs.Positions.{positions_from, positions_of}
 use Rattle.sort_terms.specs.ReadingOutcome.{one_name}
 use Rattle.sort_terms.proofs.PositionLemmas.{positions_of-append}
 use Rattle.type_definitions.specs.Presentation.{first_position}
 use Rattle.type_presentations.specs.PositionOfName.{position_of_name}
 use Rattle.type_presentations.specs.declared.names.NamePositions.{NamePositions}
+use Rattle.type_presentations.specs.NamesView.{HasNames}
 
 -- ---- Tests of names.
-
-false_unless : (test : Bool) → (test ≡ true → ⊥) → test ≡ false
-false_unless true never = absurd (never refl)
-false_unless false never = refl
-
-bytes_turned : (xs ys : List ℕ) → bytes_eq xs ys ≡ bytes_eq ys xs
-bytes_turned xs ys = go (bytes_eq xs ys) refl
-  where
-    go : (b : Bool) → bytes_eq xs ys ≡ b → b ≡ bytes_eq ys xs
-    go true is = sym ((bytes_eq-Decides ys xs).1 (sym ((bytes_eq-Decides xs ys).0 is)))
-    go false is =
-        sym (false_unless (bytes_eq ys xs) (λ turned.
-        let both : true ≡ false = sym ((bytes_eq-Decides xs ys).1 (sym ((bytes_eq-Decides ys xs).0 turned))) ∙ is in cc))
 
 -- ---- The first position.
 
@@ -75,7 +63,7 @@ one_more key name names count old new is are many =
 
 -- ---- Names of the members of a list.
 
-any_mapped : {A : Type 0} (name_of : A → List ℕ) (name : List ℕ) (xs : List A)
+pub any_mapped : {A : Type 0} (name_of : A → List ℕ) (name : List ℕ) (xs : List A)
     → list_any (λ (n : List ℕ). one_name n name) (map name_of xs) ≡ list_any (λ (x : A). one_name (name_of x) name) xs
 any_mapped name_of name [] = refl
 any_mapped name_of name (x ∷ xs) = ap (λ (b : Bool). one_name (name_of x) name || b) (any_mapped name_of name xs)
@@ -116,9 +104,6 @@ named_of {A = A} name_of xs name found is =
 
 -- ---- Names that come one after another.
 
-pub whole : {A : Type 0} (xs : List A) (n : ℕ) → n ≡ length xs → take n xs ≡ xs
-whole {A = A} xs n is = ap (λ (m : ℕ). take m xs) is ∙ take-length xs
-
 -- the names of those that have come, and the next one
 pub more_names : {A B : Type 0} (f : A → B) (name_of : B → List ℕ) (xs : List A) (n : ℕ) (x : A) (name : List ℕ) → n < length xs
     → x ≡ get_or xs n x → name ≡ name_of (f x)
@@ -134,3 +119,12 @@ pub as_many_names : {A B : Type 0} (f : A → B) (name_of : B → List ℕ) (xs 
     → length (map name_of (map f (take n xs))) ≡ n
 as_many_names f name_of xs n within =
     length-map (map f (take n xs)) name_of ∙ length-map (take n xs) f ∙ length-take-le n xs within
+
+pub operations_named : (names : NamePositions) (os ps : List Operation) → os ≡ ps → HasNames names (map (λ o. o.name) os)
+    → HasNames names (map (λ o. o.name) ps)
+operations_named names os ps same has =
+    subst (λ (us : List Operation). HasNames names (map (λ (o : Operation). o.name) us)) same has
+
+pub sorts_named : (names : NamePositions) (ss ts : List Sort) → ss ≡ ts → HasNames names (map (λ s. s.name) ss)
+    → HasNames names (map (λ s. s.name) ts)
+sorts_named names ss ts same has = subst (λ (us : List Sort). HasNames names (map (λ (s : Sort). s.name) us)) same has

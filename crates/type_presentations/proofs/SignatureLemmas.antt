@@ -1,17 +1,17 @@
 -- Signatures that are made part by part, and signatures that grow.
-use Rattle.std.proofs.Common.{◌≡◌, ℕ, suc, ◌<◌, ◌≤◌, Bool, true, List, [], ◌∷◌, length, map, refl, ap, sym, ◌∙◌, subst, arith}
+use Rattle.std.proofs.Common.{◌≡◌, ℕ, ◌<◌, ◌≤◌, true, List, [], ◌∷◌, length, map, refl, ap, sym, ◌∙◌, subst, arith}
 use Rattle.std.specs.Prelude.{Some, slice_get, ◌&&◌, nat_lt}
 use Rattle.std.specs.List.{list_all}
-use Rattle.std.proofs.lemmas.Bool.{lt-ltb, and_parts}
+use Rattle.std.proofs.lemmas.Bool.{lt-ltb, and_parts, and_from}
 use Rattle.std.proofs.lemmas.List.{map-id}
 use Rattle.std.proofs.lemmas.Option.{none-some, slice_get_within, get_or_from_slice_get}
+use Rattle.lotos_base.proofs.Tests.{list_all-from_each}
 use Rattle.lotos_base.specs.Signature.{Signature, Sort, Operation, IsSort, IsOperation, IsWellFormedSignature}
 use Rattle.lotos_base.specs.Equation.{Equation, IsEquationOver, IsWellFormedData}
 use Rattle.sort_terms.specs.EquationView.{equation_of}
 use Rattle.sort_terms.specs.ProfiledTerm.{ProfiledTerm, ProfiledTerms, profiled_variable, profiled_node, no_profiled_terms, profiled_term_then, IsOf, AreOf}
 use Rattle.sort_terms.specs.WellFormedTest.{all_below, has_known_sorts, all_differ, are_one_sort, are_one_operation}
 use Rattle.sort_terms.specs.declared.equations.Equation.{Equation as CodeEquation}
-use Rattle.sort_terms.proofs.NodeLemmas.{both_true}
 use Rattle.sort_terms.proofs.WellFormedLemmas.{well_formed_test, test_well_formed}
 use Rattle.type_definitions.specs.ProfiledImage.{profile_in}
 use Rattle.type_definitions.specs.ImageLaws.{IsSignatureMap}
@@ -22,12 +22,6 @@ use Rattle.type_presentations.proofs.EquationImageLemmas.{image_over, identity_i
 
 -- ---- Parts of a well-formed signature.
 
-all_of_each : {A : Type 0} (test : A → Bool) (xs : List A)
-    → ((i : ℕ) (x : A) → slice_get xs i ≡ Some x → test x ≡ true) → list_all test xs ≡ true
-all_of_each test [] each = refl
-all_of_each test (x ∷ xs) each =
-    both_true (test x) (list_all test xs) (each 0 x refl) (all_of_each test xs (λ i. each (suc i)))
-
 -- profiles name sorts that are there, no two sorts have one name, and no two operations have one name, form and profile
 pub made_well_formed : (signature : Signature)
     → ((f : ℕ) (o : Operation) → IsOperation signature f o → IsSort signature o.result)
@@ -36,14 +30,14 @@ pub made_well_formed : (signature : Signature)
     → IsWellFormedSignature signature
 made_well_formed signature results arguments sorts operations =
     well_formed_test signature
-    (both_true (list_all (has_known_sorts (length signature.sorts)) signature.operations)
+    (and_from (list_all (has_known_sorts (length signature.sorts)) signature.operations)
     (all_differ are_one_sort signature.sorts && all_differ are_one_operation signature.operations)
-    (all_of_each (has_known_sorts (length signature.sorts)) signature.operations (λ f o at.
-    both_true (nat_lt o.result (length signature.sorts)) (all_below (length signature.sorts) o.arguments)
+    (list_all-from_each (has_known_sorts (length signature.sorts)) signature.operations (λ f o at.
+    and_from (nat_lt o.result (length signature.sorts)) (all_below (length signature.sorts) o.arguments)
     (lt-ltb o.result (length signature.sorts) (results f o at))
-    (all_of_each (λ (n : ℕ). nat_lt n (length signature.sorts)) o.arguments (λ i s there.
+    (list_all-from_each (λ (n : ℕ). nat_lt n (length signature.sorts)) o.arguments (λ i s there.
     lt-ltb s (length signature.sorts) (arguments f i s o at there)))))
-    (both_true (all_differ are_one_sort signature.sorts) (all_differ are_one_operation signature.operations) sorts operations))
+    (and_from (all_differ are_one_sort signature.sorts) (all_differ are_one_operation signature.operations) sorts operations))
 
 abbrev Differ : Signature → Type 0
 Differ signature =

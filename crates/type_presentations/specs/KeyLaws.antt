@@ -2,10 +2,10 @@
 use Rattle.std.proofs.Common.{◌≡◌, ℕ, Bool, true, false, List, [], ◌∷◌, ◌++◌, length, refl, ap, sym, ◌∙◌, arith}
 use Rattle.std.specs.Prelude.{◌&&◌, ◌↔◌, nat_eq}
 use Rattle.std.specs.Str.{bytes_eq}
-use Rattle.std.proofs.lemmas.Bool.{eq-eqb, eqb-true}
+use Rattle.std.proofs.lemmas.Bool.{eq-eqb, eqb-true, and_from}
 use Rattle.std.proofs.lemmas.List.{length-map}
-use Rattle.std.proofs.lemmas.Slice.Eq.{bytes_eq-Decides}
 use Rattle.std.specs.Char.{to_ascii_lowercase}
+use Rattle.lotos_base.proofs.Bytes.{same_bytes, bytes_same}
 use Rattle.lotos_base.specs.Names.{folded}
 use Rattle.lotos_base.specs.Signature.{Sort, Operation, Form, prefix_form, infix_form}
 use Rattle.lotos_base.specs.Twins.{form_eq}
@@ -33,10 +33,6 @@ split (x ∷ xs) (u ∷ us) ys vs as_many e =
     let whole : x ∷ xs ≡ u ∷ us = let tail : xs ≡ us = rest.0 in cc in
     (whole, rest.1)
 
-both : (a b : Bool) → a ≡ true → b ≡ true → (a && b) ≡ true
-both true b e f = f
-both false b e f = cc
-
 left_of : (a b : Bool) → (a && b) ≡ true → a ≡ true
 left_of true b e = refl
 left_of false b e = cc
@@ -44,12 +40,6 @@ left_of false b e = cc
 right_of : (a b : Bool) → (a && b) ≡ true → b ≡ true
 right_of true b e = e
 right_of false b e = cc
-
-same_list : (xs ys : List ℕ) → bytes_eq xs ys ≡ true → xs ≡ ys
-same_list xs ys = (bytes_eq-Decides xs ys).0
-
-list_same : (xs ys : List ℕ) → xs ≡ ys → bytes_eq xs ys ≡ true
-list_same xs ys = (bytes_eq-Decides xs ys).1
 
 folded_length : (name : List ℕ) → length (folded name) ≡ length name
 folded_length name = length-map name to_ascii_lowercase
@@ -70,7 +60,7 @@ one_form infix_form infix_form e = refl
 -- ---- Sorts.
 
 names : (s t : Sort) → (name_key s ≡ name_key t) ↔ (are_one_sort s t ≡ true)
-names s t = (list_same (folded s.name) (folded t.name), same_list (folded s.name) (folded t.name))
+names s t = (bytes_same (folded s.name) (folded t.name), same_bytes (folded s.name) (folded t.name))
 
 sorts : (s t : Sort) → (sort_key s ≡ sort_key t) ↔ (is_same_sort s t ≡ true)
 sorts s t = (
@@ -79,11 +69,11 @@ sorts s t = (
       let parts =
       split (folded s.name) (folded t.name) (folded s.origin) (folded t.origin) (folded_lengths s.name t.name as_many)
       (rest_is (length s.name) (length t.name) (folded s.name ++ folded s.origin) (folded t.name ++ folded t.origin) e) in
-      both _ _ (list_same (folded s.name) (folded t.name) parts.0) (list_same (folded s.origin) (folded t.origin) parts.1)),
+      and_from _ _ (bytes_same (folded s.name) (folded t.name) parts.0) (bytes_same (folded s.origin) (folded t.origin) parts.1)),
   (λ h.
-      let name : folded s.name ≡ folded t.name = same_list _ _ (left_of (bytes_eq (folded s.name) (folded t.name)) _ h) in
+      let name : folded s.name ≡ folded t.name = same_bytes _ _ (left_of (bytes_eq (folded s.name) (folded t.name)) _ h) in
       let origin : folded s.origin ≡ folded t.origin =
-      same_list _ _ (right_of (bytes_eq (folded s.name) (folded t.name)) (bytes_eq (folded s.origin) (folded t.origin)) h) in
+      same_bytes _ _ (right_of (bytes_eq (folded s.name) (folded t.name)) (bytes_eq (folded s.origin) (folded t.origin)) h) in
       let as_many : length s.name ≡ length t.name = one_length s.name t.name name in
       cc),
 )
@@ -105,16 +95,16 @@ one_profile o p h =
     let result_test : Bool = nat_eq o.result p.result in
     let front : (name_test && form_test) ≡ true = left_of (name_test && form_test) (arguments_test && result_test) h in
     let back : (arguments_test && result_test) ≡ true = right_of (name_test && form_test) (arguments_test && result_test) h in record {
-      name = same_list (folded o.name) (folded p.name) (left_of name_test form_test front);
+      name = same_bytes (folded o.name) (folded p.name) (left_of name_test form_test front);
       form = forms_eq o.form p.form (right_of name_test form_test front);
-      arguments = same_list o.arguments p.arguments (left_of arguments_test result_test back);
+      arguments = same_bytes o.arguments p.arguments (left_of arguments_test result_test back);
       result = eqb-true o.result p.result (right_of arguments_test result_test back);
     }
 
 profile_one : (o p : Operation) → OneProfile o p → are_one_operation o p ≡ true
 profile_one o p h =
-    both _ _ (both _ _ (list_same (folded o.name) (folded p.name) h.name) (eq_forms o.form p.form h.form))
-    (both _ _ (list_same o.arguments p.arguments h.arguments) (eq-eqb o.result p.result h.result))
+    and_from _ _ (and_from _ _ (bytes_same (folded o.name) (folded p.name) h.name) (eq_forms o.form p.form h.form))
+    (and_from _ _ (bytes_same o.arguments p.arguments h.arguments) (eq-eqb o.result p.result h.result))
 
 profiles : (o p : Operation) → (profile_key o ≡ profile_key p) ↔ (are_one_operation o p ≡ true)
 profiles o p = (
@@ -145,14 +135,14 @@ operations o p = (
       let parts = split o.arguments p.arguments (folded o.name ++ folded o.origin) (folded p.name ++ folded p.origin) as_many behind in
       let ends =
       split (folded o.name) (folded p.name) (folded o.origin) (folded p.origin) (folded_lengths o.name p.name spelled) parts.1 in
-      both _ _
+      and_from _ _
       (profile_one o p (record { name = ends.0; form = one_form o.form p.form form; arguments = parts.0; result = result }))
-      (list_same (folded o.origin) (folded p.origin) ends.1)),
+      (bytes_same (folded o.origin) (folded p.origin) ends.1)),
   (λ h.
       let one = one_profile o p (left_of (are_one_operation o p) (bytes_eq (folded o.origin) (folded p.origin)) h) in
       let name : folded o.name ≡ folded p.name = one.name in
       let origin : folded o.origin ≡ folded p.origin =
-      same_list _ _ (right_of (are_one_operation o p) (bytes_eq (folded o.origin) (folded p.origin)) h) in
+      same_bytes _ _ (right_of (are_one_operation o p) (bytes_eq (folded o.origin) (folded p.origin)) h) in
       let spelled : length o.name ≡ length p.name = one_length o.name p.name name in
       let form : form_number o.form ≡ form_number p.form = ap form_number one.form in
       let arguments : o.arguments ≡ p.arguments = one.arguments in

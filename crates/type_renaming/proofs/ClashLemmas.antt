@@ -2,26 +2,18 @@
 use Rattle.std.proofs.Common.{◌≡◌, ℕ, ◌+◌, ◌<◌, Bool, true, false, List, [], ◌∷◌, ◌++◌, map, length, take, drop, get_or, refl, ap, sym, ◌∙◌}
 use Rattle.std.specs.Prelude.{Option, Some, None, ◌||◌, ◌&&◌, not, if◌then◌else◌}
 use Rattle.std.specs.List.{list_any}
-use Rattle.std.proofs.lemmas.Bool.{and_parts}
+use Rattle.std.proofs.lemmas.Bool.{or_parts}
 use Rattle.std.proofs.lemmas.List.{map-append, take-append-drop}
-use Rattle.std.proofs.lemmas.List.Folds.{list_any-append}
 use Rattle.lotos_base.specs.Equation.{Place}
 use Rattle.syntax_trees.specs.WrittenItem.{WrittenPair}
 use Rattle.sort_terms.specs.WellFormedTest.{all_differ}
+use Rattle.sort_terms.proofs.WellFormedLemmas.{earlier_differ}
 use Rattle.type_presentations.proofs.KeptLemmas.{differ_and_one}
 use Rattle.type_definitions.specs.TypeFault.{TypeFault}
 use Rattle.type_definitions.specs.Renaming.{clash_at, clash_with, clash_among}
 use Rattle.type_definitions.proofs.WalkLemmas.{AreOneByOne, next_of}
 
 -- ---- Tests.
-
-pub neither : (a b : Bool) → (a || b) ≡ false → (a ≡ false) × (b ≡ false)
-neither true b e = let h : true ≡ false = e in cc
-neither false b e = (refl, e)
-
-not_true : (b : Bool) → not b ≡ true → b ≡ false
-not_true true e = cc
-not_true false e = refl
 
 -- ---- A list that is walked from its front.
 
@@ -46,7 +38,7 @@ stops {A = A} same pair_of kind f xs i y x p within is one own given =
 pub none_further : {A B : Type 0} (test : A → Bool) (f : B → A) (xs : List B) (i : ℕ) (y : B) → i < length xs → y ≡ get_or xs i y
     → list_any test (map f (drop i xs)) ≡ false → (test (f y) ≡ false) × (list_any test (map f (drop (i + 1) xs)) ≡ false)
 none_further {A = A} test f xs i y within is none =
-    neither (test (f y)) (list_any test (map f (drop (i + 1) xs)))
+    or_parts (test (f y)) (list_any test (map f (drop (i + 1) xs)))
     (sym (ap (λ (ys : List A). list_any test ys) (next_of f xs i y within is)) ∙ none)
 
 -- ---- A member behind earlier ones.
@@ -56,7 +48,7 @@ pub no_clash : {A : Type 0} (same : A → A → Bool) (pair_of : A → Option Wr
     (x : A) → list_any (λ (y : A). same y x) ys ≡ false → clash_with same pair_of kind ys x ≡ None
 no_clash same pair_of kind [] x none = refl
 no_clash {A = A} same pair_of kind (y ∷ ys) x none =
-    let parts = neither (same y x) (list_any (λ (z : A). same z x) ys) none in
+    let parts = or_parts (same y x) (list_any (λ (z : A). same z x) ys) none in
     ap (λ (b : Bool). if b then clash_at kind (pair_of x) (pair_of y) else clash_with same pair_of kind ys x) parts.0
     ∙ no_clash same pair_of kind ys x parts.1
 
@@ -79,7 +71,7 @@ pub is_told : {A : Type 0} (same plain : A → A → Bool) (pair_of : A → Opti
     → list_any (plain x) ys ≡ false → clash_with same pair_of kind ys x ≡ None → ⊥
 is_told same plain pair_of kind [] x alike some apart none = let h : false ≡ true = some in cc
 is_told {A = A} same plain pair_of kind (y ∷ ys) x alike some apart none =
-    let parts = neither (plain x y) (list_any (plain x) ys) apart in
+    let parts = or_parts (plain x y) (list_any (plain x) ys) apart in
     go (same y x) refl some none parts.0 (λ there left. is_told same plain pair_of kind ys x alike there parts.1 left)
   where
     both : true ≡ false → ⊥
@@ -123,21 +115,11 @@ from_either_side {A = A} clash turned image (y ∷ ys) x =
     ap (λ (b : Bool). b || list_any (λ (z : A). clash (image z) (image x)) ys) (turned (image y) (image x))
     ∙ ap (λ (b : Bool). clash (image x) (image y) || b) (from_either_side clash turned image ys x)
 
-differs_from_front : {A : Type 0} (clash : A → A → Bool) → ((x y : A) → clash x y ≡ clash y x) → (xs : List A) (x : A) (ys : List A)
-    → all_differ clash (xs ++ x ∷ ys) ≡ true → list_any (clash x) xs ≡ false
-differs_from_front clash turned [] x ys apart = refl
-differs_from_front clash turned (z ∷ xs) x ys apart =
-    let parts = and_parts (not (list_any (clash z) (xs ++ x ∷ ys))) (all_differ clash (xs ++ x ∷ ys)) apart in
-    let none = neither (list_any (clash z) xs) (clash z x || list_any (clash z) ys)
-    (sym (list_any-append (clash z) xs (x ∷ ys)) ∙ not_true (list_any (clash z) (xs ++ x ∷ ys)) parts.0) in
-    let other = neither (clash z x) (list_any (clash z) ys) none.1 in
-    ap (λ (b : Bool). b || list_any (clash x) xs) (turned x z ∙ other.0) ∙ differs_from_front clash turned xs x ys parts.1
-
 -- a member of a list differs from those before it
 pub differs_from_earlier : {A B : Type 0} (clash : A → A → Bool) → ((x y : A) → clash x y ≡ clash y x) → (f : B → A) (xs : List B) (i : ℕ)
     (x : B) → i < length xs → x ≡ get_or xs i x → all_differ clash (map f xs) ≡ true → list_any (clash (f x)) (map f (take i xs)) ≡ false
 differs_from_earlier {A = A} {B = B} clash turned f xs i x within is apart =
-    differs_from_front clash turned (map f (take i xs)) (f x) (map f (drop (i + 1) xs))
+    earlier_differ clash turned (map f (take i xs)) (f x) (map f (drop (i + 1) xs))
     (ap (λ (ys : List A). all_differ clash (map f (take i xs) ++ ys)) (sym (next_of f xs i x within is))
     ∙ ap (λ (ys : List A). all_differ clash ys) (sym (map-append f (take i xs) (drop i xs)))
     ∙ ap (λ (ys : List B). all_differ clash (map f ys)) (take-append-drop i xs) ∙ apart)

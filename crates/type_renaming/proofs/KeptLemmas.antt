@@ -1,10 +1,10 @@
 -- Equations whose sorts and operations keep their numbers.
-use Rattle.std.proofs.Common.{◌≡◌, ℕ, suc, ◌+◌, ◌<◌, ◌≤◌, Bool, true, false, List, [], ◌∷◌, ◌++◌, map, length, get_or, refl, ap, sym, ◌∙◌, append_assoc, arith}
-use Rattle.std.specs.Prelude.{Option, Some, slice_get, nat_lt}
-use Rattle.std.specs.Option.{option_map}
+use Rattle.std.proofs.Common.{◌≡◌, ℕ, ◌+◌, ◌<◌, ◌≤◌, Bool, true, false, List, [], ◌∷◌, ◌++◌, map, length, get_or, refl, ap, sym, ◌∙◌, append_assoc, arith}
+use Rattle.std.specs.Prelude.{Some, slice_get, nat_lt}
 use Rattle.std.proofs.lemmas.Bool.{ltb-true, ltb-false}
 use Rattle.std.proofs.lemmas.List.{get_or_append_left, get_or_push, length-map, append-nil}
-use Rattle.std.proofs.lemmas.Option.{slice_get_within, slice_get_read, slice_get-map, get_or_from_slice_get}
+use Rattle.std.proofs.lemmas.Option.{slice_get_within, slice_get_read, get_or_from_slice_get}
+use Rattle.lotos_base.proofs.Members.{map_same}
 use Rattle.lotos_base.specs.Signature.{Signature, Operation, IsWellFormedSignature}
 use Rattle.lotos_base.specs.Term.{Term, Terms, variable, node, no_terms, term_then}
 use Rattle.lotos_base.specs.Sorting.{HasSort, HaveSorts}
@@ -18,12 +18,6 @@ use Rattle.type_renaming.specs.Parts.{KeepsProfilesOf, with_equations}
 use Rattle.type_renaming.specs.SameNumbers.{KeepNumbers}
 
 -- ---- Members that stay.
-
-members_stay : {A : Type 0} (g : A → A) (xs : List A) → ((i : ℕ) (x : A) → slice_get xs i ≡ Some x → g x ≡ x) → map g xs ≡ xs
-members_stay g [] stays = refl
-members_stay {A = A} g (x ∷ xs) stays =
-    ap (λ (y : A). y ∷ map g xs) (stays 0 x refl)
-    ∙ ap (λ (ys : List A). x ∷ ys) (members_stay g xs (λ i y at. stays (suc i) y at))
 
 -- ---- Numbers from 0 on.
 
@@ -48,16 +42,6 @@ pub as_long : {A B : Type 0} (f : A → B) (xs : List A) (ys : List B) (made num
 as_long {B = B} f xs ys made numbers are is stay n within =
     let long : length xs ≡ length ys = sym (length-map xs f) ∙ ap (λ (zs : List B). length zs) are in
     let inside : n < length xs = omega (arith, long, within) in ap (λ (ns : List ℕ). number_in ns n) is ∙ stay n inside
-
--- ---- Members of a list that was viewed.
-
-pub stands_there : {A : Type 0} (xs ys : List A) (i : ℕ) (x : A) → xs ≡ ys → i < length xs → x ≡ get_or xs i x → slice_get ys i ≡ Some x
-stands_there {A = A} xs ys i x same within is =
-    ap (λ (zs : List A). slice_get zs i) (sym same) ∙ slice_get_read xs (length xs) i x refl within is
-
-pub stands_viewed : {A B : Type 0} (f : A → B) (ys : List A) (i : ℕ) (x : A) → slice_get ys i ≡ Some x
-    → slice_get (map f ys) i ≡ Some (f x)
-stands_viewed {A = A} f ys i x there = slice_get-map f ys i ∙ ap (λ (o : Option A). option_map f o) there
 
 -- ---- Equations and marks behind others.
 
@@ -96,7 +80,7 @@ is_signature_map old new sorts operations fine alike keep = record {
       let profile : profile_in new.operations (number_in operations f) o ≡ image.0 =
       ap (λ (n : ℕ). get_or new.operations n o) same ∙ get_or_from_slice_get new.operations f image.0 o image.1 in (
         ap (λ (p : Operation). p.arguments) profile ∙ image.2
-            ∙ sym (members_stay (number_in sorts) o.arguments (λ i s there. keep.sorts s (fine.arguments f i s o at there))),
+            ∙ sym (map_same (number_in sorts) o.arguments (λ i s there. keep.sorts s (fine.arguments f i s o at there))),
         ap (λ (p : Operation). p.result) profile ∙ image.3 ∙ sym (keep.sorts o.result (fine.results f o at)),
       );
 }
@@ -132,7 +116,7 @@ equation_stays signature sorts operations e keep over =
     λ vs l r. record { place = e.place; variables = vs; left = l; right = r } in
     ap (λ (vs : List Variable).
     sides vs (term_image (number_in sorts) (number_in operations) e.left) (term_image (number_in sorts) (number_in operations) e.right))
-    (members_stay (variable_image (number_in sorts)) e.variables
+    (map_same (variable_image (number_in sorts)) e.variables
     (λ i v at.
     ap (λ (s : ℕ). variable_with v.name v.number s) (keep.sorts v.sort (over.variable_sorts v.number v.sort (i, v, at, refl, refl)))))
     ∙ ap (λ (l : Term). sides e.variables l (term_image (number_in sorts) (number_in operations) e.right))

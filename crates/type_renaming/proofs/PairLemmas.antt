@@ -2,8 +2,9 @@
 use Rattle.std.proofs.Common.{◌≡◌, ℕ, Bool, true, false, List, refl, ap, sym, ◌∙◌}
 use Rattle.std.specs.Prelude.{Option, Some, None, ◌&&◌, IsTrue, ◌↔◌, nat_eq, if◌then◌else◌}
 use Rattle.std.specs.Str.{bytes_eq}
-use Rattle.std.proofs.lemmas.Option.{same_Some}
+use Rattle.std.proofs.lemmas.Option.{same_Some, none-some}
 use Rattle.std.proofs.lemmas.Slice.Eq.{bytes_eq-Decides}
+use Rattle.std.proofs.lemmas.Bool.{and_from}
 use Rattle.lotos_base.specs.Name.{spelling, AreSame}
 use Rattle.lotos_base.specs.declared.names.Name.{Name}
 use Rattle.lotos_base.specs.Names.{folded}
@@ -15,6 +16,7 @@ use Rattle.sort_terms.specs.WellFormedTest.{are_one_sort, are_one_operation}
 use Rattle.type_presentations.proofs.AddedLemmas.{by_name, by_profile}
 use Rattle.type_presentations.proofs.KeyedLemmas.{mutual_by_key}
 use Rattle.type_definitions.specs.Renaming.{pair_for, sort_under, operation_under, renamed_sort, renamed_operation}
+use Rattle.type_definitions.proofs.RenamingLemmas.{unpaired_sort, unpaired_operation}
 use Rattle.type_renaming.specs.Clashes.{giving, giving_operation, have_one_profile}
 
 -- ---- Tests.
@@ -37,12 +39,9 @@ operations_turned o p = mutual_by_key by_profile.key by_profile.same by_profile.
 some_none : {A : Type 0} (x : A) → Some x ≡ None → ⊥
 some_none x e = cc
 
-none_some : {A : Type 0} (x : A) → None ≡ Some x → ⊥
-none_some x e = cc
-
 picked : (b : Bool) (q p : WrittenPair) → (if b then Some q else None) ≡ Some p → (b ≡ true) × (q ≡ p)
 picked true q p e = (refl, same_Some q p e)
-picked false q p e = absurd (none_some p e)
+picked false q p e = absurd (none-some p e)
 
 not_picked : (b : Bool) (q : WrittenPair) → (if b then Some q else None) ≡ None → b ≡ false
 not_picked true q e = absurd (some_none q e)
@@ -50,7 +49,7 @@ not_picked false q e = refl
 
 picked_from : (b : Bool) (o : Option WrittenPair) (p : WrittenPair) → (if b then o else None) ≡ Some p → (b ≡ true) × (o ≡ Some p)
 picked_from true o p e = (refl, e)
-picked_from false o p e = absurd (none_some p e)
+picked_from false o p e = absurd (none-some p e)
 
 pub gives : (q : WrittenPair) (name : List ℕ) → one_name q.given name ≡ true → giving (Some q) name ≡ Some q
 gives q name is = rw is refl
@@ -59,10 +58,6 @@ pub gives_another : (q : WrittenPair) (name : List ℕ) → one_name q.given nam
 gives_another q name is = rw is refl
 
 -- ---- Sorts.
-
-pub sort_stays : (type_name : List ℕ) (pairs : WrittenPairs) (s : Sort) → pair_for pairs.sort_pairs s.name ≡ None
-    → renamed_sort type_name pairs s ≡ s
-sort_stays type_name pairs s none = ap (λ (o : Option WrittenPair). sort_under type_name o s) none
 
 -- the earlier one is given the name of one without a pair
 pub sort_given : (type_name : List ℕ) (pairs : WrittenPairs) (earlier s : Sort) (p : WrittenPair) → pair_for pairs.sort_pairs s.name ≡ None
@@ -74,12 +69,12 @@ sort_given type_name pairs earlier s p own given = go (pair_for pairs.sort_pairs
     go : (o : Option WrittenPair) → pair_for pairs.sort_pairs earlier.name ≡ o → giving o s.name ≡ Some p
         → (pair_for pairs.sort_pairs earlier.name ≡ Some p)
         × (are_one_sort (renamed_sort type_name pairs earlier) (renamed_sort type_name pairs s) ≡ true)
-    go None is e = absurd (none_some p e)
+    go None is e = absurd (none-some p e)
     go (Some q) is e =
         let parts = picked (one_name q.given s.name) q p e in (
           is ∙ ap (λ (r : WrittenPair). Some r) parts.1,
           ap (λ (o : Option WrittenPair). are_one_sort (sort_under type_name o earlier) (renamed_sort type_name pairs s)) is
-              ∙ ap (λ (t : Sort). are_one_sort (sort_under type_name (Some q) earlier) t) (sort_stays type_name pairs s own) ∙ parts.0,
+              ∙ ap (λ (t : Sort). are_one_sort (sort_under type_name (Some q) earlier) t) (unpaired_sort type_name pairs s own) ∙ parts.0,
         )
 
 -- it is not, and differed before
@@ -91,11 +86,11 @@ sort_not_given type_name pairs earlier s own given apart = go (pair_for pairs.so
     go : (o : Option WrittenPair) → pair_for pairs.sort_pairs earlier.name ≡ o → giving o s.name ≡ None
         → are_one_sort (renamed_sort type_name pairs earlier) (renamed_sort type_name pairs s) ≡ false
     go None is e =
-        ap (λ (t : Sort). are_one_sort t (renamed_sort type_name pairs s)) (sort_stays type_name pairs earlier is)
-        ∙ ap (λ (t : Sort). are_one_sort earlier t) (sort_stays type_name pairs s own) ∙ sorts_turned earlier s ∙ apart
+        ap (λ (t : Sort). are_one_sort t (renamed_sort type_name pairs s)) (unpaired_sort type_name pairs earlier is)
+        ∙ ap (λ (t : Sort). are_one_sort earlier t) (unpaired_sort type_name pairs s own) ∙ sorts_turned earlier s ∙ apart
     go (Some q) is e =
         ap (λ (o : Option WrittenPair). are_one_sort (sort_under type_name o earlier) (renamed_sort type_name pairs s)) is
-        ∙ ap (λ (t : Sort). are_one_sort (sort_under type_name (Some q) earlier) t) (sort_stays type_name pairs s own)
+        ∙ ap (λ (t : Sort). are_one_sort (sort_under type_name (Some q) earlier) t) (unpaired_sort type_name pairs s own)
         ∙ not_picked (one_name q.given s.name) q e
 
 -- two without pairs that are one were one before
@@ -104,14 +99,10 @@ pub sorts_alike : (type_name : List ℕ) (pairs : WrittenPairs) (s : Sort) → p
     → are_one_sort (renamed_sort type_name pairs earlier) (renamed_sort type_name pairs s) ≡ true → are_one_sort s earlier ≡ true
 sorts_alike type_name pairs s own earlier none one =
     sorts_turned s earlier
-    ∙ ap (λ (t : Sort). are_one_sort t s) (sym (sort_stays type_name pairs earlier none))
-    ∙ ap (λ (t : Sort). are_one_sort (renamed_sort type_name pairs earlier) t) (sym (sort_stays type_name pairs s own)) ∙ one
+    ∙ ap (λ (t : Sort). are_one_sort t s) (sym (unpaired_sort type_name pairs earlier none))
+    ∙ ap (λ (t : Sort). are_one_sort (renamed_sort type_name pairs earlier) t) (sym (unpaired_sort type_name pairs s own)) ∙ one
 
 -- ---- Operations.
-
-pub operation_stays : (type_name : List ℕ) (pairs : WrittenPairs) (o : Operation) → pair_for pairs.operation_pairs o.name ≡ None
-    → renamed_operation type_name pairs o ≡ o
-operation_stays type_name pairs o none = ap (λ (p : Option WrittenPair). operation_under type_name p o) none
 
 grouped : (a b c : Bool) → ((a && b) && c) ≡ (a && (b && c))
 grouped true b c = refl
@@ -123,10 +114,6 @@ under_pair : (type_name : List ℕ) (q : WrittenPair) (earlier o : Operation)
 under_pair type_name q earlier o =
     grouped (one_name q.given o.name) (form_eq earlier.form o.form)
     (bytes_eq earlier.arguments o.arguments && nat_eq earlier.result o.result)
-
-both_true : (a b : Bool) → a ≡ true → b ≡ true → (a && b) ≡ true
-both_true true b e f = f
-both_true false b e f = cc
 
 pub operation_given : (type_name : List ℕ) (pairs : WrittenPairs) (earlier o : Operation) (p : WrittenPair)
     → pair_for pairs.operation_pairs o.name ≡ None
@@ -141,16 +128,16 @@ operation_given type_name pairs earlier o p own given =
         → giving q o.name ≡ Some p
         → (pair_for pairs.operation_pairs earlier.name ≡ Some p)
         × (are_one_operation (renamed_operation type_name pairs earlier) (renamed_operation type_name pairs o) ≡ true)
-    go None is alike e = absurd (none_some p e)
+    go None is alike e = absurd (none-some p e)
     go (Some q) is alike e =
         let parts = picked (one_name q.given o.name) q p e in (
           is ∙ ap (λ (r : WrittenPair). Some r) parts.1,
           ap (λ (r : Option WrittenPair).
               are_one_operation (operation_under type_name r earlier) (renamed_operation type_name pairs o)) is
               ∙ ap (λ (r : Operation). are_one_operation (operation_under type_name (Some q) earlier) r)
-              (operation_stays type_name pairs o own)
+              (unpaired_operation type_name pairs o own)
               ∙ under_pair type_name q earlier o
-              ∙ both_true (one_name q.given o.name) (have_one_profile earlier o) parts.0 alike,
+              ∙ and_from (one_name q.given o.name) (have_one_profile earlier o) parts.0 alike,
         )
 
 pub operation_not_given : (type_name : List ℕ) (pairs : WrittenPairs) (earlier o : Operation)
@@ -170,11 +157,11 @@ operation_not_given type_name pairs earlier o own given apart = go (pair_for pai
     go : (q : Option WrittenPair) → pair_for pairs.operation_pairs earlier.name ≡ q → giving_operation q earlier o ≡ None
         → are_one_operation (renamed_operation type_name pairs earlier) (renamed_operation type_name pairs o) ≡ false
     go None is e =
-        ap (λ (r : Operation). are_one_operation r (renamed_operation type_name pairs o)) (operation_stays type_name pairs earlier is)
-        ∙ ap (λ (r : Operation). are_one_operation earlier r) (operation_stays type_name pairs o own) ∙ operations_turned earlier o ∙ apart
+        ap (λ (r : Operation). are_one_operation r (renamed_operation type_name pairs o)) (unpaired_operation type_name pairs earlier is)
+        ∙ ap (λ (r : Operation). are_one_operation earlier r) (unpaired_operation type_name pairs o own) ∙ operations_turned earlier o ∙ apart
     go (Some q) is e =
         ap (λ (r : Option WrittenPair). are_one_operation (operation_under type_name r earlier) (renamed_operation type_name pairs o)) is
-        ∙ ap (λ (r : Operation). are_one_operation (operation_under type_name (Some q) earlier) r) (operation_stays type_name pairs o own)
+        ∙ ap (λ (r : Operation). are_one_operation (operation_under type_name (Some q) earlier) r) (unpaired_operation type_name pairs o own)
         ∙ under_pair type_name q earlier o ∙ either (have_one_profile earlier o) q e
 
 pub operations_alike : (type_name : List ℕ) (pairs : WrittenPairs) (o : Operation) → pair_for pairs.operation_pairs o.name ≡ None
@@ -183,6 +170,6 @@ pub operations_alike : (type_name : List ℕ) (pairs : WrittenPairs) (o : Operat
     → are_one_operation o earlier ≡ true
 operations_alike type_name pairs o own earlier none one =
     operations_turned o earlier
-    ∙ ap (λ (r : Operation). are_one_operation r o) (sym (operation_stays type_name pairs earlier none))
-    ∙ ap (λ (r : Operation). are_one_operation (renamed_operation type_name pairs earlier) r) (sym (operation_stays type_name pairs o own))
+    ∙ ap (λ (r : Operation). are_one_operation r o) (sym (unpaired_operation type_name pairs earlier none))
+    ∙ ap (λ (r : Operation). are_one_operation (renamed_operation type_name pairs earlier) r) (sym (unpaired_operation type_name pairs o own))
     ∙ one

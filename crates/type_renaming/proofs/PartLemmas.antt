@@ -1,19 +1,18 @@
 -- Presentations that are made part by part: how much is in them, and what is so of their signatures.
-use Rattle.std.proofs.Common.{◌≡◌, ℕ, zero, suc, ◌<◌, ◌≤◌, ◌^◌, min, Bool, true, false, List, [], ◌∷◌, map, length, take, get_or, refl, ap, sym, ◌∙◌, arith}
-use Rattle.std.specs.Prelude.{Option, Some, None, slice_get, ◌||◌, ◌&&◌, nat_lt}
+use Rattle.std.proofs.Common.{◌≡◌, ℕ, zero, suc, ◌<◌, ◌≤◌, min, Bool, true, false, List, [], ◌∷◌, map, length, take, get_or, refl, ap, ◌∙◌, arith}
+use Rattle.std.specs.Prelude.{Option, Some, None, slice_get, ◌||◌, nat_lt}
 use Rattle.std.specs.List.{list_all}
 use Rattle.std.specs.Option.{option_map}
-use Rattle.std.proofs.lemmas.Bool.{le-ltb, ltb-true, and_parts}
+use Rattle.std.proofs.lemmas.Bool.{le-ltb, and_parts}
 use Rattle.std.proofs.lemmas.List.{length-map, length-take}
 use Rattle.std.proofs.lemmas.Option.{slice_get-map}
 use Rattle.std.specs.declared.rc.Rc.{Rc}
 use Rattle.std.specs.declared.alloc.Global.{Global}
-use Rattle.lotos_base.specs.Signature.{Signature, Sort, Operation, IsWellFormedSignature}
+use Rattle.lotos_base.specs.Signature.{Signature, Sort, Operation}
 use Rattle.syntax_trees.specs.WrittenItem.{WrittenPair, WrittenPairs}
 use Rattle.sort_terms.specs.Operations.{operation_of}
 use Rattle.sort_terms.specs.declared.operations.Op.{Op}
-use Rattle.sort_terms.specs.WellFormedTest.{has_known_sorts, all_differ, are_one_sort, are_one_operation}
-use Rattle.sort_terms.proofs.WellFormedLemmas.{test_well_formed}
+use Rattle.sort_terms.specs.WellFormedTest.{has_known_sorts}
 use Rattle.type_definitions.specs.Presentation.{Presentation, is_too_large, presentation_limit}
 use Rattle.type_definitions.specs.Renaming.{pair_for, operation_under, renamed_sort, renamed_operation, renaming}
 use Rattle.type_presentations.proofs.SizeLemmas.{within_limits}
@@ -78,23 +77,7 @@ as_large p q sorts operations equations within =
     (at_most (length q.signature.operations) (length p.signature.operations) presentation_limit operations small.operations)
     (at_most (length q.equations) (length p.equations) presentation_limit equations small.equations)
 
-below : (n m limit top : ℕ) → n ≡ m → m ≤ limit → limit < top → n < top
-below n m limit top as_many few small = omega (arith, as_many, few, small)
-
--- there are fewer than numbers of 32 bits
-pub are_few : {A B : Type 0} (f : A → B) (xs : List A) (ys : List B) → map f xs ≡ ys → length ys ≤ presentation_limit → length xs < 2 ^ 32
-are_few {B = B} f xs ys are few =
-    below (length xs) (length ys) presentation_limit (2 ^ 32)
-    (sym (length-map xs f) ∙ ap (λ (zs : List B). length zs) are) few (ltb-true presentation_limit (2 ^ 32) refl)
-
 -- ---- Operations over sorts.
-
-pub sorts_are_known : (signature : Signature) → IsWellFormedSignature signature
-    → list_all (has_known_sorts (length signature.sorts)) signature.operations ≡ true
-sorts_are_known signature fine =
-    (and_parts (list_all (has_known_sorts (length signature.sorts)) signature.operations)
-    (all_differ are_one_sort signature.sorts && all_differ are_one_operation signature.operations)
-    (test_well_formed signature fine)).0
 
 -- so is each member of such a list
 pub member_is_known : {A : Type 0} (bound : ℕ) (f : A → Operation) (xs : List A) (i : ℕ) (x : A) → i < length xs → x ≡ get_or xs i x

@@ -1,6 +1,6 @@
 -- A renaming, made part by part.
 use Rattle.std.proofs.Common.{◌≡◌, ℕ, List, [], ◌++◌, map, length, ap, sym, ◌∙◌}
-use Rattle.std.specs.Prelude.{Option, Some, None, false}
+use Rattle.std.specs.Prelude.{Option, None, false}
 use Rattle.std.proofs.lemmas.List.{length-map}
 use Rattle.lotos_base.specs.Signature.{Sort, Operation}
 use Rattle.syntax_trees.specs.WrittenItem.{WrittenPair, WrittenPairs}
@@ -11,15 +11,6 @@ use Rattle.type_renaming.specs.Parts.{sorts_alone, with_these_operations, with_e
 use Rattle.type_renaming.proofs.PartLemmas.{as_large}
 
 -- ---- Faults one after the other.
-
-pub first_fails : (a rest : Option TypeFault) (fault : TypeFault) → a ≡ Some fault → first_fault a rest ≡ Some fault
-first_fails a rest fault found = ap (λ (o : Option TypeFault). first_fault o rest) found
-
-pub later_fails : (a rest : Option TypeFault) (fault : TypeFault) → a ≡ None → rest ≡ Some fault → first_fault a rest ≡ Some fault
-later_fails a rest fault one found = ap (λ (o : Option TypeFault). first_fault o rest) one ∙ found
-
-pub none_fails : (a rest : Option TypeFault) → a ≡ None → rest ≡ None → first_fault a rest ≡ None
-none_fails a rest one other = ap (λ (o : Option TypeFault). first_fault o rest) one ∙ other
 
 -- ---- The image.
 

@@ -1,6 +1,7 @@
 -- What is known of two presentations that are joined step by step, and what follows for the whole.
 use Rattle.std.proofs.Common.{◌≡◌, ℕ, Bool, true, false, List, [], ◌∷◌, map, refl, ap, sym, ◌∙◌}
 use Rattle.std.specs.Prelude.{Some, ◌&&◌, not, nat_eq, slice_get}
+use Rattle.std.proofs.lemmas.Bool.{not-false}
 use Rattle.lotos_base.specs.Signature.{Signature, Sort, Operation, IsWellFormedSignature}
 use Rattle.lotos_base.specs.Equation.{IsWellFormedData}
 use Rattle.sort_terms.specs.WellFormedTest.{all_differ, are_one_sort, are_one_operation}
@@ -23,7 +24,7 @@ use Rattle.type_unions.specs.UnionMade.{IsJoined, IsJoinFault}
 use Rattle.type_unions.specs.declared.clashes.Clashes.{Clashes}
 use Rattle.type_unions.proofs.UnionSignatures.{union_is_larger}
 use Rattle.type_unions.proofs.UnionData.{AreMapsOfUnion, keep_by_lists, images_by_lists, union_data}
-use Rattle.type_unions.proofs.UnionLemmas.{without_clash, sorts_first, operations_next, size_last, no_fault, equations_joined, marks_joined, of_parts}
+use Rattle.type_unions.proofs.UnionLemmas.{sorts_first, operations_next, size_last, no_fault, equations_joined, marks_joined, of_parts}
 use Rattle.type_unions.proofs.JoinLemmas.{maps_of_union, sorts_clash, operations_clash, AreKeyed, sound_union}
 
 -- ---- What the steps leave.
@@ -157,7 +158,7 @@ sound_together p q sorts operations one other old coming new fine all no_sorts n
     (sides_of_larger p.signature (joined p q).signature old (union_is_larger p q) fine.first_sides)
     (images_by_lists p q sorts operations (presentation_of new).signature.operations coming
     (all_maps p q sorts operations one other new all) fine.second_sides))
-    (union_data p q fine.first fine.second (without_clash _ no_sorts) (without_clash _ no_operations))
+    (union_data p q fine.first fine.second (not-false _ no_sorts) (not-false _ no_operations))
 
 pub both_together : (p q : Presentation) (sorts operations : List ℕ) (old coming : List CodeEquation) (new : CodePresentation) (clashes : Clashes)
     → AreFine p q sorts operations old coming new

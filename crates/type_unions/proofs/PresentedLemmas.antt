@@ -1,10 +1,11 @@
 -- Types found by their names, and mentions of them.
-use Rattle.std.proofs.Common.{◌≡◌, ℕ, zero, suc, Bool, true, false, List, [], ◌∷◌, ◌++◌, ◌⊎◌, inl, inr, map, refl, ap, sym, ◌∙◌, subst, append_assoc}
+use Rattle.std.proofs.Common.{◌≡◌, ℕ, suc, Bool, true, false, List, [], ◌∷◌, ◌++◌, inl, inr, map, refl, ap, sym, ◌∙◌, subst, append_assoc}
 use Rattle.std.specs.Prelude.{Option, None, Some, slice_get, ◌||◌, if◌then◌else◌}
 use Rattle.std.specs.List.{list_any}
 use Rattle.std.proofs.lemmas.List.{map-append}
 use Rattle.std.specs.Option.{option_map}
-use Rattle.std.proofs.lemmas.Option.{none-some, same_Some, slice_get-map}
+use Rattle.std.proofs.lemmas.Option.{none-some, slice_get-map}
+use Rattle.lotos_base.proofs.Members.{before_or_last}
 use Rattle.sort_terms.specs.ReadingOutcome.{one_name}
 use Rattle.type_definitions.specs.Presentation.{Presentation, nothing, first_position}
 use Rattle.type_definitions.specs.Union.{Mentioned}
@@ -62,13 +63,6 @@ named_nowhere types name found p is none here =
     here ∙ ap (λ (o : Option ℕ). by_position types o) (sym none ∙ is) ∙ sym (named_by_position types name)
 
 -- ---- Lists that grow.
-
-before_or_last : {A : Type 0} (xs : List A) (y : A) (i : ℕ) (x : A) → slice_get (xs ++ y ∷ []) i ≡ Some x
-    → (slice_get xs i ≡ Some x) ⊎ (y ≡ x)
-before_or_last [] y zero x found = inr (same_Some _ _ found)
-before_or_last [] y (suc i) x found = absurd (none-some x found)
-before_or_last (z ∷ xs) y zero x found = inl found
-before_or_last (z ∷ xs) y (suc i) x found = before_or_last xs y i x found
 
 -- what is so of each member and of one more
 pub each_and_last : {A : Type 0} (P : A → Type 0) (old new : List A) (y : A) → new ≡ old ++ y ∷ []

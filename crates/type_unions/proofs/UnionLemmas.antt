@@ -27,10 +27,6 @@ pub operation_clash_told : (p : Presentation) (before clash : Bool)
     → all_differ are_one_operation p.signature.operations ≡ (not clash && before) → before ≡ true → has_operation_clash p ≡ clash
 operation_clash_told p before clash e h = told before (all_differ are_one_operation p.signature.operations) clash e h
 
-pub without_clash : (differ : Bool) → not differ ≡ false → differ ≡ true
-without_clash true h = refl
-without_clash false h = cc
-
 first_of : (a : Bool) (x : TypeFault) (later : Option TypeFault) → a ≡ true → first_fault (fault_if a x) later ≡ Some x
 first_of true x later h = refl
 first_of false x later h = cc

@@ -1,11 +1,12 @@
 -- The signature of a union, and the maps of numbers into it.
-use Rattle.std.proofs.Common.{◌≡◌, ℕ, ◌<◌, ◌≤◌, Bool, true, List, [], ◌∷◌, inl, inr, length, map, get_or, refl, ap, sym, ◌∙◌, subst, arith}
+use Rattle.std.proofs.Common.{◌≡◌, ℕ, ◌<◌, Bool, true, List, [], ◌∷◌, inl, inr, length, map, get_or, refl, ap, sym, ◌∙◌, subst, arith}
 use Rattle.std.specs.Prelude.{Option, Some, None, slice_get, ◌&&◌, nat_eq}
 use Rattle.std.specs.Option.{option_map}
 use Rattle.std.specs.Str.{bytes_eq}
 use Rattle.std.proofs.lemmas.Bool.{eqb-true, and_parts}
 use Rattle.std.proofs.lemmas.Option.{none-some, same_Some, slice_get_within, slice_get-get_or, slice_get-map, get_or_from_slice_get}
 use Rattle.std.proofs.lemmas.Slice.Eq.{bytes_eq-Decides}
+use Rattle.lotos_base.proofs.Members.{as_long}
 use Rattle.lotos_base.specs.Signature.{Sort, Operation, IsSort, IsWellFormedSignature}
 use Rattle.lotos_base.specs.Twins.{form_eq}
 use Rattle.sort_terms.specs.ReadingOutcome.{one_name}
@@ -20,7 +21,7 @@ use Rattle.type_definitions.proofs.WithNewLemmas.{unions}
 use Rattle.type_presentations.proofs.SignatureLemmas.{IsLarger, larger_sort, made_well_formed}
 
 -- operations that are one have one profile
-one_profile : (o p : Operation) → is_same_operation o p ≡ true → (p.arguments ≡ o.arguments) × (p.result ≡ o.result)
+pub one_profile : (o p : Operation) → is_same_operation o p ≡ true → (p.arguments ≡ o.arguments) × (p.result ≡ o.result)
 one_profile o p h =
     let names : Bool = one_name o.name p.name && form_eq o.form p.form in
     let profiles : Bool = bytes_eq o.arguments p.arguments && nat_eq o.result p.result in
@@ -30,14 +31,6 @@ one_profile o p h =
     (sym ((bytes_eq-Decides o.arguments p.arguments).0 parts.0), sym (eqb-true o.result p.result parts.1))
 
 -- ---- The first signature is within that of the union.
-
-as_long : {A : Type 0} (xs ys : List A) → ((i : ℕ) (x : A) → slice_get xs i ≡ Some x → slice_get ys i ≡ Some x) → length xs ≤ length ys
-as_long [] ys stays = omega arith
-as_long (x ∷ xs) ys stays =
-    let n : ℕ = length xs in
-    let last : slice_get (x ∷ xs) n ≡ Some (get_or (x ∷ xs) n x) = slice_get-get_or (x ∷ xs) n x (omega arith) in
-    let there : n < length ys = slice_get_within ys n (get_or (x ∷ xs) n x) (stays n (get_or (x ∷ xs) n x) last) in
-    omega (arith, there)
 
 pub union_is_larger : (p q : Presentation) → IsLarger p.signature (joined p q).signature
 union_is_larger p q = record {

@@ -4,7 +4,7 @@ use Rattle.std.specs.Prelude.{Some, None, ◌⊎◌, ◌&&◌, if◌then◌else�
 use Rattle.std.proofs.lemmas.Option.{same_Some}
 use Rattle.std.proofs.lemmas.Bool.Decides.{Decides-eqb, Decides-and}
 use Rattle.std.proofs.lemmas.Bool.{ltb-true, and_parts}
-use Rattle.list_laws.proofs.Numbers.{smaller}
+use Rattle.lotos_base.proofs.Numbers.{smaller}
 use Rattle.lotos_base.specs.Term.{Term, variable, node, Terms, no_terms, term_then}
 use Rattle.lotos_base.specs.Sorting.{Occurs, OccursAmong}
 use Rattle.lotos_base.specs.Canon.{KeepsApart}

@@ -15,10 +15,7 @@ use Rattle.lotos_base.proofs.CanonLemmas.{canon_tells}
 use Rattle.behaviour_semantics.specs.Behaviour.{Test}
 use Rattle.behaviour_semantics.specs.Rule.{is_same_sort, AreValues, AllHold}
 use Rattle.behaviour_semantics.specs.WellFormed.{sort_in, IsTermIn}
-
-pub sorts_equal : (o : Option ℕ) (s : ℕ) → is_same_sort o (Some s) ≡ true → o ≡ Some s
-sorts_equal None s e = absurd (cc e)
-sorts_equal (Some r) s e = ap (λ (n : ℕ). Some n) (eqb-true r s e)
+use Rattle.behaviour_semantics.proofs.ClosedTargets.{same_sort}
 
 -- The operation is there, has this result, and its arguments pass.
 abbrev operation_passes : Option Operation → ℕ → (List ℕ → Bool) → Bool
@@ -73,7 +70,7 @@ module _ (signature : Signature) (scope : List Variable) where
     bound : (t : Term) (sort : ℕ) → term_passes signature scope sort t ≡ true → (n s : ℕ) → Occurs n s t → sort_in scope n ≡ Some s
     bound (variable m r) sort e n s o =
         let rest : (is_same_sort (sort_in scope m) (Some r) && nat_lt r (length signature.sorts)) ≡ true = second_so (nat_eq r sort) _ e in
-        let at : sort_in scope m ≡ Some r = sorts_equal (sort_in scope m) r (first_so (is_same_sort (sort_in scope m) (Some r)) _ rest) in
+        let at : sort_in scope m ≡ Some r = same_sort (sort_in scope m) r (first_so (is_same_sort (sort_in scope m) (Some r)) _ rest) in
         subst (λ (k : ℕ). sort_in scope k ≡ Some s) o.0 (at ∙ ap (λ (k : ℕ). Some k) o.1)
     bound (node f ts) sort e n s o =
         let p : Passed signature f sort (terms_pass signature scope ts) = passed_operation signature f sort (terms_pass signature scope ts) (slice_get signature.operations f) refl e in

@@ -1,6 +1,6 @@
 -- A test that a behaviour, and a specification, is closed and well formed. It computes, so that a worked case needs no
 -- proof of its own.
-use Rattle.std.proofs.Common.{◌≡◌, ◌≢◌, ◌<◌, ℕ, zero, suc, List, [], ◌∷◌, ◌++◌, length, nat_eq, nat_lt, slice_get, Bool, true, false, ◌&&◌, not, if◌then◌else◌, Option, None, Some, refl, ap, sym, ◌∙◌, subst}
+use Rattle.std.proofs.Common.{◌≡◌, ◌≢◌, ◌<◌, ℕ, zero, suc, List, [], ◌∷◌, ◌++◌, length, nat_eq, nat_lt, slice_get, Bool, true, false, ◌&&◌, not, if◌then◌else◌, Option, None, Some, refl, ap, sym, subst}
 use Rattle.lotos_base.specs.Signature.{Signature, IsSort}
 use Rattle.lotos_base.specs.Term.{Term}
 use Rattle.lotos_base.specs.Equation.{Variable}
@@ -8,13 +8,12 @@ use Rattle.lotos_base.specs.Substitution.{is_listed}
 use Rattle.behaviour_semantics.specs.Behaviour.{Behaviour, stop, exit_with, action, inner_action, guard, choice, parallel, hide, enable, disable, let_be, choose_value, choose_gate, par_gate, call, relabel, Test, Offer, give, ask, ExitValue, exit_value, any_of, SynchronisationSet, no_gates, all_gates, at_gates, Process, Specification, Relabelling, asked_variables, numbers_of, let_variables, let_terms}
 use Rattle.behaviour_semantics.specs.Label.{formals_of}
 use Rattle.behaviour_semantics.specs.WellFormed.{Every, AreDistinct, IsTestIn, AreTermsIn, AreBinders, IsTestOption, IsOffer, IsExitValue, AreGates, IsSynchronisationSet, IsCall, IsRelabelling, IsBehaviour, IsFunctionality, IsDefinition, IsSpecification}
-use Rattle.std.proofs.Common.{arith}
-use Rattle.std.proofs.lemmas.Bool.Decides.{nat_tests}
 use Rattle.behaviour_semantics.proofs.OptionLemmas.{some_value}
 use Rattle.std.specs.Cmp.{first_so, second_so}
 use Rattle.std.proofs.Common.{eqb-true}
 use Rattle.std.proofs.lemmas.Bool.{ltb-true}
-use Rattle.list_laws.proofs.Truth.{not_both}
+use Rattle.behaviour_semantics.proofs.LeftVariables.{listed_at}
+use Rattle.lotos_base.proofs.Truth.{not_both}
 use Rattle.worked_cases.proofs.TermTests.{term_passes, term_in, head_sort}
 
 abbrev every_passes : {X : Type 0} → (X → Bool) → List X → Bool
@@ -36,14 +35,6 @@ same_listed false rest e = absurd (cc e)
 rest_listed : (b : Bool) (rest : Bool) → rest ≡ true → (if b then true else rest) ≡ true
 rest_listed true rest e = refl
 rest_listed false rest e = e
-
-listed_at : (numbers : List ℕ) (j n : ℕ) → slice_get numbers j ≡ Some n → is_listed numbers n ≡ true
-listed_at [] j n at = absurd (cc at)
-listed_at (m ∷ numbers) zero n at = same_listed (nat_eq m n) (is_listed numbers n) (ap (λ (k : ℕ). nat_eq m k) (sym (some_value at)) ∙ reflexive m)
-  where
-    reflexive : (k : ℕ) → nat_eq k k ≡ true
-    reflexive k = grind (arith, nat_tests)
-listed_at (m ∷ numbers) (suc j) n at = rest_listed (nat_eq m n) (is_listed numbers n) (listed_at numbers j n at)
 
 are_distinct : (numbers : List ℕ) → distinct_pass numbers ≡ true → AreDistinct numbers
 are_distinct [] e i j n at at' = absurd (cc at)

@@ -1,15 +1,16 @@
 use Rattle.std.proofs.Common.{◌≡◌, ◌<◌, List, length, map, refl, ap, ◌∙◌, subst, arith}
 use Rattle.std.specs.Prelude.{◌^◌}
+use Rattle.lotos_base.proofs.Pieces.{take_whole}
 use Rattle.lotos_base.specs.Name.{spelling}
 use Rattle.lotos_base.specs.Signature.{Operation}
 use Rattle.sort_terms.specs.Operations.{operation_of}
-use Rattle.type_presentations.proofs.NameLemmas.{whole}
 use Rattle.type_presentations.specs.NamesView.{HasNames}
 use Rattle.type_definitions.specs.Actualisation.{marked_from}
+use Rattle.type_definitions.proofs.FaultLemmas.{few_members}
 use Rattle.type_presentations.proofs.SizeLemmas.{within_limits}
 use Rattle.type_presentations.specs.MarksView.{marks_in}
 use Rattle.type_presentations.specs.PresentationView.{presentation_of}
-use Rattle.actual_members.proofs.MarkedNames.{names_next, count_small, few_members, number_small}
+use Rattle.actual_members.proofs.MarkedNames.{names_next, count_small, number_small}
 use Rattle.actual_members.proofs.formal_names.formal_op_names.Goals as goal
 
 pub loop-number-init : goal.loop-number-init
@@ -42,5 +43,5 @@ pub returns : goal.returns
 returns c =
     let all : c.loop-number.number ≡ length c.ops-ops.result.now = omega arith in
     subst (λ (ss : List Operation). HasNames c.loop-number.names (map (λ (o : Operation). o.name) (marked_from (marks_in c.args.base.now.formal_ops) 0 ss)))
-    (ap (λ xs. map (λ op. operation_of op.value) xs) (whole c.ops-ops.result.now c.loop-number.number all) ∙ c.ops-ops.ensures)
+    (ap (λ xs. map (λ op. operation_of op.value) xs) (take_whole c.ops-ops.result.now c.loop-number.number all) ∙ c.ops-ops.ensures)
     c.loop-number.invariant.0

@@ -1,16 +1,17 @@
 use Rattle.std.proofs.Common.{◌≡◌, ◌<◌, List, length, map, refl, ap, ◌∙◌, subst, arith}
 use Rattle.std.specs.Prelude.{◌^◌}
+use Rattle.lotos_base.proofs.Pieces.{take_whole}
 use Rattle.lotos_base.specs.Name.{spelling}
 use Rattle.lotos_base.specs.Signature.{Sort}
 use Rattle.sort_terms.specs.Operations.{sort_of}
 use Rattle.sort_terms.specs.declared.operations.Sort.{Sort as CodeSort}
-use Rattle.type_presentations.proofs.NameLemmas.{whole}
 use Rattle.type_presentations.specs.NamesView.{HasNames}
 use Rattle.type_definitions.specs.Actualisation.{marked_from}
+use Rattle.type_definitions.proofs.FaultLemmas.{few_members}
 use Rattle.type_presentations.proofs.SizeLemmas.{within_limits}
 use Rattle.type_presentations.specs.MarksView.{marks_in}
 use Rattle.type_presentations.specs.PresentationView.{presentation_of}
-use Rattle.actual_members.proofs.MarkedNames.{names_next, count_small, few_members, number_small}
+use Rattle.actual_members.proofs.MarkedNames.{names_next, count_small, number_small}
 use Rattle.actual_members.proofs.formal_names.formal_sort_names.Goals as goal
 
 pub loop-number-init : goal.loop-number-init
@@ -42,5 +43,5 @@ pub returns : goal.returns
 returns c =
     let all : c.loop-number.number ≡ length c.sorts-sorts.result.now = omega arith in
     subst (λ (ss : List Sort). HasNames c.loop-number.names (map (λ (s : Sort). s.name) (marked_from (marks_in c.args.base.now.formal_sorts) 0 ss)))
-    (ap (λ (xs : List CodeSort). map sort_of xs) (whole c.sorts-sorts.result.now c.loop-number.number all) ∙ c.sorts-sorts.ensures)
+    (ap (λ (xs : List CodeSort). map sort_of xs) (take_whole c.sorts-sorts.result.now c.loop-number.number all) ∙ c.sorts-sorts.ensures)
     c.loop-number.invariant.0

@@ -1,8 +1,8 @@
 use Rattle.std.proofs.Common.{◌+◌, map, drop, length, refl, ap, ◌∙◌, arith}
+use Rattle.lotos_base.proofs.Pieces.{next_member}
 use Rattle.type_definitions.proofs.WalkLemmas.{next_of, none_of}
 use Rattle.sort_terms.specs.Operations.{operation_of}
 use Rattle.type_presentations.specs.OperationListView.{operations_in}
-use Rattle.type_presentations.proofs.KeptLemmas.{drop_next}
 use Rattle.actual_members.specs.CameView.{operations_with}
 use Rattle.actual_members.proofs.ArrivingLemmas.{begins, ends, one_next}
 use Rattle.actual_members.proofs.MemberLemmas.{operations_came, operations_are_lawful, operations_of, none_counted, turned_settled}
@@ -47,7 +47,7 @@ loop-number-preserved c = record {
       operations_are_lawful (c.loop-number.invariant.arriving a of)
       (next_of (λ op. operation_of op.value) c.args.coming.now c.loop-number.number c.index-coming-number.result c.loop-number-test.true
       c.index-coming-number.is)
-      (drop_next c.args.actuals.now c.loop-number.number c.actual_at-actual.result
+      (next_member c.args.actuals.now c.loop-number.number c.actual_at-actual.result
       (omega (arith, c.loop-number-test.true, c.requires.actuals)) c.actual_at-actual.ensures)
       (turned_settled c.deref.result.now c.index-coming-number.result.value a _ _ c.actual_at-actual.result c.deref.ensures
       (c.in_ok-bring_one.ensures.came a of.source_is));

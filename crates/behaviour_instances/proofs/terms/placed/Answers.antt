@@ -1,5 +1,6 @@
 use Rattle.std.proofs.Common.{ℕ, List, ap, sym, ◌∙◌, subst}
 use Rattle.std.proofs.lemmas.Result.{IfOk-weaker}
+use Rattle.event_offers.proofs.ValueLemmas.{pairs_put}
 use Rattle.lotos_base.specs.Sorting.{Occurs}
 use Rattle.lotos_base.specs.Substitution.{binding, substituted}
 use Rattle.sort_terms.specs.SortedView.{profiled_in, term_in}
@@ -8,7 +9,6 @@ use Rattle.term_match.specs.ProfiledInstance.{profiled_binding, profiled_instanc
 use Rattle.term_match.specs.SubstView.{profiled_pairs}
 use Rattle.behaviour_tree.specs.StateView.{environment_of}
 use Rattle.behaviour_instances.specs.Suited.{SuitsWhere}
-use Rattle.behaviour_instances.proofs.UnlistedLemmas.{put_in}
 use Rattle.behaviour_instances.proofs.terms.placed.Goals as goal
 
 pub put_into-requires : goal.put_into-requires
@@ -18,7 +18,7 @@ put_into-requires c =
 
 pub returns-clause-same : goal.returns-clause-same
 returns-clause-same c =
-    IfOk-weaker c.put_into.result _ _ (λ t e. e ∙ (put_in c.as_slice.result.now (term_in c.args.term.now)
+    IfOk-weaker c.put_into.result _ _ (λ t e. e ∙ (pairs_put c.as_slice.result.now (term_in c.args.term.now)
     ∙ ap (λ (ps : List (ℕ × Sorted)). substituted (binding (environment_of ps)) (term_in c.args.term.now)) c.as_slice.ensures.value))
     c.put_into.ensures.same
 

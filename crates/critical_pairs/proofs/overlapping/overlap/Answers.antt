@@ -7,11 +7,12 @@ use Rattle.sort_terms.specs.SortedView.{profiled_in, term_in}
 use Rattle.sort_terms.specs.TermView.{term_of}
 use Rattle.sort_terms.specs.declared.sorted.Sorted.{Sorted}
 use Rattle.sort_terms.specs.declared.terms.Term.{Term}
+use Rattle.sort_terms.proofs.BuiltLists.{profiled_Node}
 use Rattle.term_match.specs.ProfiledInstance.{profiled_instance, profiled_binding}
 use Rattle.term_match.specs.ProfiledPath.{profiled_subterm, profiled_put_at}
 use Rattle.term_match.specs.SubstView.{profiled_pairs}
 use Rattle.term_match.specs.declared.substitutions.Subst.{Subst}
-use Rattle.term_match.proofs.PathLemmas.{subterm_of, profiled_of-Node}
+use Rattle.term_match.proofs.PathLemmas.{subterm_of}
 use Rattle.term_match.specs.NewNumbers.{KeepsClear}
 use Rattle.term_match.specs.Renumbering.{new_number, profiled_renaming}
 use Rattle.term_match.specs.Solving.{IsPutSorted}
@@ -70,7 +71,7 @@ returns-in_default-2-clause-none c =
     subst (λ (t : Term). IsNode (term_of t)) c.term.ensures
     (subst (λ (t : Term). IsNode (term_of t)) (sym c.in_default-term.is)
     (subst (λ (p : ProfiledTerm). IsNode (bare p))
-    (sym (profiled_of-Node c.in_default-term.field-0 c.in_default-term.field-1 c.in_default-term.field-2)) tt)) in
+    (sym (profiled_Node c.in_default-term.field-0 c.in_default-term.field-1 c.in_default-term.field-2)) tt)) in
     nothing_unifies place is_node (λ unifier.
     (c.in_ok-subst.ensures.none c.requires.0
     (subterm_of c.requires.0 c.args.path.now (profiled_in c.args.first.now.left) (profiled_in c.in-Some.part) c.requires.1.left_is_of
@@ -228,7 +229,7 @@ returns-clause-some c =
     subst (λ (t : Term). IsNode (term_of t)) c.term.ensures
     (subst (λ (t : Term). IsNode (term_of t)) (sym c.in_default-term.is)
     (subst (λ (p : ProfiledTerm). IsNode (bare p))
-    (sym (profiled_of-Node c.in_default-term.field-0 c.in_default-term.field-1 c.in_default-term.field-2)) tt)) in
+    (sym (profiled_Node c.in_default-term.field-0 c.in_default-term.field-1 c.in_default-term.field-2)) tt)) in
     let unified : IsUnifiedBy (profiled_in c.in-Some.part)
     (moved (new_number c.in_ok-numbers.numbers.items) (profiled_in c.args.second.now.left))
     (profiled_pairs c.in-Some-2.subst.pairs.items) =

@@ -1,5 +1,6 @@
 use Rattle.std.proofs.Common.{List, Some, subst}
 use Rattle.std.proofs.lemmas.Result.{on_ok_weaker}
+use Rattle.session_log.proofs.ReplayLemmas.{over_same}
 use Rattle.lotos_base.specs.Equation.{Data}
 use Rattle.lotos_base.specs.Term.{Term}
 use Rattle.behaviour_tree.specs.BehaviourView.{terms_of}

@@ -1,5 +1,6 @@
 use Rattle.std.proofs.Common.{ℕ, List, ap, sym, ◌∙◌, subst}
 use Rattle.std.proofs.lemmas.Result.{IfOk-weaker}
+use Rattle.event_offers.proofs.ValueLemmas.{pairs_put}
 use Rattle.lotos_base.specs.Substitution.{binding, substituted}
 use Rattle.sort_terms.specs.ProfiledTerm.{IsOf}
 use Rattle.sort_terms.specs.SortedView.{profiled_in, term_in}
@@ -8,7 +9,7 @@ use Rattle.term_match.specs.ProfiledInstance.{profiled_binding, profiled_instanc
 use Rattle.term_match.specs.SubstView.{profiled_pairs}
 use Rattle.behaviour_tree.specs.StateView.{environment_of}
 use Rattle.draft_parts.specs.Environments.{Suits}
-use Rattle.draft_parts.proofs.PairLemmas.{pairs_put, ready_of}
+use Rattle.draft_parts.proofs.PairLemmas.{ready_of}
 use Rattle.draft_parts.proofs.environments.placed.Goals as goal
 
 pub put_into-requires : goal.put_into-requires

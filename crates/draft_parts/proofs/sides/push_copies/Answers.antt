@@ -1,4 +1,5 @@
 use Rattle.std.proofs.Common.{◌++◌, List, length, map, ap, sym, ◌∙◌, subst}
+use Rattle.lotos_base.proofs.Pieces.{one_less}
 use Rattle.behaviour_semantics.specs.WellFormed.{Every}
 use Rattle.event_offers.specs.OfferView.{plain_draft}
 use Rattle.event_offers.specs.Renaming.{renaming_of}
@@ -6,7 +7,7 @@ use Rattle.event_offers.specs.declared.drafts.Draft.{Draft}
 use Rattle.draft_parts.specs.DraftTerms.{HasTermsOf}
 use Rattle.draft_parts.specs.Lists.{plain_drafts}
 use Rattle.draft_parts.specs.MetDrafts.{both_with}
-use Rattle.draft_parts.proofs.MetLemmas.{copied_begun, copied_more, copied_done, one_less}
+use Rattle.draft_parts.proofs.MetLemmas.{copied_begun, copied_more, copied_done}
 use Rattle.draft_parts.proofs.sides.push_copies.Goals as goal
 
 pub loop-right-init : goal.loop-right-init

@@ -1,28 +1,31 @@
 use Rattle.std.proofs.Common.{◌≡◌, length, ap, arith}
-use Rattle.line_server.proofs.LastLine.{closed_by_last, closed_without_memory, closed_empty, nothing_begun}
+use Rattle.line_server.proofs.TurnLemmas.{nothing_begun}
+use Rattle.line_server.proofs.TurnLemmas.{last_none, last_served, last_failed, last_wanted}
 use Rattle.line_server.proofs.closing.finish.Goals as goal
 
-pub returns-in-Ok-clause-closed : goal.returns-in-Ok-clause-closed
-returns-in-Ok-clause-closed g c =
-    closed_by_last g.L.Lines.machine (g.L.Lines.state c.args.lines.now (g.F.Shelf.texts c.args.shelf.now)) (g.L.Lines.state
-    c.serve.new.self (g.F.Shelf.texts c.serve.new.shelf))
-    (g.F.Shelf.faults c.args.shelf.now)
-    (g.F.Shelf.faults c.serve.new.shelf) c.args.line.now (g.K.Sink.written c.args.output.now) (g.K.Sink.written c.close.new.output)
-    c.in-Ok.answer c.close.result
-    c.in-Ok.ensures.served
+pub returns-then-is_empty-clause-served : goal.returns-then-is_empty-clause-served
+returns-then-is_empty-clause-served g c =
+    last_none g.L.Lines.machine c.args.line.now _ (nothing_begun c.args.line.now (grind
+    (arith, c.is_empty.ensures, c.if-is_empty.ensures, c.if-is_empty.true)))
+
+pub returns-in-Err-clause-served : goal.returns-in-Err-clause-served
+returns-in-Err-clause-served g c =
+    last_wanted g.L.Lines.machine c.args.line.now _ _ (g.K.Sink.written c.args.output.now) (g.K.Sink.faults c.args.output.now)
+    (λ none. let nothing : length c.args.line.now ≡ 0 = ap length none in grind
+    (arith, nothing, c.is_empty.ensures, c.if-is_empty.ensures, c.if-is_empty.false)) c.in-Err.ensures.served
+
+pub returns-in-Ok-write_whole-clause-served : goal.returns-in-Ok-write_whole-clause-served
+returns-in-Ok-write_whole-clause-served g c =
+    last_served g.L.Lines.machine c.args.line.now _ _ (g.K.Sink.written c.args.output.now) (g.K.Sink.written c.write_whole.new.output)
+    (g.K.Sink.faults c.args.output.now) (g.K.Sink.faults c.write_whole.new.output) c.in-Ok.answer
     (λ none. let nothing : length c.args.line.now ≡ 0 = ap length none in grind
     (arith, nothing, c.is_empty.ensures, c.if-is_empty.ensures, c.if-is_empty.false))
-    (rw c.as_slice.ensures.value at c.close.ensures.written)
+    c.in-Ok.ensures.served (rw c.as_slice.ensures.value at c.in-Ok-write_whole.ensures.written) c.in-Ok-write_whole.ensures.counts
 
-pub returns-in-Err-clause-closed : goal.returns-in-Err-clause-closed
-returns-in-Err-clause-closed g c =
-    closed_without_memory g.L.Lines.machine (g.L.Lines.state c.args.lines.now (g.F.Shelf.texts c.args.shelf.now)) (g.L.Lines.state
-    c.serve.new.self (g.F.Shelf.texts c.serve.new.shelf))
-    (g.F.Shelf.faults c.args.shelf.now)
-    (g.F.Shelf.faults c.serve.new.shelf) c.args.line.now (g.K.Sink.written c.args.output.now) c.in-Err.ensures.counted
-
-pub returns-then-is_empty-clause-closed : goal.returns-then-is_empty-clause-closed
-returns-then-is_empty-clause-closed g c =
-    closed_empty g.L.Lines.machine (g.L.Lines.state c.args.lines.now (g.F.Shelf.texts c.args.shelf.now))
-    (g.F.Shelf.faults c.args.shelf.now) c.args.line.now (g.K.Sink.written c.args.output.now)
-    (nothing_begun c.args.line.now (grind (arith, c.is_empty.ensures, c.if-is_empty.ensures, c.if-is_empty.true)))
+pub returns-clause-served : goal.returns-clause-served
+returns-clause-served g c =
+    last_failed g.L.Lines.machine c.args.line.now _ _ (g.K.Sink.written c.args.output.now) (g.K.Sink.written c.write_whole.new.output)
+    (g.K.Sink.faults c.args.output.now) (g.K.Sink.faults c.write_whole.new.output) c.in-Ok.answer
+    (λ none. let nothing : length c.args.line.now ≡ 0 = ap length none in grind
+    (arith, nothing, c.is_empty.ensures, c.if-is_empty.ensures, c.if-is_empty.false))
+    c.in-Ok.ensures.served (rw c.as_slice.ensures.value at c.in-Err-write_whole.ensures.written) c.in-Err-write_whole.ensures.counts

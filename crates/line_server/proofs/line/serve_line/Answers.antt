@@ -1,25 +1,24 @@
-use Rattle.line_server.proofs.LineFeed.{line_served, line_broke, memory_broke}
+use Rattle.std.proofs.Common.{[]}
+use Rattle.line_server.proofs.ServedBytes.{line_served, line_failed, line_wanted}
 use Rattle.line_server.proofs.line.serve_line.Goals as goal
 
 pub returns-in-Err-clause-served : goal.returns-in-Err-clause-served
 returns-in-Err-clause-served g c =
-    memory_broke g.L.Lines.machine (g.L.Lines.state c.args.lines.now (g.F.Shelf.texts c.args.shelf.now)) (g.L.Lines.state c.serve.new.self
-    (g.F.Shelf.texts c.serve.new.shelf)) (g.F.Shelf.faults c.args.shelf.now)
-    (g.F.Shelf.faults c.serve.new.shelf) c.args.line.now.items _ c.args.line.now.items (g.K.Sink.written c.args.output.now)
-    c.in-Err.ensures.counted
+    line_wanted g.L.Lines.machine c.args.line.now.items [] _ _ (g.K.Sink.written c.args.output.now) (g.K.Sink.faults c.args.output.now)
+    (rw c.as_slice.ensures.value at c.in-Err.ensures.served)
 
 pub returns-in-Err-write_whole-clause-served : goal.returns-in-Err-write_whole-clause-served
 returns-in-Err-write_whole-clause-served g c =
-    line_broke g.L.Lines.machine (g.L.Lines.state c.args.lines.now (g.F.Shelf.texts c.args.shelf.now)) (g.L.Lines.state c.serve.new.self
-    (g.F.Shelf.texts c.serve.new.shelf)) (g.F.Shelf.faults c.args.shelf.now)
-    (g.F.Shelf.faults c.serve.new.shelf) c.args.line.now.items c.args.line.now.items (g.K.Sink.written c.args.output.now)
-    (g.K.Sink.written c.write_whole.new.output) c.in-Ok.answer (rw c.as_slice.ensures.value at c.in-Ok.ensures.served)
-    (rw c.as_slice-in-Ok.ensures.value at c.in-Err-write_whole.ensures.written)
+    line_failed g.L.Lines.machine c.args.line.now.items [] _ _ (g.K.Sink.written c.args.output.now)
+    (g.K.Sink.written c.write_whole.new.output) (g.K.Sink.faults c.args.output.now)
+    (g.K.Sink.faults c.write_whole.new.output) c.in-Ok.answer
+    (rw c.as_slice.ensures.value at c.in-Ok.ensures.served)
+    (rw c.as_slice-in-Ok.ensures.value at c.in-Err-write_whole.ensures.written) c.in-Err-write_whole.ensures.counts
 
 pub returns-clause-served : goal.returns-clause-served
 returns-clause-served g c =
-    line_served g.L.Lines.machine (g.L.Lines.state c.args.lines.now (g.F.Shelf.texts c.args.shelf.now)) (g.L.Lines.state c.serve.new.self
-    (g.F.Shelf.texts c.serve.new.shelf)) (g.F.Shelf.faults c.args.shelf.now)
-    (g.F.Shelf.faults c.serve.new.shelf) c.args.line.now.items c.clear.new.self.items (g.K.Sink.written c.args.output.now)
-    (g.K.Sink.written c.write_whole.new.output) c.in-Ok.answer (rw c.as_slice.ensures.value at c.in-Ok.ensures.served)
-    c.clear.ensures.items (rw c.as_slice-in-Ok.ensures.value at c.in-Ok-write_whole.ensures.written)
+    line_served g.L.Lines.machine c.args.line.now.items _ _ (g.K.Sink.written c.args.output.now)
+    (g.K.Sink.written c.write_whole.new.output) (g.K.Sink.faults c.args.output.now)
+    (g.K.Sink.faults c.write_whole.new.output) c.in-Ok.answer
+    (rw c.as_slice.ensures.value at c.in-Ok.ensures.served)
+    (rw c.as_slice-in-Ok.ensures.value at c.in-Ok-write_whole.ensures.written) c.in-Ok-write_whole.ensures.counts

@@ -1,5 +1,6 @@
 use Rattle.std.proofs.Common.{◌∙◌}
-use Rattle.line_server.proofs.Pieces.{within_more, written_more}
+use Rattle.lotos_base.proofs.Pieces.{within_more}
+use Rattle.line_server.proofs.Pieces.{written_more}
 use Rattle.line_server.proofs.writing.write_whole.Goals as goal
 
 pub loop-count-preserved : goal.loop-count-preserved

@@ -1,12 +1,14 @@
-use Rattle.std.proofs.Common.{rules, refl, ◌∙◌, sym, map, length, ◌≤◌, arith, ap}
+use Rattle.std.proofs.Common.{rules, refl, ◌∙◌, sym, [], ◌∷◌, map, length, ◌≤◌, arith, ap}
+use Rattle.lotos_base.proofs.Pieces.{one_less}
 use Rattle.lotos_base.specs.Name.{spelling}
 use Rattle.lotos_base.specs.WrittenView.{placed_name_of}
 use Rattle.syntax_trees.specs.TreeViews.{item_of}
 use Rattle.lotos_grammar.specs.Gathering.{item, mention, library_limit}
 use Rattle.lotos_grammar.specs.GatheredView.{gathered_of}
-use Rattle.lotos_grammar.proofs.ProgressLemmas.{done_nothing, stopped, replaced_answer}
+use Rattle.lotos_grammar.proofs.ProgressLemmas.{done_nothing, wants_nothing, stopped, replaced_answer}
+use Rattle.lotos_grammar.specs.declared.faults.LibraryFault.TheVariants.{NoMemory}
 use Rattle.lotos_grammar.proofs.TextLemmas.{err_is}
-use Rattle.lotos_grammar.proofs.WalkLemmas.{next_left, whole_is, all_given, one_less, one_done, one_ends, all_done, from_err, library_item, type_item, read_already, too_many_ends, as_many_names}
+use Rattle.lotos_grammar.proofs.WalkLemmas.{next_left, whole_is, all_given, one_done, one_ends, all_done, from_err, library_item, type_item, read_already, too_many_ends, as_many_names}
 use Rattle.lotos_grammar.proofs.gathering.+walk.Goals as goal
 
 pub add_item-returns-in-Library-clause-read : goal.add_item-returns-in-Library-clause-read
@@ -19,6 +21,11 @@ add_item-returns-in_ok-push-in_default g t c = record {
       (λ names is. c.in_default.not-Library names is) c.in_ok-push-in_default.ensures.items;
   grows = omega arith;
 }
+
+pub add_item-returns-in_err-push-in_default-clause-read : goal.add_item-returns-in_err-push-in_default-clause-read
+add_item-returns-in_err-push-in_default-clause-read g t c =
+    from_err _ _ c.from_residual.result NoMemory (err_is _ NoMemory c.from_residual.ensures.1)
+    (wants_nothing _ (gathered_of c.args.so_far.now) (gathered_of c.args.so_far.now) (item (item_of c.args.item) ∷ []))
 
 pub add_items-loop-item-init : goal.add_items-loop-item-init
 add_items-loop-item-init g t c = (

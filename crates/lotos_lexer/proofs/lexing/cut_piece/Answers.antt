@@ -1,8 +1,8 @@
 use Rattle.std.proofs.Common.{◌≡◌, ◌+◌, ◌-◌, ◌<◌, ◌≤◌, [], ◌∷◌, ◌++◌, true, not, is_ok, refl, take, drop, length, sym, ◌∙◌, ap, arith}
-use Rattle.std.proofs.lemmas.List.{length-drop, length-take-le}
+use Rattle.std.proofs.lemmas.List.{length-drop, length-take-le, take_rest}
 use Rattle.lotos_lexer.specs.Tokens.{OpenComment, BadByte, behind_all, token_at, cut}
 use Rattle.lotos_lexer.specs.Cutting.{with_tokens}
-use Rattle.lotos_lexer.proofs.CuttingLemmas.{with_tokens-added, with_tokens-BadByte, with_tokens-OpenComment, cut-blank, cut-comment, cut-token, cut-unclosed, cut-nothing, step_on, rest_from}
+use Rattle.lotos_lexer.proofs.CuttingLemmas.{with_tokens-added, with_tokens-BadByte, with_tokens-OpenComment, cut-blank, cut-comment, cut-token, cut-unclosed, cut-nothing, step_on}
 use Rattle.lotos_lexer.proofs.lexing.cut_piece.Goals as goal
 use Rattle.lotos_lexer.proofs.lexing.cut_piece.Goals.{in-Blank, in-Comment, in-Token+else-is_err}
 
@@ -12,7 +12,7 @@ returns-in-Unclosed-clause-fault c =
     let text = c.args.text.now in
     let cutting = c.args.cutting.now in
     let offset = cutting.position.offset in
-    let piece = rw (rest_from text offset) at c.in-Unclosed.ensures.exact in
+    let piece = rw (take_rest text offset) at c.in-Unclosed.ensures.exact in
     let some : 0 < length (drop offset text) = omega (arith, length-drop offset text, c.requires.more) in
     ap (with_tokens cutting.tokens.items) (cut-unclosed number cutting.open_list cutting.position (drop offset text) some (sym piece))
     ∙ (with_tokens-OpenComment cutting.tokens.items _ ∙ ap (λ place. OpenComment place) (sym c.place.ensures))
@@ -23,7 +23,7 @@ returns-in-Nothing-clause-fault c =
     let text = c.args.text.now in
     let cutting = c.args.cutting.now in
     let offset = cutting.position.offset in
-    let piece = rw (rest_from text offset) at c.in-Nothing.ensures.exact in
+    let piece = rw (take_rest text offset) at c.in-Nothing.ensures.exact in
     let some : 0 < length (drop offset text) = omega (arith, length-drop offset text, c.requires.more) in
     ap (with_tokens cutting.tokens.items) (cut-nothing number cutting.open_list cutting.position (drop offset text) some (sym piece))
     ∙ (with_tokens-BadByte cutting.tokens.items _ ∙ ap (λ place. BadByte place) (sym c.place-in-Nothing.ensures))
@@ -37,7 +37,7 @@ returns-clause-exact c =
     let made = c.match-find_piece.cutting in
     let count = c.match-find_piece.count in
     let rest = take (length text - position.offset) (drop position.offset text) in
-    let whole : rest ≡ drop position.offset text = rest_from text position.offset in
+    let whole : rest ≡ drop position.offset text = take_rest text position.offset in
     let exact : with_tokens cutting.tokens.items (cut number 0 cutting.open_list position rest)
     ≡ with_tokens made.tokens.items (cut number 0 made.open_list (behind_all (take count rest) position) (drop count rest)) =
     elim c.match-find_piece.branch [

@@ -1,4 +1,5 @@
-use Rattle.lotos_main.proofs.WriteLemmas.{within_more, appends_more}
+use Rattle.lotos_base.proofs.Pieces.{within_more}
+use Rattle.lotos_main.proofs.WriteLemmas.{appends_more}
 use Rattle.lotos_main.proofs.loops.write_all_of.Goals as goal
 
 pub loop-written-preserved : goal.loop-written-preserved

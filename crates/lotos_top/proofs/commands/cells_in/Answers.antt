@@ -1,4 +1,4 @@
-use Rattle.std.proofs.Common.{◌<◌, sym, ◌∙◌, arith}
+use Rattle.std.proofs.Common.{sym, ◌∙◌, arith}
 use Rattle.lotos_top.specs.Words.{most_cells}
 use Rattle.lotos_top.proofs.WordsLemmas.{below_most, none_said, said_up_to}
 use Rattle.lotos_top.proofs.commands.cells_in.Goals as goal

@@ -1,4 +1,45 @@
+use Rattle.std.proofs.Common.{ℕ, List, Bor, option_map}
+use Rattle.refusal_lines.specs.HandedOn.{words_of}
+use Rattle.spec_acceptance.specs.AcceptedView.{asked_for}
+use Rattle.spec_acceptance.specs.HandedOn.{shelf_state}
+use Rattle.spec_acceptance.specs.Acceptance.{IsAccepted}
+use Rattle.spec_acceptance.specs.declared.not_accepted.NotAccepted.TheVariants.{NoMemory}
+use Rattle.spec_acceptance.proofs.DoingLemmas.{err_out}
+use Rattle.lotos_top.specs.Prepared.{begun}
+use Rattle.lotos_top.proofs.OpeningLemmas.{did_open, open_failed, want_to_open}
 use Rattle.lotos_top.proofs.opening.open.Goals as goal
 
 pub read-requires : goal.read-requires
 read-requires g c = c.requires
+
+pub begin-requires : goal.begin-requires
+begin-requires g c = record { known = (c.in_ok-accepted.ensures.0, c.in_ok-accepted.ensures.2) }
+
+pub returns-in_err-accepted : goal.returns-in_err-accepted
+returns-in_err-accepted g c =
+    err_out _ c.in_err-accepted.field-0.0 _ _ c.from_residual.ensures.1
+    (open_failed (shelf_state (g.F.Shelf.texts c.args.shelf.now) (g.F.Shelf.faults c.args.shelf.now) (g.F.Shelf.calls c.args.shelf.now))
+    (shelf_state (g.F.Shelf.texts c.read.new.shelf) (g.F.Shelf.faults c.read.new.shelf) (g.F.Shelf.calls c.read.new.shelf))
+    (IsAccepted (asked_for c.args.spec.now (option_map (λ (word : Bor (List ℕ)). word.now) c.args.order) (words_of c.args.values.now)))
+    c.in_err-accepted.field-0.0
+    c.in_err-accepted.ensures)
+
+pub returns-in_err-begin : goal.returns-in_err-begin
+returns-in_err-begin g c =
+    err_out _ NoMemory _ _ c.from_residual-in_err-begin.ensures.1
+    (want_to_open (shelf_state (g.F.Shelf.texts c.args.shelf.now) (g.F.Shelf.faults c.args.shelf.now) (g.F.Shelf.calls c.args.shelf.now))
+    (shelf_state (g.F.Shelf.texts c.read.new.shelf) (g.F.Shelf.faults c.read.new.shelf) (g.F.Shelf.calls c.read.new.shelf))
+    (IsAccepted (asked_for c.args.spec.now (option_map (λ (word : Bor (List ℕ)). word.now) c.args.order) (words_of c.args.values.now)))
+    c.in_ok-accepted.ensures.0
+    c.in_ok-accepted.ensures.1)
+
+pub returns : goal.returns
+returns g c =
+    let opened = c.in_ok-begin.ensures c.in_ok-accepted.ensures.0 c.in_ok-accepted.ensures.2 in (
+      did_open (shelf_state (g.F.Shelf.texts c.args.shelf.now) (g.F.Shelf.faults c.args.shelf.now) (g.F.Shelf.calls c.args.shelf.now))
+          (shelf_state (g.F.Shelf.texts c.read.new.shelf) (g.F.Shelf.faults c.read.new.shelf) (g.F.Shelf.calls c.read.new.shelf))
+          (IsAccepted (asked_for c.args.spec.now (option_map (λ (word : Bor (List ℕ)). word.now) c.args.order)
+          (words_of c.args.values.now))) c.in_ok-accepted.ensures.0
+          (begun c.in_ok-begin.field-0) c.in_ok-accepted.ensures.1 opened.0,
+      opened.1,
+    )

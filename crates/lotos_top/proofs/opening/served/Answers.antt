@@ -1,47 +1,42 @@
-use Rattle.std.proofs.Common.{inl, ℕ, List, Bor, option_map, refl}
-use Rattle.spec_acceptance.specs.Acceptance.{IsAccepted}
-use Rattle.spec_acceptance.specs.HandedOn.{shelf_state}
-use Rattle.spec_acceptance.specs.AcceptedView.{asked_for}
+use Rattle.std.proofs.Common.{ℕ, List, Bor, option_map}
+use Rattle.std.proofs.lemmas.Result.{err_from_is_err_and}
 use Rattle.refusal_lines.specs.HandedOn.{words_of}
-use Rattle.lotos_top.specs.Words.{session}
-use Rattle.lotos_top.proofs.OpeningLemmas.{served_opened, opened_texts, failed_texts}
+use Rattle.spec_acceptance.specs.AcceptedView.{asked_for}
+use Rattle.spec_acceptance.specs.HandedOn.{shelf_state}
+use Rattle.spec_acceptance.specs.Part.{Has, goes_on}
+use Rattle.history_lines.specs.Beginning.{Beginning}
+use Rattle.lotos_top.specs.Prepared.{begun, print_in}
+use Rattle.lotos_top.specs.Work.{serves}
+use Rattle.lotos_top.proofs.OpeningLemmas.{session_came, fault_ready, fault_came}
 use Rattle.lotos_top.proofs.opening.served.Goals as goal
 
 pub open-requires : goal.open-requires
 open-requires g c = c.requires
 
-pub returns-in_err-failed_alone-in-Err-clause-texts : goal.returns-in_err-failed_alone-in-Err-clause-texts
-returns-in_err-failed_alone-in-Err-clause-texts g c =
-    failed_texts (shelf_state (g.F.Shelf.texts c.args.shelf.now) (g.F.Shelf.faults c.args.shelf.now) (g.F.Shelf.calls c.args.shelf.now))
-    (shelf_state (g.F.Shelf.texts c.open.new.shelf) (g.F.Shelf.faults c.open.new.shelf) (g.F.Shelf.calls c.open.new.shelf))
-    (IsAccepted (asked_for c.args.spec.now (option_map (λ (word : Bor (List ℕ)). word.now) c.args.order) (words_of c.args.values.now)))
-    c.in-Err.fault c.in-Err.ensures
+pub returns-in-Ok : goal.returns-in-Ok
+returns-in-Ok g c = (
+  session_came (asked_for c.args.spec.now (option_map (λ (word : Bor (List ℕ)). word.now) c.args.order) (words_of c.args.values.now))
+      (shelf_state (g.F.Shelf.texts c.args.shelf.now) (g.F.Shelf.faults c.args.shelf.now) (g.F.Shelf.calls c.args.shelf.now))
+      (shelf_state (g.F.Shelf.texts c.open.new.shelf) (g.F.Shelf.faults c.open.new.shelf) (g.F.Shelf.calls c.open.new.shelf))
+      (begun c.in-Ok.opened) c.in-Ok.ensures.0,
+  c.in-Ok.ensures.1,
+)
 
-pub returns-in-Ok-clause-ready : goal.returns-in-Ok-clause-ready
-returns-in-Ok-clause-ready g c =
-    served_opened c.args.spec.now (option_map (λ (word : Bor (List ℕ)). word.now) c.args.order) (words_of c.args.values.now)
+pub returns-in_ok-failed_alone-in-Err : goal.returns-in_ok-failed_alone-in-Err
+returns-in_ok-failed_alone-in-Err g c =
+    fault_ready (asked_for c.args.spec.now (option_map (λ (word : Bor (List ℕ)). word.now) c.args.order) (words_of c.args.values.now))
+    (λ (it : Beginning). Has (serves it))
     (shelf_state (g.F.Shelf.texts c.args.shelf.now) (g.F.Shelf.faults c.args.shelf.now) (g.F.Shelf.calls c.args.shelf.now))
     (shelf_state (g.F.Shelf.texts c.open.new.shelf) (g.F.Shelf.faults c.open.new.shelf) (g.F.Shelf.calls c.open.new.shelf))
-    c.in-Ok.opened c.in-Ok.ensures
+    c.in-Err.fault (print_in c.in_ok-failed_alone-in-Err.field-0) c.in-Err.ensures c.in_ok-failed_alone-in-Err.ensures
 
-pub returns-in-Ok-clause-texts : goal.returns-in-Ok-clause-texts
-returns-in-Ok-clause-texts g c =
-    opened_texts (asked_for c.args.spec.now (option_map (λ (word : Bor (List ℕ)). word.now) c.args.order) (words_of c.args.values.now))
+pub returns-in_err-failed_alone-in-Err : goal.returns-in_err-failed_alone-in-Err
+returns-in_err-failed_alone-in-Err g c =
+    let stopped = err_from_is_err_and c.from_residual.result
+    c.from_residual.ensures.1 in
+    rw stopped.1 (fault_came (asked_for c.args.spec.now (option_map (λ (word : Bor (List ℕ)). word.now) c.args.order)
+    (words_of c.args.values.now))
+    (λ (it : Beginning). Has (serves it))
     (shelf_state (g.F.Shelf.texts c.args.shelf.now) (g.F.Shelf.faults c.args.shelf.now) (g.F.Shelf.calls c.args.shelf.now))
     (shelf_state (g.F.Shelf.texts c.open.new.shelf) (g.F.Shelf.faults c.open.new.shelf) (g.F.Shelf.calls c.open.new.shelf))
-    c.in-Ok.opened c.in-Ok.ensures
-
-pub returns-in_ok-failed_alone-in-Err-clause-ready : goal.returns-in_ok-failed_alone-in-Err-clause-ready
-returns-in_ok-failed_alone-in-Err-clause-ready g c =
-    inl (c.in_ok-failed_alone-in-Err.ensures (session c.args.spec.now (option_map (λ (word : Bor (List ℕ)). word.now) c.args.order)
-    (words_of c.args.values.now)) (words_of c.args.values.now)
-    (shelf_state (g.F.Shelf.texts c.args.shelf.now) (g.F.Shelf.faults c.args.shelf.now) (g.F.Shelf.calls c.args.shelf.now))
-    (shelf_state (g.F.Shelf.texts c.open.new.shelf) (g.F.Shelf.faults c.open.new.shelf) (g.F.Shelf.calls c.open.new.shelf))
-    refl c.in-Err.ensures)
-
-pub returns-in_ok-failed_alone-in-Err-clause-texts : goal.returns-in_ok-failed_alone-in-Err-clause-texts
-returns-in_ok-failed_alone-in-Err-clause-texts g c =
-    failed_texts (shelf_state (g.F.Shelf.texts c.args.shelf.now) (g.F.Shelf.faults c.args.shelf.now) (g.F.Shelf.calls c.args.shelf.now))
-    (shelf_state (g.F.Shelf.texts c.open.new.shelf) (g.F.Shelf.faults c.open.new.shelf) (g.F.Shelf.calls c.open.new.shelf))
-    (IsAccepted (asked_for c.args.spec.now (option_map (λ (word : Bor (List ℕ)). word.now) c.args.order) (words_of c.args.values.now)))
-    c.in-Err.fault c.in-Err.ensures
+    c.in-Err.fault c.in-Err.ensures)

@@ -1,5 +1,6 @@
 use Rattle.std.proofs.Common.{rules, refl, List, [], ℕ, ◌<◌, ◌++◌, map, filter_map, Some, ap, sym, ◌∙◌, subst}
 use Rattle.std.proofs.lemmas.Result.{IfOk-weaker}
+use Rattle.std.proofs.Math.Nat.{le_refl}
 use Rattle.lotos_base.specs.Equation.{Data}
 use Rattle.lotos_base.specs.Term.{Term}
 use Rattle.behaviour_semantics.specs.Behaviour.{choice, choose_gate, choose_value, disable, guard, hide, let_be, parallel}
@@ -20,7 +21,7 @@ use Rattle.draft_parts.specs.Made.{AreThese}
 use Rattle.draft_parts.proofs.MadeLemmas.{by_rule}
 use Rattle.event_offers.proofs.KeepingLemmas.{held_before, holds_after}
 use Rattle.menu_builder.specs.Placed.{AreDraftsPlaced, IsPlaced, basis_of}
-use Rattle.menu_builder.proofs.ArmLemmas.{call_arm_less, call_placed, every_at, leaf_of, left_of, let_placed, odd_below_above, odd_below_even, other_relabels, par_arm_less, par_call_less, par_listed_form, par_part_placed, par_placed_form, part_less, placed_arm, same_less, value_placed, value_sort}
+use Rattle.menu_builder.proofs.ArmLemmas.{call_arm_less, call_placed, every_at, leaf_of, left_of, let_placed, odd_below_above, odd_below_even, other_relabels, par_arm_less, par_call_less, par_listed_form, par_part_placed, par_placed_form, part_less, placed_arm, value_placed, value_sort}
 use Rattle.menu_builder.proofs.WholeLemmas.{both_less, both_listed, both_placed, enable_read, whole_less, whole_listed, whole_placed}
 use Rattle.menu_builder.proofs.CallLemmas.{action_has_tests, action_offers, action_pairs, action_test, call_count, call_found, call_ready, call_within, exit_ready, guard_left, guard_right, let_ready, listed_form, part_placed, placed_form}
 use Rattle.menu_builder.proofs.EffortLemmas.{call_less, effort, left_less, right_less}
@@ -695,7 +696,7 @@ hide_moves-returns-clause-listed g t c =
 
 pub enable_moves-behaviour_moves-requires : goal.enable_moves-behaviour_moves-requires
 enable_moves-behaviour_moves-requires g t c κs within = (
-  left_of _ _ _ (odd_below_above _ _ (same_less (effort (rank_in c.args.ranks.now) (specification_of
+  left_of _ _ _ (odd_below_above _ _ (le_refl (effort (rank_in c.args.ranks.now) (specification_of
       c.args.spec.now).processes (behaviour_of c.args.left.now)))) c.decreases,
   (
     search rules,
@@ -1047,7 +1048,7 @@ par_moves-returns-in_ok-body-in-Call-clause-listed g t c =
 
 pub par_moves-behaviour_moves-requires-in_default : goal.par_moves-behaviour_moves-requires-in_default
 par_moves-behaviour_moves-requires-in_default g t c κs within = (
-  left_of _ _ _ (odd_below_above _ _ (same_less (effort (rank_in c.args.ranks.now) (specification_of
+  left_of _ _ _ (odd_below_above _ _ (le_refl (effort (rank_in c.args.ranks.now) (specification_of
       c.args.spec.now).processes (behaviour_of c.args.part.now)))) c.decreases,
   (
     search rules,

@@ -1,4 +1,5 @@
 use Rattle.std.proofs.Common.{◌≡◌, ℕ, List, map, arith, ap, sym, ◌∙◌, subst}
+use Rattle.draft_parts.proofs.TurnLemmas.{at_turn}
 use Rattle.lotos_base.specs.Equation.{Data}
 use Rattle.lotos_base.specs.Substitution.{binding, substituted}
 use Rattle.lotos_base.specs.Term.{Term}
@@ -12,16 +13,16 @@ use Rattle.behaviour_semantics.specs.Behaviour.{let_variables, let_terms}
 use Rattle.behaviour_tree.specs.BehaviourView.{let_of}
 use Rattle.draft_parts.specs.Environments.{IsReadyForPairs}
 use Rattle.draft_parts.specs.BelowLaws.{binder_pairs}
-use Rattle.draft_parts.proofs.PairLemmas.{pairs_bare}
 use Rattle.event_offers.proofs.KeepingLemmas.{keeps_both}
-use Rattle.menu_builder.proofs.BinderLemmas.{every_turn, let_turn, let_done, more_of}
+use Rattle.event_offers.proofs.ValueLemmas.{pairs_bare}
+use Rattle.menu_builder.proofs.BinderLemmas.{let_turn, let_done, more_of}
 use Rattle.menu_builder.proofs.binders.bound_values.Goals as goal
 
 pub canonical-requires : goal.canonical-requires
 canonical-requires g c =
     subst (λ (d : Data). IsReadyForPairs d.signature (profiled_pairs c.args.environment.now.items) (profiled_in c.binding-item.result.1))
     (sym c.loop-binding.invariant.same_known.same_data)
-    (every_turn (λ (b : Variable × Sorted). IsReadyForPairs (g.D.Deciding.known_data c.args.decider.now).signature
+    (at_turn (λ (b : Variable × Sorted). IsReadyForPairs (g.D.Deciding.known_data c.args.decider.now).signature
     (profiled_pairs c.args.environment.now.items) (profiled_in b.1)) c.deref-binding-items.result.now c.loop-binding.binding-index
     c.binding-item.result c.loop-binding-test.true c.binding-item.is c.loop-binding.invariant.left).0
 
@@ -41,7 +42,7 @@ loop-binding-preserved g c = record {
       c.in_ok-value.value c.in_ok-push.ensures.items c.loop-binding.invariant.is_of
       (subst (λ (d : Data). IsOf d.signature (profiled_in c.in_ok-value.value)) c.loop-binding.invariant.same_known.same_data
       c.in_ok-value.ensures.is_of);
-  left = (every_turn (λ (b : Variable × Sorted). IsReadyForPairs (g.D.Deciding.known_data c.args.decider.now).signature
+  left = (at_turn (λ (b : Variable × Sorted). IsReadyForPairs (g.D.Deciding.known_data c.args.decider.now).signature
       (profiled_pairs c.args.environment.now.items) (profiled_in b.1)) c.deref-binding-items.result.now c.loop-binding.binding-index
       c.binding-item.result c.loop-binding-test.true c.binding-item.is c.loop-binding.invariant.left).1;
   same_known = keeps_both c.loop-binding.invariant.same_known c.canonical.ensures.same_known;

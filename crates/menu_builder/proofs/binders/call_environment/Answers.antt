@@ -1,4 +1,5 @@
 use Rattle.std.proofs.Common.{◌≡◌, ◌<◌, ◌≤◌, ℕ, List, length, arith, sym, ◌∙◌, subst}
+use Rattle.draft_parts.proofs.TurnLemmas.{at_turn}
 use Rattle.lotos_base.specs.Equation.{Data}
 use Rattle.lotos_base.specs.Substitution.{binding, substituted}
 use Rattle.lotos_base.specs.Term.{Term}
@@ -8,9 +9,9 @@ use Rattle.sort_terms.specs.declared.sorted.Sorted.{Sorted}
 use Rattle.term_match.specs.ProfiledInstance.{bare_pairs}
 use Rattle.term_match.specs.SubstView.{profiled_pairs}
 use Rattle.draft_parts.specs.Environments.{IsReadyForPairs}
-use Rattle.draft_parts.proofs.PairLemmas.{pairs_bare}
 use Rattle.event_offers.proofs.KeepingLemmas.{keeps_both}
-use Rattle.menu_builder.proofs.BinderLemmas.{every_turn, call_turn, call_done, more_of}
+use Rattle.event_offers.proofs.ValueLemmas.{pairs_bare}
+use Rattle.menu_builder.proofs.BinderLemmas.{call_turn, call_done, more_of}
 use Rattle.menu_builder.proofs.binders.call_environment.Goals as goal
 
 pub loop-i-preserved : goal.loop-i-preserved
@@ -34,7 +35,7 @@ loop-i-preserved g c =
           c.in_ok-value.value c.in_ok-push.ensures.items c.loop-i.invariant.is_of
           (subst (λ (d : Data). IsOf d.signature (profiled_in c.in_ok-value.value)) c.loop-i.invariant.same_known.same_data
           c.in_ok-value.ensures.is_of);
-      left = (every_turn (λ (t : Sorted). IsReadyForPairs (g.D.Deciding.known_data c.args.decider.now).signature
+      left = (at_turn (λ (t : Sorted). IsReadyForPairs (g.D.Deciding.known_data c.args.decider.now).signature
           (profiled_pairs c.args.environment.now.items) (profiled_in t)) c.args.values.now.items c.loop-i.i c.index.result.now inside
           c.index.ensures c.loop-i.invariant.left).1;
       same_known = keeps_both c.loop-i.invariant.same_known c.canonical.ensures.same_known;

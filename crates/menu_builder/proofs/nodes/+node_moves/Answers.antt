@@ -1,5 +1,6 @@
 use Rattle.std.proofs.Common.{rules, refl, List, [], ℕ, filter_map, Some, sym, subst}
 use Rattle.std.proofs.lemmas.Result.{IfOk-weaker}
+use Rattle.std.proofs.Math.Nat.{le_refl}
 use Rattle.lotos_base.specs.Equation.{Data}
 use Rattle.lotos_base.specs.Term.{Term}
 use Rattle.behaviour_semantics.specs.Behaviour.{Relabelling, call}
@@ -23,7 +24,7 @@ use Rattle.menu_builder.specs.Placed.{AreDraftsPlaced, IsPlaced, basis_of}
 use Rattle.menu_builder.proofs.ArmLemmas.{left_of, listed_read}
 use Rattle.menu_builder.proofs.CallLemmas.{placed_form}
 use Rattle.menu_builder.specs.Nodes.{IsListedNode, IsNodeOver}
-use Rattle.menu_builder.proofs.NodeLemmas.{call_listed, call_stands, disable_listed, enable_listed, first_terms, hide_listed, left_most, left_sized, listed_as, node_less, node_size, over_form, parallel_listed, part_listed, part_over, part_sized, part_stands, placed_at, relabel_listed, right_most, right_sized, same_most, second_terms, stop_listed}
+use Rattle.menu_builder.proofs.NodeLemmas.{call_listed, call_stands, disable_listed, enable_listed, first_terms, hide_listed, left_most, left_sized, listed_as, node_less, node_size, over_form, parallel_listed, part_listed, part_over, part_sized, part_stands, placed_at, relabel_listed, right_most, right_sized, second_terms, stop_listed}
 use Rattle.menu_builder.proofs.nodes.+node_moves.Goals as goal
 
 pub returns-in-Stop-clause-listed : goal.returns-in-Stop-clause-listed
@@ -317,7 +318,7 @@ node_moves-requires-in-Hide g t c κs within = (
             (g.D.Deciding.known_data c.args.decider.now) (g.D.Deciding.canon c.args.decider.now) c.args.spec.now) c.args.first
             c.args.node.now _ c.in-Hide.is c.requires.node).given (over_form (basis_of (g.D.Deciding.known_data c.args.decider.now)
             (g.D.Deciding.canon c.args.decider.now) c.args.spec.now) c.args.first c.args.node.now _ c.in-Hide.is
-            c.requires.node).terms (same_most (above_node c.in-Hide.part.value)))),
+            c.requires.node).terms (le_refl (above_node c.in-Hide.part.value)))),
       ),
     ),
   ),
@@ -401,7 +402,7 @@ node_moves-requires-in-Relabel g t c κs within = (
             (basis_of (g.D.Deciding.known_data c.args.decider.now) (g.D.Deciding.canon c.args.decider.now) c.args.spec.now)
             c.args.first c.args.node.now _ c.in-Relabel.is c.requires.node).given.1 (over_form (basis_of (g.D.Deciding.known_data
             c.args.decider.now) (g.D.Deciding.canon c.args.decider.now) c.args.spec.now) c.args.first c.args.node.now _
-            c.in-Relabel.is c.requires.node).terms (same_most (above_node c.in-Relabel.part.value)))),
+            c.in-Relabel.is c.requires.node).terms (le_refl (above_node c.in-Relabel.part.value)))),
       ),
     ),
   ),

@@ -1,6 +1,7 @@
 use Rattle.std.proofs.Common.{◌≡◌, ◌≤◌, ◌<◌, length, get_or, sym, ◌∙◌, refl, arith, false}
+use Rattle.lotos_base.proofs.Members.{read_at, numbers_more}
 use Rattle.path_order.specs.Contains.{contains}
-use Rattle.path_order.proofs.Numbers.{contains_in, member_at, read_at, numbers_more, none_common}
+use Rattle.path_order.proofs.Numbers.{contains_in, member_at, none_common}
 use Rattle.path_order.proofs.listings.has_some.Goals as goal
 
 pub returns-then-has : goal.returns-then-has

@@ -1,5 +1,6 @@
 use Rattle.std.proofs.Common.{◌<◌, length, get_or, arith}
-use Rattle.path_order.proofs.Numbers.{next_is_new, read_at}
+use Rattle.lotos_base.proofs.Members.{read_at}
+use Rattle.path_order.proofs.Numbers.{next_is_new}
 use Rattle.path_order.proofs.listings.with_all.Goals as goal
 
 pub push-requires-clause-new : goal.push-requires-clause-new

@@ -1,5 +1,6 @@
 use Rattle.std.proofs.Common.{List, ◌++◌, map, option_map, Bool, refl, codes, ap, sym, ◌∙◌}
 use Rattle.std.proofs.lemmas.Result.{on_ok_weaker}
+use Rattle.lotos_base.proofs.Pieces.{three_pieces, two_pieces}
 use Rattle.lotos_base.specs.Equation.{Variable}
 use Rattle.sort_terms.specs.declared.equations.Variable as kept
 use Rattle.behaviour_tree.specs.BehaviourView.{behaviour_of, exit_value_of, let_of, offer_of, terms_of, test_of, variables_of}
@@ -9,7 +10,7 @@ use Rattle.printed_texts.specs.Brackets.{bracketed, commas}
 use Rattle.printed_texts.proofs.BracketLemmas.{closed_text}
 use Rattle.report_text.specs.Members.{naming_of}
 use Rattle.report_text.proofs.PartLemmas.{form_less, left_unit_less, part_less, part_unit_less, right_unit_less, unit_less}
-use Rattle.report_text.proofs.TextLemmas.{part_text, three_pieces, two_pieces, unit_part}
+use Rattle.report_text.proofs.TextLemmas.{part_text, unit_part}
 use Rattle.report_text.proofs.behaviours.+behaviours.Goals as goal
 
 pub push_behaviour-returns-in-Stop : goal.push_behaviour-returns-in-Stop

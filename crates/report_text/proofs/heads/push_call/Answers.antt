@@ -1,12 +1,12 @@
 use Rattle.std.proofs.Common.{ℕ, List, ◌++◌, ap, ◌∙◌}
 use Rattle.std.proofs.lemmas.Result.{on_ok_weaker}
+use Rattle.lotos_base.proofs.Pieces.{three_pieces}
 use Rattle.sort_terms.specs.SignatureView.{signature_of}
 use Rattle.sort_terms.specs.SortedView.{term_in}
 use Rattle.behaviour_tree.specs.BehaviourView.{variables_of}
 use Rattle.printed_texts.specs.BehaviourText.{round_list}
 use Rattle.printed_texts.specs.TermText.{term_text}
 use Rattle.report_text.proofs.ListLemmas.{map_twice}
-use Rattle.report_text.proofs.TextLemmas.{three_pieces}
 use Rattle.report_text.proofs.heads.push_call.Goals as goal
 
 pub returns : goal.returns

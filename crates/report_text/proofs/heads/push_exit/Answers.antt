@@ -1,10 +1,10 @@
 use Rattle.std.proofs.Common.{ℕ, List, ◌++◌, ap, ◌∙◌}
 use Rattle.std.proofs.lemmas.Result.{on_ok_weaker}
+use Rattle.lotos_base.proofs.Pieces.{two_pieces}
 use Rattle.behaviour_tree.specs.BehaviourView.{exit_value_of, variables_of}
 use Rattle.printed_texts.specs.BehaviourText.{exit_value_text, round_list}
 use Rattle.report_text.specs.Members.{naming_of}
 use Rattle.report_text.proofs.ListLemmas.{map_twice}
-use Rattle.report_text.proofs.TextLemmas.{two_pieces}
 use Rattle.report_text.proofs.heads.push_exit.Goals as goal
 
 pub returns : goal.returns

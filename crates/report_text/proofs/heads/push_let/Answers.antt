@@ -1,11 +1,11 @@
 use Rattle.std.proofs.Common.{ℕ, List, ◌++◌, ap, ◌∙◌}
 use Rattle.std.proofs.lemmas.Result.{on_ok_weaker}
+use Rattle.lotos_base.proofs.Pieces.{three_pieces}
 use Rattle.behaviour_tree.specs.BehaviourView.{let_of, variables_of}
 use Rattle.printed_texts.specs.BehaviourText.{binding_text}
 use Rattle.printed_texts.specs.Brackets.{commas}
 use Rattle.report_text.specs.Members.{naming_of}
 use Rattle.report_text.proofs.ListLemmas.{map_twice}
-use Rattle.report_text.proofs.TextLemmas.{three_pieces}
 use Rattle.report_text.proofs.heads.push_let.Goals as goal
 
 pub returns : goal.returns

@@ -1,5 +1,6 @@
 use Rattle.std.proofs.Common.{◌++◌, [], Bool, refl, ap, sym, ◌∙◌, subst}
 use Rattle.std.proofs.lemmas.Result.{on_ok_weaker}
+use Rattle.lotos_base.proofs.Pieces.{three_pieces, two_pieces}
 use Rattle.lotos_base.specs.Substitution.{binding, without}
 use Rattle.behaviour_semantics.specs.Replacement.{with_values}
 use Rattle.behaviour_semantics.specs.Behaviour.{numbers_of}
@@ -13,7 +14,7 @@ use Rattle.printed_texts.specs.Brackets.{bracketed}
 use Rattle.printed_texts.proofs.BracketLemmas.{closed_text}
 use Rattle.report_text.specs.Members.{naming_of}
 use Rattle.report_text.proofs.PartLemmas.{form_less, left_form_less, left_unit_less, part_less, part_unit_less, right_unit_less, unit_less}
-use Rattle.report_text.proofs.TextLemmas.{part_text, three_pieces, two_pieces, unit_part}
+use Rattle.report_text.proofs.TextLemmas.{part_text, unit_part}
 use Rattle.report_text.proofs.nodes.+nodes.Goals as goal
 
 pub push_node-returns-in-Stop : goal.push_node-returns-in-Stop

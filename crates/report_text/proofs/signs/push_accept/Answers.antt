@@ -1,9 +1,9 @@
 use Rattle.std.proofs.Common.{ℕ, List, ◌++◌, [], ap, sym, ◌∙◌}
 use Rattle.std.proofs.lemmas.Result.{on_ok_weaker}
+use Rattle.lotos_base.proofs.Pieces.{three_pieces}
 use Rattle.printed_texts.proofs.TermLemmas.{filled_list}
 use Rattle.report_text.specs.Members.{naming_of}
 use Rattle.report_text.proofs.ListLemmas.{accept_sign}
-use Rattle.report_text.proofs.TextLemmas.{three_pieces}
 use Rattle.report_text.proofs.signs.push_accept.Goals as goal
 
 pub returns : goal.returns

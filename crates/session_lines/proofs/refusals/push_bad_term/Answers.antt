@@ -1,6 +1,6 @@
 use Rattle.std.proofs.Common.{◌≡◌, ◌++◌, codes, decimal}
 use Rattle.std.proofs.lemmas.Result.{IfOk-weaker}
-use Rattle.session_lines.proofs.QuestionLemmas.{in_three}
+use Rattle.lotos_base.proofs.Pieces.{in_three}
 use Rattle.session_lines.proofs.refusals.push_bad_term.Goals as goal
 
 pub returns : goal.returns

@@ -1,10 +1,10 @@
 use Rattle.std.proofs.Common.{◌+◌, ◌++◌, List, drop, ap, sym, ◌∙◌, subst}
 use Rattle.std.proofs.lemmas.List.{append-nil}
 use Rattle.std.proofs.Math.ListN.{drop_of_length-le}
+use Rattle.lotos_base.proofs.Pieces.{next_member}
 use Rattle.sort_terms.specs.ReaderView.{signature_read}
 use Rattle.scope_parts.specs.Scope as plain
 use Rattle.scope_parts.specs.Definitions.{callables}
-use Rattle.scope_parts.proofs.AnswerLemmas.{next_member}
 use Rattle.syntax_trees.specs.TreeViews.{inner_of}
 use Rattle.syntax_trees.specs.declared.definitions.InnerText.{InnerText}
 use Rattle.static_scope.specs.CallableList.{callables_in}

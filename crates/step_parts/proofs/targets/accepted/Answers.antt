@@ -4,9 +4,8 @@ use Rattle.lotos_base.specs.Term.{Term}
 use Rattle.behaviour_semantics.specs.Replacement.{with_values}
 use Rattle.behaviour_tree.specs.BehaviourView.{behaviour_of}
 use Rattle.behaviour_tree.specs.Over.{AreTermsOf}
-use Rattle.behaviour_tree.proofs.ClosedLemmas.{closed_alike}
+use Rattle.behaviour_tree.proofs.ClosedLemmas.{closed_alike, terms_both}
 use Rattle.step_parts.proofs.AcceptLemmas.{accepted_closed, accepted_pairs, accepted_puts, accepted_terms, made_same, made_terms}
-use Rattle.step_parts.proofs.NodeLemmas.{both_terms}
 use Rattle.step_parts.proofs.targets.accepted.Goals as goal
 
 pub returns-clause-same : goal.returns-clause-same
@@ -19,7 +18,7 @@ returns-clause-same c =
 
 pub returns-clause-terms : goal.returns-clause-terms
 returns-clause-terms c = λ signature h k l.
-    both_terms signature _ _ h
+    terms_both signature _ _ h
     (subst (AreTermsOf signature)
     (sym (made_terms c.args.variables.now.items c.args.environment.now.items c.args.values.items c.in_ok-left.left.items
     c.in_ok-with_pairs.field-0.items c.in_ok-left.ensures.same c.in_ok-left.ensures.terms c.in_ok-with_pairs.ensures))

@@ -1,5 +1,6 @@
 use Rattle.std.proofs.Common.{◌≡◌, ap, sym, ◌∙◌, subst, arith}
 use Rattle.std.proofs.lemmas.Result.{IfOk-weaker}
+use Rattle.std.proofs.lemmas.List.{nil_from_length}
 use Rattle.lotos_base.specs.Substitution.{binding}
 use Rattle.behaviour_semantics.specs.Replacement.{with_values}
 use Rattle.term_match.specs.SubstView.{profiled_pairs}
@@ -11,7 +12,7 @@ use Rattle.behaviour_tree.specs.StateView.{environment_of}
 use Rattle.behaviour_tree.specs.declared.behaviours.Beh.{Beh}
 use Rattle.behaviour_instances.specs.Suited.{SuitsWhere}
 use Rattle.behaviour_instances.proofs.InstanceLemmas.{of_signatures}
-use Rattle.step_parts.proofs.NodeLemmas.{no_values, none_there}
+use Rattle.step_parts.proofs.NodeLemmas.{no_values}
 use Rattle.step_parts.proofs.targets.closed.Goals as goal
 
 pub returns-then-len-eq0-clause-same : goal.returns-then-len-eq0-clause-same
@@ -19,7 +20,7 @@ returns-then-len-eq0-clause-same c =
     IfOk-weaker c.owner.result _ _ (λ made e.
     ap behaviour_of e
     ∙ sym (no_values c.args.environment.now.items (behaviour_of c.args.behaviour.now.value)
-    (none_there c.args.environment.now.items (omega (arith, c.if-len-eq0.true, c.len.ensures, c.args.environment.now.ok.0)))))
+    (nil_from_length c.args.environment.now.items (omega (arith, c.if-len-eq0.true, c.len.ensures, c.args.environment.now.ok.0)))))
     c.owner.ensures
 
 pub returns-then-len-eq0-clause-terms : goal.returns-then-len-eq0-clause-terms

@@ -3,8 +3,9 @@ use Rattle.std.proofs.lemmas.List.{drop_all}
 use Rattle.behaviour_semantics.specs.Label.{under}
 use Rattle.behaviour_tree.specs.BehaviourView.{behaviour_of, meet_of}
 use Rattle.behaviour_tree.specs.Over.{AreTermsOf}
+use Rattle.behaviour_tree.proofs.ClosedLemmas.{terms_both}
 use Rattle.step_parts.specs.Beside.{StandsBeside}
-use Rattle.step_parts.proofs.NodeLemmas.{both_terms, one_beside, whole_closed, whole_stands, whole_terms}
+use Rattle.step_parts.proofs.NodeLemmas.{one_beside, whole_closed, whole_stands, whole_terms}
 use Rattle.step_parts.proofs.targets.side_by_side.Goals as goal
 
 pub loop-at-init : goal.loop-at-init
@@ -25,7 +26,7 @@ loop-at-preserved c = record {
       c.in_ok-copy.ensures.same c.in_ok-beside.ensures.same c.loop-at.invariant.same;
   terms = λ signature h.
       subst (AreTermsOf signature) (sym c.in_ok-beside.ensures.terms)
-      (both_terms signature _ _ (c.in_ok-copy.ensures.terms signature h) (c.loop-at.invariant.terms signature h));
+      (terms_both signature _ _ (c.in_ok-copy.ensures.terms signature h) (c.loop-at.invariant.terms signature h));
   closed_parts = λ signature specification h.
       c.in_ok-beside.ensures.closed_parts (c.in_ok-copy.ensures.closed_parts signature specification h)
       (c.loop-at.invariant.closed_parts signature specification h);

@@ -4,8 +4,8 @@ use Rattle.behaviour_semantics.specs.Behaviour.{disable}
 use Rattle.behaviour_tree.specs.Over.{AreTermsOf}
 use Rattle.behaviour_tree.specs.StateView.{node_profiles, stands_for}
 use Rattle.behaviour_tree.specs.declared.states.Node.{Node}
+use Rattle.behaviour_tree.proofs.ClosedLemmas.{terms_both}
 use Rattle.step_parts.specs.TargetNodes.{HasClosedParts}
-use Rattle.step_parts.proofs.NodeLemmas.{both_terms}
 use Rattle.step_parts.proofs.targets.still_disabled.Goals as goal
 
 pub returns-then-ends-clause-same : goal.returns-then-ends-clause-same
@@ -23,7 +23,7 @@ returns-clause-same c =
 pub returns-clause-terms : goal.returns-clause-terms
 returns-clause-terms c =
     IfOk-weaker c.shared.result _ _ (λ made e signature h k.
-    subst (λ (n : Node). AreTermsOf signature (node_profiles n)) (sym e) (both_terms signature _ _ h k)) c.shared.ensures
+    subst (λ (n : Node). AreTermsOf signature (node_profiles n)) (sym e) (terms_both signature _ _ h k)) c.shared.ensures
 
 pub returns-clause-closed_parts : goal.returns-clause-closed_parts
 returns-clause-closed_parts c =

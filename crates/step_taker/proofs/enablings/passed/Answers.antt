@@ -2,7 +2,7 @@ use Rattle.std.proofs.Common.{◌∙◌, refl, ap, sym, subst, Bool, not}
 use Rattle.behaviour_semantics.specs.Fault.{unless}
 use Rattle.behaviour_tree.specs.BehaviourView.{variables_of}
 use Rattle.behaviour_tree.specs.Over.{AreTermsOf}
-use Rattle.step_parts.proofs.NodeLemmas.{both_terms}
+use Rattle.behaviour_tree.proofs.ClosedLemmas.{terms_both}
 use Rattle.step_taker.specs.Rows.{passing_row}
 use Rattle.step_taker.specs.Sides.{followed}
 use Rattle.step_taker.proofs.WalkLemmas.{walked_misfit}
@@ -26,7 +26,7 @@ returns c =
     λ ground leaves whole part at has below given m.
     passing_made ground leaves whole part below c.args.moved m _ refl (record {
       parts = c.in_ok-target.ensures.closed_parts given.states m.parts;
-      terms = subst (AreTermsOf ground.data_.signature) (sym c.in_ok-target.ensures.terms) (both_terms ground.data_.signature _ _ m.terms
+      terms = subst (AreTermsOf ground.data_.signature) (sym c.in_ok-target.ensures.terms) (terms_both ground.data_.signature _ _ m.terms
           given.terms_of_signature);
       values = m.values;
     }) (variables_of c.args.side.now.variables.now.items) (followed c.args.side.now) has (sym c.ends.ensures ∙ c.if-ends.false) refl

@@ -10,8 +10,8 @@ use Rattle.behaviour_tree.specs.BehaviourTerms.{option_profiles}
 use Rattle.behaviour_tree.specs.BehaviourView.{behaviour_of, offer_of, terms_of, test_of}
 use Rattle.behaviour_tree.specs.Over.{AreTermsOf}
 use Rattle.behaviour_tree.specs.StateView.{environment_of, pair_profile}
+use Rattle.behaviour_tree.proofs.ClosedLemmas.{terms_both}
 use Rattle.step_parts.proofs.CheckedLemmas.{checked_err, told_more}
-use Rattle.step_parts.proofs.NodeLemmas.{both_terms}
 use Rattle.step_taker.specs.Taken.{ground_of}
 use Rattle.step_taker.proofs.EventLemmas.{chosen_closed, test_suited}
 use Rattle.lotos_base.specs.Substitution.{Substitution}
@@ -68,7 +68,7 @@ returns-clause-same g c =
 
 pub returns-clause-terms : goal.returns-clause-terms
 returns-clause-terms g c =
-    subst (AreTermsOf (g.D.Deciding.known_data c.args.data.now).signature) (sym c.in_ok-own_behind.ensures.terms) (both_terms
+    subst (AreTermsOf (g.D.Deciding.known_data c.args.data.now).signature) (sym c.in_ok-own_behind.ensures.terms) (terms_both
     (g.D.Deciding.known_data c.args.data.now).signature _ _ c.requires.next c.in_ok-pairs.ensures.over)
 
 pub returns-clause-closed_parts : goal.returns-clause-closed_parts

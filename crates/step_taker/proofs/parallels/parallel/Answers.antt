@@ -4,7 +4,7 @@ use Rattle.behaviour_semantics.specs.Behaviour.{parallel}
 use Rattle.behaviour_tree.specs.Over.{AreTermsOf}
 use Rattle.behaviour_tree.specs.StateView.{node_profiles, stands_for}
 use Rattle.behaviour_tree.specs.declared.states.Node.{Node}
-use Rattle.step_parts.proofs.NodeLemmas.{both_terms}
+use Rattle.behaviour_tree.proofs.ClosedLemmas.{terms_both}
 use Rattle.step_taker.proofs.SplitLemmas.{parts_as}
 use Rattle.behaviour_semantics.specs.Behaviour.{SynchronisationSet}
 use Rattle.step_taker.proofs.parallels.parallel.Goals as goal
@@ -17,7 +17,7 @@ returns-clause-same c =
 pub returns-clause-terms : goal.returns-clause-terms
 returns-clause-terms c =
     IfOk-weaker c.shared.result _ _ (λ made e signature h k. subst (λ (node : Node). AreTermsOf signature (node_profiles node)) (sym e)
-    (both_terms signature _ _ h k)) c.shared.ensures
+    (terms_both signature _ _ h k)) c.shared.ensures
 
 pub returns-clause-closed_parts : goal.returns-clause-closed_parts
 returns-clause-closed_parts c =

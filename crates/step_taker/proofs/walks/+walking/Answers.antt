@@ -1,5 +1,7 @@
 use Rattle.std.proofs.Common.{◌+◌, ◌++◌, ◌∷◌, ◌∙◌, ℕ, suc, List, [], length, map, refl, ap, sym, subst, arith, rules, append_assoc, append-nil, add-one}
 use Rattle.std.specs.Prelude.{option_map}
+use Rattle.lotos_base.proofs.Members.{at_map, past_map}
+use Rattle.lotos_base.proofs.Options.{none_unless_some}
 use Rattle.lotos_base.specs.Equation.{Data}
 use Rattle.lotos_base.specs.Term.{Term}
 use Rattle.lotos_base.specs.Substitution.{binding, without}
@@ -34,11 +36,11 @@ use Rattle.step_taker.proofs.TogetherLemmas.{left_told, right_told}
 use Rattle.step_taker.proofs.ThereLemmas.{absent_there, below_there, copies_walked, is_below, memory_walked, misfit_there, of_behaviour, of_shape, part_there, refusal_walked, there_refused, there_walked}
 use Rattle.step_taker.proofs.SplitLemmas.{passable_as}
 use Rattle.step_taker.proofs.GoodLemmas.{label_closed, leaves_enough, target_closed}
-use Rattle.step_taker.proofs.BodyLemmas.{call_closed, instance_over, is_called, keeps_ground, leaf_value, let_closed, value_closed, mapped_at}
+use Rattle.step_taker.proofs.BodyLemmas.{call_closed, instance_over, is_called, keeps_ground, leaf_value, let_closed, value_closed}
 use Rattle.step_taker.proofs.UnfitLemmas.{unfit_stop, unfit_guard, unfit_choice, unfit_parallel, unfit_hide, unfit_enable, unfit_disable, unfit_let, unfit_value, unfit_gate, unfit_call, unfit_relabel}
 use Rattle.step_taker.proofs.FormLemmas.{guard_row, left_row, right_row, left_alone_row, right_alone_row, disabled_row, undisabled_row, hide_row, enabled_row, passed_row, let_row, value_row, gate_row, call_row, relabel_row, no_gate, no_process}
 use Rattle.step_taker.proofs.WeightLemmas.{part_less, right_less, level_less, form_less, opened_less, left_less}
-use Rattle.step_taker.proofs.StepLemmas.{none_of, own_place, place_behind, two_as, within_terms, closed_by_none, leaves_there, none_mapped, nothing_put, place_after, place_nodes}
+use Rattle.step_taker.proofs.StepLemmas.{own_place, place_behind, two_as, within_terms, closed_by_none, leaves_there, nothing_put, place_after, place_nodes}
 use Rattle.behaviour_semantics.specs.Move.{asking, after_leaf}
 use Rattle.step_parts.proofs.TargetLemmas.{closed_state}
 use Rattle.behaviour_semantics.specs.Rule.{copies}
@@ -2021,7 +2023,7 @@ gate_step-returns-in_default-gate_at-clause-answer g t c =
     c.misfit-in_default-gate_at.result
     (no_gate (setting_on (ground_of (g.D.Deciding.known_data c.args.data.now) (g.D.Deciding.canon c.args.data.now)
     c.args.walk.now.spec.now)) (terms_of c.args.walk.now.leaves.now) (shape_of c.in-Gate.inner.value) place.number c.args.at.leaf
-    c.in-Gate.position c.args.formal c.args.gates.now.items (behaviour_of c.args.next.now) (sym c.gate_at.ensures ∙ none_of
+    c.in-Gate.position c.args.formal c.args.gates.now.items (behaviour_of c.args.next.now) (sym c.gate_at.ensures ∙ none_unless_some
     c.gate_at.result c.in_default-gate_at.not-Some)) c.misfit-in_default-gate_at.ensures
 
 pub gate_step-beh_step-requires : goal.gate_step-beh_step-requires
@@ -2228,8 +2230,8 @@ call_step-returns-in_default-called_at-clause-answer g t c =
     (no_process (setting_on (ground_of (g.D.Deciding.known_data c.args.data.now) (g.D.Deciding.canon c.args.data.now)
     c.args.walk.now.spec.now)) (terms_of c.args.walk.now.leaves.now) (shape_of c.in-Called.inner.value) place.number c.args.at.leaf
     c.args.process c.args.gates.now.items (terms_of c.args.values.now.items)
-    (none_mapped process_of c.args.walk.now.spec.now.processes.items c.args.process (sym c.called_at.ensures ∙ ap (option_map (λ p.
-    p.now)) (none_of c.called_at.result c.in_default-called_at.not-Some)))) c.misfit-in_default-called_at.ensures
+    (past_map process_of c.args.walk.now.spec.now.processes.items c.args.process (sym c.called_at.ensures ∙ ap (option_map (λ p.
+    p.now)) (none_unless_some c.called_at.result c.in_default-called_at.not-Some)))) c.misfit-in_default-called_at.ensures
 
 pub call_step-call_body-requires-clause-walk : goal.call_step-call_body-requires-clause-walk
 call_step-call_body-requires-clause-walk g t c =
@@ -2298,7 +2300,7 @@ call_step-returns-in_err-moved-clause-answer g t c =
     c.in-Some.called.now).body) (shape_of c.deref.result.now) (suc place.number) c.args.at.leaf) _ (call_row (setting_on (ground_of
     (g.D.Deciding.known_data c.args.data.now) (g.D.Deciding.canon c.args.data.now) c.args.walk.now.spec.now)) (terms_of
     c.args.walk.now.leaves.now) (shape_of c.deref.result.now) place.number c.args.at.leaf c.args.process c.args.gates.now.items
-    (terms_of c.args.values.now.items) (process_of c.in-Some.called.now) (mapped_at process_of
+    (terms_of c.args.values.now.items) (process_of c.in-Some.called.now) (at_map process_of
     c.args.walk.now.spec.now.processes.items c.args.process c.in-Some.called.now (sym c.called_at.ensures ∙ ap (option_map (λ p.
     p.now)) c.in-Some.is))) refl c.in_err-moved.field-0.0
     (held_before (λ (d : Data) (f : Term → Term). UnlessMemory (IsFirstStepFault (ground_of d f c.args.walk.now.spec.now) (terms_of
@@ -2343,7 +2345,7 @@ call_step-returns-clause-answer g t c =
     (process_of c.in-Some.called.now).body) (shape_of c.deref.result.now) (suc place.number) c.args.at.leaf) there.node (call_row
     (setting_on (ground_of (g.D.Deciding.known_data c.args.data.now) (g.D.Deciding.canon c.args.data.now) c.args.walk.now.spec.now))
     (terms_of c.args.walk.now.leaves.now) (shape_of c.deref.result.now) place.number c.args.at.leaf c.args.process
-    c.args.gates.now.items (terms_of c.args.values.now.items) (process_of c.in-Some.called.now) (mapped_at process_of
+    c.args.gates.now.items (terms_of c.args.values.now.items) (process_of c.in-Some.called.now) (at_map process_of
     c.args.walk.now.spec.now.processes.items c.args.process c.in-Some.called.now (sym c.called_at.ensures ∙ ap (option_map (λ p.
     p.now)) c.in-Some.is))) (is_below (call c.args.process c.args.gates.now.items (terms_of c.args.values.now.items)) (with_values
     (binding_of (process_of c.in-Some.called.now).parameters (map (g.D.Deciding.canon c.args.data.now) (terms_of

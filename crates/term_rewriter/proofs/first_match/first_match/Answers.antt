@@ -2,6 +2,7 @@ use Rattle.std.proofs.Common.{◌≡◌, ◌<◌, ℕ, [], Bor, Vec, Global, len
 use Rattle.std.specs.Prelude.{Option, Some, None}
 use Rattle.std.specs.Option.{option_map}
 use Rattle.std.proofs.lemmas.Option.{slice_get-get_or}
+use Rattle.lotos_base.proofs.Members.{numbers_more, read_at}
 use Rattle.sort_terms.specs.SortedView.{profiled_in}
 use Rattle.sort_terms.specs.TermView.{profiled_of, term_of, terms_of}
 use Rattle.sort_terms.specs.declared.terms.Term.{Term}
@@ -9,7 +10,6 @@ use Rattle.term_match.specs.FoundView.{found_pairs}
 use Rattle.term_match.specs.Search.{searched}
 use Rattle.path_order.proofs.CodeLemmas.{term_of-Var, term_of-Node}
 use Rattle.term_rewriter.proofs.FirstLemmas.{DoesNotMatch, none_matches_variable, candidate_within, tried_none, none_matches, is_first}
-use Rattle.term_rewriter.proofs.HeadLemmas.{numbers_more, read_at}
 use Rattle.term_rewriter.proofs.first_match.first_match.Goals as goal
 
 pub returns-in_default : goal.returns-in_default

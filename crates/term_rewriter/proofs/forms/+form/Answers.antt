@@ -1,16 +1,18 @@
 use Rattle.std.proofs.Common.{◌≡◌, ◌+◌, ℕ, List, length, drop, ap, sym, ◌∙◌, arith, Vec, Global}
 use Rattle.std.specs.Vec.Iter.{into_iter_items}
 use Rattle.std.proofs.lemmas.Result.{IfOk-weaker}
+use Rattle.std.proofs.lemmas.List.{nil_from_length}
+use Rattle.lotos_base.proofs.Pieces.{next_member}
 use Rattle.sort_terms.specs.Operations.{operation_of}
 use Rattle.sort_terms.specs.ProfiledTerm.{profiled_node}
 use Rattle.sort_terms.specs.TermView.{profiled_of, all_profiled}
 use Rattle.sort_terms.specs.declared.terms.Term.{Term}
 use Rattle.sort_terms.proofs.CountedLemmas.{of_none, of_some}
+use Rattle.sort_terms.proofs.BuiltLists.{profiled_Node, profiled_Var}
 use Rattle.term_rewriter.specs.FirstMatch.{NoneMatches, IsFirstRule}
 use Rattle.term_rewriter.proofs.FormLemmas.{variable_done, matched_within, no_forms, argument_asked, argument_made, argument_lacks, all_made}
 use Rattle.term_rewriter.proofs.RootLemmas.{ready_done, next_right, begun_under, whole_leads}
-use Rattle.term_rewriter.proofs.TakenLemmas.{rest_at, empty_list, nothing_left}
-use Rattle.term_rewriter.proofs.ValueLemmas.{profiled_of-Var, profiled_of-Node}
+use Rattle.term_rewriter.proofs.TakenLemmas.{nothing_left}
 use Rattle.term_rewriter.proofs.forms.+form.Goals as goal
 use Rattle.term_rewriter.proofs.forms.+form.Goals.{begun-in-Some+in_ok-form-in-Node-instance+in_ok-push-in-Node-instance, begun-in_default-next}
 
@@ -61,18 +63,18 @@ after-returns t c =
 pub begun-returns-in_default : goal.begun-returns-in_default
 begun-returns-in_default t c =
     variable_done c.args.rules.now (profiled_of c.args.shape.now) c.in_default.field-0 c.in_default.field-1 (profiled_of c.args.instance)
-    (ap profiled_of c.in_default.is ∙ profiled_of-Var c.in_default.field-0 c.in_default.field-1) c.requires.values
+    (ap profiled_of c.in_default.is ∙ profiled_Var c.in_default.field-0 c.in_default.field-1) c.requires.values
 
 pub begun-loop-argument-init : goal.begun-loop-argument-init
 begun-loop-argument-init t c =
     no_forms c.args.rules.now (profiled_of c.args.shape.now) (profiled_of c.args.instance) c.in-Node-instance.op c.in-Node.op
     (operation_of c.in-Node-instance.profile.value) (operation_of c.in-Node.profile.value) c.deref-argument-items.result.now
     c.in-Node-instance.arguments.items (into_iter_items c.into_iter-rest.result) c.in_ok-forms-in-Node-instance.forms.items
-    (ap profiled_of c.in-Node.is ∙ profiled_of-Node c.in-Node.op c.in-Node.profile c.in-Node.shapes
+    (ap profiled_of c.in-Node.is ∙ profiled_Node c.in-Node.op c.in-Node.profile c.in-Node.shapes
     ∙ ap (λ (ts : List Term). profiled_node c.in-Node.op (operation_of c.in-Node.profile.value) (all_profiled ts))
     (sym c.deref-argument-items.ensures.value))
     (ap profiled_of c.in-Node-instance.is
-    ∙ profiled_of-Node c.in-Node-instance.op c.in-Node-instance.profile c.in-Node-instance.arguments)
+    ∙ profiled_Node c.in-Node-instance.op c.in-Node-instance.profile c.in-Node-instance.arguments)
     c.into_iter-rest.ensures.rest c.in_ok-forms-in-Node-instance.ensures.items c.requires.values
 
 pub begun-form-requires : goal.begun-form-requires
@@ -82,7 +84,7 @@ begun-form-requires t c =
     (operation_of c.in-Node-instance.profile.value) (drop c.loop-argument.argument-index xs) (drop (c.loop-argument.argument-index + 1) xs)
     (into_iter_items c.loop-argument.rest) (into_iter_items c.next.new.self) c.loop-argument.forms.items c.argument-item.result
     c.in-Some.part
-    (rest_at xs c.loop-argument.argument-index c.argument-item.result c.loop-argument-test.true c.argument-item.is)
+    (next_member xs c.loop-argument.argument-index c.argument-item.result c.loop-argument-test.true c.argument-item.is)
     c.in-Some.ensures.items c.requires.term c.loop-argument.invariant in
     let less = asked.falls in
     (omega (arith, less, c.decreases), (asked.term, asked.reduced))
@@ -97,7 +99,7 @@ begun-loop-argument-preserved t c =
           (drop (c.loop-argument.argument-index + 1) xs) (into_iter_items c.loop-argument.rest) (into_iter_items c.next.new.self)
           c.loop-argument.forms.items c.match-next.forms.items c.argument-item.result w.in-Some.part
           w.in_ok-form-in-Node-instance.field-0
-          (rest_at xs c.loop-argument.argument-index c.argument-item.result c.loop-argument-test.true c.argument-item.is)
+          (next_member xs c.loop-argument.argument-index c.argument-item.result c.loop-argument-test.true c.argument-item.is)
           w.in-Some.ensures.items
           (ap (λ (forms : Vec Term Global). forms.items) w.forms-is ∙ w.in_ok-push-in-Node-instance.ensures.items)
           c.loop-argument.invariant w.in_ok-form-in-Node-instance.ensures
@@ -106,8 +108,8 @@ begun-loop-argument-preserved t c =
           (operation_of c.in-Node-instance.profile.value) (drop c.loop-argument.argument-index xs)
           (drop (c.loop-argument.argument-index + 1) xs) (into_iter_items c.loop-argument.rest) c.loop-argument.forms.items
           c.argument-item.result
-          (rest_at xs c.loop-argument.argument-index c.argument-item.result c.loop-argument-test.true c.argument-item.is)
-          (empty_list (into_iter_items c.loop-argument.rest)
+          (next_member xs c.loop-argument.argument-index c.argument-item.result c.loop-argument-test.true c.argument-item.is)
+          (nil_from_length (into_iter_items c.loop-argument.rest)
           (sym c.loop-argument.rest.rest.ok.0 ∙ w.in_default-next.ensures.cases.0)) c.loop-argument.invariant)
     ]
 
@@ -118,7 +120,7 @@ begun-returns-after-loop-argument t c =
     omega (arith, c.loop-argument-test.false, c.loop-argument.auto.argument-index-end) in
     whole_leads c.args.rules.now (profiled_of c.args.instance) _ c.in-Node-instance.op
     (operation_of c.in-Node-instance.profile.value) c.loop-argument.forms.items
-    (profiled_of-Node c.in-Node-instance.op c.in-Node-instance.profile c.loop-argument.forms) c.requires.term
+    (profiled_Node c.in-Node-instance.op c.in-Node-instance.profile c.loop-argument.forms) c.requires.term
     (all_made c.args.rules.now (profiled_of c.args.instance) c.in-Node-instance.op
     (operation_of c.in-Node-instance.profile.value) (drop c.loop-argument.argument-index xs) (into_iter_items c.loop-argument.rest)
     c.loop-argument.forms.items (nothing_left xs c.loop-argument.argument-index end) c.loop-argument.invariant)

@@ -2,10 +2,10 @@ use Rattle.std.proofs.Common.{ℕ, List, ap, sym, ◌∙◌, subst, refl, arith}
 use Rattle.std.proofs.lemmas.Result.{IfOk-weaker}
 use Rattle.sort_terms.specs.TermView.{profiled_of}
 use Rattle.sort_terms.specs.declared.terms.Term.{Term}
+use Rattle.sort_terms.proofs.BuiltLists.{profiled_Var}
 use Rattle.term_match.specs.Search.{looked_up}
 use Rattle.term_rewriter.specs.Taken.{owned_pairs}
 use Rattle.term_rewriter.specs.Wanted.{IsPlaceOf}
-use Rattle.term_rewriter.proofs.ValueLemmas.{profiled_of-Var}
 use Rattle.term_rewriter.proofs.WantedLemmas.{given_none, given_copy, given_moved, place_within}
 use Rattle.term_rewriter.proofs.wanting.value_for.Goals as goal
 
@@ -13,7 +13,7 @@ pub returns-in_default : goal.returns-in_default
 returns-in_default c =
     given_none c.args.number c.args.sort c.args.again (owned_pairs c.args.values.now.items) _
     (ap (λ (values : List (ℕ × Term)). looked_up c.args.number (owned_pairs values)) (sym c.as_slice.ensures.value) ∙ c.in_default.ensures)
-    (profiled_of-Var c.args.number c.args.sort)
+    (profiled_Var c.args.number c.args.sort)
 
 pub index-requires : goal.index-requires
 index-requires c =

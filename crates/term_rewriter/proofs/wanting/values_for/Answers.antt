@@ -1,8 +1,7 @@
 use Rattle.std.proofs.Common.{◌+◌, ℕ, List, get_or, drop, ap, ◌∙◌}
-use Rattle.std.proofs.lemmas.List.{drop_more}
+use Rattle.std.proofs.lemmas.List.{drop_more, take_rest}
 use Rattle.term_rewriter.specs.Taken.{owned_pairs}
 use Rattle.term_rewriter.specs.Wanted.{is_wanted_in}
-use Rattle.term_rewriter.proofs.TakenLemmas.{rest_taken}
 use Rattle.term_rewriter.proofs.WantedLemmas.{one_supplied}
 use Rattle.term_rewriter.proofs.wanting.values_for.Goals as goal
 
@@ -14,6 +13,6 @@ loop-i-preserved c =
     (drop_more c.args.wanted.now c.loop-i.i (0, 0) c.loop-i-test.true)
     (c.is_wanted-again.ensures
     ∙ ap (λ (vs : List (ℕ × ℕ)). is_wanted_in vs (get_or c.args.wanted.now c.loop-i.i (0, 0)).0)
-    (rest_taken c.args.wanted.now (c.loop-i.i + 1)))
+    (take_rest c.args.wanted.now (c.loop-i.i + 1)))
     c.in_ok-push.ensures.items
     c.loop-i.invariant c.in_ok-value_for.ensures

@@ -5,7 +5,8 @@ use Rattle.sentence_trees.specs.Reading.{node_limit}
 use Rattle.text_depth.specs.DepthPart.{depth_of}
 use Rattle.text_depth.specs.RowDepth.{closed_part}
 use Rattle.text_depth.specs.PartView.{kept_of}
-use Rattle.text_depth.proofs.Depths.{kept_in_rows, kept_is, value_is}
+use Rattle.sentence_trees.proofs.Grammars.{kept_in_rows}
+use Rattle.text_depth.proofs.Depths.{kept_is, value_is}
 use Rattle.text_depth.proofs.depth.depth.Goals as goal
 
 pub fold_derivation-requires : goal.fold_derivation-requires

@@ -6,13 +6,14 @@ use Rattle.sentence_trees.specs.Sentences.{kind_of}
 use Rattle.sentence_trees.proofs.DefinitionsCases.{all_sentences_derived}
 use Rattle.tree_building.specs.Meaning.{some_terms}
 use Rattle.sentence_trees.specs.Reading.{node_limit}
-use Rattle.text_depth.specs.LotosRows.{HasLotosRows}
-use Rattle.text_depth.proofs.Depths.{deep_is, derived_at, of_terms}
+use Rattle.sentence_trees.specs.LotosGrammar.{IsLotosGrammar}
+use Rattle.sentence_trees.proofs.Grammars.{of_terms}
+use Rattle.text_depth.proofs.Depths.{deep_is, derived_at}
 use Rattle.text_depth.proofs.depth.terms_depth.Goals as goal
 
 pub depth-deep-requires : goal.depth-deep-requires
 depth-deep-requires c = record {
-  lotos = subst HasLotosRows (sym c.terms_grammar.ensures) of_terms;
+  lotos = subst IsLotosGrammar (sym c.terms_grammar.ensures) of_terms;
   derivation = subst (λ it. IsLeftmostDerivation it c.args.rows.now (map kind_of c.args.tokens.now)) (sym c.terms_grammar.ensures) c.requires;
 }
 

@@ -1,9 +1,10 @@
 use Rattle.std.proofs.Common.{◌∙◌, ap, sym, arith}
+use Rattle.std.proofs.lemmas.List.{nil_from_length}
 use Rattle.ll_engine.specs.Run.{from_last}
-use Rattle.tree_building.proofs.FromLast.{from_last_more, from_last_none}
 use Rattle.text_depth.specs.RowDepth.{closed_parts}
 use Rattle.text_depth.specs.PartView.{kept_of}
-use Rattle.text_depth.proofs.PartLists.{empty_is, found_first, none_first}
+use Rattle.tree_building.proofs.FromLast.{from_last_more, from_last_none}
+use Rattle.text_depth.proofs.PartLists.{found_first, none_first}
 use Rattle.text_depth.proofs.lists.closed_parts.Goals as goal
 
 pub returns-then-is_some : goal.returns-then-is_some
@@ -26,6 +27,6 @@ pub returns : goal.returns
 returns c =
     sym
     (ap (closed_parts c.args.limit)
-    (ap (from_last kept_of) (empty_is c.loop-part.parts.items (omega (arith, c.in_default.ensures.cases, c.loop-part.parts.ok.0)))
+    (ap (from_last kept_of) (nil_from_length c.loop-part.parts.items (omega (arith, c.in_default.ensures.cases, c.loop-part.parts.ok.0)))
     ∙ from_last_none kept_of))
     ∙ c.loop-part.invariant

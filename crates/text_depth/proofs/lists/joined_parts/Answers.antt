@@ -1,12 +1,12 @@
 use Rattle.std.proofs.Common.{◌∙◌, ◌∷◌, [], ◌++◌, ap, append_assoc, map, sym, arith}
-use Rattle.std.proofs.lemmas.List.{map-append}
+use Rattle.std.proofs.lemmas.List.{map-append, nil_from_length}
 use Rattle.ll_engine.specs.Run.{from_last}
 use Rattle.lotos_base.specs.WrittenView.{text_place_of}
 use Rattle.tree_building.proofs.FromLast.{from_last_none, map_reverse}
 use Rattle.text_depth.specs.DepthPart.{of_names}
 use Rattle.text_depth.specs.RowDepth.{joined_parts}
 use Rattle.text_depth.specs.PartView.{kept_of}
-use Rattle.text_depth.proofs.PartLists.{empty_is, joined_last}
+use Rattle.text_depth.proofs.PartLists.{joined_last}
 use Rattle.text_depth.proofs.lists.joined_parts.Goals as goal
 
 pub returns-in_default : goal.returns-in_default
@@ -16,7 +16,8 @@ returns-in_default c =
     (sym
     (sym (map_reverse kept_of c.args.parts.items)
     ∙ ap (map kept_of)
-    (sym c.reverse.ensures.items ∙ empty_is c.reverse.new.self.items (omega (arith, c.in_default.ensures.cases, c.reverse.new.self.ok.0)))))
+    (sym c.reverse.ensures.items ∙ nil_from_length c.reverse.new.self.items
+    (omega (arith, c.in_default.ensures.cases, c.reverse.new.self.ok.0)))))
 
 pub loop-part-init : goal.loop-part-init
 loop-part-init c =

@@ -1,12 +1,13 @@
 use Rattle.std.proofs.Common.{◌∙◌, ℕ, ap, map, sym, arith}
 use Rattle.std.proofs.lemmas.Result.{IfOk-weaker}
 use Rattle.ll_engine.specs.Run.{from_last}
+use Rattle.ll_engine.proofs.Running.{length-from_last}
 use Rattle.syntax_trees.specs.Grouping.{grouped}
 use Rattle.tree_building.proofs.FromLast.{map_reverse}
 use Rattle.syntax_trees.specs.Firsts.{between}
 use Rattle.syntax_trees.specs.FirstsView.{firsts_of}
 use Rattle.text_depth.specs.RowDepth.{or_no_nodes}
-use Rattle.text_depth.proofs.PartLists.{length-from_last, no_tree}
+use Rattle.text_depth.proofs.PartLists.{no_tree}
 use Rattle.text_depth.proofs.part.grouped_firsts.Goals as goal
 
 pub returns-then-len : goal.returns-then-len

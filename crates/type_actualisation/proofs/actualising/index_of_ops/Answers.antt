@@ -1,7 +1,8 @@
 use Rattle.std.proofs.lemmas.Result.{MatchResult-weaker, err_from_is_err_and}
 use Rattle.type_definitions.specs.declared.type_faults.TypeFault.TheVariants.{NoMemory}
 use Rattle.type_presentations.specs.PresentationView.{presentation_of}
-use Rattle.type_actualisation.proofs.PairLemmas.{operation_pairs_refused, operations_named}
+use Rattle.type_presentations.proofs.NameLemmas.{operations_named}
+use Rattle.type_actualisation.proofs.PairLemmas.{operation_pairs_refused}
 use Rattle.type_actualisation.proofs.actualising.index_of_ops.Goals as goal
 
 pub returns-in_err-names : goal.returns-in_err-names

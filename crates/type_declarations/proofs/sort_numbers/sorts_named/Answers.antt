@@ -1,12 +1,12 @@
 use Rattle.std.proofs.Common.{◌≡◌, List, map, subst, length, arith}
 use Rattle.std.specs.Prelude.{None}
 use Rattle.std.proofs.lemmas.Result.{err_from_is_err_and}
+use Rattle.lotos_base.proofs.Pieces.{take_whole}
 use Rattle.lotos_base.specs.WrittenTerm.{PlacedName}
 use Rattle.lotos_base.specs.WrittenView.{placed_name_of}
 use Rattle.lotos_base.specs.declared.places.Place.{Place}
 use Rattle.lotos_base.specs.declared.names.Name.{Name}
 use Rattle.syntax_trees.specs.TreeViews.{placed_names_of}
-use Rattle.type_presentations.proofs.NameLemmas.{whole}
 use Rattle.type_definitions.proofs.HoldsLemmas.{holds_weaker}
 use Rattle.type_definitions.specs.Declarations.{sort_numbered, unknown_sort_among}
 use Rattle.type_declarations.proofs.DeclareLemmas.{unknown_here, known_more, numbers_more}
@@ -40,4 +40,4 @@ returns c = λ p has.
     subst
     (λ (ns : List (Place × Name)). (unknown_sort_among p (placed_names_of ns) ≡ None)
     × (c.loop-named.numbers.items ≡ map (λ (s : PlacedName). sort_numbered p s.name) (placed_names_of ns)))
-    (whole c.args.names.now c.loop-named.named-index all) (c.loop-named.invariant p has)
+    (take_whole c.args.names.now c.loop-named.named-index all) (c.loop-named.invariant p has)

@@ -1,10 +1,10 @@
 use Rattle.std.proofs.Common.{◌≡◌, ◌<◌, ◌+◌, ◌∷◌, ◌++◌, [], ℕ, List, Bool, length, take, drop, replicate, false, true, set, refl, sym, ap, subst, ◌∙◌, arith, rules}
-use Rattle.std.proofs.lemmas.List.{length-append}
+use Rattle.std.proofs.lemmas.List.{length-append, nil_from_length}
 use Rattle.type_definitions.specs.GraphView.{graph_of}
 use Rattle.type_definitions.specs.TypeGraph.{is_among, mentioned_by}
 use Rattle.type_definitions.specs.Reaching.{IsReaching, Sees, unseen_count}
 use Rattle.type_definitions.proofs.ReachLemmas.{top_within, reach_begun, reach_further, reach_found, reach_none}
-use Rattle.type_definitions.proofs.NumberLists.{written_back, nothing_left}
+use Rattle.type_definitions.proofs.NumberLists.{written_back}
 use Rattle.type_definitions.proofs.reach.reaches.Goals as goal
 use Rattle.type_definitions.proofs.reach.reaches.Goals.{In-Some, In_ok-see}
 
@@ -82,7 +82,7 @@ loop-number-smaller c =
 pub returns : goal.returns
 returns c =
     let empty : c.loop-number.work.items ≡ [] =
-    nothing_left c.loop-number.work.items (sym c.loop-number.work.ok.0 ∙ c.in_default.ensures.cases.0) in (
+    nil_from_length c.loop-number.work.items (sym c.loop-number.work.ok.0 ∙ c.in_default.ensures.cases.0) in (
       (λ is. let both : false ≡ true = is in cc),
       (λ on.
           absurd

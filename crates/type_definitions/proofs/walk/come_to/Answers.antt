@@ -1,8 +1,8 @@
 use Rattle.std.proofs.Common.{◌≡◌, ◌<◌, ◌∷◌, ◌++◌, [], ℕ, List, true, false, refl, sym, subst, ◌∙◌}
+use Rattle.std.proofs.lemmas.List.{nil_from_length}
 use Rattle.type_definitions.specs.GraphView.{graph_of}
 use Rattle.type_definitions.specs.Walking.{IsTypeWalk, Runs, work_left}
 use Rattle.type_definitions.specs.declared.walk.Frame.{Frame}
-use Rattle.type_definitions.proofs.NumberLists.{nothing_left}
 use Rattle.type_definitions.proofs.walk.come_to.Goals as goal
 
 pub loop-frame-init : goal.loop-frame-init
@@ -36,7 +36,7 @@ loop-frame-smaller c =
 pub returns : goal.returns
 returns c =
     let empty : c.loop-frame.stack.items ≡ [] =
-    nothing_left c.loop-frame.stack.items (sym c.loop-frame.stack.ok.0 ∙ c.in_default.ensures.cases.0) in (
+    nil_from_length c.loop-frame.stack.items (sym c.loop-frame.stack.ok.0 ∙ c.in_default.ensures.cases.0) in (
       (λ is. let both : false ≡ true = is in cc),
       (λ is. (
         subst (λ (st : List Frame). IsTypeWalk (graph_of c.args.graph.now) c.loop-frame.progress c.loop-frame.order.items st) empty

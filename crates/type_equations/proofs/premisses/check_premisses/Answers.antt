@@ -1,13 +1,13 @@
 use Rattle.std.proofs.Common.{List, map, take, drop, ap, sym, subst, ◌∙◌, ◌≡◌, ◌++◌, length, arith}
 use Rattle.std.proofs.lemmas.List.{map-append, take-append-drop}
 use Rattle.std.proofs.lemmas.Result.{err_from_is_err_and}
+use Rattle.lotos_base.proofs.Pieces.{take_whole}
 use Rattle.syntax_trees.specs.TreeViews.{premiss_of}
 use Rattle.syntax_trees.specs.WrittenEquation.{WrittenPremiss}
 use Rattle.syntax_trees.specs.declared.equations.TestText.{TestText}
 use Rattle.type_definitions.proofs.HoldsLemmas.{holds_weaker}
 use Rattle.type_definitions.proofs.WalkLemmas.{next_of, so_far}
 use Rattle.type_definitions.specs.DeclaredEquations.{AreReadPremisses, IsFirstPremissFault}
-use Rattle.type_equations.proofs.AskedLemmas.{whole}
 use Rattle.type_equations.proofs.PremissLemmas.{read_append, fault_behind}
 use Rattle.type_equations.proofs.premisses.check_premisses.Goals as goal
 
@@ -41,4 +41,4 @@ pub returns : goal.returns
 returns c = λ p asked same scope truth.
     let all : c.loop-premiss.premiss-index ≡ length c.args.premisses.now = omega arith in
     subst (λ (ts : List TestText). AreReadPremisses p asked (map premiss_of ts))
-    (whole c.args.premisses.now c.loop-premiss.premiss-index all) (c.loop-premiss.invariant p asked same scope truth)
+    (take_whole c.args.premisses.now c.loop-premiss.premiss-index all) (c.loop-premiss.invariant p asked same scope truth)

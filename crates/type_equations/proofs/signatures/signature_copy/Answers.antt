@@ -1,9 +1,10 @@
 use Rattle.std.proofs.Common.{sym, ◌∙◌, subst}
+use Rattle.type_definitions.proofs.FaultLemmas.{few_members}
 use Rattle.lotos_base.specs.Signature.{Signature, IsWellFormedSignature}
 use Rattle.sort_terms.specs.Operations.{operation_of, sort_of}
 use Rattle.type_presentations.proofs.SizeLemmas.{within_limits}
 use Rattle.type_presentations.specs.PresentationView.{presentation_of}
-use Rattle.type_equations.proofs.SignatureLemmas.{few_members, listing_is}
+use Rattle.type_equations.proofs.SignatureLemmas.{listing_is}
 use Rattle.type_equations.proofs.signatures.signature_copy.Goals as goal
 
 pub of-requires-clause-well_formed : goal.of-requires-clause-well_formed

@@ -1,6 +1,7 @@
 use Rattle.std.proofs.Common.{◌≡◌, ℕ, List, ◌++◌, length, map, ap, sym, ◌∙◌, subst, arith}
 use Rattle.std.proofs.lemmas.List.{append-nil, length-map}
 use Rattle.std.proofs.lemmas.Result.{err_from_is_err_and}
+use Rattle.lotos_base.proofs.Pieces.{take_whole}
 use Rattle.lotos_base.specs.Name.{spelling}
 use Rattle.lotos_base.specs.Equation.{Variable}
 use Rattle.syntax_trees.specs.TreeViews.{variables_of}
@@ -9,7 +10,7 @@ use Rattle.sort_terms.specs.EquationView.{variable_of}
 use Rattle.type_definitions.proofs.HoldsLemmas.{holds_weaker}
 use Rattle.type_definitions.specs.DeclaredEquations.{GiveAll, HasFirstFault, none_asked, asked_of_variables, scope_from}
 use Rattle.type_definitions.specs.TypeFault.{TypeFault}
-use Rattle.type_equations.proofs.AskedLemmas.{given_more, faulty_here, scope_more, whole, pushed_view}
+use Rattle.type_equations.proofs.AskedLemmas.{given_more, faulty_here, scope_more, pushed_view}
 use Rattle.type_equations.proofs.sorts.add_variables.Goals as goal
 
 abbrev row : List ℕ → ℕ → ℕ → Variable
@@ -52,4 +53,4 @@ returns c = λ p same.
     (λ (vs : List VarText). GiveAll p (asked_of_variables (variables_of vs)) p
     × (map variable_of c.loop-text.variables.items
     ≡ map variable_of c.args.variables.now.items ++ scope_from p (length c.args.variables.now.items) (variables_of vs)))
-    (whole c.args.written.now c.loop-text.text-index all) (c.loop-text.invariant p same)
+    (take_whole c.args.written.now c.loop-text.text-index all) (c.loop-text.invariant p same)

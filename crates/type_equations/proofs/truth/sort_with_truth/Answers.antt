@@ -3,8 +3,9 @@ use Rattle.std.specs.Prelude.{codes}
 use Rattle.lotos_base.specs.Name.{spelling}
 use Rattle.lotos_base.specs.Signature.{Signature}
 use Rattle.sort_terms.specs.Reading.{IsSortNamed}
+use Rattle.sort_terms.proofs.UnknownLemmas.{sort_name_unknown}
 use Rattle.type_definitions.specs.Declarations.{sort_numbered}
-use Rattle.type_equations.proofs.SortLemmas.{sort_none, sort_found, no_truth, truth_is}
+use Rattle.type_equations.proofs.SortLemmas.{sort_found, no_truth, truth_is}
 use Rattle.type_equations.proofs.truth.sort_with_truth.Goals as goal
 
 pub returns-in_default : goal.returns-in_default
@@ -12,7 +13,7 @@ returns-in_default c = λ p same listed.
     let none = rw c.in_default.is at c.in_ok-found.ensures in
     let bool : spelling c.of-sort_name.result ≡ codes "Bool" = c.of-sort_name.ensures ∙ c.in_ok-from_slice.ensures.items in
     no_truth p (spelling c.of-sort_name.result) bool
-    (sort_none p.signature (spelling c.of-sort_name.result)
+    (sort_name_unknown p.signature (spelling c.of-sort_name.result)
     (subst (λ (g : Signature). (s : ℕ) → ¬ IsSortNamed g s (spelling c.of-sort_name.result)) (sym same) none))
 
 pub returns-then-has_constant : goal.returns-then-has_constant

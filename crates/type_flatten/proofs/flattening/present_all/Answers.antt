@@ -1,7 +1,7 @@
 use Rattle.std.proofs.Common.{◌+◌, List, drop, ap}
 use Rattle.std.proofs.lemmas.Result.{err_from_is_err_and}
-use Rattle.type_presentations.proofs.KeptLemmas.{drop_next}
-use Rattle.type_presentations.proofs.JoinedLemmas.{nothing_due}
+use Rattle.std.proofs.lemmas.List.{drop_all}
+use Rattle.lotos_base.proofs.Pieces.{next_member}
 use Rattle.type_definitions.specs.TypeView.{declared_type_of, declared_types_of}
 use Rattle.type_definitions.specs.declared.type_texts.TypeText.{TypeText}
 use Rattle.type_unions.specs.PresentedView.{presented_in}
@@ -26,7 +26,7 @@ returns-in_err-present c =
     (declared_types_of (drop (c.loop-text.text-index + 1) c.args.texts.now)) (declared_types_of c.args.texts.now)
     c.in_err-present.field-0.0 c.loop-text.invariant.way
     (ap (λ (ts : List TypeText). declared_types_of ts)
-    (drop_next c.args.texts.now c.loop-text.text-index c.text-item.result c.loop-text-test.true c.text-item.is))
+    (next_member c.args.texts.now c.loop-text.text-index c.text-item.result c.loop-text-test.true c.text-item.is))
     c.in_err-present.ensures)
 
 pub loop-text-preserved : goal.loop-text-preserved
@@ -37,7 +37,7 @@ loop-text-preserved c = record {
       (declared_types_of (drop (c.loop-text.text-index + 1) c.args.texts.now)) (declared_types_of c.args.texts.now)
       c.present.new.types c.loop-text.invariant.way
       (ap (λ (ts : List TypeText). declared_types_of ts)
-      (drop_next c.args.texts.now c.loop-text.text-index c.text-item.result c.loop-text-test.true c.text-item.is))
+      (next_member c.args.texts.now c.loop-text.text-index c.text-item.result c.loop-text-test.true c.text-item.is))
       c.in_ok-present.ensures;
 }
 
@@ -46,6 +46,6 @@ returns c = record {
   all_presented = all_there (presented_in c.args.types.now) (presented_in c.loop-text.types)
       (declared_types_of (drop c.loop-text.text-index c.args.texts.now)) (declared_types_of c.args.texts.now)
       c.loop-text.invariant.way
-      (ap (λ (ts : List TypeText). declared_types_of ts) (nothing_due c.args.texts.now c.loop-text.text-index c.loop-text-test.false));
+      (ap (λ (ts : List TypeText). declared_types_of ts) (drop_all c.loop-text.text-index c.args.texts.now c.loop-text-test.false));
   sound = c.loop-text.invariant.sound;
 }

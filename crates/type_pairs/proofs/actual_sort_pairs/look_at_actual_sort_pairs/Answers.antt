@@ -1,14 +1,15 @@
 use Rattle.std.proofs.Common.{◌≡◌, ◌≤◌, ℕ, List, length, map, take, refl, ap, sym, ◌∙◌, subst, arith}
-use Rattle.std.proofs.lemmas.List.{length-map, length-take-le}
+use Rattle.std.proofs.lemmas.List.{length-map, length-take-le, drop_all}
 use Rattle.std.proofs.lemmas.Result.{err_from_is_err_and}
+use Rattle.lotos_base.proofs.Pieces.{take_whole}
 use Rattle.lotos_base.specs.Name.{spelling}
 use Rattle.syntax_trees.specs.TreeViews.{pair_of}
 use Rattle.syntax_trees.specs.WrittenItem.{WrittenPair}
 use Rattle.syntax_trees.specs.declared.items.PairText.{PairText}
 use Rattle.type_presentations.specs.NamesView.{HasNames}
-use Rattle.type_presentations.proofs.NameLemmas.{whole, more_names, as_many_names}
+use Rattle.type_presentations.proofs.NameLemmas.{more_names, as_many_names}
 use Rattle.type_definitions.proofs.HoldsLemmas.{holds_weaker}
-use Rattle.type_definitions.proofs.WalkLemmas.{looked_on, looked_at, nothing_left, so_far}
+use Rattle.type_definitions.proofs.WalkLemmas.{looked_on, looked_at, so_far}
 use Rattle.type_definitions.specs.ActualisationFaults.{actual_pairs_fault, unshared}
 use Rattle.type_definitions.specs.Renaming.{sort_pair_fault}
 use Rattle.type_pairs.specs.PairNames.{old_names}
@@ -66,12 +67,12 @@ pub of-requires : goal.of-requires
 of-requires c =
     let all : c.loop-number.number ≡ length c.args.pairs.now = omega arith in
     subst (λ (ps : List PairText). HasNames c.loop-number.olds (old_names (map pair_of ps)))
-    (whole c.args.pairs.now c.loop-number.number all) c.loop-number.invariant.0
+    (take_whole c.args.pairs.now c.loop-number.number all) c.loop-number.invariant.0
 
 pub returns : goal.returns
 returns c = λ base sorts formals. (
   sym (c.loop-number.invariant.3 base sorts formals)
       ∙ ap (λ (ps : List PairText). actual_pairs_fault base (map pair_of (take c.loop-number.number c.args.pairs.now)) (map pair_of ps))
-      (nothing_left c.args.pairs.now c.loop-number.number (omega (arith, c.loop-number-test.false))),
+      (drop_all c.loop-number.number c.args.pairs.now (omega (arith, c.loop-number-test.false))),
   c.of.ensures,
 )

@@ -1,5 +1,6 @@
 use Rattle.std.proofs.Common.{List, [], ◌∷◌, length, ap, sym, ◌∙◌}
 use Rattle.std.proofs.lemmas.List.{length-map}
+use Rattle.lotos_base.proofs.Truth.{second_alone}
 use Rattle.lotos_base.specs.Signature.{Operation}
 use Rattle.sort_terms.specs.Operations.{operation_of}
 use Rattle.sort_terms.specs.declared.operations.Op.{Op as CodeOp}
@@ -11,7 +12,7 @@ use Rattle.type_presentations.proofs.AddedLemmas.{by_profile}
 use Rattle.type_presentations.proofs.KeyedLemmas.{mutual_by_key}
 use Rattle.type_definitions.specs.Presentation.{Presentation, is_same_operation, with_new}
 use Rattle.type_presentations.specs.PresentationView.{presentation_of}
-use Rattle.type_presentations.proofs.GrowthLemmas.{grown_by, one_operation_clashes, operations_differ, stand_with_operation, first_alone, second_alone}
+use Rattle.type_presentations.proofs.GrowthLemmas.{grown_by, one_operation_clashes, operations_differ, stand_with_operation, first_alone}
 use Rattle.type_presentations.proofs.growing_operations.grow_by_op.Goals as goal
 
 abbrev with_operations : List Operation → Presentation → Presentation

@@ -1,5 +1,6 @@
 use Rattle.std.proofs.Common.{List, [], ◌∷◌, length, ap, sym, ◌∙◌}
 use Rattle.std.proofs.lemmas.List.{length-map}
+use Rattle.lotos_base.proofs.Truth.{second_alone}
 use Rattle.lotos_base.specs.Signature.{Sort}
 use Rattle.sort_terms.specs.Operations.{sort_of}
 use Rattle.sort_terms.specs.WellFormedTest.{are_one_sort}
@@ -10,7 +11,7 @@ use Rattle.type_presentations.proofs.AddedLemmas.{by_name}
 use Rattle.type_presentations.proofs.KeyedLemmas.{mutual_by_key}
 use Rattle.type_definitions.specs.Presentation.{Presentation, is_same_sort, with_new}
 use Rattle.type_presentations.specs.PresentationView.{presentation_of}
-use Rattle.type_presentations.proofs.GrowthLemmas.{grown_by, one_sort_clashes, sorts_differ, stand_with_sort, first_alone, second_alone}
+use Rattle.type_presentations.proofs.GrowthLemmas.{grown_by, one_sort_clashes, sorts_differ, stand_with_sort, first_alone}
 use Rattle.type_presentations.proofs.growing_sorts.grow_by_sort.Goals as goal
 
 abbrev with_sorts : List Sort → Presentation → Presentation

@@ -1,6 +1,6 @@
 use Rattle.std.proofs.Common.{◌≡◌, ℕ, List, ◌++◌, ◌∷◌, [], get_or, take, length, ap, sym, ◌∙◌, append_assoc, arith}
 use Rattle.std.proofs.lemmas.List.{append-nil, take_more}
-use Rattle.type_presentations.proofs.NameLemmas.{whole}
+use Rattle.lotos_base.proofs.Pieces.{take_whole}
 use Rattle.type_presentations.specs.MarksView.{marks_in}
 use Rattle.type_renaming.proofs.equations.append_marks.Goals as goal
 
@@ -21,4 +21,4 @@ pub returns-clause-marks : goal.returns-clause-marks
 returns-clause-marks c =
     let all : c.loop-number.number-index ≡ length c.args.numbers.now = omega arith in
     c.loop-number.invariant.1
-    ∙ ap (λ (ns : List ℕ). marks_in c.args.marks.now ++ ns) (whole c.args.numbers.now c.loop-number.number-index all)
+    ∙ ap (λ (ns : List ℕ). marks_in c.args.marks.now ++ ns) (take_whole c.args.numbers.now c.loop-number.number-index all)

@@ -5,12 +5,12 @@ use Rattle.std.specs.declared.rc.Rc.{Rc}
 use Rattle.std.specs.declared.alloc.Global.{Global}
 use Rattle.std.proofs.lemmas.List.{map-append}
 use Rattle.std.proofs.lemmas.Result.{err_from_is_err_and}
+use Rattle.lotos_base.proofs.Pieces.{take_whole}
 use Rattle.lotos_base.specs.Signature.{Operation}
 use Rattle.syntax_trees.specs.WrittenItem.{WrittenPairs}
 use Rattle.sort_terms.specs.Operations.{operation_of}
 use Rattle.sort_terms.specs.WellFormedTest.{are_one_operation, has_known_sorts}
 use Rattle.sort_terms.specs.declared.operations.Op.{Op}
-use Rattle.type_presentations.proofs.NameLemmas.{whole}
 use Rattle.type_definitions.specs.TypeFault.{TypeFault, double_operation}
 use Rattle.type_definitions.specs.Presentation.{Presentation, is_too_large}
 use Rattle.type_definitions.specs.Renaming.{clash_among, pair_for, renamed_operation}
@@ -116,7 +116,7 @@ returns c =
       c.loop-number.invariant.1
           ∙ ap (λ (os : List (Rc Op Global)). with_these_operations (presentation_of c.args.renamed.now) (map (renamed_operation t ps)
           (map shared os)))
-          (whole c.args.base.now c.loop-number.number all),
+          (take_whole c.args.base.now c.loop-number.number all),
       c.loop-number.invariant.0,
       ap (λ (p : Presentation). is_too_large p) c.loop-number.invariant.1
           ∙ operations_are_few t ps (presentation_of c.args.renamed.now) shared c.args.base.now c.loop-number.number c.requires.within

@@ -5,7 +5,7 @@ use Rattle.std.proofs.lemmas.Result.{err_from_is_err_and}
 use Rattle.lotos_base.specs.Signature.{Operation}
 use Rattle.sort_terms.specs.WellFormedTest.{all_differ, are_one_operation, has_known_sorts}
 use Rattle.type_presentations.specs.OperationListView.{operations_in}
-use Rattle.type_presentations.proofs.GrowthLemmas.{operations_differ}
+use Rattle.type_presentations.proofs.GrowthLemmas.{operations_differ, known_sorts}
 use Rattle.type_definitions.specs.FaultView.{IsFaultFound}
 use Rattle.type_definitions.specs.declared.type_faults.TypeFault.{TypeFault as CodeFault}
 use Rattle.type_definitions.specs.declared.type_faults.TypeFault.TheVariants.{NoMemory}
@@ -18,7 +18,7 @@ use Rattle.type_renaming.specs.ImageOfBase.{IsOperationClash}
 use Rattle.type_renaming.specs.Parts.{operations_alone}
 use Rattle.type_renaming.specs.RenamerView.{type_name_in, operation_pairs_in}
 use Rattle.type_renaming.specs.declared.renamer.Renamer.{Renamer}
-use Rattle.type_renaming.proofs.PartLemmas.{shared, at_most, sorts_are_known, images_keep_profiles}
+use Rattle.type_renaming.proofs.PartLemmas.{shared, at_most, images_keep_profiles}
 use Rattle.type_renaming.proofs.RenameLemmas.{completed, completed_within}
 use Rattle.type_renaming.proofs.renaming.complete.Goals as goal
 
@@ -41,7 +41,7 @@ rename_ops-requires-clause-known c =
     let signature = (presentation_of c.args.base.now).signature in
     ap (λ (n : ℕ). list_all (has_known_sorts n) (map shared c.ops.result.now)) c.requires.alone.sorts
     ∙ ap (λ (os : List Operation). list_all (has_known_sorts (length signature.sorts)) os) c.ops.ensures
-    ∙ sorts_are_known signature c.requires.whole.data_.signature
+    ∙ known_sorts signature c.requires.whole.data_.signature
 
 pub rename_ops-requires-clause-apart : goal.rename_ops-requires-clause-apart
 rename_ops-requires-clause-apart c =

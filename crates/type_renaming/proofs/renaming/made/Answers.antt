@@ -1,6 +1,7 @@
 use Rattle.std.proofs.Common.{◌≡◌, List, map, length, ap, sym, ◌∙◌}
 use Rattle.std.proofs.lemmas.List.{length-map}
 use Rattle.std.proofs.lemmas.Result.{err_from_is_err_and}
+use Rattle.type_declarations.proofs.DeclareLemmas.{later_fails, none_fails}
 use Rattle.lotos_base.specs.Signature.{Sort}
 use Rattle.sort_terms.specs.Operations.{sort_of}
 use Rattle.sort_terms.specs.WellFormedTest.{all_differ, are_one_sort}
@@ -11,6 +12,7 @@ use Rattle.type_definitions.specs.declared.type_faults.TypeFault.{TypeFault as C
 use Rattle.type_definitions.proofs.HoldsLemmas.{holds_weaker}
 use Rattle.type_definitions.specs.Presentation.{Presentation, presentation_limit}
 use Rattle.type_definitions.specs.Renaming.{renamed_sort, renamed_sort_clash}
+use Rattle.type_definitions.proofs.FaultLemmas.{first_fails}
 use Rattle.type_presentations.specs.PresentationView.{presentation_of}
 use Rattle.type_presentations.proofs.SizeLemmas.{within_limits}
 use Rattle.type_renaming.specs.ImageOfBase.{clash_in, IsClash}
@@ -18,7 +20,7 @@ use Rattle.type_renaming.specs.Parts.{sorts_alone}
 use Rattle.type_renaming.specs.RenamerView.{type_name_in, sort_pairs_in, operation_pairs_in}
 use Rattle.type_renaming.specs.declared.renamer.Renamer.{Renamer}
 use Rattle.type_renaming.proofs.PartLemmas.{at_most}
-use Rattle.type_renaming.proofs.RenameLemmas.{first_fails, later_fails, none_fails, whole_image}
+use Rattle.type_renaming.proofs.RenameLemmas.{whole_image}
 use Rattle.type_renaming.proofs.renaming.made.Goals as goal
 
 clashes : (base : Presentation) (sorts operations : Renamer) (fault : CodeFault) → IsFaultFound (clash_in base sorts operations) fault

@@ -1,33 +1,24 @@
-use Rattle.std.proofs.Common.{◌≡◌, ℕ, List, map, sym, subst, ◌∙◌}
+use Rattle.std.proofs.Common.{◌≡◌, ℕ, List, map, sym, ◌∙◌}
 use Rattle.std.specs.Prelude.{None}
 use Rattle.std.proofs.lemmas.Result.{err_from_is_err_and, MatchResult-weaker}
+use Rattle.type_declarations.proofs.DeclareLemmas.{later_fails}
 use Rattle.lotos_base.specs.Name.{spelling}
-use Rattle.lotos_base.specs.Signature.{Sort, Operation}
 use Rattle.syntax_trees.specs.TreeViews.{pair_of, pairs_of}
 use Rattle.syntax_trees.specs.WrittenItem.{WrittenPairs}
-use Rattle.type_presentations.specs.NamesView.{HasNames}
-use Rattle.type_presentations.specs.declared.names.NamePositions.{NamePositions}
 use Rattle.type_definitions.proofs.HoldsLemmas.{holds_weaker}
 use Rattle.type_definitions.specs.FaultView.{IsFaultFound}
 use Rattle.type_definitions.specs.declared.type_faults.TypeFault.{TypeFault as CodeFault}
 use Rattle.type_definitions.specs.declared.type_faults.TypeFault.TheVariants.{NoMemory}
 use Rattle.type_definitions.specs.Presentation.{Presentation}
 use Rattle.type_definitions.specs.Renaming.{renaming, renaming_fault}
+use Rattle.type_definitions.proofs.FaultLemmas.{first_fails}
 use Rattle.type_presentations.specs.PresentationView.{IsSound, IsWithinLimits, presentation_of}
 use Rattle.type_presentations.specs.declared.presentations.Presentation.{Presentation as CodePresentation}
+use Rattle.type_presentations.proofs.NameLemmas.{sorts_named, operations_named}
 use Rattle.type_renaming.specs.Renamed.{IsRenamed, IsRenamingFault}
 use Rattle.type_pairs.specs.PairIndexView.{pairs_in}
-use Rattle.type_renaming.proofs.RenameLemmas.{first_fails, later_fails, clashes_are, images_are}
+use Rattle.type_renaming.proofs.RenameLemmas.{clashes_are, images_are}
 use Rattle.type_renaming.proofs.renaming.rename.Goals as goal
-
--- the names of the members of a list that is another one
-sorts_named : (names : NamePositions) (ss ts : List Sort) → ss ≡ ts → HasNames names (map (λ s. s.name) ss)
-    → HasNames names (map (λ s. s.name) ts)
-sorts_named names ss ts same has = subst (λ (us : List Sort). HasNames names (map (λ (s : Sort). s.name) us)) same has
-
-operations_named : (names : NamePositions) (os ps : List Operation) → os ≡ ps → HasNames names (map (λ o. o.name) os)
-    → HasNames names (map (λ o. o.name) ps)
-operations_named names os ps same has = subst (λ (us : List Operation). HasNames names (map (λ (o : Operation). o.name) us)) same has
 
 refused : (base : Presentation) (t : List ℕ) (pairs : WrittenPairs) (fault : CodeFault)
     → IsFaultFound (renaming_fault base t pairs) fault → IsRenamingFault base t pairs fault

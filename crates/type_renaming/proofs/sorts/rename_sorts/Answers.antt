@@ -2,12 +2,12 @@ use Rattle.std.proofs.Common.{◌≡◌, ℕ, ◌+◌, List, [], ◌∷◌, ◌+
 use Rattle.std.specs.Prelude.{Option}
 use Rattle.std.proofs.lemmas.List.{map-append}
 use Rattle.std.proofs.lemmas.Result.{err_from_is_err_and}
+use Rattle.lotos_base.proofs.Pieces.{take_whole}
 use Rattle.lotos_base.specs.Signature.{Sort}
 use Rattle.syntax_trees.specs.WrittenItem.{WrittenPairs}
 use Rattle.sort_terms.specs.Operations.{sort_of}
 use Rattle.sort_terms.specs.WellFormedTest.{are_one_sort}
 use Rattle.sort_terms.specs.declared.operations.Sort.{Sort as CodeSort}
-use Rattle.type_presentations.proofs.NameLemmas.{whole}
 use Rattle.type_definitions.specs.TypeFault.{TypeFault, double_sort}
 use Rattle.type_definitions.specs.Presentation.{Presentation, is_too_large}
 use Rattle.type_definitions.specs.Renaming.{clash_among, pair_for, renamed_sort, renaming}
@@ -91,7 +91,7 @@ returns c =
     let all : c.loop-number.number ≡ length c.args.base.now = omega arith in
     let made =
     c.loop-number.invariant.1
-    ∙ ap (λ (ss : List CodeSort). renaming (sorts_alone (map sort_of ss)) t ps) (whole c.args.base.now c.loop-number.number all) in (
+    ∙ ap (λ (ss : List CodeSort). renaming (sorts_alone (map sort_of ss)) t ps) (take_whole c.args.base.now c.loop-number.number all) in (
       sym c.loop-number.invariant.2
           ∙ ap (λ (ss : List Sort). clashes t ps (map sort_of (take c.loop-number.number c.args.base.now)) ss)
           (none_of sort_of c.args.base.now c.loop-number.number (omega (arith, c.loop-number-test.false))),

@@ -1,7 +1,7 @@
 use Rattle.std.proofs.Common.{◌+◌, List, drop, ap}
 use Rattle.std.proofs.lemmas.Result.{err_from_is_err_and}
-use Rattle.type_presentations.proofs.KeptLemmas.{drop_next}
-use Rattle.type_presentations.proofs.JoinedLemmas.{nothing_due}
+use Rattle.std.proofs.lemmas.List.{drop_all}
+use Rattle.lotos_base.proofs.Pieces.{next_member}
 use Rattle.type_presentations.proofs.EquationListLemmas.{element_at}
 use Rattle.type_unions.specs.MentionView.{mentioned_of, mentions_of}
 use Rattle.type_unions.specs.declared.mentions.Mention.{Mention}
@@ -32,7 +32,7 @@ returns-in_err-join c =
     (mentions_of (drop (c.loop-mention.mention-index + 1) c.args.mentions.now)) (mentions_of c.args.mentions.now)
     c.in_err-join.field-0.0 c.loop-mention.invariant
     (ap (λ (ms : List Mention). mentions_of ms)
-    (drop_next c.args.mentions.now c.loop-mention.mention-index c.mention-item.result c.loop-mention-test.true c.mention-item.is))
+    (next_member c.args.mentions.now c.loop-mention.mention-index c.mention-item.result c.loop-mention-test.true c.mention-item.is))
     c.in_err-join.ensures)
 
 pub loop-mention-preserved : goal.loop-mention-preserved
@@ -42,7 +42,7 @@ loop-mention-preserved c =
     (mentions_of (drop (c.loop-mention.mention-index + 1) c.args.mentions.now)) (mentions_of c.args.mentions.now)
     c.loop-mention.invariant
     (ap (λ (ms : List Mention). mentions_of ms)
-    (drop_next c.args.mentions.now c.loop-mention.mention-index c.mention-item.result c.loop-mention-test.true c.mention-item.is))
+    (next_member c.args.mentions.now c.loop-mention.mention-index c.mention-item.result c.loop-mention-test.true c.mention-item.is))
     c.in_ok-join.ensures
 
 pub returns : goal.returns
@@ -50,4 +50,4 @@ returns c =
     all_united c.loop-mention.union (mentions_of (drop c.loop-mention.mention-index c.args.mentions.now))
     (mentions_of c.args.mentions.now) c.loop-mention.invariant
     (ap (λ (ms : List Mention). mentions_of ms)
-    (nothing_due c.args.mentions.now c.loop-mention.mention-index c.loop-mention-test.false))
+    (drop_all c.loop-mention.mention-index c.args.mentions.now c.loop-mention-test.false))

@@ -1,10 +1,12 @@
 use Rattle.std.proofs.Common.{◌≡◌, ◌+◌, ◌++◌, List, ap, sym, ◌∙◌, subst, length, map}
 use Rattle.std.specs.Prelude.{option_map}
+use Rattle.scope_parts.proofs.FormedBehaviours.{declared_of}
 use Rattle.behaviour_semantics.specs.Behaviour.{Behaviour, action, guard, hide, let_be, choice, parallel, enable, disable, no_gates, all_gates, at_gates, asked_variables, let_variables}
 use Rattle.behaviour_tree.specs.BehaviourTerms.{joined, let_profile, offer_profiles, option_profiles, profiles_in}
 use Rattle.behaviour_tree.specs.Over.{AreTermsOf}
 use Rattle.behaviour_tree.specs.BehaviourView.{behaviour_of, offer_of, let_of, test_of}
 use Rattle.behaviour_tree.specs.declared.behaviours.Beh.{Beh}
+use Rattle.behaviour_tree.proofs.ClosedLemmas.{terms_both}
 use Rattle.lotos_base.specs.Name.{spelling}
 use Rattle.lotos_base.specs.WrittenView.{text_place_of}
 use Rattle.sort_terms.specs.EquationView.{variable_of}
@@ -21,11 +23,10 @@ use Rattle.scope_parts.specs.GatesView.{choice_in, gates_in, pars_in}
 use Rattle.scope_parts.specs.Numbering.{accepted, asked_for, choice_names, each_once, gates_in as gates_of, spelled, variable_count}
 use Rattle.scope_parts.specs.Resolution.{Resolution, resolved}
 use Rattle.scope_parts.proofs.AnswerLemmas.{err_is, means_map}
-use Rattle.scope_parts.proofs.ProfileLemmas.{terms_both}
 use Rattle.scope_parts.proofs.FormedLists.{HaveSorts}
 use Rattle.behaviour_scopes.specs.ResolverState.{BehaviourStandsFor, behind, passed, seeing}
 use Rattle.behaviour_scopes.specs.ResolverView.{state_in}
-use Rattle.behaviour_scopes.proofs.ResolverLemmas.{knowing, terms_seen, behind_nothing, declares, gates_fit, gates_forgotten, variables_fit, variables_forgotten, variables_declared, let_declared, offers_declare}
+use Rattle.behaviour_scopes.proofs.ResolverLemmas.{knowing, terms_seen, behind_nothing, declares, gates_fit, gates_forgotten, variables_fit, variables_forgotten, let_declared, offers_declare}
 use Rattle.behaviour_scopes.proofs.StandingLemmas.{on_ok, sign_value, sign_fault, made_stands, synchronising_stands, enabling_stands, form_value, form_fault, test_fails, action_stands, guard_stands, hide_stands, let_stands, choose_value_stands, choose_gate_stands, par_gate_stands, guard_fault, choose_gate_fault, par_gate_fault, let_fault, choose_value_fault, gate_fault, offers_fault, names_fault, accept_fault, nothing_accepted, binary_answer}
 use Rattle.behaviour_scopes.proofs.resolver.Resolver.+behaviours.Goals as goal
 
@@ -184,7 +185,7 @@ let_be-returns-in_err-behaviour-clause-read t c =
 pub choose_value-see-requires : goal.choose_value-see-requires
 choose_value-see-requires t c =
     let s = state_in c.args.self.now in
-    (variables_declared s.signature s.variable (variables_of c.args.variables.now.items) (map variable_of c.in_ok-chosen.chosen.items)
+    (declared_of s.signature s.variable (variables_of c.args.variables.now.items) (map variable_of c.in_ok-chosen.chosen.items)
     c.in_ok-chosen.ensures).sorted
 
 pub choose_value-forget_variables-requires : goal.choose_value-forget_variables-requires
@@ -201,7 +202,7 @@ choose_value-returns-clause-passed t c =
     let vs = map variable_of c.in_ok-chosen.chosen.items in
     let first : between ≡ seeing vs s = c.in_ok-see.ensures in
     variables_forgotten s between (state_in c.behaviour.new.self) (state_in c.forget_variables.new.self) vs inside c.size-size.result
-    (length (variables_of c.args.variables.now.items)) c.size-size.ensures (variables_declared s.signature s.variable (variables_of
+    (length (variables_of c.args.variables.now.items)) c.size-size.ensures (declared_of s.signature s.variable (variables_of
     c.args.variables.now.items) (map variable_of c.in_ok-chosen.chosen.items) c.in_ok-chosen.ensures).counted first
     c.in_ok-within.ensures.passed c.forget_variables.ensures
 
@@ -495,7 +496,7 @@ signed-returns-in_err-gates-in-Gates-clause-read t c =
 pub signed-see-requires : goal.signed-see-requires
 signed-see-requires t c =
     let s = state_in c.args.self.now in
-    (variables_declared s.signature s.variable (variables_of c.in-Enable.accepted.items) (map variable_of
+    (declared_of s.signature s.variable (variables_of c.in-Enable.accepted.items) (map variable_of
     c.in_ok-seen-in-Enable.seen.items) c.in_ok-seen-in-Enable.ensures).sorted
 
 pub signed-forget_variables-requires : goal.signed-forget_variables-requires
@@ -533,7 +534,7 @@ signed-returns-in_ok-right-in-Enable-clause-passed t c =
     let between = state_in c.see.new.self in
     variables_forgotten s between (state_in c.behaviour-in-Enable.new.self) (state_in c.forget_variables.new.self) (map variable_of
     c.in_ok-seen-in-Enable.seen.items) right c.size-size.result (length (variables_of c.in-Enable.accepted.items)) c.size-size.ensures
-    (variables_declared s.signature s.variable (variables_of c.in-Enable.accepted.items) (map variable_of
+    (declared_of s.signature s.variable (variables_of c.in-Enable.accepted.items) (map variable_of
     c.in_ok-seen-in-Enable.seen.items) c.in_ok-seen-in-Enable.ensures).counted c.in_ok-see-in-Enable.ensures
     c.in_ok-behaviour-in-Enable.ensures.passed c.forget_variables.ensures ∙ ap (λ (x : WrittenSign). behind (gates_of right) (length
     (accepted x) + variable_count right) s) (sym (ap sign_of c.in-Enable.is))

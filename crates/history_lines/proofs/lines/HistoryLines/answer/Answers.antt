@@ -8,7 +8,7 @@ use Rattle.session_lines.specs.Refusal.{bad_command}
 use Rattle.history_lines.specs.LinesView.{basis_of, reached, standing_of}
 use Rattle.history_lines.specs.Serving.{moment_of}
 use Rattle.history_lines.proofs.ServingLemmas.{for_request, said_alone, left_alone, carried}
-use Rattle.history_lines.proofs.CallLemmas.{called}
+use Rattle.history_lines.proofs.CallLemmas.{called, calls_alike}
 use Rattle.history_lines.proofs.lines.HistoryLines.answer.Goals as goal
 
 pub step_line-requires-clause-short : goal.step_line-requires-clause-short
@@ -133,39 +133,73 @@ returns-in-Quit-clause-answered g c =
 
 pub returns-in-Step-clause-called : goal.returns-in-Step-clause-called
 returns-in-Step-clause-called g c =
-    called (take_step c.in-Step.number c.in-Step.terms.now) (wants c.args.request) _ _ (ap wants c.in-Step.is) refl
+    let before = standing_of c.args.self.now (g.F.Shelf.texts c.args.shelf.now) in
+    called c.step_line.result before (take_step c.in-Step.number c.in-Step.terms.now) (wants c.args.request) _ _ (ap wants c.in-Step.is)
+    (calls_alike c.step_line.result before (take_step c.in-Step.number c.in-Step.terms.now) _ _ refl refl)
 
 pub returns-in-Undo-clause-called : goal.returns-in-Undo-clause-called
-returns-in-Undo-clause-called g c = called undo (wants c.args.request) _ _ (ap wants c.in-Undo.is) refl
+returns-in-Undo-clause-called g c =
+    let before = standing_of c.args.self.now (g.F.Shelf.texts c.args.shelf.now) in
+    called c.undo_line.result before undo (wants c.args.request) _ _ (ap wants c.in-Undo.is)
+    (calls_alike c.undo_line.result before undo _ _ refl refl)
 
 pub returns-in-Normal-clause-called : goal.returns-in-Normal-clause-called
-returns-in-Normal-clause-called g c = called (show_normal c.in-Normal.terms.now) (wants c.args.request) _ _ (ap wants c.in-Normal.is) refl
+returns-in-Normal-clause-called g c =
+    let before = standing_of c.args.self.now (g.F.Shelf.texts c.args.shelf.now) in
+    called c.normal_line.result before (show_normal c.in-Normal.terms.now) (wants c.args.request) _ _ (ap wants c.in-Normal.is)
+    (calls_alike c.normal_line.result before (show_normal c.in-Normal.terms.now) _ _ refl refl)
 
 pub returns-in-Equal-clause-called : goal.returns-in-Equal-clause-called
-returns-in-Equal-clause-called g c = called (compare c.in-Equal.terms.now) (wants c.args.request) _ _ (ap wants c.in-Equal.is) refl
+returns-in-Equal-clause-called g c =
+    let before = standing_of c.args.self.now (g.F.Shelf.texts c.args.shelf.now) in
+    called c.equal_line.result before (compare c.in-Equal.terms.now) (wants c.args.request) _ _ (ap wants c.in-Equal.is)
+    (calls_alike c.equal_line.result before (compare c.in-Equal.terms.now) _ _ refl refl)
 
 pub returns-in-Menu-clause-called : goal.returns-in-Menu-clause-called
-returns-in-Menu-clause-called g c = called show_menu (wants c.args.request) _ _ (ap wants c.in-Menu.is) refl
+returns-in-Menu-clause-called g c =
+    let before = standing_of c.args.self.now (g.F.Shelf.texts c.args.shelf.now) in
+    called c.menu_text.result before show_menu (wants c.args.request) _ _ (ap wants c.in-Menu.is)
+    (calls_alike c.menu_text.result before show_menu _ _ refl refl)
 
 pub returns-in-Behaviour-clause-called : goal.returns-in-Behaviour-clause-called
-returns-in-Behaviour-clause-called g c = called show_behaviour (wants c.args.request) _ _ (ap wants c.in-Behaviour.is) refl
+returns-in-Behaviour-clause-called g c =
+    let before = standing_of c.args.self.now (g.F.Shelf.texts c.args.shelf.now) in
+    called c.state_line.result before show_behaviour (wants c.args.request) _ _ (ap wants c.in-Behaviour.is)
+    (calls_alike c.state_line.result before show_behaviour _ _ refl refl)
 
 pub returns-in-Trace-clause-called : goal.returns-in-Trace-clause-called
-returns-in-Trace-clause-called g c = called show_trace (wants c.args.request) _ _ (ap wants c.in-Trace.is) refl
+returns-in-Trace-clause-called g c =
+    let before = standing_of c.args.self.now (g.F.Shelf.texts c.args.shelf.now) in
+    called c.trace_lines.result before show_trace (wants c.args.request) _ _ (ap wants c.in-Trace.is)
+    (calls_alike c.trace_lines.result before show_trace _ _ refl refl)
 
 pub returns-in-Unknown-clause-called : goal.returns-in-Unknown-clause-called
-returns-in-Unknown-clause-called g c = called no_request (wants c.args.request) _ _ (ap wants c.in-Unknown.is) refl
+returns-in-Unknown-clause-called g c =
+    let before = standing_of c.args.self.now (g.F.Shelf.texts c.args.shelf.now) in
+    called c.bare_line.result before no_request (wants c.args.request) _ _ (ap wants c.in-Unknown.is)
+    (calls_alike c.bare_line.result before no_request _ _ refl refl)
 
 pub returns-in-Skip-clause-called : goal.returns-in-Skip-clause-called
-returns-in-Skip-clause-called g c = called skip (wants c.args.request) _ _ (ap wants c.in-Skip.is) refl
+returns-in-Skip-clause-called g c =
+    let before = standing_of c.args.self.now (g.F.Shelf.texts c.args.shelf.now) in
+    called c.bare_line-in-Skip.result before skip (wants c.args.request) _ _ (ap wants c.in-Skip.is)
+    (calls_alike c.bare_line-in-Skip.result before skip _ _ refl refl)
 
 pub returns-in-Quit-clause-called : goal.returns-in-Quit-clause-called
-returns-in-Quit-clause-called g c = called leave (wants c.args.request) _ _ (ap wants c.in-Quit.is) refl
+returns-in-Quit-clause-called g c =
+    let before = standing_of c.args.self.now (g.F.Shelf.texts c.args.shelf.now) in
+    called c.bare_line-in-Quit.result before leave (wants c.args.request) _ _ (ap wants c.in-Quit.is)
+    (calls_alike c.bare_line-in-Quit.result before leave _ _ refl refl)
 
 pub returns-in-Replay-clause-called : goal.returns-in-Replay-clause-called
 returns-in-Replay-clause-called g c =
-    called (replay c.in-Replay.name.now) (wants c.args.request) _ _ (ap wants c.in-Replay.is) c.replay_line.ensures.called
+    let before = standing_of c.args.self.now (g.F.Shelf.texts c.args.shelf.now) in
+    called c.replay_line.result before (replay c.in-Replay.name.now) (wants c.args.request) _ _ (ap wants c.in-Replay.is)
+    (calls_alike c.replay_line.result before (replay c.in-Replay.name.now) (g.F.Shelf.calls c.args.shelf.now)
+    (g.F.Shelf.calls c.replay_line.new.shelf) c.replay_line.ensures.called c.replay_line.ensures.called)
 
 pub returns-in-Save-clause-called : goal.returns-in-Save-clause-called
 returns-in-Save-clause-called g c =
-    called (save c.in-Save.name.now) (wants c.args.request) _ _ (ap wants c.in-Save.is) c.save_line.ensures.called
+    let before = standing_of c.args.self.now (g.F.Shelf.texts c.args.shelf.now) in
+    called c.save_line.result before (save c.in-Save.name.now) (wants c.args.request) _ _ (ap wants c.in-Save.is)
+    c.save_line.ensures.called

@@ -1,5 +1,6 @@
 use Rattle.std.proofs.Common.{◌≡◌, map, length, Some, subst, arith}
 use Rattle.std.proofs.lemmas.List.{length-map}
+use Rattle.session_log.proofs.EntryLemmas.{entry_there}
 use Rattle.lotos_base.specs.WrittenView.{written_term_of}
 use Rattle.lotos_base.specs.Signature.{Signature}
 use Rattle.behaviour_tree.specs.BehaviourView.{terms_of}
@@ -15,7 +16,7 @@ use Rattle.history_lines.specs.StepAnswer.{IsFirstMisread}
 use Rattle.history_lines.specs.LinesView.{basis_of, reached}
 use Rattle.history_lines.specs.Values.{TellsMisread}
 use Rattle.history_lines.specs.declared.refusals.Decline.TheVariants.{Terms, Step}
-use Rattle.history_lines.proofs.StepLemmas.{entry_there, miscounted, misread, valued}
+use Rattle.history_lines.proofs.StepLemmas.{miscounted, misread, valued}
 use Rattle.history_lines.proofs.lines.HistoryLines.values_for.Goals as goal
 
 pub returns-in_err-entry : goal.returns-in_err-entry

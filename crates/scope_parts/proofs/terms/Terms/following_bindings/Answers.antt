@@ -3,6 +3,7 @@ use Rattle.std.proofs.lemmas.List.{map-append}
 use Rattle.behaviour_tree.specs.BehaviourTerms.{let_profile}
 use Rattle.behaviour_tree.specs.BehaviourView.{let_of}
 use Rattle.behaviour_tree.specs.Over.{AreTermsOf}
+use Rattle.behaviour_tree.proofs.ClosedLemmas.{terms_both}
 use Rattle.lotos_base.specs.WrittenView.{written_term_of}
 use Rattle.sort_terms.specs.ReaderView.{signature_read}
 use Rattle.syntax_trees.specs.TreeViews.{lets_of, variable_of}
@@ -11,7 +12,6 @@ use Rattle.scope_parts.specs.Resolution.{resolved, faulty}
 use Rattle.scope_parts.specs.Terms.{BindingIs, BindingsAre}
 use Rattle.scope_parts.specs.VisibleView.{visible_in}
 use Rattle.scope_parts.proofs.AnswerLemmas.{Leads, question_start, question_step, question_fault, question_end, err_is}
-use Rattle.scope_parts.proofs.ProfileLemmas.{terms_both}
 use Rattle.scope_parts.proofs.terms.Terms.following_bindings.Goals as goal
 
 pub loop-text-init : goal.loop-text-init

@@ -3,11 +3,11 @@ use Rattle.std.proofs.lemmas.List.{map-append}
 use Rattle.behaviour_tree.specs.BehaviourTerms.{profiles_of}
 use Rattle.behaviour_tree.specs.BehaviourView.{terms_of}
 use Rattle.behaviour_tree.specs.Over.{AreTermsOf}
+use Rattle.behaviour_tree.proofs.ClosedLemmas.{terms_both}
 use Rattle.sort_terms.specs.ReaderView.{signature_read}
 use Rattle.sort_terms.specs.SortedView.{profiled_in, term_in}
 use Rattle.scope_parts.specs.VisibleView.{visible_in}
 use Rattle.scope_parts.proofs.AnswerLemmas.{err_is}
-use Rattle.scope_parts.proofs.ProfileLemmas.{terms_both}
 use Rattle.scope_parts.proofs.ValueLemmas.{value_skipped, value_added, value_faulty, values_end}
 use Rattle.scope_parts.proofs.terms.Terms.values.Goals as goal
 

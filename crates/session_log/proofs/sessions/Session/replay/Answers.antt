@@ -1,4 +1,5 @@
 use Rattle.std.proofs.Common.{length, refl, ap, sym, ◌∙◌, subst}
+use Rattle.std.proofs.lemmas.List.{length-map}
 use Rattle.lotos_base.specs.Equation.{Data}
 use Rattle.lotos_base.specs.Term.{Term}
 use Rattle.behaviour_tree.specs.StateView.{state_of}
@@ -7,7 +8,6 @@ use Rattle.event_offers.proofs.KeepingLemmas.{held_before, holds_after}
 use Rattle.session_log.specs.CourseView.{past_of, progress_of}
 use Rattle.session_log.specs.Kept.{AreSuited, IsKeptCourse, IsKeptState}
 use Rattle.session_log.proofs.CourseLemmas.{copied_kept, first_kept, same_beginning}
-use Rattle.session_log.proofs.EntryLemmas.{mapped_length}
 use Rattle.session_log.proofs.ReplayLemmas.{replayed_here, replay_told_here}
 use Rattle.session_log.proofs.ResultLemmas.{gave_up}
 use Rattle.session_log.proofs.sessions.Session.replay.Goals as goal
@@ -70,7 +70,7 @@ returns-clause-answered g c =
           c.in_ok-course.ensures.kept_after
           (ap state_of c.in_ok-course.ensures.begins.0 ∙ (c.in_ok-first.ensures.same ∙ ap state_of c.first_state.ensures)))
           (goes_on (progress_of c.replay_text.new.course)) c.in_ok-replay_text.ensures.answered,
-      ap length c.history-count.ensures ∙ sym (mapped_length past_of c.replay_text.new.course.history.items),
+      ap length c.history-count.ensures ∙ sym (length-map c.replay_text.new.course.history.items past_of),
     )
 
 pub returns-clause-lawful_after : goal.returns-clause-lawful_after

@@ -1,5 +1,6 @@
 use Rattle.std.proofs.Common.{◌≡◌, true, ltb, length, get_or, sym, ap, subst, ◌∙◌, arith}
 use Rattle.std.specs.Option.{option_map}
+use Rattle.std.proofs.lemmas.List.{drop_all}
 use Rattle.sort_terms.specs.ReaderView.{signature_read}
 use Rattle.sort_terms.specs.Tables.{all_built_from}
 use Rattle.sort_terms.specs.TableView.{tables_of}
@@ -7,7 +8,6 @@ use Rattle.sort_terms.specs.declared.counted.Counted.{out-Counted}
 use Rattle.sort_terms.specs.declared.operations.Op.{Op}
 use Rattle.sort_terms.specs.TermView.{profiled_of, all_profiled}
 use Rattle.sort_terms.proofs.BuiltLists.{other_length_built, built_more, built_wholly, built_operation}
-use Rattle.sort_terms.proofs.CountedLemmas.{drop_past}
 use Rattle.sort_terms.proofs.reader.Reader.+building.Goals as goal
 
 pub all_built-returns-then-len : goal.all_built-returns-then-len
@@ -33,8 +33,8 @@ all_built-returns t c =
     let second = c.len-2.ensures in
     let same = c.if-len.false in
     built_wholly (signature_read c.args.self.now) c.args.sorts.now.items c.args.arguments.now.items c.loop-i.i c.loop-i.built.items
-    (drop_past c.args.sorts.now.items c.loop-i.i (omega (arith, past, end, arguments, sorts, first, second, same)))
-    (drop_past c.args.arguments.now.items c.loop-i.i (omega (arith, past, end, arguments))) c.loop-i.invariant
+    (drop_all c.loop-i.i c.args.sorts.now.items (omega (arith, past, end, arguments, sorts, first, second, same)))
+    (drop_all c.loop-i.i c.args.arguments.now.items (omega (arith, past, end, arguments))) c.loop-i.invariant
 
 pub built_node-returns : goal.built_node-returns
 built_node-returns t c =

@@ -1,4 +1,5 @@
 use Rattle.std.proofs.Common.{ℕ, List, refl, sym, ap, ◌∙◌}
+use Rattle.std.proofs.lemmas.List.{drop_all}
 use Rattle.lotos_base.specs.Name.{spelling}
 use Rattle.lotos_base.specs.WrittenView.{form_of}
 use Rattle.lotos_base.specs.Names.{folded}
@@ -8,7 +9,7 @@ use Rattle.sort_terms.specs.Positions.{positions_of}
 use Rattle.sort_terms.specs.ReaderView.{signature_read}
 use Rattle.sort_terms.specs.Searching.{any_of_form}
 use Rattle.sort_terms.specs.declared.operations.Op.{Op}
-use Rattle.sort_terms.proofs.CountedLemmas.{number_below, mapped_names, drop_past}
+use Rattle.sort_terms.proofs.CountedLemmas.{number_below, mapped_names}
 use Rattle.sort_terms.proofs.UnknownLemmas.{form_found, operation_known}
 use Rattle.sort_terms.proofs.reader.Reader.is_operation.Goals as goal
 
@@ -32,7 +33,7 @@ pub returns : goal.returns
 returns c =
     sym (c.loop-number.invariant
     ∙ ap (any_of_form (signature_read c.args.self.now) (form_of c.args.form))
-    (drop_past c.in_ok-number-items.number-items.now c.loop-number.number-index c.loop-number-test.false))
+    (drop_all c.loop-number.number-index c.in_ok-number-items.number-items.now c.loop-number-test.false))
     ∙ ap (any_of_form (signature_read c.args.self.now) (form_of c.args.form))
     (c.in_ok-number-items.ensures ∙ c.args.self.now.operations_indexed _
     ∙ ap (λ (names : List (List ℕ)). positions_of (folded (spelling c.args.name.now)) names)

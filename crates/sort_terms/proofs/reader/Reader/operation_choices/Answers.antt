@@ -1,5 +1,6 @@
 use Rattle.std.proofs.Common.{ℕ, List, refl, sym, ap, ◌∙◌}
 use Rattle.std.specs.Prelude.{None}
+use Rattle.std.proofs.lemmas.List.{drop_all}
 use Rattle.lotos_base.specs.Name.{spelling}
 use Rattle.lotos_base.specs.WrittenView.{form_of}
 use Rattle.lotos_base.specs.Names.{folded}
@@ -11,7 +12,7 @@ use Rattle.sort_terms.specs.ReaderView.{signature_read}
 use Rattle.sort_terms.specs.Tables.{gathered, offered}
 use Rattle.sort_terms.specs.TableView.{tables_of}
 use Rattle.sort_terms.specs.declared.operations.Op.{Op}
-use Rattle.sort_terms.proofs.CountedLemmas.{number_below, mapped_names, drop_past}
+use Rattle.sort_terms.proofs.CountedLemmas.{number_below, mapped_names}
 use Rattle.sort_terms.proofs.reader.Reader.operation_choices.Goals as goal
 
 pub add_operation-requires : goal.add_operation-requires
@@ -24,7 +25,7 @@ returns c = λ s.
     sym (ap (λ (ns : List ℕ). gathered (offered (signature_read c.args.self.now) (form_of c.args.form) c.args.asked
     (tables_of c.args.arguments.now.items)) s
     (choice_at c.loop-number.choices s) ns)
-    (drop_past c.in_ok-number-items.number-items.now c.loop-number.number-index c.loop-number-test.false))
+    (drop_all c.loop-number.number-index c.in_ok-number-items.number-items.now c.loop-number-test.false))
     ∙ c.loop-number.invariant s
     ∙ ap (λ (ns : List ℕ). gathered (offered (signature_read c.args.self.now) (form_of c.args.form) c.args.asked
     (tables_of c.args.arguments.now.items)) s None ns)

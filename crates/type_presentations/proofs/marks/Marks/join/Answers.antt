@@ -1,6 +1,6 @@
 use Rattle.std.proofs.Common.{◌≡◌, ◌∷◌, [], ◌+◌, ℕ, List, map, drop, ap, ◌∙◌, sym, refl}
 use Rattle.std.specs.Prelude.{nat_eq}
-use Rattle.type_presentations.proofs.JoinedLemmas.{nothing_due}
+use Rattle.std.proofs.lemmas.List.{drop_all}
 use Rattle.type_definitions.specs.Presentation.{with_new}
 use Rattle.type_definitions.specs.ProfiledImage.{number_in}
 use Rattle.type_presentations.specs.MarksView.{marks_in}
@@ -25,7 +25,7 @@ loop-number-preserved c = (
 pub returns-clause-marks : goal.returns-clause-marks
 returns-clause-marks c =
     ap (λ (ns : List ℕ). with_new nat_eq (marks_in c.loop-number.self) (map (number_in c.args.numbers.now) ns))
-    (sym (nothing_due c.as_slice-number-items.result.now c.loop-number.number-index c.loop-number-test.false))
+    (sym (drop_all c.loop-number.number-index c.as_slice-number-items.result.now c.loop-number-test.false))
     ∙ c.loop-number.invariant.1
     ∙ ap (λ (ns : List ℕ). with_new nat_eq (marks_in c.args.self.now) (map (number_in c.args.numbers.now) ns))
     c.as_slice-number-items.ensures.value

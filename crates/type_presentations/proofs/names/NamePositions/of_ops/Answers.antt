@@ -4,9 +4,10 @@ use Rattle.lotos_base.specs.Signature.{Operation}
 use Rattle.sort_terms.specs.Operations.{operation_of}
 use Rattle.std.specs.declared.rc.Rc.{Rc}
 use Rattle.std.specs.declared.alloc.Global.{Global}
+use Rattle.lotos_base.proofs.Pieces.{take_whole}
 use Rattle.sort_terms.specs.declared.operations.Op.{Op}
 use Rattle.type_presentations.specs.NamesView.{HasNames}
-use Rattle.type_presentations.proofs.NameLemmas.{whole, more_names, as_many_names}
+use Rattle.type_presentations.proofs.NameLemmas.{more_names, as_many_names}
 use Rattle.type_presentations.proofs.names.NamePositions.of_ops.Goals as goal
 
 abbrev shared : Rc Op Global → Operation
@@ -27,4 +28,4 @@ pub returns : goal.returns
 returns c =
     let all : c.loop-number.number ≡ length c.args.ops.now = omega arith in
     subst (λ (ss : List (Rc Op Global)). HasNames c.loop-number.names (map name_of (map shared ss)))
-    (whole c.args.ops.now c.loop-number.number all) c.loop-number.invariant
+    (take_whole c.args.ops.now c.loop-number.number all) c.loop-number.invariant

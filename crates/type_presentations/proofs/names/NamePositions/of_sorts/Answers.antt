@@ -1,10 +1,11 @@
 use Rattle.std.proofs.Common.{◌≡◌, ℕ, List, length, map, ap, sym, subst, arith}
+use Rattle.lotos_base.proofs.Pieces.{take_whole}
 use Rattle.lotos_base.specs.Name.{spelling}
 use Rattle.lotos_base.specs.Signature.{Sort}
 use Rattle.sort_terms.specs.Operations.{sort_of}
 use Rattle.sort_terms.specs.declared.operations.Sort.{Sort as CodeSort}
 use Rattle.type_presentations.specs.NamesView.{HasNames}
-use Rattle.type_presentations.proofs.NameLemmas.{whole, more_names, as_many_names}
+use Rattle.type_presentations.proofs.NameLemmas.{more_names, as_many_names}
 use Rattle.type_presentations.proofs.names.NamePositions.of_sorts.Goals as goal
 
 abbrev name_of : Sort → List ℕ
@@ -22,4 +23,4 @@ pub returns : goal.returns
 returns c =
     let all : c.loop-number.number ≡ length c.args.sorts.now = omega arith in
     subst (λ (ss : List CodeSort). HasNames c.loop-number.names (map name_of (map sort_of ss)))
-    (whole c.args.sorts.now c.loop-number.number all) c.loop-number.invariant
+    (take_whole c.args.sorts.now c.loop-number.number all) c.loop-number.invariant

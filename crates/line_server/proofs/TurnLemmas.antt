@@ -1,0 +1,99 @@
+-- What one turn reads, and the last line.
+use Rattle.std.proofs.Common.{◌≡◌, ◌≢◌, ℕ, ◌≤◌, false, List, [], ◌∷◌, ◌++◌, take, drop, get_or, length, Option, Some, None, IfSome, refl, sym, ap, subst, ◌∙◌, arith}
+use Rattle.std.specs.List.{All}
+use Rattle.std.proofs.lemmas.List.{length-take-le, take-append-drop}
+use Rattle.lotos_base.specs.Outside.{MovesInto}
+use Rattle.lotos_base.specs.Counts.{Rises}
+use Rattle.line_server.specs.Cutting.{last_line}
+use Rattle.line_server.specs.Machine.{Machine}
+use Rattle.line_server.specs.Answered.{no_line}
+use Rattle.line_server.specs.Writing.{WritesAll, WritesBeginning}
+use Rattle.line_server.specs.Serving.{ServesLine, Moment, moment}
+use Rattle.line_server.specs.Turn.{IsRead, IsAtEnd, EndsWith, all_served, stopped_at}
+use Rattle.line_server.specs.declared.lines.Answer.{Answer}
+use Rattle.line_server.specs.declared.ends.SessionEnd.TheVariants.{Finished, OutputFailed, NoMemory}
+use Rattle.line_server.specs.declared.ends.Stop.TheVariants as stop
+use Rattle.line_server.proofs.WrittenTexts.{writes_none}
+use Rattle.line_server.proofs.ServedBytes.{line_served, line_failed, line_wanted}
+
+-- ---- What was read
+
+pub is_read : (left left_after : Option (List ℕ)) (buffer : List ℕ) (count : ℕ)
+    → IfSome left (λ bytes. MovesInto bytes left_after buffer count) → IsRead left (take count buffer) left_after
+is_read None left_after buffer count moved = tt
+is_read (Some bytes) left_after buffer count moved = (
+  drop count bytes,
+  sym (ap (λ (it : List ℕ). it ++ drop count bytes) moved.moved ∙ take-append-drop count bytes),
+  moved.rest,
+)
+
+pub none_read : (left left_after : Option (List ℕ)) → IfSome left (λ bytes. left_after ≡ Some bytes) → IsRead left [] left_after
+none_read None left_after kept = tt
+none_read (Some bytes) left_after kept = (bytes, refl, kept)
+
+pub is_at_end : (left left_after : Option (List ℕ)) (buffer : List ℕ) (count : ℕ) → count ≡ 0
+    → IfSome left (λ bytes. MovesInto bytes left_after buffer count) → IsAtEnd left left_after
+is_at_end None left_after buffer count none moved = tt
+is_at_end (Some bytes) left_after buffer count none moved =
+    let nothing : bytes ≡ [] = moved.ended.0 none in (
+      nothing,
+      moved.rest ∙ ap (λ (n : ℕ). Some (drop n bytes)) none ∙ ap (λ (it : List ℕ). Some it) nothing,
+    )
+
+-- so many bytes
+pub some_taken : (buffer : List ℕ) (count : ℕ) → count ≢ 0 → count ≤ length buffer → take count buffer ≢ []
+some_taken buffer count some within none =
+    let same : length (take count buffer) ≡ 0 = ap length none in some (omega (arith, length-take-le count buffer within, same))
+
+pub one_taken : (buffer : List ℕ) (count : ℕ) → count ≡ 1 → 1 ≤ length buffer → take count buffer ≡ get_or buffer 0 0 ∷ []
+one_taken [] count one within = absurd (omega (arith, within))
+one_taken (byte ∷ bytes) count one within = ap (λ (n : ℕ). take n (byte ∷ bytes)) one
+
+-- ---- The last line
+
+pub last_none : {State : Type 0} (machine : Machine State) (line : List ℕ) (now : Moment State) → line ≡ []
+    → EndsWith machine (last_line line) now now Finished
+last_none machine line now none =
+    subst (λ (it : List ℕ). EndsWith machine (last_line it) now now Finished) (sym none)
+    (all_served [] false (no_line now.state) (writes_none now.output.bytes now.output.bytes refl) refl)
+
+one_last : (line : List ℕ) → line ≢ [] → last_line line ≡ line ∷ []
+one_last [] some = absurd (some refl)
+one_last (byte ∷ line) some = refl
+
+pub last_served : {State : Type 0} (machine : Machine State) (line : List ℕ) (state state_after : State)
+    (written written_after : Option (List ℕ))
+    (faults faults_after : ℕ) (answer : Answer) → line ≢ []
+    → ServesLine machine state line state_after answer → WritesAll written written_after answer.text.items → faults_after ≡ faults
+    → EndsWith machine (last_line line) (moment state written faults) (moment state_after written_after faults_after) Finished
+last_served machine line state state_after written written_after faults faults_after answer some serves wrote counts =
+    let served = line_served machine line state state_after written written_after faults faults_after answer serves wrote counts in
+    subst (λ (it : List (List ℕ)). EndsWith machine it (moment state written faults)
+    (moment state_after written_after faults_after) Finished)
+    (sym (one_last line some)) (all_served served.text answer.quits served.answered served.wrote served.counts)
+
+pub last_failed : {State : Type 0} (machine : Machine State) (line : List ℕ) (state state_after : State)
+    (written written_after : Option (List ℕ))
+    (faults faults_after : ℕ) (answer : Answer) → line ≢ []
+    → ServesLine machine state line state_after answer → WritesBeginning written written_after answer.text.items → Rises faults faults_after
+    → EndsWith machine (last_line line) (moment state written faults) (moment state_after written_after faults_after) OutputFailed
+last_failed machine line state state_after written written_after faults faults_after answer some serves wrote rises =
+    subst (λ (it : List (List ℕ)). EndsWith machine it (moment state written faults)
+    (moment state_after written_after faults_after) OutputFailed)
+    (sym (one_last line some))
+    (stopped_at stop.OutputFailed (line_failed machine line [] state state_after written written_after faults faults_after answer serves
+    wrote rises))
+
+pub last_wanted : {State : Type 0} (machine : Machine State) (line : List ℕ) (state state_after : State) (written : Option (List ℕ))
+    (faults : ℕ) → line ≢ [] → machine.leaves state line state_after
+    → EndsWith machine (last_line line) (moment state written faults) (moment state_after written faults) NoMemory
+last_wanted machine line state state_after written faults some leaves =
+    subst (λ (it : List (List ℕ)). EndsWith machine it (moment state written faults) (moment state_after written faults) NoMemory)
+    (sym (one_last line some)) (stopped_at stop.NoMemory (line_wanted machine line [] state state_after written faults leaves))
+
+pub nothing_begun : (line : List ℕ) → length line ≡ 0 → line ≡ []
+nothing_begun [] none = refl
+nothing_begun (byte ∷ line) none = absurd (omega (arith, none))
+
+pub all_none : (P : ℕ → Type 0) (items : List ℕ) → items ≡ [] → All P items
+all_none P items none = λ k d below. absurd (omega (arith, ap length none, below))

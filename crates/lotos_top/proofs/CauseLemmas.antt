@@ -1,0 +1,385 @@
+-- Each answer of a run comes where its cause stands.
+use Rattle.std.proofs.Common.{◌≡◌, ◌⊎◌, inl, inr, ℕ, ◌+◌, ◌<◌, ◌≤◌, List, [], ◌∷◌, ◌++◌, length, Option, None, Some, IfSome, IsSomeAnd, refl, sym, ap, subst, ◌∙◌, arith, length-append}
+use Rattle.std.proofs.lemmas.Option.{none-some}
+use Rattle.lotos_base.specs.Counts.{Rises}
+use Rattle.spec_acceptance.specs.HandedOn.{ShelfState, GotFile}
+use Rattle.spec_acceptance.specs.Acceptance.{Asked}
+use Rattle.spec_acceptance.specs.Doing.{Did}
+use Rattle.spec_acceptance.specs.Part.{Comes, goes_on, unread, stops, wants_memory}
+use Rattle.line_server.specs.Limits.{input_limit}
+use Rattle.line_server.specs.Session.{SessionCame, finished, quit, input_failed, too_long, output_failed, closing_failed, wanted_memory, FailsToClose, of_failed_input, of_long_input}
+use Rattle.line_server.specs.Turn.{around, IsRead}
+use Rattle.line_server.specs.Writing.{Stream}
+use Rattle.line_server.specs.declared.ends.SessionEnd.{SessionEnd}
+use Rattle.history_lines.specs.SessionMachine.{SessionPoint, history_machine}
+use Rattle.history_lines.specs.Beginning.{Beginning}
+use Rattle.lotos_top.specs.Causes.{GivesWay, IsReadPast, ServesLines, IsDemonstration, IsUnread, AnswersHaveCauses}
+use Rattle.lotos_top.specs.Opening.{opening_text}
+use Rattle.lotos_top.specs.Run.{Streams, Writes, whole, in_part, nothing, Prints, ServesSession, in_front, in_want, behind, Stops, Follows, Ran, ended_by}
+use Rattle.lotos_top.specs.Words.{CommandLine, check, session, demonstration}
+use Rattle.lotos_top.specs.Work.{Print, Finish, prints, serves, unread_printed, refusal_printed, work_of}
+use Rattle.lotos_top.specs.declared.ended.Ended.{Ended}
+use Rattle.lotos_top.specs.declared.ended.Ended.TheVariants.{Done, SpecRefused, WordsRefused, FileFault, InputFault, OutputFault, NoMemory, InputTooLong}
+use Rattle.lotos_top.proofs.RunLemmas.{did_texts}
+
+-- ---- A text that is printed
+
+-- the status has its cause, and where a cause stands it is the status
+record StatusFits (line : Option CommandLine) (shelf between : ShelfState) (status : Ended) : Type 0 where
+  pub words : status ≡ WordsRefused → line ≡ None
+  pub no_line : line ≡ None → status ≡ WordsRefused
+  pub files : status ≡ FileFault → IsUnread shelf between ⊎ IsDemonstration line
+  pub shelf_fault : shelf.faults < between.faults → status ≡ FileFault
+  pub input : status ≡ InputFault → ⊥
+  pub output : status ≡ OutputFault → ⊥
+  pub long : status ≡ InputTooLong → ⊥
+
+-- which answer a print comes to
+record WroteSo (p : Print) (before after : Stream) (answer : Ended) : Type 0 where
+  pub is : (answer ≡ p.status) ⊎ GivesWay answer
+  pub output : answer ≡ OutputFault → (p.status ≡ OutputFault → ⊥) → Rises before.faults after.faults
+  pub output_fault : before.faults < after.faults → answer ≡ OutputFault
+
+wrote_so : (p : Print) (before after : Stream) (answer : Ended) → Writes p before after answer → WroteSo p before after answer
+wrote_so p before after answer (whole is wrote same) = record {
+  is = inl is;
+  output = λ failed not. absurd (not (sym is ∙ failed));
+  output_fault = λ rose. absurd (omega (arith, same, rose));
+}
+wrote_so p before after answer (in_part is wrote rises) =
+    record { is = inr (inl is); output = λ failed not. rises; output_fault = λ rose. is }
+wrote_so p before after answer (nothing is same) = record {
+  is = inr (inr is);
+  output = λ failed not. absurd (cc (is, failed));
+  output_fault = λ rose. absurd (omega (arith, ap (λ (it : Stream). it.faults) same, rose));
+}
+
+or_gives_way : (answer status wanted : Ended) → (answer ≡ status) ⊎ GivesWay answer → status ≡ wanted → (answer ≡ wanted) ⊎ GivesWay answer
+or_gives_way answer status wanted (inl is) same = inl (is ∙ same)
+or_gives_way answer status wanted (inr gives) same = inr gives
+
+-- an answer that gives way is none of these
+by_status : {P : Type 0} (answer status wanted : Ended) → (answer ≡ status) ⊎ GivesWay answer → answer ≡ wanted
+    → (wanted ≡ OutputFault → ⊥) → (wanted ≡ NoMemory → ⊥) → (status ≡ wanted → P) → P
+by_status answer status wanted (inl is) same no_output no_memory so = so (sym is ∙ same)
+by_status answer status wanted (inr (inl is)) same no_output no_memory so = absurd (no_output (sym same ∙ is))
+by_status answer status wanted (inr (inr is)) same no_output no_memory so = absurd (no_memory (sym same ∙ is))
+
+printed_causes : (line : Option CommandLine) (shelf between shelf_after : ShelfState) (before after : Streams) (answer : Ended) (p : Print)
+    → between.texts ≡ shelf.texts → StatusFits line shelf between p.status → Prints p between shelf_after before after answer
+    → AnswersHaveCauses line shelf shelf_after before after answer
+printed_causes line shelf between shelf_after before after answer p kept fits done =
+    let so = wrote_so p before.output after.output answer done.writes in record {
+      words = λ is. by_status answer p.status WordsRefused so.is is (λ e. cc e) (λ e. cc e) fits.words;
+      no_line = λ none. or_gives_way answer p.status WordsRefused so.is (fits.no_line none);
+      files = λ is. (
+        subst (λ (it : ShelfState). IsUnread shelf it ⊎ IsDemonstration line) (sym done.shelf_kept)
+            (by_status answer p.status FileFault so.is is (λ e. cc e) (λ e. cc e) fits.files),
+        done.input_kept,
+      );
+      shelf_fault = λ rose. by_gives (or_gives_way answer p.status FileFault so.is (fits.shelf_fault (omega (
+        arith,
+        rose,
+        ap (λ (it : ShelfState). it.faults) done.shelf_kept,
+      ))));
+      input = λ is. by_status answer p.status InputFault so.is is (λ e. cc e) (λ e. cc e) (λ e. absurd (fits.input e));
+      input_fault = λ rose. absurd (omega (arith, ap (λ (it : Stream). it.faults) done.input_kept, rose));
+      output = λ is. so.output is fits.output;
+      output_fault = so.output_fault;
+      long = λ is. by_status answer p.status InputTooLong so.is is (λ e. cc e) (λ e. cc e) (λ e. absurd (fits.long e));
+      texts = inl (ap (λ (it : ShelfState). it.texts) done.shelf_kept ∙ kept);
+    }
+  where
+    by_gives : (answer ≡ FileFault) ⊎ GivesWay answer → (answer ≡ FileFault) ⊎ GivesWay answer ⊎ ServesLines line
+    by_gives (inl is) = inl is
+    by_gives (inr gives) = inr (inl gives)
+
+-- ---- Statuses
+
+plain_status : (line : Option CommandLine) (shelf between : ShelfState) (status : Ended) → (line ≡ None → ⊥)
+    → between.faults ≡ shelf.faults → (status ≡ Done) ⊎ (status ≡ SpecRefused) → StatusFits line shelf between status
+plain_status line shelf between status some kept is = record {
+  words = λ e. absurd (neither WordsRefused is e (λ h. cc h) (λ h. cc h));
+  no_line = λ none. absurd (some none);
+  files = λ e. absurd (neither FileFault is e (λ h. cc h) (λ h. cc h));
+  shelf_fault = λ rose. absurd (omega (arith, kept, rose));
+  input = λ e. neither InputFault is e (λ h. cc h) (λ h. cc h);
+  output = λ e. neither OutputFault is e (λ h. cc h) (λ h. cc h);
+  long = λ e. neither InputTooLong is e (λ h. cc h) (λ h. cc h);
+}
+  where
+    neither : (other : Ended) → (status ≡ Done) ⊎ (status ≡ SpecRefused) → status ≡ other → (other ≡ Done → ⊥)
+        → (other ≡ SpecRefused → ⊥) → ⊥
+    neither other (inl a) e no_done no_refusal = no_done (sym e ∙ a)
+    neither other (inr b) e no_done no_refusal = no_refusal (sym e ∙ b)
+
+words_status : (shelf between : ShelfState) (status : Ended) → between.faults ≡ shelf.faults → status ≡ WordsRefused
+    → StatusFits None shelf between status
+words_status shelf between status kept is = record {
+  words = λ e. refl;
+  no_line = λ none. is;
+  files = λ e. absurd (cc (is, e));
+  shelf_fault = λ rose. absurd (omega (arith, kept, rose));
+  input = λ e. cc (is, e);
+  output = λ e. cc (is, e);
+  long = λ e. cc (is, e);
+}
+
+file_status : (line : Option CommandLine) (shelf between : ShelfState) (status : Ended) → (line ≡ None → ⊥)
+    → IsUnread shelf between ⊎ IsDemonstration line → status ≡ FileFault → StatusFits line shelf between status
+file_status line shelf between status some cause is = record {
+  words = λ e. absurd (cc (is, e));
+  no_line = λ none. absurd (some none);
+  files = λ e. cause;
+  shelf_fault = λ rose. is;
+  input = λ e. cc (is, e);
+  output = λ e. cc (is, e);
+  long = λ e. cc (is, e);
+}
+
+unread_cause : (shelf between : ShelfState) (name : List ℕ)
+    → Rises shelf.faults between.faults
+    ⊎ ((between.faults ≡ shelf.faults) × IsSomeAnd shelf.texts (λ texts. texts name ≡ None)) → IsUnread shelf between
+unread_cause shelf between name (inl rises) = inl rises
+unread_cause shelf between name (inr lacks) = inr (name, lacks.1)
+
+-- ---- A session
+
+-- which answers a session comes to, each with its cause
+record SessionFacts (before after : Streams) (answer : Ended) : Type 0 where
+  pub words : answer ≡ WordsRefused → ⊥
+  pub files : answer ≡ FileFault → ⊥
+  pub input : answer ≡ InputFault → Rises before.input.faults after.input.faults
+  pub input_fault : before.input.faults < after.input.faults → (answer ≡ InputFault) ⊎ (answer ≡ OutputFault)
+  pub output : answer ≡ OutputFault → Rises before.output.faults after.output.faults
+  pub output_fault : before.output.faults < after.output.faults → answer ≡ OutputFault
+  pub long : answer ≡ InputTooLong → IsReadPast before.input.bytes after.input.bytes
+
+steady_facts : (before after : Streams) (answer : Ended) → (answer ≡ Done) ⊎ (answer ≡ NoMemory)
+    → after.input.faults ≡ before.input.faults → after.output.faults ≡ before.output.faults → SessionFacts before after answer
+steady_facts before after answer is input output = record {
+  words = λ e. neither WordsRefused is e (λ h. cc h) (λ h. cc h);
+  files = λ e. neither FileFault is e (λ h. cc h) (λ h. cc h);
+  input = λ e. absurd (neither InputFault is e (λ h. cc h) (λ h. cc h));
+  input_fault = λ rose. absurd (omega (arith, input, rose));
+  output = λ e. absurd (neither OutputFault is e (λ h. cc h) (λ h. cc h));
+  output_fault = λ rose. absurd (omega (arith, output, rose));
+  long = λ e. absurd (neither InputTooLong is e (λ h. cc h) (λ h. cc h));
+}
+  where
+    neither : (other : Ended) → (answer ≡ Done) ⊎ (answer ≡ NoMemory) → answer ≡ other → (other ≡ Done → ⊥) → (other ≡ NoMemory → ⊥) → ⊥
+    neither other (inl a) e no_done no_memory = no_done (sym e ∙ a)
+    neither other (inr b) e no_done no_memory = no_memory (sym e ∙ b)
+
+output_facts : (before after : Streams) (answer : Ended) → answer ≡ OutputFault → Rises before.output.faults after.output.faults
+    → SessionFacts before after answer
+output_facts before after answer is rises = record {
+  words = λ e. cc (is, e);
+  files = λ e. cc (is, e);
+  input = λ e. absurd (cc (is, e));
+  input_fault = λ rose. inr is;
+  output = λ e. rises;
+  output_fault = λ rose. is;
+  long = λ e. absurd (cc (is, e));
+}
+
+input_facts : (before after : Streams) (answer : Ended) → answer ≡ InputFault → Rises before.input.faults after.input.faults
+    → after.output.faults ≡ before.output.faults → SessionFacts before after answer
+input_facts before after answer is rises output = record {
+  words = λ e. cc (is, e);
+  files = λ e. cc (is, e);
+  input = λ e. rises;
+  input_fault = λ rose. inl is;
+  output = λ e. absurd (cc (is, e));
+  output_fault = λ rose. absurd (omega (arith, output, rose));
+  long = λ e. absurd (cc (is, e));
+}
+
+past : (left left_after : Option (List ℕ)) (seen : List ℕ) (byte : ℕ) → length seen ≡ input_limit
+    → IsRead left (seen ++ byte ∷ []) left_after → IsReadPast left left_after
+past None left_after seen byte whole_ read = tt
+past (Some bytes) left_after seen byte whole_ read =
+    (seen ++ byte ∷ [], read.0, omega (arith, length-append seen (byte ∷ []), whole_), read.1, read.2)
+
+long_facts : (before after : Streams) (answer : Ended) → answer ≡ InputTooLong → IsReadPast before.input.bytes after.input.bytes
+    → after.input.faults ≡ before.input.faults → after.output.faults ≡ before.output.faults → SessionFacts before after answer
+long_facts before after answer is read input output = record {
+  words = λ e. cc (is, e);
+  files = λ e. cc (is, e);
+  input = λ e. absurd (cc (is, e));
+  input_fault = λ rose. absurd (omega (arith, input, rose));
+  output = λ e. absurd (cc (is, e));
+  output_fault = λ rose. absurd (omega (arith, output, rose));
+  long = λ e. read;
+}
+
+rises_from : (before between after : ℕ) → between ≡ before → Rises between after → Rises before after
+rises_from before between after is rises = subst (λ (it : ℕ). Rises it after) is rises
+
+came_facts : (start last : SessionPoint) (before after : Streams) (between : Stream) (seen : List ℕ) (end : SessionEnd) (answer : Ended)
+    → between.faults ≡ before.output.faults
+    → SessionCame history_machine (around start before.input between) (around last after.input after.output) seen end
+    → answer ≡ ended_by end → SessionFacts before after answer
+came_facts start last before after between seen end answer same (finished text quits read none answered wrote stand) is =
+    steady_facts before after answer (inl is) stand.input (stand.output ∙ same)
+came_facts start last before after between seen end answer same (quit text read answered wrote stand) is =
+    steady_facts before after answer (inl is) stand.input (stand.output ∙ same)
+came_facts start last before after between seen end answer same (input_failed text read answered wrote rises output) is =
+    input_facts before after answer is rises (output ∙ same)
+came_facts start last before after between seen end answer same (too_long text byte whole_ read answered wrote stand) is =
+    long_facts before after answer is (past before.input.bytes after.input.bytes seen byte whole_ read) stand.input (stand.output ∙ same)
+came_facts start last before after between seen end answer same (output_failed read failed input rises) is =
+    output_facts before after answer is (rises_from before.output.faults between.faults after.output.faults same rises)
+came_facts start last before after between seen end answer same (closing_failed text closing fails answered wrote rises) is =
+    output_facts before after answer is (rises_from before.output.faults between.faults after.output.faults same rises)
+came_facts start last before after between seen end answer same (wanted_memory read wanted stand) is =
+    steady_facts before after answer (inr is) stand.input (stand.output ∙ same)
+
+serves_facts : (begun : Beginning) (shelf shelf_after : ShelfState) (before after : Streams) (answer : Ended)
+    → ServesSession begun shelf shelf_after before after answer → SessionFacts before after answer
+serves_facts begun shelf shelf_after before after answer (in_front kept input is wrote rises) = output_facts before after answer is rises
+serves_facts begun shelf shelf_after before after answer (in_want kept same is) =
+    steady_facts before after answer (inr is) (ap (λ (it : Streams). it.input.faults) same) (ap (λ (it : Streams). it.output.faults) same)
+serves_facts begun shelf shelf_after before after answer (behind between last end wrote counts texts served is) =
+    came_facts _ _ before after between served.seen end answer counts served.came is
+
+served_causes : (asked : Asked) (shelf between shelf_after : ShelfState) (before after : Streams) (answer : Ended) (begun : Beginning)
+    → ServesSession begun between shelf_after before after answer
+    → AnswersHaveCauses (Some (session asked)) shelf shelf_after before after answer
+served_causes asked shelf between shelf_after before after answer begun serves_ =
+    let facts = serves_facts begun between shelf_after before after answer serves_ in record {
+      words = λ e. absurd (facts.words e);
+      no_line = λ none. absurd (none-some (session asked) (sym none));
+      files = λ e. absurd (facts.files e);
+      shelf_fault = λ rose. inr (inr tt);
+      input = facts.input;
+      input_fault = facts.input_fault;
+      output = facts.output;
+      output_fault = facts.output_fault;
+      long = facts.long;
+      texts = inr tt;
+    }
+
+-- ---- Memory was wanted
+
+stopped_causes : (line : Option CommandLine) (shelf between shelf_after : ShelfState) (before after : Streams) (answer : Ended)
+    → between.texts ≡ shelf.texts → between.faults ≡ shelf.faults → Stops between shelf_after before after answer
+    → AnswersHaveCauses line shelf shelf_after before after answer
+stopped_causes line shelf between shelf_after before after answer texts faults stopped =
+    let facts = steady_facts before after answer (inr stopped.is) (ap (λ (it : Streams). it.input.faults) stopped.kept)
+    (ap (λ (it : Streams). it.output.faults) stopped.kept) in record {
+      words = λ e. absurd (facts.words e);
+      no_line = λ none. inr (inr stopped.is);
+      files = λ e. absurd (facts.files e);
+      shelf_fault = λ rose.
+          absurd (omega (arith, rose, faults, ap (λ (it : ShelfState). it.faults) stopped.shelf_kept));
+      input = facts.input;
+      input_fault = facts.input_fault;
+      output = facts.output;
+      output_fault = facts.output_fault;
+      long = facts.long;
+      texts = inl (ap (λ (it : ShelfState). it.texts) stopped.shelf_kept ∙ texts);
+    }
+
+-- ---- The lines of words
+
+some_line : (line : CommandLine) → Some line ≡ None → ⊥
+some_line line e = none-some line (sym e)
+
+status_same : (p q : Print) → p ≡ q → p.status ≡ q.status
+status_same p q same = ap (λ (it : Print). it.status) same
+
+print_same : (p q : Print) → prints p ≡ prints q → p ≡ q
+print_same p q e = cc e
+
+prints_and_serves : (p : Print) (begun : Beginning) → prints p ≡ serves begun → ⊥
+prints_and_serves p begun e = cc e
+
+module _ (shelf between shelf_after : ShelfState) (before after : Streams) (answer : Ended) where
+  no_line_causes : (comes : Comes Print Finish) → Did shelf between (work_of None) comes
+      → Follows comes between shelf_after before after answer
+      → AnswersHaveCauses None shelf shelf_after before after answer
+  no_line_causes (goes_on (prints p)) did follows =
+      printed_causes None shelf between shelf_after before after answer p did.1.texts
+      (words_status shelf between p.status did.1.faults (status_same p _ (print_same p _ did.2.1))) follows
+  no_line_causes (goes_on (serves begun)) did follows = absurd (prints_and_serves _ begun (sym did.2.1))
+  no_line_causes (unread name) did follows = absurd did.2
+  no_line_causes (stops p) did follows = absurd did.2
+  no_line_causes wants_memory did follows = stopped_causes None shelf between shelf_after before after answer did.1.texts did.1.faults
+      follows
+
+  check_causes : (asked : Asked) (comes : Comes Print Finish) → Did shelf between (work_of (Some (check asked))) comes
+      → Follows comes between shelf_after before after answer → AnswersHaveCauses (Some (check asked)) shelf shelf_after before after answer
+  check_causes asked (goes_on (prints p)) (files, gives, inl ended) follows = absurd ended
+  check_causes asked (goes_on (prints p)) (files, gives, inr then_) follows =
+      printed_causes (Some (check asked)) shelf between shelf_after before after answer p gives.texts
+      (plain_status (Some (check asked)) shelf between p.status (some_line (check asked)) gives.faults
+      (inl (status_same p _ (print_same p _ then_.4.1)))) follows
+  check_causes asked (goes_on (serves begun)) (files, gives, inl ended) follows = absurd ended
+  check_causes asked (goes_on (serves begun)) (files, gives, inr then_) follows = absurd (prints_and_serves _ begun (sym then_.4.1))
+  check_causes asked (unread name) (files, gives, came) follows =
+      printed_causes (Some (check asked)) shelf between shelf_after before after answer (unread_printed name) gives.texts
+      (file_status (Some (check asked)) shelf between FileFault (some_line (check asked))
+      (inl (unread_cause shelf between name gives.cause))
+      refl) follows
+  check_causes asked (stops p) (files, gives, inl ended) follows =
+      printed_causes (Some (check asked)) shelf between shelf_after before after answer p gives.texts
+      (plain_status (Some (check asked)) shelf between p.status (some_line (check asked)) gives.faults (inr (status_same p _ ended.2)))
+      follows
+  check_causes asked (stops p) (files, gives, inr then_) follows = absurd then_.4
+  check_causes asked wants_memory did follows =
+      stopped_causes (Some (check asked)) shelf between shelf_after before after answer did.1.texts did.1.faults follows
+
+  session_causes : (asked : Asked) (comes : Comes Print Finish) → Did shelf between (work_of (Some (session asked))) comes
+      → Follows comes between shelf_after before after answer
+      → AnswersHaveCauses (Some (session asked)) shelf shelf_after before after answer
+  session_causes asked (goes_on (serves begun)) did follows =
+      served_causes asked shelf between shelf_after before after answer begun follows
+  session_causes asked (goes_on (prints p)) (files, gives, inl ended) follows = absurd ended
+  session_causes asked (goes_on (prints p)) (files, gives, inr then_) follows = absurd (prints_and_serves p _ then_.4.1)
+  session_causes asked (unread name) (files, gives, came) follows =
+      printed_causes (Some (session asked)) shelf between shelf_after before after answer (unread_printed name) gives.texts
+      (file_status (Some (session asked)) shelf between FileFault (some_line (session asked))
+      (inl (unread_cause shelf between name gives.cause)) refl) follows
+  session_causes asked (stops p) (files, gives, inl ended) follows =
+      printed_causes (Some (session asked)) shelf between shelf_after before after answer p gives.texts
+      (plain_status (Some (session asked)) shelf between p.status (some_line (session asked)) gives.faults
+      (inr (status_same p _ ended.2))) follows
+  session_causes asked (stops p) (files, gives, inr then_) follows = absurd then_.4
+  session_causes asked wants_memory did follows =
+      stopped_causes (Some (session asked)) shelf between shelf_after before after answer did.1.texts did.1.faults follows
+
+  demo_causes : (cells : ℕ) (comes : Comes Print Finish) → Did shelf between (work_of (Some (demonstration cells))) comes
+      → Follows comes between shelf_after before after answer
+      → AnswersHaveCauses (Some (demonstration cells)) shelf shelf_after before after answer
+  demo_causes cells (goes_on (prints p)) (files, gives, (none, inl ended)) follows = absurd ended
+  demo_causes cells (goes_on (prints p)) (files, gives, (none, inr then_)) follows =
+      printed_causes (Some (demonstration cells)) shelf between shelf_after before after answer p gives.texts
+      (plain_status (Some (demonstration cells)) shelf between p.status (some_line (demonstration cells)) gives.faults (inl then_.4.1.1))
+      follows
+  demo_causes cells (goes_on (serves begun)) (files, gives, (none, inl ended)) follows = absurd ended
+  demo_causes cells (goes_on (serves begun)) (files, gives, (none, inr then_)) follows = absurd then_.4.1
+  demo_causes cells (unread name) (files, gives, came) follows = absurd came
+  demo_causes cells (stops p) (files, gives, (none, inl (inl ended))) follows =
+      printed_causes (Some (demonstration cells)) shelf between shelf_after before after answer p gives.texts
+      (plain_status (Some (demonstration cells)) shelf between p.status (some_line (demonstration cells)) gives.faults
+      (inr (status_same p _ ended.2))) follows
+  demo_causes cells (stops p) (files, gives, (none, inl (inr then_))) follows = absurd then_.4
+  demo_causes cells (stops p) (files, gives, (none, inr asks)) follows =
+      printed_causes (Some (demonstration cells)) shelf between shelf_after before after answer p gives.texts
+      (file_status (Some (demonstration cells)) shelf between p.status (some_line (demonstration cells)) (inr tt)
+      (status_same p _ asks.2)) follows
+  demo_causes cells wants_memory did follows =
+      stopped_causes (Some (demonstration cells)) shelf between shelf_after before after answer did.1.texts did.1.faults follows
+
+  causes_of : (line : Option CommandLine) (comes : Comes Print Finish) → Did shelf between (work_of line) comes
+      → Follows comes between shelf_after before after answer → AnswersHaveCauses line shelf shelf_after before after answer
+  causes_of None comes did follows = no_line_causes comes did follows
+  causes_of (Some (check asked)) comes did follows = check_causes asked comes did follows
+  causes_of (Some (session asked)) comes did follows = session_causes asked comes did follows
+  causes_of (Some (demonstration cells)) comes did follows = demo_causes cells comes did follows
+
+pub causes : (line : Option CommandLine) (shelf shelf_after : ShelfState) (before after : Streams) (answer : Ended)
+    → Ran line shelf shelf_after before after answer → AnswersHaveCauses line shelf shelf_after before after answer
+causes line shelf shelf_after before after answer ran =
+    causes_of shelf ran.between shelf_after before after answer line ran.comes ran.did ran.follows

@@ -1,0 +1,57 @@
+-- Each answer of a run comes where its cause stands, and where a cause stands its answer comes. Want of memory alone may come at any
+-- time.
+use Rattle.std.specs.Prelude.{◌≡◌, ◌⊎◌, ℕ, ◌+◌, ◌<◌, List, ◌++◌, length, Option, None, Some, IfSome, IsSomeAnd}
+use Rattle.lotos_base.specs.Counts.{Rises}
+use Rattle.spec_acceptance.specs.HandedOn.{ShelfState}
+use Rattle.line_server.specs.Limits.{input_limit}
+use Rattle.lotos_top.specs.Run.{Streams}
+use Rattle.lotos_top.specs.Words.{CommandLine, session, demonstration}
+use Rattle.lotos_top.specs.declared.ended.Ended.{Ended}
+use Rattle.lotos_top.specs.declared.ended.Ended.TheVariants.{WordsRefused, FileFault, InputFault, OutputFault, NoMemory, InputTooLong}
+
+-- another answer stands in the place of this one: the output failed at its text, or memory was wanted
+abbrev pub GivesWay : Ended → Type 0
+GivesWay answer = (answer ≡ OutputFault) ⊎ (answer ≡ NoMemory)
+
+-- byte 16,777,217 of the input was read, where it tells its bytes
+abbrev pub IsReadPast : Option (List ℕ) → Option (List ℕ) → Type 0
+IsReadPast before after =
+    IfSome before (λ bytes. (read : List ℕ) × (rest : List ℕ)
+    × (length read ≡ input_limit + 1) × (bytes ≡ read ++ rest) × (after ≡ Some rest))
+
+-- a line of words that serves a session, and one of a demonstration
+abbrev pub ServesLines : Option CommandLine → Type 0
+ServesLines (Some (session asked)) = Unit {0}
+ServesLines line = ⊥
+
+abbrev pub IsDemonstration : Option CommandLine → Type 0
+IsDemonstration (Some (demonstration cells)) = Unit {0}
+IsDemonstration line = ⊥
+
+-- a file could not be got: the shelf counted a fault, or it tells its texts and lacks one
+abbrev pub IsUnread : (shelf shelf_after : ShelfState) → Type 0
+IsUnread shelf shelf_after =
+    Rises shelf.faults shelf_after.faults ⊎ ((name : List ℕ) × IsSomeAnd shelf.texts (λ texts. texts name ≡ None))
+
+-- Words that are no line are answered so, and nothing else is; likewise a file that could not be got, a fault of the input, one of
+-- the output, and byte 16,777,217 of a session. A failed output, or want of memory, may stand in the place of the others. No text of
+-- the shelf changes but by lines of a session.
+pub record AnswersHaveCauses (line : Option CommandLine) (shelf shelf_after : ShelfState) (before after : Streams) (answer : Ended)
+    : Type 0 where
+  -- the words are no line
+  pub words : answer ≡ WordsRefused → line ≡ None
+  pub no_line : line ≡ None → (answer ≡ WordsRefused) ⊎ GivesWay answer
+  -- a file could not be got, or the text of a demonstration asks for one, for which nothing is asked of the shelf; and the input is
+  -- untouched
+  pub files : answer ≡ FileFault → (IsUnread shelf shelf_after ⊎ IsDemonstration line) × (after.input ≡ before.input)
+  pub shelf_fault : shelf.faults < shelf_after.faults → (answer ≡ FileFault) ⊎ GivesWay answer ⊎ ServesLines line
+  -- the input counted a fault
+  pub input : answer ≡ InputFault → Rises before.input.faults after.input.faults
+  pub input_fault : before.input.faults < after.input.faults → (answer ≡ InputFault) ⊎ (answer ≡ OutputFault)
+  -- the output counted a fault
+  pub output : answer ≡ OutputFault → Rises before.output.faults after.output.faults
+  pub output_fault : before.output.faults < after.output.faults → answer ≡ OutputFault
+  -- byte 16,777,217 of the session was read
+  pub long : answer ≡ InputTooLong → IsReadPast before.input.bytes after.input.bytes
+  -- no text of the shelf changes but by lines of a session
+  pub texts : (shelf_after.texts ≡ shelf.texts) ⊎ ServesLines line

@@ -1,0 +1,33 @@
+-- Where the session of what was accepted begins, and what is printed before it.
+use Rattle.std.specs.Prelude.{◌≡◌, ℕ, List, [], ◌++◌, map, Option, Some, None}
+use Rattle.lotos_base.specs.Term.{Term}
+use Rattle.termination_theory.specs.Precedence.{Precedence}
+use Rattle.termination_theory.specs.Orientation.{NumberedRule, rules_of}
+use Rattle.rewriting_theory.specs.ChosenForm.{Chooses}
+use Rattle.behaviour_semantics.specs.Replacement.{with_values, binding_of}
+use Rattle.equation_book.specs.Refusal.{IsOpenedBy}
+use Rattle.spec_acceptance.specs.Acceptance.{Acceptance}
+use Rattle.printed_texts.specs.ReportLines.{head_text}
+use Rattle.history_lines.specs.Standing.{shown_menu}
+use Rattle.history_lines.specs.Beginning.{Beginning, CanBegin}
+
+-- the normal forms are those by the rules that the order's items make of the equations
+abbrev pub AreNormalForms : Acceptance → (Term → Term) → Type 0
+AreNormalForms acceptance canon =
+    (precedence : Precedence) × (rules : List NumberedRule) × IsOpenedBy acceptance.items acceptance.data_ precedence rules
+    × Chooses (rules_of rules) canon
+
+-- the session of what was accepted begins in the body of the specification, in which the normal forms of the start values stand
+-- for the parameters, with the exact menu of it, and without steps
+pub record SessionBegins (acceptance : Acceptance) (begun : Beginning) : Type 0 where
+  pub data_is : begun.basis.data_ ≡ acceptance.data_
+  pub canonical : AreNormalForms acceptance begun.basis.canon
+  pub specification_is : begun.basis.specification ≡ acceptance.spec
+  pub state_is :
+      begun.progress.situation.state
+      ≡ with_values (binding_of acceptance.spec.parameters (map begun.basis.canon acceptance.values)) acceptance.spec.body
+  pub can_begin : CanBegin begun
+
+-- the head of a report, with the menu
+abbrev pub opening_text : Beginning → List ℕ
+opening_text begun = head_text begun.basis.specification.name begun.basis.data_ ++ shown_menu begun.basis begun.progress

@@ -1,0 +1,63 @@
+-- Over texts that a shelf tells a run does what comes of its work over them.
+use Rattle.std.specs.Prelude.{◌≡◌, ◌⊎◌, List, Option, Some, None}
+use Rattle.lotos_base.specs.Counts.{Rises}
+use Rattle.lotos_base.specs.Outside.{Texts}
+use Rattle.spec_acceptance.specs.HandedOn.{ShelfState, GotFile, AreGotFrom}
+use Rattle.spec_acceptance.specs.Acceptance.{Asked, Acceptance}
+use Rattle.spec_acceptance.specs.AcceptanceOutcomes.{got_from, ComesOver}
+use Rattle.spec_acceptance.specs.Part.{Comes, goes_on, unread, stops, wants_memory}
+use Rattle.spec_acceptance.specs.PartLaws.{Lacks}
+use Rattle.history_lines.specs.Beginning.{Beginning}
+use Rattle.refusal_lines.specs.HandedOn.{Refused}
+use Rattle.lotos_top.specs.Opening.{SessionBegins, opening_text}
+use Rattle.lotos_top.specs.Run.{Streams, Follows}
+use Rattle.lotos_top.specs.Words.{CommandLine, check, session, demonstration}
+use Rattle.lotos_top.specs.Work.{Print, print, Finish, prints, serves, refusal_printed, work_of}
+use Rattle.lotos_top.specs.declared.ended.Ended.{Ended}
+use Rattle.lotos_top.specs.declared.ended.Ended.TheVariants.{Done, NoMemory}
+
+-- This comes of the work of the line over these texts, where memory is there.
+pub record WorkOver (texts : Texts) (line : Option CommandLine) (comes : Comes Print Finish) : Type 0 where
+  pub files : List GotFile
+  pub came : work_of line files comes
+  pub got_files : AreGotFrom (got_from texts) files
+  pub lacks : Lacks (got_from texts) comes
+
+-- what is done for an accepted specification, by the line
+abbrev pub IsFinishFor : Option CommandLine → Asked → Beginning → Finish → Type 0
+IsFinishFor (Some (check one)) asked begun finish = (one ≡ asked) × (finish ≡ prints (print (opening_text begun) Done))
+IsFinishFor (Some (session one)) asked begun finish = (one ≡ asked) × (finish ≡ serves begun)
+IsFinishFor line asked begun finish = ⊥
+
+-- What comes of the work by what comes of the acceptance of what is asked for: an accepted specification is answered by the head of
+-- its report and the first menu, or by its session; a file that could not be got and a first fault by their lines.
+abbrev pub IsByAcceptance : Option CommandLine → Asked → Comes Refused Acceptance → Comes Print Finish → Type 0
+IsByAcceptance line asked (goes_on acceptance) (goes_on finish) =
+    (begun : Beginning) × SessionBegins acceptance begun × IsFinishFor line asked begun finish
+IsByAcceptance line asked (unread name) (unread other) = other ≡ name
+IsByAcceptance line asked (stops r) (stops p) = p ≡ refusal_printed asked.spec asked.order r
+IsByAcceptance line asked comes other = ⊥
+
+-- the line asks for this specification
+abbrev pub AsksFor : Option CommandLine → Asked → Type 0
+AsksFor (Some (check one)) asked = one ≡ asked
+AsksFor (Some (session one)) asked = one ≡ asked
+AsksFor line asked = ⊥
+
+-- The run did what comes of the work over these texts. Where a specification is asked for, that is by the one thing that comes of
+-- its acceptance over them.
+pub record DoesWorkOver (texts : Texts) (line : Option CommandLine) (shelf_after : ShelfState) (before after : Streams) (answer : Ended)
+    : Type 0 where
+  pub comes : Comes Print Finish
+  pub work : WorkOver texts line comes
+  pub by_acceptance :
+      (asked : Asked) (outcome : Comes Refused Acceptance) → AsksFor line asked → ComesOver texts asked outcome
+      → IsByAcceptance line asked outcome comes
+  pub between : ShelfState
+  pub follows : Follows comes between shelf_after before after answer
+
+-- Where the shelf tells its texts and counts no fault, the run did what comes of the work over these texts; or memory was wanted.
+abbrev pub IsSettled : Option CommandLine → (shelf shelf_after : ShelfState) → (before after : Streams) → Ended → Type 0
+IsSettled line shelf shelf_after before after answer =
+    (texts : Texts) → shelf.texts ≡ Some texts → ¬ Rises shelf.faults shelf_after.faults
+    → (answer ≡ NoMemory) ⊎ DoesWorkOver texts line shelf_after before after answer
