@@ -11,7 +11,8 @@ ghost use Rattle.tree_building.specs.MeaningView.{meaning};
 
 use lotos_base::Place;
 use std::alloc::{AllocError, Global};
-use syntax_trees::{BehText, Sign, group};
+use syntax_trees::grouping::group_operands;
+use syntax_trees::{BehText, Sign};
 use tree_building::Value;
 use tree_building::behaviours_values::Flat;
 use tree_building::names::{Built, turned};
@@ -26,7 +27,8 @@ pub fn grouped(alloc: Global, flat: Flat) -> Result<Option<BehText>, AllocError>
     if flat.operands.len() != flat.signs.len() + 1 {
         return Ok(None);
     }
-    Ok(Some(group(alloc, turned(flat.operands), turned(flat.signs))?))
+    let operands = turned(flat.operands);
+    Ok(Some(group_operands(alloc, operands, turned(flat.signs))?))
 }
 
 /// The behaviour as the only operand of a flat list.

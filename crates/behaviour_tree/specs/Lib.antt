@@ -4,5 +4,6 @@ pub mod DefinitionView
 pub mod MoveView
 pub mod Standing
 pub mod StateView
+pub mod NodeContent
 pub mod Closed
 pub mod Over

@@ -34,6 +34,13 @@ pairs_with number (Some value) = (number, value) ∷ []
 abbrev pub pair_profile : ℕ × Sorted → ProfiledTerm
 pair_profile pair = profiled_in pair.1
 
+-- the variables of an environment by their numbers, with their values and the profiles of these
+abbrev pub pair_with_profile : ℕ × Sorted → ℕ × ProfiledTerm
+pair_with_profile pair = (pair.0, profiled_in pair.1)
+
+abbrev pub pairs_with_profiles : List (ℕ × Sorted) → List (ℕ × ProfiledTerm)
+pairs_with_profiles pairs = map pair_with_profile pairs
+
 -- the closed behaviour that a node stands for
 abbrev pub stands_for : Node → Behaviour
 stands_for Stop = plain.stop

@@ -2,7 +2,11 @@
 
 ghost use Rattle.behaviour_tree.specs.BehaviourTerms.{profiles_of};
 ghost use Rattle.behaviour_tree.specs.BehaviourView.{terms_of};
-ghost use Rattle.behaviour_tree.specs.StateView.{environment_of, pair_profile};
+ghost use Rattle.behaviour_tree.specs.StateView.{
+  environment_of,
+  pair_profile,
+  pairs_with_profiles,
+};
 ghost use Rattle.sort_terms.specs.EquationView.{variable_of};
 ghost use Rattle.std.specs.Prelude.{◌≡◌, IfOk, map};
 
@@ -34,7 +38,7 @@ pub fn variable_copies(alloc: Global, variables: &Vec<Variable>) -> Result<Vec<V
     Ok(made)
 }
 
-/// The same variables with the same values.
+/// The same variables with the same values, and the same profiles in them.
 pub fn environment_copy(
     alloc: Global,
     environment: &Vec<(u64, Sorted)>,
@@ -43,6 +47,8 @@ pub fn environment_copy(
         ≡ environment_of environment.now.items) }
     ensures terms { IfOk result (λ made. map pair_profile made.items
         ≡ map pair_profile environment.now.items) }
+    ensures pairs { IfOk result (λ made. pairs_with_profiles made.items
+        ≡ pairs_with_profiles environment.now.items) }
 {
     let mut made = Vec::with_capacity(alloc, environment.len())?;
     for pair in environment {

@@ -5,6 +5,7 @@ ghost use Rattle.behaviour_semantics.specs.Replacement.{binding_of, with_values}
 ghost use Rattle.behaviour_tree.specs.BehaviourTerms.{profiles_in, profiles_of};
 ghost use Rattle.behaviour_tree.specs.BehaviourView.{behaviour_of, terms_of, variables_of};
 ghost use Rattle.behaviour_tree.specs.Closed.{IsClosedNode};
+ghost use Rattle.behaviour_tree.specs.NodeContent.{content_of};
 ghost use Rattle.behaviour_tree.specs.Over.{IsStart};
 ghost use Rattle.behaviour_tree.specs.StateView.{
   node_profiles,
@@ -91,8 +92,9 @@ impl State {
         &self.node
     }
 
-    /// The same state.
+    /// The same state: its node holds the same.
     pub fn copy(&self, alloc: Global) -> Result<State, NoMemory>
+        ensures node { IfOk result (λ s. content_of s.node ≡ content_of self.now.node) }
         ensures same { IfOk result (λ s. state_of s ≡ state_of self.now) }
         ensures terms { IfOk result (λ s. node_profiles s.node ≡ node_profiles self.now.node) }
         ensures closed { IfOk result (λ s. IsClosedNode self.now.node → IsClosedNode s.node) }
@@ -136,8 +138,10 @@ pub fn add_pair(
 }
 
 impl Node {
-    /// The same node. Its parts are shared.
+    /// The same node: of this form, with the same lists, behaviours and parts. These parts are
+    /// shared.
     pub fn copy(&self, alloc: Global) -> Result<Node, NoMemory>
+        ensures node { IfOk result (λ n. content_of n ≡ content_of self.now) }
         ensures same { IfOk result (λ n. stands_for n ≡ stands_for self.now) }
         ensures terms { IfOk result (λ n. node_profiles n ≡ node_profiles self.now) }
         ensures closed { IfOk result (λ n. IsClosedNode self.now → IsClosedNode n) }

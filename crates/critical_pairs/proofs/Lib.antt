@@ -1,4 +1,5 @@
 pub mod NodePlaceLemmas
+pub mod FirstIndexLemmas
 pub mod CandidateLemmas
 pub mod ExtendLemmas
 pub mod SkipLemmas

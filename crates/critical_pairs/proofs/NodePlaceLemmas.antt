@@ -10,6 +10,7 @@ use Rattle.rewriting_theory.specs.Places.{node_paths, argument_paths}
 use Rattle.rewriting_theory.proofs.PlaceListLemmas.{IsIn, in_either}
 use Rattle.sort_terms.specs.TermView.{term_of, terms_of}
 use Rattle.sort_terms.specs.declared.terms.Term.{Term as CodeTerm}
+use Rattle.critical_pairs.specs.FirstHead.{first_head}
 use Rattle.critical_pairs.specs.NodePlaces.{PlaceOfNode, node_places, argument_places, IsHeadAt}
 
 -- the paths of the places
@@ -51,16 +52,17 @@ place_paths t = paths_below [] t ∙ map_same (node_paths t)
 record IsHeadBelow (before : List ℕ) (t : Term) (place : PlaceOfNode) : Type 0 where
   rest : List ℕ
   is_path : place.path ≡ before ++ rest
-  is_head : (f : ℕ) (ts : Terms) → subterm rest t ≡ Some (node f ts) → f ≡ place.head
+  is_head : (f : ℕ) (ts : Terms) → subterm rest t ≡ Some (node f ts) → (f ≡ place.head) × (first_head ts ≡ place.first)
 
 record IsHeadAmong (before : List ℕ) (k : ℕ) (ts : Terms) (place : PlaceOfNode) : Type 0 where
   position : ℕ
   rest : List ℕ
   is_path : place.path ≡ before ++ (k + position) ∷ rest
-  is_head : (f : ℕ) (us : Terms) → option_and_then (λ t. subterm rest t) (argument_at position ts) ≡ Some (node f us) → f ≡ place.head
+  is_head : (f : ℕ) (us : Terms) → option_and_then (λ t. subterm rest t) (argument_at position ts) ≡ Some (node f us)
+      → (f ≡ place.head) × (first_head us ≡ place.first)
 
-node_head : (f g : ℕ) (ts us : Terms) → Some (node f ts) ≡ Some (node g us) → g ≡ f
-node_head f g ts us e = let same : node f ts ≡ node g us = same_Some (node f ts) (node g us) e in cc
+node_head : (f g : ℕ) (ts us : Terms) → Some (node f ts) ≡ Some (node g us) → (g ≡ f) × (us ≡ ts)
+node_head f g ts us e = let same : node f ts ≡ node g us = same_Some (node f ts) (node g us) e in (cc, cc)
 
 mutual
   heads_below : (before : List ℕ) (t : Term) (place : PlaceOfNode) → IsIn place (node_places before t) → IsHeadBelow before t place
@@ -68,7 +70,9 @@ mutual
   heads_below before (node f ts) place (inl same) = record {
     rest = [];
     is_path = ap path_of (sym same) ∙ sym (append-nil before);
-    is_head = λ g us e. node_head f g ts us e ∙ ap (λ (p : PlaceOfNode). p.head) same;
+    is_head = λ g us e.
+        let one = node_head f g ts us e in
+        (one.0 ∙ ap (λ (p : PlaceOfNode). p.head) same, ap first_head one.1 ∙ ap (λ (p : PlaceOfNode). p.first) same);
   }
   heads_below before (node f ts) place (inr at) =
       let among = heads_among before zero ts place at in

@@ -1,5 +1,5 @@
 -- Two rules over one signature, and the second one moved apart from the first one.
-use Rattle.std.proofs.Common.{◌≡◌, ℕ, zero, suc, List, [], ◌∷◌, refl, ap, sym, ◌∙◌, subst, inl, inr}
+use Rattle.std.proofs.Common.{◌≡◌, ℕ, zero, suc, List, [], ◌∷◌, true, refl, ap, sym, ◌∙◌, subst, inl, inr}
 use Rattle.std.specs.Prelude.{◌⊎◌, Some, None, Option, slice_get}
 use Rattle.std.specs.Option.{option_map, option_and_then}
 use Rattle.std.proofs.lemmas.Option.{same_Some}
@@ -15,6 +15,8 @@ use Rattle.rewriting_theory.specs.Unification.{IsUnifier, OccursInEither, AreApa
 use Rattle.rewriting_theory.specs.Places.{IsApartAt}
 use Rattle.rewriting_theory.proofs.OverlapLemmas.{subterm_occurs, combined, combination_unifies}
 use Rattle.sort_terms.specs.ProfiledTerm.{ProfiledTerm, ProfiledTerms, profiled_variable, profiled_node, no_profiled_terms, profiled_term_then, bare, head_sort, IsOf}
+use Rattle.term_match.specs.Disagreement.{clashes}
+use Rattle.term_match.proofs.AgreeLemmas.{clashing_apart}
 use Rattle.term_match.specs.Matched.{IsPair}
 use Rattle.term_match.specs.ProfiledInstance.{ProfiledSubstitution, profiled_instance, profiled_instances, profiled_binding}
 use Rattle.term_match.specs.ProfiledPath.{profiled_subterm, profiled_argument_at, profiled_put_at, replaced}
@@ -26,6 +28,7 @@ use Rattle.term_match.proofs.NumberLemmas.{renumbered_plain}
 use Rattle.term_match.specs.Unified.{HaveOneSortPerNumber, HasUnifier, IsUnifiedBy}
 use Rattle.term_match.proofs.StateLemmas.{Pairs, binding_either, instance_head, occurs_sort_of}
 use Rattle.path_order.specs.RuleSides.{Sides}
+use Rattle.critical_pairs.specs.OverlapPair.{HaveNoOverlap}
 use Rattle.critical_pairs.specs.TwoSides.{bare_rule, IsFormedRuleOver}
 
 -- the term with its variables renamed
@@ -245,3 +248,18 @@ put_there path part t old found same none =
 pub put_is : (path : List ℕ) (part t old whole : ProfiledTerm) → profiled_subterm path t ≡ Some old → head_sort old ≡ head_sort part
     → Some whole ≡ replaced path part t → profiled_put_at path part t ≡ Some whole
 put_is path part t old whole found same is = replaced_at path part t old found same ∙ sym is
+
+-- ---- Where operations clash
+
+-- the left sides do not overlap at a place where operations clash
+pub clash_apart : (first second : Sides) (path : List ℕ) (part : ProfiledTerm) → profiled_subterm path first.left ≡ Some part
+    → clashes part second.left ≡ true → HaveNoOverlap first second path
+clash_apart first second path part is_part clash rules i j is_first is_second there overlaps =
+    let firsts : there.first_rule ≡ bare_rule first = same_Some there.first_rule (bare_rule first) (sym there.is_first ∙ is_first) in
+    let seconds : there.second_rule ≡ bare_rule second = same_Some there.second_rule (bare_rule second) (sym there.is_second ∙ is_second) in
+    let parts : there.part ≡ bare part =
+    same_Some there.part (bare part)
+    (sym there.is_part ∙ ap (λ (r : Rule). subterm path r.left) firsts ∙ sym (subterm_bare path first.left)
+    ∙ ap (λ (o : Option ProfiledTerm). option_map bare o) is_part) in
+    clashing_apart overlaps.values overlaps.others part second.left clash
+    (ap (substituted overlaps.values) (sym parts) ∙ overlaps.same ∙ ap (λ (r : Rule). substituted overlaps.others r.left) seconds)

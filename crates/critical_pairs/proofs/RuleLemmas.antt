@@ -19,13 +19,13 @@ use Rattle.path_order.specs.declared.rules.Rules.{Rules}
 use Rattle.path_order.proofs.RulesLemmas.{rules_well_formed}
 use Rattle.critical_pairs.specs.Listing.{equation_at}
 use Rattle.critical_pairs.specs.Candidates.{all_least}
-use Rattle.critical_pairs.specs.Extended.{AddsPairsOf, IsHeadIn, IsPairAt, paths_in, listed_option}
-use Rattle.critical_pairs.specs.NodePlaces.{PlaceOfNode, node_places, IsHeadAt}
+use Rattle.critical_pairs.specs.Extended.{AddsPairsOf, IsPairAt, paths_in, listed_option}
+use Rattle.critical_pairs.specs.NodePlaces.{PlaceOfNode, node_places}
 use Rattle.critical_pairs.specs.PairView.{pair_of, terms_in, node_place_of}
 use Rattle.critical_pairs.specs.declared.pair.Pair.{Pair}
 use Rattle.critical_pairs.specs.declared.places.NodePlace.{NodePlace}
 use Rattle.critical_pairs.proofs.ExtendLemmas.{extended_nothing, extended_apart, extended_one, extended_then, extended_along, places_at-append, places_with_more}
-use Rattle.critical_pairs.proofs.NodePlaceLemmas.{path_of, place_paths, place_heads}
+use Rattle.critical_pairs.proofs.NodePlaceLemmas.{path_of, place_paths}
 use Rattle.critical_pairs.proofs.CandidateLemmas.{IsAtMost, HasIt, all_least_has}
 use Rattle.critical_pairs.proofs.SkipLemmas.{skip_rules}
 
@@ -163,27 +163,6 @@ place_more rules i j places k place before middle after less e so_far one =
     (sym (map-append (λ (p : NodePlace). p.path.items) (take k places) (place ∷ []))
     ∙ ap paths_in (ap (λ (p : NodePlace). take k places ++ p ∷ []) e ∙ sym (take_more places k place less))))
     (extended_then rules (places_at i j (paths_in (take k places))) (places_at i j (place.path.items ∷ [])) before middle after so_far one)
-
-pub place_there : (places : List NodePlace) (k : ℕ) (place : NodePlace) → k < length places → place ≡ get_or places k place
-    → slice_get places k ≡ Some place
-place_there [] k place less e = absurd (omega (arith, less))
-place_there (x ∷ xs) zero place less e = ap (λ (p : NodePlace). Some p) (sym e)
-place_there (x ∷ xs) (suc k) place less e = place_there xs k place (omega (arith, less)) e
-
--- the operations of the places of the left side of a rule stand there
-pub places_headed : (rules : Rules) (i : ℕ) (x : Rule) (places : List NodePlace) → i < length rules.rules.items
-    → x ≡ get_or rules.rules.items i x → map node_place_of places ≡ node_places [] (rule_of x).left
-    → (k : ℕ) (place : NodePlace) → slice_get places k ≡ Some place → IsHeadIn (plain_rules_in rules) i (node_place_of place)
-places_headed rules i x places less e are k place at rule is =
-    let same : rule_of x ≡ rule = same_Some (rule_of x) rule (sym (rule_there rules.rules.items i x less e).plain ∙ is) in
-    subst (λ (r : PlainRule). IsHeadAt r.left (node_place_of place)) same
-    (place_heads (rule_of x).left (node_place_of place)
-    (subst (λ (ps : List PlaceOfNode). IsIn (node_place_of place) ps) are (listed places k at)))
-  where
-    listed : (ps : List NodePlace) (j : ℕ) → slice_get ps j ≡ Some place → IsIn (node_place_of place) (map node_place_of ps)
-    listed [] j f = let none : None ≡ Some place = f in cc
-    listed (p ∷ ps) zero f = inl (ap node_place_of (same_Some p place f))
-    listed (p ∷ ps) (suc j) f = inr (listed ps j f)
 
 -- the paths of the places of the left side are those of its operations
 pub places_paths : (places : List NodePlace) (t : Term) → map node_place_of places ≡ node_places [] t → paths_in places ≡ node_paths t

@@ -1,7 +1,6 @@
 -- Lists of pairs of the code with the pairs of some places added.
 use Rattle.std.specs.Prelude.{◌≡◌, ℕ, List, [], ◌∷◌, Option, None, Some, map}
 use Rattle.lotos_base.specs.Signature.{Signature}
-use Rattle.rewriting_theory.specs.Rule.{Rule as PlainRule, IsRuleAt}
 use Rattle.rewriting_theory.specs.PairList.{PairPlace}
 use Rattle.critical_pairs.specs.OverlapPair.{IsOverlapPair, IsOverOverlap}
 use Rattle.path_order.specs.RulesView.{rules_in, signature_in}
@@ -9,7 +8,6 @@ use Rattle.path_order.specs.declared.rule.Rule.{Rule}
 use Rattle.path_order.specs.declared.rules.Rules.{Rules}
 use Rattle.path_order.specs.RuleSides.{sides_of}
 use Rattle.critical_pairs.specs.Listing.{AddsPairs, ArePairsOver}
-use Rattle.critical_pairs.specs.NodePlaces.{PlaceOfNode, IsHeadAt}
 use Rattle.critical_pairs.specs.PairView.{pairs_in, terms_in}
 use Rattle.critical_pairs.specs.declared.pair.Pair.{Pair}
 use Rattle.critical_pairs.specs.declared.places.NodePlace.{NodePlace}
@@ -19,10 +17,6 @@ use Rattle.critical_pairs.specs.declared.places.NodePlace.{NodePlace}
 pub record AddsPairsOf (rules : Rules) (places : List PairPlace) (before after : List Pair) : Type 0 where
   pub listed : AddsPairs (rules_in rules) places (pairs_in before) (pairs_in after)
   pub over : ArePairsOver (signature_in rules) before → ArePairsOver (signature_in rules) after
-
--- The operation of the place stands there in the left side of the rule with this number.
-abbrev pub IsHeadIn : List PlainRule → ℕ → PlaceOfNode → Type 0
-IsHeadIn rules number place = (rule : PlainRule) → IsRuleAt rules number rule → IsHeadAt rule.left place
 
 -- the paths of the places
 abbrev pub paths_in : List NodePlace → List (List ℕ)

@@ -9,8 +9,9 @@ use Rattle.rewriting_theory.specs.CriticalPair.{CriticalPair}
 use Rattle.rewriting_theory.specs.PairList.{AreCriticalPairs, IsUnjoined, IsFirstUnjoined}
 use Rattle.rewriting_theory.specs.PairListLaws.{RewritesToTwo}
 use Rattle.path_order.specs.HandedOn.{NumberedRule, rules_of}
-use Rattle.sort_terms.specs.SortedView.{term_in}
+use Rattle.sort_terms.specs.SortedView.{profiled_in, term_in}
 use Rattle.critical_pairs.specs.Listing.{equation_at}
+use Rattle.critical_pairs.specs.OverlapPair.{ArePairTermsOf}
 use Rattle.critical_pairs.specs.declared.joining.Unjoined.{Unjoined}
 use Rattle.critical_pairs.specs.declared.pair_fault.PairFault.{PairFault}
 use Rattle.critical_pairs.specs.declared.pair_fault.PairFault.TheVariants.{Unjoined as UnjoinedFault, NoMemory}
@@ -44,10 +45,21 @@ HoldsOfPairFault signature rules (UnjoinedFault first second peak left right) =
     AreUnjoinedBy signature rules first second (term_in peak) (term_in left) (term_in right)
 HoldsOfPairFault signature rules NoMemory = Unit {0}
 
+-- The terms of a fault are of the signature, with its profiles.
+abbrev pub IsPairFaultOver : Signature → PairFault → Type 0
+IsPairFaultOver signature (UnjoinedFault first second peak left right) =
+    ArePairTermsOf signature (record { peak = profiled_in peak; left = profiled_in left; right = profiled_in right })
+IsPairFaultOver signature NoMemory = Unit {0}
+
 -- None of the pairs has sides with different chosen forms.
 abbrev pub NoneUnjoinedAmong : List Rule → List CriticalPair → Type 0
 NoneUnjoinedAmong rules pairs = (k : ℕ) (pair : CriticalPair) (t u : Term) → slice_get pairs k ≡ Some pair
     → ¬ IsUnjoined rules pair t u
+
+-- The terms of the answer are of the signature.
+abbrev pub IsAnswerOver : Signature → Unjoined → Type 0
+IsAnswerOver signature answer =
+    ArePairTermsOf signature (record { peak = profiled_in answer.peak; left = profiled_in answer.left; right = profiled_in answer.right })
 
 -- The answer has the numbers and the peak of the pair, and the different chosen forms of its sides.
 pub record AnswersPair (rules : List Rule) (pair : CriticalPair) (answer : Unjoined) : Type 0 where

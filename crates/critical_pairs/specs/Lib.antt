@@ -1,3 +1,5 @@
+pub mod FirstHead
+pub mod FirstIndexView
 pub mod NodePlaces
 pub mod PairView
 pub mod Candidates

@@ -29,7 +29,7 @@ terms_in pair = record { peak = profiled_in pair.peak; left = profiled_in pair.l
 
 -- the place
 abbrev pub node_place_of : NodePlace → PlaceOfNode
-node_place_of place = record { path = place.path.items; head = place.head }
+node_place_of place = record { path = place.path.items; head = place.head; first = place.first }
 
 -- the terms that two rules make of an overlap
 abbrev pub overlap_of : Overlap → PairTerms

@@ -1,7 +1,7 @@
 //! Whether the two sides of each critical pair can be joined.
 
-ghost use Rattle.critical_pairs.specs.Joining.{AnswersFirst, AnswersPair, HoldsOfPairFault};
-ghost use Rattle.critical_pairs.specs.Joining.{NoneUnjoinedAmong, StaysJoined};
+ghost use Rattle.critical_pairs.specs.Joining.{AnswersFirst, AnswersPair, HoldsOfPairFault, IsPairFaultOver};
+ghost use Rattle.critical_pairs.specs.Joining.{IsAnswerOver, NoneUnjoinedAmong, StaysJoined};
 ghost use Rattle.critical_pairs.specs.Listing.{ArePairsOver};
 ghost use Rattle.critical_pairs.specs.PairView.{pair_of, pairs_in, terms_in};
 ghost use Rattle.critical_pairs.specs.OverlapPair.{ArePairTermsOf};
@@ -35,12 +35,13 @@ pub struct Unjoined {
 
 /// The rules, which are confluent, or `Unjoined` exactly where they are not: for the first critical
 /// pair whose two sides have different chosen forms, with these two irreducible terms, to both of
-/// which the peak rewrites.
+/// which the peak rewrites. The three terms are of the signature, with its profiles.
 pub fn all_join(alloc: Global, rules: Rules) -> Result<Joined, PairFault>
     ensures joined { IfOk result (λ joined. joined.rules ≡ rules) }
     ensures confluent { IfOk result (λ joined. StaysJoined (plain_rules_in joined.rules)) }
     ensures unjoined { IfErr result
         (λ fault. HoldsOfPairFault (signature_in rules) (rules_in rules) fault) }
+    ensures over { IfErr result (λ fault. IsPairFaultOver (signature_in rules) fault) }
 {
     let found = pairs(alloc, &rules)?;
     match first_unjoined(alloc, &rules, found.as_slice())? {
@@ -66,6 +67,8 @@ fn first_unjoined(
         (NoneUnjoinedAmong (plain_rules_in rules.now) (pairs_in pairs.now))) }
     ensures some { IfOk result (λ o. IfSome o (λ answer.
         AnswersFirst (plain_rules_in rules.now) (pairs_in pairs.now) answer)) }
+    ensures over { IfOk result (λ o. IfSome o (λ answer.
+        IsAnswerOver (signature_in rules.now) answer)) }
 {
     for pair in pairs {
         if let Some(unjoined) = unjoined_at(alloc, rules, pair)? {
@@ -82,6 +85,8 @@ fn unjoined_at(alloc: Global, rules: &Rules, pair: &Pair) -> Result<Option<Unjoi
         (NoneUnjoinedAmong (plain_rules_in rules.now) (pair_of pair.now ∷ []))) }
     ensures some { IfOk result (λ o. IfSome o (λ answer.
         AnswersPair (plain_rules_in rules.now) (pair_of pair.now) answer)) }
+    ensures over { IfOk result (λ o. IfSome o (λ answer.
+        IsAnswerOver (signature_in rules.now) answer)) }
 {
     let left = normalise(alloc, rules, &pair.left)?;
     let right = normalise(alloc, rules, &pair.right)?;

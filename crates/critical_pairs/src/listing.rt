@@ -1,29 +1,24 @@
 //! The list of all critical pairs.
 
-ghost use Rattle.critical_pairs.specs.Extended.{AddsPairsOf, IsHeadIn, IsPairAt};
+ghost use Rattle.critical_pairs.specs.Extended.{AddsPairsOf, IsPairAt};
 ghost use Rattle.critical_pairs.specs.Extended.{paths_in, listed_option};
+ghost use Rattle.critical_pairs.specs.FirstIndexView.{IsIndexOf};
 ghost use Rattle.critical_pairs.specs.Listing.{ArePairsOver, ListsAll};
-ghost use Rattle.critical_pairs.specs.NodePlaces.{IsHeadAt};
-ghost use Rattle.critical_pairs.specs.PairView.{node_place_of, pairs_in};
+ghost use Rattle.critical_pairs.specs.PairView.{pairs_in};
 ghost use Rattle.critical_pairs.specs.OverlapPair.{HaveOneSignature, HaveNoOverlap};
 ghost use Rattle.path_order.specs.RuleSides.{sides_of};
-ghost use Rattle.path_order.specs.RuleHead.{has_head};
 ghost use Rattle.path_order.specs.RulesView.{plain_rules_in, rules_in, signature_in};
 ghost use Rattle.rewriting_theory.specs.Places.{is_root, places_at, places_with};
 ghost use Rattle.rewriting_theory.specs.Rule.{Rule as PlainRule, IsRuleAt};
-ghost use Rattle.sort_terms.specs.SortedView.{term_in};
-ghost use Rattle.sort_terms.specs.TermView.{term_of};
-ghost use Rattle.std.specs.Prelude.{◌≡◌, ◌<◌, ◌∷◌, ◌++◌, ◌&&◌, [], ℕ, IfNone, IfOk, IfSome, Some};
-ghost use Rattle.std.specs.Prelude.{length, nat_eq, slice_get};
-ghost use Rattle.critical_pairs.specs.declared.places.NodePlace.{NodePlace};
+ghost use Rattle.std.specs.Prelude.{◌≡◌, ◌<◌, ◌∷◌, ◌++◌, ◌&&◌, [], IfNone, IfOk, IfSome, length, nat_eq};
 
 use crate::candidates::next_candidate;
+use crate::first_index::{FirstIndex, indexed};
 use crate::overlap;
 use crate::pair::Pair;
 use crate::places::{NodePlace, places_of};
 use lotos_base::NoMemory;
 use path_order::{Rule, Rules};
-use sort_terms::Term;
 use std::alloc::Global;
 
 /// All critical pairs of the rules: by the first rule, then by the second rule, then by the place
@@ -32,22 +27,25 @@ pub fn pairs(alloc: Global, rules: &Rules) -> Result<Vec<Pair>, NoMemory>
     ensures listed { IfOk result (λ found. ListsAll (rules_in rules.now) (pairs_in found.items)) }
     ensures is_of { IfOk result (λ found. ArePairsOver (signature_in rules.now) found.items) }
 {
+    let index = indexed(alloc, rules)?;
     let mut found = Vec::new(alloc);
     for first in 0..rules.list().len() {
-        found = pairs_of_first(alloc, rules, first, found)?;
+        found = pairs_of_first(alloc, rules, &index, first, found)?;
     }
     Ok(found)
 }
 
 // The pairs found before and those of this first rule. Second rules are found by the operations in
-// the left side of the first one, so that rules with other heads cost nothing.
+// the left side of the first one, so that rules with other heads or first arguments cost nothing.
 fn pairs_of_first(
     alloc: Global,
     rules: &Rules,
+    index: &FirstIndex,
     first: usize,
     mut found: Vec<Pair>,
 ) -> Result<Vec<Pair>, NoMemory>
-    requires { first < length rules.now.rules.items }
+    requires index { IsIndexOf rules.now index.now }
+    requires first { first < length rules.now.rules.items }
     ensures { IfOk result (λ more. (rule : PlainRule)
         → IsRuleAt (plain_rules_in rules.now) first rule
         → AddsPairsOf rules.now (places_with first rule 0 (plain_rules_in rules.now)) found.items
@@ -55,7 +53,7 @@ fn pairs_of_first(
 {
     let places = places_of(alloc, rules.list()[first].left.term())?;
     let mut next = 0;
-    while let Some(second) = next_candidate(rules, places.as_slice(), next) {
+    while let Some(second) = next_candidate(rules, index, places.as_slice(), next) {
         found = pairs_of_two(alloc, rules, (first, second), places.as_slice(), found)?;
         next = second + 1;
     }
@@ -72,8 +70,6 @@ fn pairs_of_two(
 ) -> Result<Vec<Pair>, NoMemory>
     requires first { numbers.0 < length rules.now.rules.items }
     requires second { numbers.1 < length rules.now.rules.items }
-    requires headed { (k : ℕ) (place : NodePlace) → slice_get places.now k ≡ Some place
-        → IsHeadIn (plain_rules_in rules.now) numbers.0 (node_place_of place) }
     ensures { IfOk result (λ more. AddsPairsOf rules.now
         (places_at numbers.0 numbers.1 (paths_in places.now)) found.items more.items) }
 {
@@ -93,7 +89,6 @@ fn with_pair_at(
 ) -> Result<Vec<Pair>, NoMemory>
     requires first { numbers.0 < length rules.now.rules.items }
     requires second { numbers.1 < length rules.now.rules.items }
-    requires headed { IsHeadIn (plain_rules_in rules.now) numbers.0 (node_place_of place.now) }
     ensures { IfOk result (λ more. AddsPairsOf rules.now
         (places_at numbers.0 numbers.1 (place.now.path.items ∷ [])) found.items more.items) }
 {
@@ -132,16 +127,12 @@ fn pair_at(
     second: &Rule,
     place: &NodePlace,
 ) -> Result<Option<Pair>, NoMemory>
-    requires rules { HaveOneSignature (sides_of first.now) (sides_of second.now) }
-    requires headed { IsHeadAt (term_in first.now.left) (node_place_of place.now) }
+    requires { HaveOneSignature (sides_of first.now) (sides_of second.now) }
     ensures none { IfOk result (λ o. IfNone o
         (HaveNoOverlap (sides_of first.now) (sides_of second.now) place.now.path.items)) }
     ensures some { IfOk result (λ o. IfSome o (λ pair. IsPairAt first.now second.now
         place.now.path.items pair)) }
 {
-    if !is_headed(second.left.term(), place.head) {
-        return Ok(None);
-    }
     match overlap(alloc, first, second, place.path.as_slice())? {
         None => Ok(None),
         Some(terms) => Ok(Some(Pair {
@@ -152,15 +143,5 @@ fn pair_at(
             left: terms.left,
             right: terms.right,
         })),
-    }
-}
-
-// Whether the operation with this number stands at the head of the term.
-fn is_headed(term: &Term, head: u32) -> bool
-    ensures { result ≡ has_head head (term_of term.now) }
-{
-    match term {
-        Term::Var { .. } => false,
-        Term::Node { op, .. } => *op == head,
     }
 }

@@ -5,7 +5,7 @@ ghost use Rattle.critical_pairs.specs.OverlapPair.{HaveOneSignature, HaveNoOverl
 ghost use Rattle.critical_pairs.specs.PairView.{overlap_of};
 ghost use Rattle.path_order.specs.RuleSides.{sides_of};
 ghost use Rattle.sort_terms.specs.SortedView.{profiled_in, term_in};
-ghost use Rattle.std.specs.Prelude.{◌≡◌, IfOk, IfNone, IfSome};
+ghost use Rattle.std.specs.Prelude.{◌≡◌, IfOk, IfNone, IfSome, IsTrue};
 ghost use Rattle.lotos_base.specs.Signature.{Signature};
 
 use crate::contracting::contracted;
@@ -14,12 +14,15 @@ use lotos_base::NoMemory;
 use path_order::Rule;
 use sort_terms::{Sorted, Term};
 use std::alloc::Global;
+use term_match::differences::clash;
+use term_match::paths::part_at;
 use term_match::{apart, by_appearance, renumbered, subterm, unify};
 
 /// The critical pair of the two rules at the path in the left side of the first one, its variables
 /// numbered by first appearance in the peak; or `None` exactly where they have none there, which is
 /// where the path leads to no operation, or the part there and the left side of the second rule
-/// have no common instance, variables apart. The rules are over one signature.
+/// have no common instance, variables apart. The rules are over one signature. Operations that clash
+/// are seen before any memory is taken.
 pub fn overlap(
     alloc: Global,
     first: &Rule,
@@ -36,6 +39,9 @@ pub fn overlap(
         → IsOverOverlap signature (sides_of first.now) (sides_of second.now)
         (overlap_of pair))) }
 {
+    if are_apart(first, second, path) {
+        return Ok(None);
+    }
     let Some(part) = subterm(&first.left, path)? else {
         return Ok(None);
     };
@@ -62,4 +68,15 @@ fn numbered(alloc: Global, pair: &Overlap) -> Result<Overlap, NoMemory>
         left: renumbered(&pair.left, numbers.as_slice())?,
         right: renumbered(&pair.right, numbers.as_slice())?,
     })
+}
+
+// Whether operations of the part at the path and of the left side of the second rule clash.
+fn are_apart(first: &Rule, second: &Rule, path: &[u32]) -> bool
+    ensures { IsTrue result
+        → HaveNoOverlap (sides_of first.now) (sides_of second.now) path.now }
+{
+    match part_at(first.left.term(), path) {
+        None => false,
+        Some(part) => clash(part, second.left.term()),
+    }
 }

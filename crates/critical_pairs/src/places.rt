@@ -5,17 +5,21 @@ ghost use Rattle.critical_pairs.specs.PairView.{node_place_of};
 ghost use Rattle.sort_terms.specs.TermView.{term_of, terms_of};
 ghost use Rattle.std.specs.Prelude.{◌≡◌, ◌∷◌, ◌++◌, [], IfOk, map};
 
+use crate::first_index::first_operation;
 use lotos_base::NoMemory;
 use sort_terms::Term;
 use std::alloc::Global;
 
-/// A place with an operation: its path, and the number of the operation.
+/// A place with an operation: its path, the number of the operation, and that of the operation at the
+/// head of its first argument.
 #[derive(Debug, Drop)]
 pub struct NodePlace {
     /// The path: argument positions from 0.
     pub path: Vec<u32>,
     /// The number of the operation.
     pub head: u32,
+    /// The number of the operation at the head of its first argument, if one is there.
+    pub first: Option<u32>,
 }
 
 /// The places of the term at which an operation stands, in preorder.
@@ -43,6 +47,7 @@ fn places_below(
             found.push(NodePlace {
                 path: Vec::from_slice(alloc, path)?,
                 head: *op,
+                first: first_operation(arguments),
             })?;
             places_among(alloc, arguments, path, found)
         }

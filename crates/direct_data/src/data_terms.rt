@@ -29,7 +29,7 @@ use term_rewriter::normalise;
 use type_flatten::flatten;
 
 // The data of the types.
-fn data(alloc: Global, types: &[u8]) -> Result<Flat, Fail>
+pub fn data(alloc: Global, types: &[u8]) -> Result<Flat, Fail>
     ensures { IfOk result (λ flat. IsSortedFlat flat) }
 {
     let items = read_types(alloc, types, 0)?;
@@ -211,7 +211,7 @@ fn terms_are_matched_unified_and_replaced(rt: HostRuntime) -> Result<(), Fail> {
 }
 
 // The rules of the data.
-fn rules_of(flat: &Flat) -> Result<Rules, Fail>
+pub fn rules_of(flat: &Flat) -> Result<Rules, Fail>
     requires { IsSortedFlat flat.now }
 {
     let Ok(precedence) = Precedence::of(flat, &[]) else {
@@ -231,7 +231,7 @@ fn read(alloc: Global, signature: &Signature, written: &Written) -> Result<Sorte
 }
 
 // The term that the text is.
-fn one_term(alloc: Global, signature: &Signature, text: &str) -> Result<Sorted, Fail>
+pub fn one_term(alloc: Global, signature: &Signature, text: &str) -> Result<Sorted, Fail>
     ensures { IfOk result (λ term. IsOf (signature_of signature.now) (profiled_in term)) }
 {
     if text.len() > 1000 {

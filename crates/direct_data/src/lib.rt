@@ -14,4 +14,6 @@ mod outside;
 #[cfg(test)]
 mod showing;
 #[cfg(test)]
+mod stores;
+#[cfg(test)]
 mod unifiers;

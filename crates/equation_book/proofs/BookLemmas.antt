@@ -7,6 +7,9 @@ use Rattle.lotos_base.specs.Signature.{Signature}
 use Rattle.lotos_base.specs.Term.{Term}
 use Rattle.lotos_base.specs.Sorting.{HasSort, IsGround}
 use Rattle.lotos_base.specs.Equality.{Equal}
+use Rattle.lotos_base.proofs.TestLemmas.{Term-set}
+use Rattle.rewriting_theory.specs.Rule.{Rule as PlainRule}
+use Rattle.term_store.specs.StoreCanon.{store_canon, store_chooses}
 use Rattle.lotos_base.specs.Equation.{Data}
 use Rattle.rewriting_theory.specs.ChosenForm.{Chosen}
 use Rattle.rewriting_theory.proofs.ChosenLemmas.{chosen_one}
@@ -26,7 +29,7 @@ use Rattle.critical_pairs.proofs.JoinedLemmas.{joined_confluent}
 use Rattle.path_order.specs.OrientFaultView.{IsOrientFault}
 use Rattle.path_order.specs.declared.orient_fault.OrientFault.{OrientFault}
 use Rattle.path_order.specs.declared.orient_fault.OrientFault.TheVariants.{Unorientable, NoMemory as OrientNoMemory}
-use Rattle.critical_pairs.specs.Joining.{AreUnjoinedBy, HoldsOfPairFault}
+use Rattle.critical_pairs.specs.Joining.{AreUnjoinedBy, HoldsOfPairFault, IsPairFaultOver}
 use Rattle.critical_pairs.specs.declared.pair_fault.PairFault.{PairFault}
 use Rattle.critical_pairs.specs.declared.pair_fault.PairFault.TheVariants.{Unjoined, NoMemory as PairNoMemory}
 use Rattle.termination_theory.specs.Precedence.{Precedence}
@@ -38,7 +41,7 @@ use Rattle.path_order.specs.declared.order_fault.OrderFault.TheVariants.{Unknown
 use Rattle.path_order.specs.OrderedBy.{IsPrecedenceBy}
 use Rattle.path_order.specs.PrecedenceView.{precedence_of}
 use Rattle.path_order.specs.declared.precedence.Precedence.{Precedence as CodePrecedence}
-use Rattle.equation_book.specs.Refusal.{SaysOfData, IsBookPrecedence, IsBookFault, book_fault_of_order, book_fault_of_orientation, book_fault_of_pair}
+use Rattle.equation_book.specs.Refusal.{SaysOfData, IsBookPrecedence, IsBookFault, IsBookFaultOver, book_fault_of_order, book_fault_of_orientation, book_fault_of_pair}
 use Rattle.equation_book.specs.declared.book_fault.BookFault.{BookFault}
 use Rattle.equation_book.specs.declared.book_fault.BookFault.TheVariants.{UnknownOperation as BookUnknown, TwiceListed as BookTwice, Unorientable as BookUnorientable, Unjoined as BookUnjoined, NoMemory as BookNoMemory}
 use Rattle.equation_book.specs.BookCanon.{book_canon, book_chooses, book_oriented}
@@ -59,6 +62,25 @@ of_data book t h =
 -- a chosen form is the canon
 pub chosen_is_canon : (book : Book) (t u : Term) → Chosen (plain_rules_in book.joined.rules) t u → u ≡ book_canon book t
 chosen_is_canon book t u is = chosen_one (rules_well_formed book.joined.rules) is (book_chooses book t)
+
+-- a term of the data is of the signature of the store, and the other way round
+pub of_store : (book : Book) (t : ProfiledTerm) → IsOf (signature_of book.flat.signature) t → IsOf (signature_in book.store.rules) t
+of_store book t h =
+    ∥∥₁_elim book.stored_over (IsOf-prop (signature_in book.store.rules) t)
+    (λ same. subst (λ (s : Signature). IsOf s t) (sym same) (of_rules book t h))
+
+pub from_store : (book : Book) (t : ProfiledTerm) → IsOf (signature_in book.store.rules) t → IsOf (signature_of book.flat.signature) t
+from_store book t h =
+    of_data book t
+    (∥∥₁_elim book.stored_over (IsOf-prop (signature_in book.joined.rules) t) (λ same. subst (λ (s : Signature). IsOf s t) same h))
+
+-- the canon of the store is that of the book
+pub store_is_book : (book : Book) (t : Term) → store_canon book.store t ≡ book_canon book t
+store_is_book book t =
+    ∥∥₁_elim book.stored (Term-set (store_canon book.store t) (book_canon book t))
+    (λ same.
+    chosen_is_canon book t (store_canon book.store t)
+    (subst (λ (rules : List PlainRule). Chosen rules t (store_canon book.store t)) same (store_chooses book.store t)))
 
 -- ground terms are equal exactly where their chosen forms are identical
 pub forms_decide : (book : Book) (left right : Sorted) (c d : Term) → IsOf (signature_of book.flat.signature) (profiled_in left)
@@ -142,3 +164,19 @@ data_says items data_ p (BookUnorientable equation) by is = (precedence_of p, bo
 data_says items data_ p (BookUnjoined first second peak left right) by is =
     (precedence_of p, book_precedence items data_ p by, is)
 data_says items data_ p BookNoMemory by is = tt
+
+-- the terms of a fault are of the signature
+pub order_over : (signature : Signature) (fault : OrderFault) → IsBookFaultOver signature (book_fault_of_order fault)
+order_over signature (OrderUnknown place name) = tt
+order_over signature (OrderTwice place name) = tt
+order_over signature OrderNoMemory = tt
+
+pub orientation_over : (signature : Signature) (fault : OrientFault) → IsBookFaultOver signature (book_fault_of_orientation fault)
+orientation_over signature (Unorientable equation) = tt
+orientation_over signature OrientNoMemory = tt
+
+pub pair_over : (signature other : Signature) (fault : PairFault) → signature ≡ other → IsPairFaultOver signature fault
+    → IsBookFaultOver other (book_fault_of_pair fault)
+pair_over signature other (Unjoined first second peak left right) same is =
+    subst (λ (s : Signature). IsPairFaultOver s (Unjoined first second peak left right)) same is
+pair_over signature other PairNoMemory same is = tt

@@ -13,7 +13,7 @@ use Rattle.path_order.specs.declared.order_fault.OrderFault.TheVariants.{Unknown
 use Rattle.path_order.specs.OrderedBy.{IsPrecedenceBy}
 use Rattle.path_order.specs.declared.orient_fault.OrientFault.{OrientFault}
 use Rattle.path_order.specs.declared.orient_fault.OrientFault.TheVariants.{Unorientable as OrientUnorientable, NoMemory as OrientNoMemory}
-use Rattle.critical_pairs.specs.Joining.{AreUnjoinedBy}
+use Rattle.critical_pairs.specs.Joining.{AreUnjoinedBy, IsPairFaultOver}
 use Rattle.critical_pairs.specs.declared.pair_fault.PairFault.{PairFault}
 use Rattle.critical_pairs.specs.declared.pair_fault.PairFault.TheVariants.{Unjoined as PairUnjoined, NoMemory as PairNoMemory}
 use Rattle.equation_book.specs.declared.book_fault.BookFault.{BookFault}
@@ -66,6 +66,14 @@ IsBookFault items data_ (Unjoined first second peak left right) =
     (precedence : Precedence) × IsBookPrecedence data_.signature items precedence
     × SaysOfData precedence data_ (Unjoined first second peak left right)
 IsBookFault items data_ NoMemory = Unit {0}
+
+-- The peak and the two forms of a refusal are terms of the signature, with its profiles.
+abbrev pub IsBookFaultOver : Signature → BookFault → Type 0
+IsBookFaultOver signature (UnknownOperation place name) = Unit {0}
+IsBookFaultOver signature (TwiceListed place name) = Unit {0}
+IsBookFaultOver signature (Unorientable equation) = Unit {0}
+IsBookFaultOver signature (Unjoined first second peak left right) = IsPairFaultOver signature (PairUnjoined first second peak left right)
+IsBookFaultOver signature NoMemory = Unit {0}
 
 -- What an opened book says of them: nothing is wrong with an item, the precedence is that of the items, and the data give
 -- these rules by it, which are confluent.

@@ -2,7 +2,12 @@
 
 ghost use Rattle.equation_book.specs.SortedSides.{AreSortedSides, AreSortedSides-prop};
 ghost use Rattle.path_order.specs.RuleTest.{gives_rules};
-ghost use Rattle.path_order.specs.RulesView.{precedence_in, rules_in, signature_in};
+ghost use Rattle.path_order.specs.RulesView.{
+  plain_rules_in,
+  precedence_in,
+  rules_in,
+  signature_in,
+};
 ghost use Rattle.sort_terms.specs.EquationView.{data_of};
 ghost use Rattle.sort_terms.specs.SignatureView.{signature_of};
 ghost use Rattle.std.specs.Prelude.{◌≡◌, true};
@@ -10,29 +15,40 @@ ghost use Rattle.std.specs.Prelude.{◌≡◌, true};
 use critical_pairs::Joined;
 use path_order::Rules;
 use sort_terms::Flat;
+use term_store::Store;
 
-/// Data, and the rules of their equations, which are confluent.
+/// Data, and the rules of their equations, which are confluent, with terms of the data that are
+/// kept once.
 #[derive(Drop)]
 pub struct Book {
     flat: Flat,
     joined: Joined,
+    pub(crate) store: Store,
     pub ghost sides: { AreSortedSides flat } by { AreSortedSides-prop flat },
     pub ghost oriented: { gives_rules (precedence_in joined.rules) 0 (data_of flat).equations
         (rules_in joined.rules) ≡ true },
     pub ghost over: { ∥ signature_in joined.rules ≡ signature_of flat.signature ∥₁ },
+    pub ghost stored: { ∥ plain_rules_in store.rules ≡ plain_rules_in joined.rules ∥₁ },
+    pub ghost stored_over: { ∥ signature_in store.rules ≡ signature_in joined.rules ∥₁ },
 }
 
 impl Book {
-    /// The data with the rules of their equations.
-    pub fn of(flat: Flat, joined: Joined) -> Book
+    /// The data with the rules of their equations, and a store over the same rules.
+    pub fn of(flat: Flat, joined: Joined, store: Store) -> Book
         requires sides { AreSortedSides flat }
         requires oriented { gives_rules (precedence_in joined.rules) 0 (data_of flat).equations
             (rules_in joined.rules) ≡ true }
         requires over { ∥ signature_in joined.rules ≡ signature_of flat.signature ∥₁ }
+        requires stored { rules_in store.rules ≡ rules_in joined.rules }
+        requires stored_over { signature_in store.rules ≡ signature_in joined.rules }
         ensures flat { result.flat ≡ flat }
         ensures joined { result.joined ≡ joined }
     {
-        Book { flat, joined }
+        Book {
+            flat,
+            joined,
+            store,
+        }
     }
 
     /// The data.

@@ -3,7 +3,7 @@
 ghost use Rattle.std.specs.Prelude.{◌≡◌};
 
 use critical_pairs::PairFault;
-use lotos_base::{Name, Place};
+use lotos_base::{Name, NoMemory, Place};
 use path_order::{OrderFault, OrientFault};
 use sort_terms::{Flat, Sorted};
 
@@ -106,5 +106,17 @@ impl From<PairFault> for BookFault {
             },
             PairFault::NoMemory => BookFault::NoMemory,
         }
+    }
+}
+
+impl From<NoMemory> for BookFault {
+    ghost use Rattle.equation_book.specs.declared.book_fault.BookFault.TheVariants.{
+      NoMemory as out_of_memory,
+    };
+
+    ghost from_gives = { λ _ fault. fault ≡ out_of_memory };
+
+    fn from(_fault: NoMemory) -> BookFault {
+        BookFault::NoMemory
     }
 }

@@ -10,7 +10,6 @@ ghost use Rattle.lotos_base.specs.Equality.{Equal};
 ghost use Rattle.lotos_base.specs.Sorting.{IsGround};
 
 use crate::book::Book;
-use critical_pairs::normalise;
 use lotos_base::NoMemory;
 use sort_terms::{Deciding, Sorted};
 
@@ -22,8 +21,7 @@ impl Deciding for Book {
     ghost is_canon = { λ it. book_is_canon it };
 
     fn normal(&mut self, term: &Sorted) -> Result<Sorted, NoMemory> {
-        let alloc = *self.flat().equations.allocator();
-        normalise(alloc, self.rules(), term)
+        self.store.canonical_term(term)
     }
 }
 
@@ -40,9 +38,6 @@ impl Book {
         ensures same_data { data_of self.new.flat ≡ data_of self.old.flat }
         ensures same_canon { book_canon self.new ≡ book_canon self.old }
     {
-        let alloc = *self.flat().equations.allocator();
-        let one = normalise(alloc, self.rules(), left)?;
-        let other = normalise(alloc, self.rules(), right)?;
-        Ok(one.same(&other))
+        self.store.same(left, right)
     }
 }

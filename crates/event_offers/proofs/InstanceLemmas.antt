@@ -1,17 +1,17 @@
 -- Values for the variables of an entry: they suit its terms, and a condition holds exactly where its canonical forms agree.
-use Rattle.std.proofs.Common.{◌≡◌, ◌<◌, ◌+◌, length, get_or, drop, ℕ, zero, suc, List, [], ◌∷◌, map, slice_get, Option, None, Some, Bool, true, false, if◌then◌else◌, refl, ap, sym, ◌∙◌, subst}
-use Rattle.std.specs.Prelude.{◌↔◌}
+use Rattle.std.proofs.Common.{◌≡◌, ◌⊎◌, inl, inr, ◌<◌, ◌+◌, length, get_or, drop, ℕ, zero, suc, List, [], ◌∷◌, map, slice_get, Option, None, Some, Bool, true, false, if◌then◌else◌, refl, ap, sym, ◌∙◌, subst}
 use Rattle.std.specs.Option.{option_map}
 use Rattle.lotos_base.proofs.Pieces.{next_member}
 use Rattle.lotos_base.specs.Signature.{Signature}
 use Rattle.lotos_base.specs.Term.{Term, variable}
 use Rattle.lotos_base.specs.Tests.{term_eq}
 use Rattle.lotos_base.specs.Sorting.{HasSort, IsGround, IsGroundOf, Occurs}
-use Rattle.lotos_base.specs.Equation.{Data}
+use Rattle.lotos_base.specs.Equation.{Data, HasSortedSides}
 use Rattle.lotos_base.specs.Equality.{Equal}
 use Rattle.lotos_base.specs.Substitution.{Substitution, substituted}
 use Rattle.lotos_base.specs.Canon.{IsCanon}
 use Rattle.lotos_base.proofs.CanonLemmas.{canon_tells}
+use Rattle.lotos_base.proofs.SortLemmas.{equal_sort, one_sort}
 use Rattle.lotos_base.proofs.SubstitutionLemmas.{ground_instance}
 use Rattle.lotos_base.proofs.TestLemmas.{Decides-term_eq}
 use Rattle.behaviour_semantics.specs.Behaviour.{Test}
@@ -20,22 +20,21 @@ use Rattle.behaviour_semantics.specs.Replacement.{test_with}
 use Rattle.behaviour_semantics.specs.Rule.{AllHold, AreValues}
 use Rattle.behaviour_semantics.specs.Solving.{test_in}
 use Rattle.behaviour_semantics.specs.SolvingLaws.{IsTermOver}
-use Rattle.behaviour_semantics.specs.DraftOrder.{IsDraftTest}
 use Rattle.behaviour_semantics.specs.WellFormed.{Every}
 use Rattle.behaviour_semantics.proofs.OptionLemmas.{some_value}
 use Rattle.behaviour_semantics.proofs.SupplyLemmas.{value_at}
 use Rattle.sort_terms.specs.ProfiledTerm.{ProfiledTerm, bare, head_sort, IsOf}
 use Rattle.sort_terms.specs.SortedView.{profiled_in, term_in}
 use Rattle.sort_terms.specs.declared.sorted.Sorted.{Sorted}
+use Rattle.sort_terms.proofs.ProfiledTermLemmas.{fitting_has_sort}
 use Rattle.behaviour_tree.specs.BehaviourTerms.{profiles_of}
 use Rattle.behaviour_tree.specs.BehaviourView.{terms_of}
 use Rattle.behaviour_tree.specs.Over.{AreTermsOf}
 use Rattle.behaviour_tree.proofs.StartLemmas.{told_sort}
 use Rattle.event_offers.specs.Instances.{AreValuesOver, IsValued, IsValuedPair, unmet_among}
-use Rattle.event_offers.specs.OfferView.{condition_of, condition_profiles, conditions_of, plain_entry}
-use Rattle.event_offers.specs.Offers.{IsEntryOver, AreConditionsOf}
+use Rattle.event_offers.specs.OfferView.{condition_of, condition_profiles, condition_sides, conditions_of}
+use Rattle.event_offers.specs.Offers.{IsConditionOf, AreConditionsOf, HaveOneSort}
 use Rattle.event_offers.specs.Values.{profiled_listed}
-use Rattle.event_offers.specs.declared.drafts.Entry.{Entry}
 
 values_sorted : (signature : Signature) (vars : List ℕ) (vs : List Sorted) → AreValues signature vars (terms_of vs)
     → AreTermsOf signature (profiles_of vs) → (n s : ℕ) → slice_get vars n ≡ Some s → head_sort (profiled_listed (profiles_of vs) n s) ≡ s
@@ -74,43 +73,102 @@ module _ (data_ : Data) (canon : Term → Term) (is_canon : IsCanon data_ canon)
   grounded t s h over = ground_instance data_.signature (leaves_in (terms_of vs)) t s h
       (λ n r o. value_at data_.signature vars (terms_of vs) values.sorted n r (over n r o))
 
-  -- no condition is unmet exactly where all hold
-  pub none_unmet : (leaves : List Term) (tests : List Test) → Every (IsDraftTest data_.signature leaves) tests
-      → Every (λ (test : Test). IsTermOver vars test.left) tests → Every (λ (test : Test). IsTermOver vars test.right) tests
-      → (unmet_among canon (leaves_in (terms_of vs)) tests ≡ None) ↔ AllHold data_ (map (test_with (leaves_in (terms_of vs))) tests)
-  none_unmet leaves [] h l r = ((λ e. tt), (λ a. refl))
-  none_unmet leaves (test ∷ tests) h l r =
-      by (term_eq (canon (substituted (leaves_in (terms_of vs)) test.left)) (canon (substituted (leaves_in (terms_of vs)) test.right))) refl
-      (none_unmet leaves tests h.1 l.1 r.1)
+  -- the two sides of a condition with the values put in
+  left_ground : (pair : Sorted × Sorted) → IsConditionOf data_.signature (condition_sides pair) → IsTermOver vars (term_in pair.0)
+      → IsGroundOf data_.signature (head_sort (profiled_in pair.0)) (substituted (leaves_in (terms_of vs)) (term_in pair.0))
+  left_ground pair h over =
+      grounded (term_in pair.0) (head_sort (profiled_in pair.0))
+      (fitting_has_sort data_.signature (profiled_in pair.0) h.0 pair.0.fits) over
+
+  right_ground : (pair : Sorted × Sorted) → IsConditionOf data_.signature (condition_sides pair) → IsTermOver vars (term_in pair.1)
+      → IsGroundOf data_.signature (head_sort (profiled_in pair.1)) (substituted (leaves_in (terms_of vs)) (term_in pair.1))
+  right_ground pair h over =
+      grounded (term_in pair.1) (head_sort (profiled_in pair.1))
+      (fitting_has_sort data_.signature (profiled_in pair.1) h.1 pair.1.fits) over
+
+  -- identical canons mean that the terms have one sort, and are equal
+  told_equal : (t u : Term) (r s : ℕ) → IsGroundOf data_.signature r t → IsGroundOf data_.signature s u → canon t ≡ canon u
+      → Equal data_ t u
+  told_equal t u r s h k e =
+      let same : r ≡ s =
+      one_sort data_.signature (canon t) r s (is_canon.sorts t r h.sorted)
+      (subst (λ (v : Term). HasSort data_.signature v s) (sym e) (is_canon.sorts u s k.sorted)) in
+      canon_tells data_ canon t u r is_canon h (subst (λ (q : ℕ). IsGroundOf data_.signature q u) (sym same) k) e
+
+  -- equal terms have one sort where the sides of equations have
+  equal_sorts : (t u : Term) (r s : ℕ) → IsGroundOf data_.signature r t → IsGroundOf data_.signature s u
+      → HasSortedSides data_ ⊎ (r ≡ s) → Equal data_ t u → r ≡ s
+  equal_sorts t u r s h k (inl sorted) e = one_sort data_.signature u r s (equal_sort r sorted e h.sorted) k.sorted
+  equal_sorts t u r s h k (inr same) e = same
+
+  equal_told : (t u : Term) (r s : ℕ) → IsGroundOf data_.signature r t → IsGroundOf data_.signature s u
+      → HasSortedSides data_ ⊎ (r ≡ s) → Equal data_ t u → canon t ≡ canon u
+  equal_told t u r s h k way e =
+      is_canon.decides t u r h (subst (λ (q : ℕ). IsGroundOf data_.signature q u) (sym (equal_sorts t u r s h k way e)) k) e
+
+  -- where no condition is unmet, all hold
+  pub met_where_none : (items : List (Sorted × Sorted)) → AreConditionsOf data_.signature (condition_profiles items)
+      → Every (λ (test : Test). IsTermOver vars test.left) (conditions_of items)
+      → Every (λ (test : Test). IsTermOver vars test.right) (conditions_of items)
+      → unmet_among canon (leaves_in (terms_of vs)) (conditions_of items) ≡ None
+      → AllHold data_ (map (test_with (leaves_in (terms_of vs))) (conditions_of items))
+  met_where_none [] h l r none = tt
+  met_where_none (pair ∷ items) h l r none = by (term_eq left right) refl (met_where_none items h.1 l.1 r.1) none
     where
-      left : IsGroundOf data_.signature h.0.0 (substituted (leaves_in (terms_of vs)) test.left)
-      left = grounded test.left h.0.0 h.0.1.sorted l.0
+      left : Term
+      left = canon (substituted (leaves_in (terms_of vs)) (term_in pair.0))
 
-      right : IsGroundOf data_.signature h.0.0 (substituted (leaves_in (terms_of vs)) test.right)
-      right = grounded test.right h.0.0 h.0.2.sorted r.0
+      right : Term
+      right = canon (substituted (leaves_in (terms_of vs)) (term_in pair.1))
 
-      by : (same : Bool)
-          → term_eq (canon (substituted (leaves_in (terms_of vs)) test.left)) (canon (substituted (leaves_in (terms_of vs)) test.right)) ≡
-          same
-          → (unmet_among canon (leaves_in (terms_of vs)) tests ≡ None) ↔ AllHold data_ (map (test_with (leaves_in (terms_of vs))) tests)
-          → ((if same then unmet_among canon (leaves_in (terms_of vs)) tests
-          else Some (test_in canon (test_with (leaves_in (terms_of vs)) test))) ≡ None)
-          ↔ AllHold data_ (map (test_with (leaves_in (terms_of vs))) (test ∷ tests))
-      by true e rest = (
-        (λ none. (
-          canon_tells data_ canon _ _ h.0.0 is_canon left right ((Decides-term_eq _ _).0 e),
-          rest.0 none,
-        )),
-        (λ all. rest.1 all.1),
+      by : (same : Bool) → term_eq left right ≡ same
+          → (unmet_among canon (leaves_in (terms_of vs)) (conditions_of items) ≡ None
+          → AllHold data_ (map (test_with (leaves_in (terms_of vs))) (conditions_of items)))
+          → (if same then unmet_among canon (leaves_in (terms_of vs)) (conditions_of items)
+          else Some (test_in canon (test_with (leaves_in (terms_of vs)) (condition_of pair)))) ≡ None
+          → AllHold data_ (map (test_with (leaves_in (terms_of vs))) (conditions_of (pair ∷ items)))
+      by true e rest none = (
+        told_equal _ _ _ _ (left_ground pair h.0 l.0) (right_ground pair h.0 r.0) ((Decides-term_eq left right).0 e),
+        rest none,
       )
-      by false e rest = (
-        (λ none. absurd (cc none)),
-        (λ all. absurd (cc (
-          e,
-          (Decides-term_eq (canon (substituted (leaves_in (terms_of vs)) test.left))
-              (canon (substituted (leaves_in (terms_of vs)) test.right))).1 (is_canon.decides _ _ h.0.0 left right all.0),
-        ))),
-      )
+      by false e rest none = absurd (cc none)
+
+  -- where all hold, no condition is unmet
+  pub none_where_met : (items : List (Sorted × Sorted)) → AreConditionsOf data_.signature (condition_profiles items)
+      → Every (λ (test : Test). IsTermOver vars test.left) (conditions_of items)
+      → Every (λ (test : Test). IsTermOver vars test.right) (conditions_of items)
+      → HasSortedSides data_ ⊎ HaveOneSort (condition_profiles items)
+      → AllHold data_ (map (test_with (leaves_in (terms_of vs))) (conditions_of items))
+      → unmet_among canon (leaves_in (terms_of vs)) (conditions_of items) ≡ None
+  none_where_met [] h l r way all = refl
+  none_where_met (pair ∷ items) h l r way all =
+      by (term_eq left right) refl (none_where_met items h.1 l.1 r.1 (rest_way way) all.1)
+    where
+      left : Term
+      left = canon (substituted (leaves_in (terms_of vs)) (term_in pair.0))
+
+      right : Term
+      right = canon (substituted (leaves_in (terms_of vs)) (term_in pair.1))
+
+      rest_way : HasSortedSides data_ ⊎ HaveOneSort (condition_profiles (pair ∷ items))
+          → HasSortedSides data_ ⊎ HaveOneSort (condition_profiles items)
+      rest_way (inl sorted) = inl sorted
+      rest_way (inr one) = inr one.1
+
+      first_way : HasSortedSides data_ ⊎ HaveOneSort (condition_profiles (pair ∷ items))
+          → HasSortedSides data_ ⊎ (head_sort (profiled_in pair.0) ≡ head_sort (profiled_in pair.1))
+      first_way (inl sorted) = inl sorted
+      first_way (inr one) = inr one.0
+
+      by : (same : Bool) → term_eq left right ≡ same → unmet_among canon (leaves_in (terms_of vs)) (conditions_of items) ≡ None
+          → (if same then unmet_among canon (leaves_in (terms_of vs)) (conditions_of items)
+          else Some (test_in canon (test_with (leaves_in (terms_of vs)) (condition_of pair)))) ≡ None
+      by true e rest = rest
+      by false e rest = absurd (cc (
+        e,
+        (Decides-term_eq left right).1
+            (equal_told _ _ _ _ (left_ground pair h.0 l.0) (right_ground pair h.0 r.0) (first_way way) all.0),
+      ))
 
 -- ---- The first condition that fails, in a list.
 pub unmet_here : (canon : Term → Term) (values : Substitution) (items : List (Sorted × Sorted)) (i : ℕ) (x : Sorted × Sorted) (left right
@@ -153,6 +211,10 @@ valued_from signature vs items i x lt is h =
     (subst (λ (ys : List (Sorted × Sorted)). Every (IsValuedPair signature vs) (condition_profiles ys)) (next_member items i x lt is) h).1
 
 -- what is unmet, as the code keeps it
-pub met_by : {A : Type 0} (o : Option (Sorted × Sorted)) (u : Option Test) → option_map condition_of o ≡ u → (u ≡ None) ↔ A → (o ≡ None) ↔ A
-met_by None u e h = ((λ none. h.0 (sym e)), (λ a. refl))
-met_by (Some pair) u e h = ((λ none. absurd (cc none)), (λ a. absurd (cc (e, h.1 a))))
+pub none_kept : (o : Option (Sorted × Sorted)) (u : Option Test) → option_map condition_of o ≡ u → o ≡ None → u ≡ None
+none_kept None u e none = sym e
+none_kept (Some pair) u e none = absurd (cc none)
+
+pub none_told : (o : Option (Sorted × Sorted)) (u : Option Test) → option_map condition_of o ≡ u → u ≡ None → o ≡ None
+none_told None u e none = refl
+none_told (Some pair) u e none = absurd (cc (e, none))

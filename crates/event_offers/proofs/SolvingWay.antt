@@ -15,7 +15,7 @@ use Rattle.behaviour_semantics.specs.Solving.{differing, test_in, has_closed, fi
 use Rattle.behaviour_semantics.specs.SolvingLaws.{IsCanonical}
 use Rattle.behaviour_semantics.specs.Rule.{label_values}
 use Rattle.behaviour_semantics.specs.WellFormed.{Every}
-use Rattle.behaviour_semantics.specs.DraftOrder.{IsLeaf, HasLeafVariables, IsDraftTerm, IsDraftTest, IsInOrder, LeavesMeet}
+use Rattle.behaviour_semantics.specs.DraftOrder.{as_draft, IsLeaf, HasLeafVariables, IsDraftTerm, IsDraftTest, IsInOrder, LeavesMeet}
 use Rattle.behaviour_semantics.specs.DraftOrderLaws.{SolvingNamesNoBehaviour, IsSolvedFrom}
 use Rattle.behaviour_semantics.proofs.DraftsInOrder.{came_from, canon_changes, tidied_in_order, label_values-in}
 use Rattle.behaviour_semantics.proofs.ReplacementsInOrder.{put_for, Replaces, replacement_changes, rests_on, replaced_in_order, was_leaf, gone}
@@ -223,18 +223,19 @@ module _ (data_ : Data) (canon : Term → Term) (is_canon : IsCanon data_ canon)
         (subst (λ (d : plain.Draft). first_replacement d.conditions ≡ None) reached.is none)))
 
   pub ordered_entry : (draft : plain.Draft) (entry : solving.Entry) → IsInOrder data_.signature draft → SolvesTo canon draft (Some entry)
-      → IsOrderedEntry data_.signature entry
+      → IsOrderedEntry data_.signature entry × IsInOrder data_.signature (as_draft entry)
   ordered_entry draft entry order solves =
       let laws : SolvingNamesNoBehaviour = solving_any in
-      let s : IsSolvedFrom data_.signature canon draft entry = laws.solved data_ canon draft entry is_canon order solves in
-      record {
-        sorts = s.sorts;
-        over_values = s.over_values;
-        over_leaves = s.over_leaves;
-        over_left = s.over_left;
-        over_right = s.over_right;
-        as_draft = s.as_draft;
-      }
+      let s : IsSolvedFrom data_.signature canon draft entry = laws.solved data_ canon draft entry is_canon order solves in (
+        record {
+          sorts = s.sorts;
+          over_values = s.over_values;
+          over_leaves = s.over_leaves;
+          over_left = s.over_left;
+          over_right = s.over_right;
+        },
+        s.as_draft,
+      )
 
 -- what is ready, by data and a canon that are the same
 pub has_terms_moved : (data_ other : Data) (draft : Draft) → other ≡ data_ → AreTermsOf other.signature (label_profiles draft.label)

@@ -23,11 +23,12 @@ ghost use Rattle.event_offers.specs.OfferView.{
   conditions_of,
   plain_entry,
 };
-ghost use Rattle.event_offers.specs.Offers.{IsEntryOver};
+ghost use Rattle.event_offers.specs.Offers.{HaveOneSort, IsEntryOf};
 ghost use Rattle.sort_terms.specs.ProfiledTerm.{IsOf};
 ghost use Rattle.sort_terms.specs.SortedView.{profiled_in, term_in};
 ghost use Rattle.std.specs.Option.{option_map};
-ghost use Rattle.std.specs.Prelude.{◌≡◌, ◌↔◌, IfOk, None, map};
+ghost use Rattle.std.specs.Prelude.{◌≡◌, ◌⊎◌, IfOk, None, map};
+ghost use Rattle.lotos_base.specs.Equation.{HasSortedSides};
 ghost use Rattle.lotos_base.specs.Substitution.{substituted};
 
 use crate::drafts::Entry;
@@ -39,21 +40,28 @@ use sort_terms::{Deciding, Sorted};
 
 impl Entry {
     /// The canonical forms of the two sides of the first condition that fails with these values for
-    /// the variables, by their numbers, or `None` exactly where all conditions hold.
+    /// the variables, by their numbers, or `None` exactly where all conditions hold. (That it is
+    /// `None` where all hold is told of data whose equations have sides of one sort, and of an
+    /// entry whose conditions have.)
     pub fn unmet<D: Deciding>(
         &self,
         values: &[Sorted],
         decider: &mut D,
     ) -> Result<Option<(Sorted, Sorted)>, NoMemory>
-        requires over { IsEntryOver (D.known_data decider.old).signature self.now }
+        requires over { IsEntryOf (D.known_data decider.old).signature self.now }
         requires values { AreValuesOver (D.known_data decider.old).signature self.now.vars.items
             values.now }
         ensures first { IfOk result (λ o. option_map condition_of o
             ≡ unmet_among (D.canon decider.old) (leaves_in (terms_of values.now))
             (conditions_of self.now.conditions.items)) }
-        ensures met { IfOk result (λ o. (o ≡ None) ↔ AllHold (D.known_data decider.old)
+        ensures met { IfOk result (λ o. o ≡ None → AllHold (D.known_data decider.old)
             (map (test_with (leaves_in (terms_of values.now)))
             (conditions_of self.now.conditions.items))) }
+        ensures none { IfOk result (λ o. HasSortedSides (D.known_data decider.old)
+            ⊎ HaveOneSort (condition_profiles self.now.conditions.items)
+            → AllHold (D.known_data decider.old)
+            (map (test_with (leaves_in (terms_of values.now)))
+            (conditions_of self.now.conditions.items)) → o ≡ None) }
         ensures same_known { KeepsData D.known_data D.canon decider.old decider.new }
     {
         first_unmet(&self.conditions, values, decider)
@@ -65,7 +73,7 @@ impl Entry {
         values: &[Sorted],
         decider: &mut D,
     ) -> Result<Derivation, NoMemory>
-        requires over { IsEntryOver (D.known_data decider.old).signature self.now }
+        requires over { IsEntryOf (D.known_data decider.old).signature self.now }
         requires values { AreValuesOver (D.known_data decider.old).signature self.now.vars.items
             values.now }
         ensures same { IfOk result (λ d. derivation_of d

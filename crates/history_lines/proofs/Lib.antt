@@ -7,6 +7,7 @@ pub mod StateLemmas
 pub mod StayLemmas
 pub mod CallLemmas
 pub mod ServingLemmas
+pub mod ServedLemmas
 pub mod ShelfLemmas
 pub mod ReachedLemmas
 pub mod AnsweredLemmas

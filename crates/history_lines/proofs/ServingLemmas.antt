@@ -5,18 +5,14 @@ use Rattle.lotos_base.specs.Outside.{Texts}
 use Rattle.lotos_base.specs.Signature.{Signature}
 use Rattle.behaviour_semantics.specs.Label.{Label}
 use Rattle.line_server.specs.RequestLaws.{Carries}
-use Rattle.line_server.specs.Request.{Request, take_step, undo, leave, show_normal, compare, request_of}
+use Rattle.line_server.specs.Request.{Request, take_step, undo, leave, show_normal, compare}
 use Rattle.session_histories.specs.Session.{SessionBasis, HasUndone}
 use Rattle.history_lines.specs.Standing.{Standing}
 use Rattle.history_lines.specs.CommandRefusal.{CommandRefusal, command_refusal_text}
 use Rattle.history_lines.specs.Befallen.{Befallen, says, says_faulty, leaves, come_to}
-use Rattle.history_lines.specs.Calls.{CallsShelf, MayCallShelf}
-use Rattle.history_lines.specs.SessionMachine.{SessionPoint, LineLeaves, history_machine}
 use Rattle.session_lines.specs.Answer.{IsNormalAnswer, IsComparison, normal_text, comparison_text}
 use Rattle.session_lines.specs.View.{AddsOutcome}
 use Rattle.session_log.specs.Courses.{IsUndone}
-use Rattle.line_server.specs.Serving.{ServesLine}
-use Rattle.line_server.specs.declared.lines.Answer.{Answer}
 use Rattle.history_lines.specs.StepAnswer.{took, declined, StepComesTo}
 use Rattle.history_lines.specs.ShelfAnswer.{refusal_in}
 use Rattle.history_lines.specs.Answer.{RequestComesTo, did_text, undone_text, is_undone, is_at_start}
@@ -165,38 +161,6 @@ pub said_comparison : (before after : Standing) (faults : ℕ) (terms start text
 said_comparison before after faults terms start text none same adds =
     gives_said before after before faults faults (compare terms) text (comparison_text adds.0)
     (adds.0, adds.1, refl) refl (adds.2 ∙ ap (λ (it : List ℕ). it ++ comparison_text adds.0) none) same refl
-
--- ---- Lines as the loop sees them
-
-pub serves_line : (before after : SessionPoint) (line : List ℕ) (wanted : Request) (answer : Answer)
-    → wanted ≡ request_of line → answer.quits ≡ ends_session wanted
-    → GivesAnswer (moment_of before.standing before.faults) wanted answer.text.items (moment_of after.standing after.faults)
-    → CallsShelf before.standing wanted before.calls after.calls
-    → ServesLine history_machine before line after answer
-serves_line before after line wanted answer is quits gives calls = record {
-  reply = record { text = answer.text.items; next = after; quits = answer.quits };
-  comes = record {
-    it = gives.it;
-    comes = subst (λ (it : Request). RequestComesTo before.standing it gives.it) is gives.comes;
-    text = gives.printed;
-    next = gives.next;
-    quits = quits ∙ sym gives.quits;
-    counted = gives.counted;
-    called = subst (λ (it : Request). CallsShelf before.standing it before.calls after.calls) is calls;
-  };
-  text = refl;
-  next = refl;
-  quits = refl;
-}
-
-pub leaves_line : (before after : SessionPoint) (line : List ℕ) (wanted : Request) → wanted ≡ request_of line
-    → IsBeforeOrBehind (moment_of before.standing before.faults) wanted (moment_of after.standing after.faults)
-    → MayCallShelf wanted before.calls after.calls → LineLeaves before line after
-leaves_line before after line wanted is leaves calls = record {
-  is = subst (λ (it : Request). IsBeforeOrBehind (moment_of before.standing before.faults) it (moment_of after.standing after.faults)) is
-      leaves;
-  called = subst (λ (it : Request). MayCallShelf it before.calls after.calls) is calls;
-}
 
 -- the same behind an equal moment
 pub at_moment : {T E : Type 0} (result : Result T E) (before after other : SessionMoment) (items : T → List ℕ) (wanted : Request)

@@ -1,5 +1,5 @@
 -- What the line of a step comes to.
-use Rattle.std.proofs.Common.{◌≡◌, ℕ, List, [], length, Option, Some, refl, ap, sym, ◌∙◌, subst}
+use Rattle.std.proofs.Common.{◌≡◌, ℕ, List, length, Option, Some, refl, ap, sym, ◌∙◌, subst}
 use Rattle.behaviour_semantics.proofs.SupplyLemmas.{length-values}
 use Rattle.session_log.proofs.ReplayLemmas.{read_values}
 use Rattle.lotos_base.specs.WrittenTerm.{WrittenTerm}

@@ -14,6 +14,7 @@ pub mod Befallen
 pub mod ShelfAnswer
 pub mod Answer
 pub mod SessionMachine
+pub mod Served
 pub mod AnswerCases
 pub mod OutcomeLaws
 pub mod HandedOn

@@ -10,10 +10,12 @@ pub mod outcome_laws;
 pub mod refusals;
 pub mod replaying;
 pub mod saving;
+pub mod served;
 pub mod serving;
 pub mod stepping;
 pub mod texts;
 pub mod values;
 
 pub use lines::HistoryLines;
+pub use served::{Served, serve};
 pub use session_log::Session;

@@ -24,6 +24,7 @@ ghost use Rattle.std.specs.Prelude.{
   ℕ,
   IfOk,
   IfSome,
+  List,
   MatchResult,
   Option,
   codes,
@@ -89,23 +90,22 @@ impl<M: MenuMaker> HistoryLines<'_, M> {
         if got.len() > TRACE_LIMIT {
             return name_line(alloc, b"refused 809 TraceTooLong ", name);
         }
-        self.replay_whole(alloc, name, got)
+        self.replay_whole(alloc, got)
     }
 
-    // Replays the whole text.
-    fn replay_whole(&mut self, alloc: Global, name: &str, text: &[u8]) -> Result<Vec<u8>, NoMemory>
+    // Replays the whole text; under each name that it has.
+    fn replay_whole(&mut self, alloc: Global, text: &[u8]) -> Result<Vec<u8>, NoMemory>
         requires serving { IsServing M.suits self.old }
         requires short { length text.now ≤ trace_limit }
-        ensures answered { (texts : Option Texts) (faults : ℕ)
-            → StandsUnder texts name.now text.now
+        ensures answered { (name : List ℕ) (texts : Option Texts) (faults : ℕ)
+            → StandsUnder texts name text.now
             → MatchResult result
-            (λ line. GivesAnswer (moment_of (standing_of self.old texts) faults) (replay_text name.now)
+            (λ line. GivesAnswer (moment_of (standing_of self.old texts) faults) (replay_text name)
             line.items (moment_of (standing_of self.new texts) faults))
             (λ _. IsBeforeOrBehind (moment_of (standing_of self.old texts) faults)
-            (replay_text name.now) (moment_of (standing_of self.new texts) faults)) }
+            (replay_text name) (moment_of (standing_of self.new texts) faults)) }
         ensures serving_after { IsServing M.suits self.new }
     {
-        let _ = name;
         match self.take_all(text) {
             Ok(count) => self.replayed(alloc, count),
             Err(fault) => fault_line(alloc, &fault),

@@ -2,7 +2,7 @@
 
 ghost use Rattle.history_lines.specs.Calls.{CallsShelf, MayCallShelf};
 ghost use Rattle.history_lines.specs.LinesView.{IsServing, basis_of, reached, standing_of};
-ghost use Rattle.history_lines.specs.Serving.{moment_of, GivesAnswer, IsBeforeOrBehind, ends_session};
+ghost use Rattle.history_lines.specs.Serving.{moment_of, GivesAnswer, IsBeforeOrBehind};
 ghost use Rattle.line_server.specs.Request.{compare, show_normal};
 ghost use Rattle.line_server.specs.RequestView.{wants};
 ghost use Rattle.line_server.specs.RequestLaws.{Carries};
@@ -21,8 +21,9 @@ ghost use Rattle.std.specs.Prelude.{
 };
 
 use crate::lines::HistoryLines;
+use crate::served::serve;
 use crate::texts::{bare_line, menu_lines};
-use line_server::{Answer, Lines, Request, read_request};
+use line_server::{Answer, Lines, Request};
 use lotos_base::{NoMemory, Shelf};
 use menu_builder::MenuMaker;
 use printed_texts::brackets::push_text;
@@ -145,16 +146,6 @@ impl<M: MenuMaker> HistoryLines<'_, M> {
     }
 }
 
-// Whether the request ends the session.
-fn ends(request: &Request<'_>) -> bool
-    ensures { result ≡ ends_session (wants request.now) }
-{
-    match request {
-        Request::Quit => true,
-        _ => false,
-    }
-}
-
 impl<M: MenuMaker> Lines for HistoryLines<'_, M> {
     ghost use Rattle.history_lines.specs.LinesView.{IsServing, point_of};
     ghost use Rattle.history_lines.specs.SessionMachine.{SessionPoint, history_machine};
@@ -173,9 +164,11 @@ impl<M: MenuMaker> Lines for HistoryLines<'_, M> {
         line: &[u8],
         shelf: &mut F,
     ) -> Result<Answer, NoMemory> {
-        let request = read_request(line);
-        let quits = ends(&request);
-        let text = self.answer(alloc, request, shelf)?;
-        Ok(Answer { text, quits })
+        let mut text = Vec::new(alloc);
+        let served = serve(alloc, line, self, shelf, &mut text)?;
+        Ok(Answer {
+            text,
+            quits: served.ends(),
+        })
     }
 }

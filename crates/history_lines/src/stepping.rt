@@ -24,6 +24,7 @@ ghost use Rattle.std.specs.Prelude.{
   ◌^◌,
   ℕ,
   IfOk,
+  List,
   MatchResult,
   Option,
   length,
@@ -101,43 +102,43 @@ impl<M: MenuMaker> HistoryLines<'_, M> {
         ensures stays { StaysServing M.suits self.old self.new }
     {
         let terms = read_terms(alloc, text, 0)?;
-        let values = self.values_for(alloc, number, &terms, text)?;
-        self.take_with(number, values, text)
+        let values = self.values_for(alloc, number, &terms)?;
+        self.take_with(number, values)
     }
 
-    // The values for the entry with this number, which are the readings of the terms in the text.
+    // The values for the entry with this number, which are the readings of the terms; for each text
+    // that has these terms.
     fn values_for(
         &self,
         alloc: Global,
         number: u64,
         terms: &Vec<Written>,
-        text: &[u8],
     ) -> Result<Vec<Sorted>, Decline>
         requires serving { IsServing M.suits self.now }
-        requires there { AreTerms text.now (map written_term_of terms.now.items) }
-        ensures { MatchResult result
-            (λ values. ChoosesValues (basis_of self.now) (reached self.now) number text.now values.items)
-            (Declines (StepComesTo (basis_of self.now) (reached self.now) number text.now)) }
+        ensures { (text : List ℕ) → AreTerms text (map written_term_of terms.now.items)
+            → MatchResult result
+            (λ values. ChoosesValues (basis_of self.now) (reached self.now) number text values.items)
+            (Declines (StepComesTo (basis_of self.now) (reached self.now) number text)) }
     {
-        let _ = text;
         let entry = counted_entry(self.session.menu(), number, terms.len())?;
         Ok(values_at(alloc, &self.reader, &entry.vars, terms)?)
     }
 
-    // Takes the step with these values, which are those in the text.
-    fn take_with(&mut self, number: u64, values: Vec<Sorted>, text: &[u8]) -> Result<Label, Decline>
+    // Takes the step with these values; for each text that has them.
+    fn take_with(&mut self, number: u64, values: Vec<Sorted>) -> Result<Label, Decline>
         requires serving { IsServing M.suits self.old }
-        requires chosen { ChoosesValues (basis_of self.old)
-            (reached self.old) number text.now values.items }
-        ensures answered { MatchResult result
-            (λ label. StepComesTo (basis_of self.old) (reached self.old) number text.now
+        requires chosen { (text : List ℕ) × ChoosesValues (basis_of self.old)
+            (reached self.old) number text values.items }
+        ensures answered { (text : List ℕ)
+            → ChoosesValues (basis_of self.old) (reached self.old) number text values.items
+            → MatchResult result
+            (λ label. StepComesTo (basis_of self.old) (reached self.old) number text
             (took (label_of label) (reached self.new)))
             (λ decline. (reached self.new ≡ reached self.old)
-            × Declines (StepComesTo (basis_of self.old) (reached self.old) number text.now)
+            × Declines (StepComesTo (basis_of self.old) (reached self.old) number text)
             decline) }
         ensures stays { StaysServing M.suits self.old self.new }
     {
-        let _ = text;
         Ok(self.session.step(number, values, &mut self.book)?)
     }
 

@@ -15,7 +15,7 @@ blanks_short (byte ∷ bytes) =
     either_short (length (byte ∷ bytes)) (is_blank byte) (behind_blanks bytes) (byte ∷ bytes)
     (omega (arith, blanks_short bytes)) (omega arith)
 
-spaces_short : (line : List ℕ) → length (behind_spaces line) ≤ length line
+pub spaces_short : (line : List ℕ) → length (behind_spaces line) ≤ length line
 spaces_short [] = omega arith
 spaces_short (byte ∷ bytes) =
     either_short (length (byte ∷ bytes)) (nat_eq byte 32) (behind_spaces bytes) (byte ∷ bytes)

@@ -1,12 +1,12 @@
--- What a request carries is no longer than its line.
-use Rattle.std.proofs.Common.{◌≡◌, ◌≢◌, ℕ, ◌≤◌, ◌-◌, Bool, true, false, if◌then◌else◌, List, [], ◌∷◌, take, drop, length, Option, None, Some, codes, refl, ap, sym, ◌∙◌, arith}
+-- What a request carries is shorter than its line.
+use Rattle.std.proofs.Common.{◌≡◌, ◌≢◌, ℕ, zero, suc, ◌+◌, ◌≤◌, ◌-◌, Bool, true, false, if◌then◌else◌, List, [], ◌∷◌, take, drop, length, Option, None, Some, codes, refl, ap, sym, ◌∙◌, arith, length-drop}
 use Rattle.std.specs.Str.{bytes_eq, is_utf8, IsUtf8}
 use Rattle.std.proofs.lemmas.Str.{IsUtf8-from_is_utf8, is_utf8-from_IsUtf8}
 use Rattle.std.proofs.lemmas.List.{take_rest}
 use Rattle.line_server.specs.Line.{behind_blanks, behind_spaces, first_word, behind_word, word_length, stripped}
 use Rattle.line_server.specs.Request.{Request, show_menu, show_behaviour, show_trace, undo, leave, save, replay, only, number_in, step_by, with_name, name_of, named, asked_with, requested_by, requested_in, request_of}
 use Rattle.line_server.specs.RequestLaws.{Carries}
-use Rattle.line_server.proofs.LineLemmas.{blanks_short, end_short, word_short}
+use Rattle.line_server.proofs.LineLemmas.{blanks_short, end_short, spaces_short, word_short}
 
 unit : Unit {0}
 unit = tt
@@ -51,14 +51,23 @@ word_carries n word rest within =
     (either_carries n (bytes_eq word (codes "quit")) _ _ (only_carries n leave rest unit)
     (with_carries n word rest within)))))
 
-line_carries : (n : ℕ) (line : List ℕ) → length line ≤ n → Carries n (requested_in line)
-line_carries n [] within = unit
-line_carries n (byte ∷ bytes) within =
-    word_carries n (first_word (byte ∷ bytes)) (behind_word (byte ∷ bytes)) (omega (arith, word_short (byte ∷ bytes), within))
+-- a line that begins with a space has no form
+no_word : (n : ℕ) (rest : List ℕ) → Carries n (requested_by [] rest)
+no_word n rest = unit
 
-pub request_within : (line : List ℕ) → Carries (length line) (request_of line)
-request_within line =
-    line_carries (length line) (stripped line) (omega (arith, end_short (behind_blanks line), blanks_short line))
+line_carries : (n : ℕ) (line : List ℕ) → length line ≤ n + 1 → Carries n (requested_in line)
+line_carries n [] within = unit
+line_carries n (byte ∷ bytes) within = by (word_length (byte ∷ bytes))
+  where
+    by : (count : ℕ) → Carries n (requested_by (take count (byte ∷ bytes)) (behind_spaces (drop count (byte ∷ bytes))))
+    by zero = no_word n (behind_spaces (byte ∷ bytes))
+    by (suc count) =
+        word_carries n (byte ∷ take count bytes) (behind_spaces (drop count bytes))
+        (omega (arith, spaces_short (drop count bytes), length-drop count bytes, within))
+
+pub request_within : (line : List ℕ) (n : ℕ) → length line ≤ n + 1 → Carries n (request_of line)
+request_within line n within =
+    line_carries n (stripped line) (omega (arith, end_short (behind_blanks line), blanks_short line, within))
 
 -- ---- What the code reads
 

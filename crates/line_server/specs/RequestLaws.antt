@@ -1,5 +1,5 @@
--- What a request carries is no longer than its line.
-use Rattle.std.specs.Prelude.{ℕ, ◌≤◌, List, length}
+-- What a request carries is shorter than its line.
+use Rattle.std.specs.Prelude.{ℕ, ◌+◌, ◌≤◌, List, length}
 use Rattle.line_server.specs.Request.{Request, skip, show_menu, show_behaviour, show_trace, undo, leave, no_request, take_step, save, replay, show_normal, compare, request_of}
 
 -- the texts of a request have no more bytes than this
@@ -17,5 +17,6 @@ Carries n (replay name) = length name ≤ n
 Carries n (show_normal terms) = length terms ≤ n
 Carries n (compare terms) = length terms ≤ n
 
+-- one byte less than the line has, at the most
 abbrev pub RequestsAreWithin : Type 0
-RequestsAreWithin = (line : List ℕ) → Carries (length line) (request_of line)
+RequestsAreWithin = (line : List ℕ) (n : ℕ) → length line ≤ n + 1 → Carries n (request_of line)

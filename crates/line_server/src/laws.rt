@@ -2,7 +2,7 @@
 
 ghost use Rattle.line_server.specs.RequestLaws.{RequestsAreWithin};
 
-/// The texts of a request are no longer than its line.
+/// The texts of a request are shorter than its line.
 pub fn requests_are_within()
     ensures { RequestsAreWithin }
 {}

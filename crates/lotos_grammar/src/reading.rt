@@ -3,6 +3,7 @@
 ghost use Rattle.std.specs.Prelude.{◌≡◌, ◌+◌, ◌<◌, ◌≤◌, ◌^◌, IfErr, IfOk, MatchResult, length, map};
 ghost use Rattle.lotos_base.specs.Limits.{text_limit};
 ghost use Rattle.lotos_base.specs.WrittenView.{listed_operation_of, written_term_of};
+ghost use Rattle.syntax_trees.specs.ReadableTrees.{AreReadableItems, IsReadableSpecification};
 ghost use Rattle.syntax_trees.specs.TreeViews.{item_of, specification_of};
 ghost use Rattle.sentence_trees.specs.declared.fault.ReadFault.TheVariants.{TooLong};
 ghost use Rattle.sentence_trees.specs.Reading.{IsOrderReadFault, IsOrderReading, IsSpecificationFault, IsSpecificationReading, IsTermsFault, IsTermsReading, IsTypesFault, IsTypesReading};
@@ -31,10 +32,14 @@ fn within_limit(text: &[u8]) -> Result<(), ReadFault>
 /// else `Syntax` at the first token with which the tokens before it stop being the beginning of a
 /// specification, or just past the last byte; else `TooDeep` at the first node in the text that is
 /// deeper than 500. The grammar is that of ISO 8807:1989.
+///
+/// In the tree the sign of a `par` is a parallel one, each list of gates of a `choice` or a `par`
+/// has a gate, and an equation has an arrow exactly where it has premisses.
 pub fn read_spec(alloc: Global, text: &[u8], number: u32) -> Result<SpecText, ReadFault>
-    ensures { MatchResult result
+    ensures answer { MatchResult result
         (λ spec. IsSpecificationReading number text.now (specification_of spec))
         (IsSpecificationFault number text.now) }
+    ensures readable { IfOk result (λ spec. IsReadableSpecification (specification_of spec)) }
 {
     within_limit(text)?;
     let Derived { tokens, rows } = derive(alloc, text, number, TextKind::Specification)?;
@@ -46,11 +51,13 @@ pub fn read_spec(alloc: Global, text: &[u8], number: u32) -> Result<SpecText, Re
     Ok(spec)
 }
 
-/// Reads the items of a library, with the faults of [`read_spec`].
+/// Reads the items of a library, with the faults of [`read_spec`]. Its equations have arrows as
+/// there.
 pub fn read_types(alloc: Global, text: &[u8], number: u32) -> Result<Vec<ItemText>, ReadFault>
-    ensures { MatchResult result
+    ensures answer { MatchResult result
         (λ items. IsTypesReading number text.now (map item_of items.items))
         (IsTypesFault number text.now) }
+    ensures readable { IfOk result (λ items. AreReadableItems (map item_of items.items)) }
 {
     within_limit(text)?;
     let Derived { tokens, rows } = derive(alloc, text, number, TextKind::Types)?;

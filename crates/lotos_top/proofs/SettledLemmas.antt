@@ -18,7 +18,7 @@ use Rattle.lotos_top.specs.Words.{CommandLine, check, session, demonstration}
 use Rattle.lotos_top.specs.Work.{Print, print, Finish, prints, serves, OpensAsked, refusal_printed, work_of}
 use Rattle.lotos_top.specs.declared.ended.Ended.{Ended}
 use Rattle.lotos_top.specs.declared.ended.Ended.TheVariants.{Done, NoMemory}
-use Rattle.lotos_top.proofs.RunLemmas.{follows_rise, rises_on}
+use Rattle.lotos_top.proofs.RunLemmas.{did_texts, follows_rise, rises_on}
 use Rattle.lotos_top.proofs.WorkLemmas.{Opened, opened_on, opened_unread, opened_stops, got_alone}
 
 -- ---- What a line asks for
@@ -96,14 +96,15 @@ by_acceptance texts (Some (demonstration cells)) comes work asked outcome asks o
 
 -- ---- What a run did
 
-does : (texts : Texts) (line : Option CommandLine) (between shelf_after : ShelfState) (before after : Streams) (answer : Ended)
-    (comes : Comes Print Finish) → WorkOver texts line comes → Follows comes between shelf_after before after answer
-    → DoesWorkOver texts line shelf_after before after answer
-does texts line between shelf_after before after answer comes work follows = record {
+does : (texts : Texts) (line : Option CommandLine) (shelf between shelf_after : ShelfState) (before after : Streams) (answer : Ended)
+    (comes : Comes Print Finish) → shelf.texts ≡ Some texts → Did shelf between (work_of line) comes → WorkOver texts line comes
+    → Follows comes between shelf_after before after answer → DoesWorkOver texts line shelf_after before after answer
+does texts line shelf between shelf_after before after answer comes told did work follows = record {
   comes = comes;
   work = work;
   by_acceptance = by_acceptance texts line comes work;
   between = between;
+  texts_between = did_texts shelf between (work_of line) comes did ∙ told;
   follows = follows;
 }
 
@@ -112,17 +113,17 @@ settled_by : (line : Option CommandLine) (shelf between shelf_after : ShelfState
     → Did shelf between (work_of line) comes → Follows comes between shelf_after before after answer
     → (answer ≡ NoMemory) ⊎ DoesWorkOver texts line shelf_after before after answer
 settled_by line shelf between shelf_after before after answer texts told steady (goes_on finish) did follows =
-    inr (does texts line between shelf_after before after answer (goes_on finish)
+    inr (does texts line shelf between shelf_after before after answer (goes_on finish) told did
     (record { files = did.0; came = did.2; got_files = got_told texts shelf.texts did.0 told did.1.content; lacks = tt }) follows)
 settled_by line shelf between shelf_after before after answer texts told steady (unread name) did follows =
-    inr (does texts line between shelf_after before after answer (unread name) (record {
+    inr (does texts line shelf between shelf_after before after answer (unread name) told did (record {
       files = did.0;
       came = did.2;
       got_files = got_told texts shelf.texts did.0 told did.1.content;
       lacks = lacks_told texts shelf.texts shelf.faults between.faults name told steady did.1.cause;
     }) follows)
 settled_by line shelf between shelf_after before after answer texts told steady (stops p) did follows =
-    inr (does texts line between shelf_after before after answer (stops p)
+    inr (does texts line shelf between shelf_after before after answer (stops p) told did
     (record { files = did.0; came = did.2; got_files = got_told texts shelf.texts did.0 told did.1.content; lacks = tt }) follows)
 settled_by line shelf between shelf_after before after answer texts told steady wants_memory did follows = inl follows.is
 

@@ -44,8 +44,8 @@ AsksFor (Some (check one)) asked = one ≡ asked
 AsksFor (Some (session one)) asked = one ≡ asked
 AsksFor line asked = ⊥
 
--- The run did what comes of the work over these texts. Where a specification is asked for, that is by the one thing that comes of
--- its acceptance over them.
+-- The run did what comes of the work over these texts, which are still there between the work and what follows from it. Where a
+-- specification is asked for, that is by the one thing that comes of its acceptance over them.
 pub record DoesWorkOver (texts : Texts) (line : Option CommandLine) (shelf_after : ShelfState) (before after : Streams) (answer : Ended)
     : Type 0 where
   pub comes : Comes Print Finish
@@ -54,6 +54,7 @@ pub record DoesWorkOver (texts : Texts) (line : Option CommandLine) (shelf_after
       (asked : Asked) (outcome : Comes Refused Acceptance) → AsksFor line asked → ComesOver texts asked outcome
       → IsByAcceptance line asked outcome comes
   pub between : ShelfState
+  pub texts_between : between.texts ≡ Some texts
   pub follows : Follows comes between shelf_after before after answer
 
 -- Where the shelf tells its texts and counts no fault, the run did what comes of the work over these texts; or memory was wanted.

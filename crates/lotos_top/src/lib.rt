@@ -8,6 +8,7 @@ mod running;
 
 pub use commands::{Command, parse_command};
 pub use ended::Ended;
+pub use history_lines::{HistoryLines, Served, serve};
 pub use refusal_lines::{Refused, SpecFault, WORD_BYTES_LIMIT, WORDS_LIMIT};
 pub use running::run;
 pub use spec_acceptance::{Accepted, NotAccepted};

@@ -13,5 +13,6 @@ pub mod nodes;
 pub mod numbers;
 
 pub use behaviours::{behaviour_moves, call_moves};
+pub use event_offers::Menu;
 pub use makers::{FreshMenus, MenuMaker};
 pub use menus::menu;

@@ -1,3 +1,4 @@
+pub mod HeadLemmas
 pub mod TableLemmas
 pub mod CodeLemmas
 pub mod RuleLemmas

@@ -1,3 +1,4 @@
+pub mod Heads
 pub mod Comparison
 pub mod ComparedView
 pub mod PrecedenceView

@@ -21,13 +21,36 @@ ghost use Rattle.termination_theory.specs.OrderTest.{same_length};
 ghost use Rattle.termination_theory.specs.PathOrder.{IsGreater};
 
 use crate::compared::{Compared, equals, exceeds, exceeds_all, parts, some_reaches};
+use crate::heads::exceeds_by_heads;
 use crate::precedence::Precedence;
 use lotos_base::NoMemory;
 use sort_terms::{Sorted, Term};
 use std::alloc::Global;
 
-/// Whether the left term is greater than the right one. It costs the product of the sizes.
+/// Whether the left term is greater than the right one. Where the operation at the head of one of
+/// them is above all that the other one has, it takes no memory and about the sum of the sizes, else
+/// the product of the sizes.
 pub fn greater(
+    alloc: Global,
+    precedence: &Precedence,
+    left: &Sorted,
+    right: &Sorted,
+) -> Result<bool, NoMemory>
+    ensures { IfOk result
+        (λ is. IsTrue is
+        ↔ IsGreater (precedence_of precedence.now) (term_in left.now) (term_in right.now)) }
+{
+    if exceeds_by_heads(precedence, left.term(), right.term()) {
+        return Ok(true);
+    }
+    if exceeds_by_heads(precedence, right.term(), left.term()) {
+        return Ok(false);
+    }
+    greater_by_tables(alloc, precedence, left, right)
+}
+
+// The same, told by tables.
+fn greater_by_tables(
     alloc: Global,
     precedence: &Precedence,
     left: &Sorted,
@@ -194,8 +217,8 @@ fn are_alike(op: u32, other: u32, arguments: &Vec<Term>, others: &Vec<Term>) -> 
     arguments.len() == others.len()
 }
 
-// Whether the first operation is above the second one.
-fn is_over(precedence: &Precedence, op: u32, other: u32) -> bool
+/// Whether the first operation is above the second one.
+pub fn is_over(precedence: &Precedence, op: u32, other: u32) -> bool
     ensures { result ≡ nat_lt ((precedence_of precedence.now).rank other)
         ((precedence_of precedence.now).rank op) }
 {

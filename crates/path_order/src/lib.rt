@@ -5,6 +5,7 @@
 pub mod compared;
 pub mod comparing;
 pub mod head_index;
+pub mod heads;
 mod indexing;
 pub mod items;
 pub mod laws;

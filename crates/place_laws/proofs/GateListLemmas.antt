@@ -1,124 +1,47 @@
 -- The lists of gates in a text.
-use Rattle.std.proofs.Common.{sym, ◌≡◌, ◌≢◌, subst, ℕ, List, [], ◌∷◌, flat_map}
-use Rattle.lotos_base.specs.WrittenTerm.{PlacedName}
-use Rattle.lotos_lexer.specs.declared.kinds.TheConstants.{COMMA}
-use Rattle.lotos_lexer.specs.declared.tokens.Token.{Token}
-use Rattle.syntax_trees.specs.WrittenBehaviour.{WrittenGateChoice, WrittenBehaviour}
-use Rattle.syntax_trees.specs.WrittenDefinition.{WrittenInner, WrittenInners, inner_item, process, no_inner, inner_then, inners_of, WrittenSpecification}
+use Rattle.std.proofs.Common.{sym, subst, List, [], ◌∷◌}
+use Rattle.syntax_trees.specs.WrittenBehaviour.{WrittenGateChoice, WrittenBehaviour, stop, exit, call, action, inner_action, guard, hide, let_be, choose_value, choose_gate, par_gate, binary}
+use Rattle.syntax_trees.specs.WrittenDefinition.{WrittenInner, WrittenInners, inner_item, process, no_inner, inner_then, inners_of}
 use Rattle.syntax_trees.specs.TakenItems.{process_then as with_process, processes_of}
-use Rattle.syntax_trees.specs.Strength.{PlacedSign, strength_of, joined}
-use Rattle.syntax_trees.specs.Grouping.{IsGrouped, alone, split}
+use Rattle.syntax_trees.specs.ReadableTrees.{AllAre, HasGates, IsReadableBehaviour, IsReadableInner, AreReadableInners}
 use Rattle.syntax_trees.proofs.TakingItems.{listed-again}
-use Rattle.lotos_rows.specs.Words.{Separated, last, before_more, between}
-use Rattle.lotos_rows.specs.Names.{AreNames, AreWrittenGates}
-use Rattle.lotos_rows.specs.Behaviours.{gate_choices_among, AreGateChoicesAmong, among, AreGateChoices, gate_choices, before_first, AreOperands, hiding, letting, choosing_values, choosing_gates, parallel_over_gates, inner_prefix, guarding, acting, offering, last_operand, before_sign, IsAtom, stopping, exiting, calling, in_brackets, IsBehaviour, grouped_operands}
-use Rattle.lotos_rows.specs.Definitions.{IsProcess, a_process, IsWhere, no_where, a_where, AreInner, no_more_inner, item_then, process_then}
-use Rattle.lotos_rows.specs.Starts.{IsWrittenSpecification, a_specification}
-use Rattle.behaviour_semantics.specs.WellFormed.{Every}
-use Rattle.behaviour_semantics.proofs.EveryLemmas.{every_front, every_back}
-use Rattle.scope_parts.specs.GateLists.{HaveGates, HasGateLists, InnerHasGateLists, InnersHaveGateLists, TextHasGateLists}
-use Rattle.scope_parts.proofs.FormedDefinitions.{every_both}
+use Rattle.lotos_rows.proofs.ReadableTexts.{specification_readable}
+use Rattle.scope_parts.specs.GateLists.{HaveGates, HasGateLists, InnerHasGateLists, InnersHaveGateLists}
 use Rattle.place_laws.specs.ReadGateLists.{ReadTextsHaveGateLists, GateListsStay}
 
--- ---- Lists
+-- ---- Texts that were read
 
-abbrev IsFull : {X : Type 0} → List X → Type 0
-IsFull [] = ⊥
-IsFull (x ∷ xs) = Unit {0}
+choices_have : (gates : List WrittenGateChoice) → AllAre HasGates gates → HaveGates gates
+choices_have [] all = tt
+choices_have (gate ∷ gates) all = (all.0, choices_have gates all.1)
 
-full : {X : Type 0} (x : X) (xs : List X) → (x ∷ xs) ≡ [] → ⊥
-full {X} x xs e = subst (λ (l : List X). IsFull l) e tt
-
--- ---- Lists of gates
-
-names_there : {text : List ℕ} {tokens : List Token} {names : List PlacedName} → AreNames text tokens names → names ≡ [] → ⊥
-names_there (last {value = name} is) e = full name [] e
-names_there (before_more {value = name} {values = names} is comma rest) e = full name names e
-
-gates_there : {text : List ℕ} {tokens : List Token} {gates : List PlacedName} → AreWrittenGates text tokens gates → gates ≡ [] → ⊥
-gates_there (between left names right) = names_there names
-
-choices_have : (names gates : List PlacedName) → (gates ≡ [] → ⊥) → HaveGates (gate_choices_among names gates)
-choices_have [] gates there = tt
-choices_have (name ∷ names) gates there = (there, choices_have names gates there)
-
-among_have : {text : List ℕ} {tokens : List Token} {choices : List WrittenGateChoice} → AreGateChoicesAmong text tokens choices →
-    HaveGates choices
-among_have (among {names = names} {gates = gates} are word is) = choices_have names gates (gates_there is)
-
-groups_have : {text : List ℕ} {tokens : List Token} {groups : List (List WrittenGateChoice)} →
-    Separated COMMA (AreGateChoicesAmong text) tokens groups → HaveGates (flat_map (λ (group : List WrittenGateChoice). group) groups)
-groups_have (last {value = group} is) = every_both (λ (gate : WrittenGateChoice). gate.among ≢ []) group [] (among_have is) tt
-groups_have (before_more {value = group} {values = groups} is comma rest) =
-    every_both (λ (gate : WrittenGateChoice). gate.among ≢ []) group (flat_map (λ (g : List WrittenGateChoice). g) groups) (among_have is)
-    (groups_have rest)
-
-gates_have : {text : List ℕ} {tokens : List Token} {choices : List WrittenGateChoice} → AreGateChoices text tokens choices →
-    HaveGates choices
-gates_have (gate_choices groups) = groups_have groups
-
--- ---- Behaviours
-
-grouped_has : {operands : List WrittenBehaviour} {signs : List PlacedSign} {behaviour : WrittenBehaviour} →
-    IsGrouped strength_of joined operands signs behaviour → Every HasGateLists operands → HasGateLists behaviour
-grouped_has alone all = all.0
-grouped_has (split {operands = operands} {others = others} before behind left right) all =
-    (grouped_has left (every_front HasGateLists operands others all), grouped_has right (every_back HasGateLists operands others all))
-
-first_has : (prefix : WrittenBehaviour → WrittenBehaviour) (operands : List WrittenBehaviour) →
-    ((b : WrittenBehaviour) → HasGateLists b → HasGateLists (prefix b)) → Every HasGateLists operands →
-    Every HasGateLists (before_first prefix operands)
-first_has prefix [] keeps all = tt
-first_has prefix (first ∷ others) keeps all = (keeps first all.0, all.1)
+behaviour_has : (behaviour : WrittenBehaviour) → IsReadableBehaviour behaviour → HasGateLists behaviour
+behaviour_has (stop place) is = tt
+behaviour_has (exit place values) is = tt
+behaviour_has (call place name gates values) is = tt
+behaviour_has (action place gate offers test next) is = behaviour_has next is
+behaviour_has (inner_action place next) is = behaviour_has next is
+behaviour_has (guard place test next) is = behaviour_has next is
+behaviour_has (hide place gates inside) is = behaviour_has inside is
+behaviour_has (let_be place values inside) is = behaviour_has inside is
+behaviour_has (choose_value place variables inside) is = behaviour_has inside is
+behaviour_has (choose_gate place gates inside) is = behaviour_has inside is.1
+behaviour_has (par_gate place gates sign inside) is = (choices_have gates is.0, behaviour_has inside is.2)
+behaviour_has (binary place sign left right) is = (behaviour_has left is.0, behaviour_has right is.1)
 
 mutual
-  operands_have : {text : List ℕ} {tokens : List Token} {operands : List WrittenBehaviour} {signs : List PlacedSign} →
-      AreOperands text tokens operands signs → Every HasGateLists operands
-  operands_have (hiding word names in_ inside) = (behaviour_has inside, tt)
-  operands_have (letting word values in_ inside) = (behaviour_has inside, tt)
-  operands_have (choosing_values word chosen sign inside) = (behaviour_has inside, tt)
-  operands_have (choosing_gates word gates sign inside) = (behaviour_has inside, tt)
-  operands_have (parallel_over_gates word gates sign inside) = ((gates_have gates, behaviour_has inside), tt)
-  operands_have (inner_prefix {operands = operands} word semicolon rest) = first_has _ operands (λ b has. has) (operands_have rest)
-  operands_have (guarding {operands = operands} left test right arrow rest) = first_has _ operands (λ b has. has) (operands_have rest)
-  operands_have (acting {operands = operands} gate semicolon rest) = first_has _ operands (λ b has. has) (operands_have rest)
-  operands_have (offering {operands = operands} gate first offers test semicolon rest) =
-      first_has _ operands (λ b has. has) (operands_have rest)
-  operands_have (last_operand atom) = (atom_has atom, tt)
-  operands_have (before_sign atom sign rest) = (atom_has atom, operands_have rest)
+  inner_has : (inner : WrittenInner) → IsReadableInner inner → InnerHasGateLists inner
+  inner_has (inner_item item) is = tt
+  inner_has (process heading body inner) is = (behaviour_has body is.0, inners_have inner is.1)
 
-  atom_has : {text : List ℕ} {tokens : List Token} {operand : WrittenBehaviour} → IsAtom text tokens operand → HasGateLists operand
-  atom_has (stopping word) = tt
-  atom_has (exiting word values) = tt
-  atom_has (calling name gates values) = tt
-  atom_has (in_brackets left inside right) = behaviour_has inside
-
-  behaviour_has : {text : List ℕ} {tokens : List Token} {behaviour : WrittenBehaviour} → IsBehaviour text tokens behaviour →
-      HasGateLists behaviour
-  behaviour_has (grouped_operands operands grouped) = grouped_has grouped (operands_have operands)
-
--- ---- Definitions
-
-mutual
-  process_has : {text : List ℕ} {tokens : List Token} {inner : WrittenInner} → IsProcess text tokens inner → InnerHasGateLists inner
-  process_has (a_process word head sign body inner end) = (behaviour_has body, where_has inner)
-
-  where_has : {text : List ℕ} {tokens : List Token} {inner : List WrittenInner} → IsWhere text tokens inner →
-      InnersHaveGateLists (inners_of inner)
-  where_has no_where = tt
-  where_has (a_where word inner) = inner_have inner
-
-  inner_have : {text : List ℕ} {tokens : List Token} {inner : List WrittenInner} → AreInner text tokens inner →
-      InnersHaveGateLists (inners_of inner)
-  inner_have no_more_inner = tt
-  inner_have (item_then item rest) = (tt, inner_have rest)
-  inner_have (process_then definition rest) = (process_has definition, inner_have rest)
-
-text_has : {text : List ℕ} {tokens : List Token} {tree : WrittenSpecification} → IsWrittenSpecification text tokens tree → TextHasGateLists tree
-text_has (a_specification word head items behaviour body inner end) = (behaviour_has body, where_has inner)
+  inners_have : (inners : WrittenInners) → AreReadableInners inners → InnersHaveGateLists inners
+  inners_have no_inner are = tt
+  inners_have (inner_then inner others) are = (inner_has inner are.0, inners_have others are.1)
 
 pub read_texts_have_gate_lists : ReadTextsHaveGateLists
-read_texts_have_gate_lists number text tree is = text_has is.1.sentence
+read_texts_have_gate_lists number text tree is =
+    let readable = specification_readable is.1.sentence in
+    (behaviour_has tree.body readable.1, inners_have (inners_of tree.inner) readable.2)
 
 -- ---- The types taken out
 

@@ -16,3 +16,4 @@ pub mod search;
 
 pub use mismatches::{ExitFault, exits};
 pub use rank_table::{RankFault, Ranks};
+pub use ranking::ranks;

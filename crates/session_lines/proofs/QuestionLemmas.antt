@@ -1,22 +1,20 @@
 -- What comes of questions on terms.
 use Rattle.std.proofs.Common.{◌≡◌, ◌↔◌, inl, inr, ℕ, Bool, IsTrue, List, [], ◌∷◌, ◌++◌, None, refl, ap, subst, ◌∙◌}
-use Rattle.std.proofs.lemmas.Option.{none-some}
-use Rattle.lotos_base.specs.WrittenTerm.{WrittenTerm, WrittenTerms, written, no_written, written_then}
+use Rattle.lotos_base.specs.WrittenTerm.{WrittenTerm}
 use Rattle.lotos_base.specs.Equality.{Equal}
 use Rattle.lotos_base.specs.Equation.{Data, Variable}
 use Rattle.lotos_base.specs.Signature.{Signature}
-use Rattle.lotos_base.specs.Sorting.{IsGround, AreGround}
-use Rattle.lotos_base.specs.Term.{Term, Terms, variable, node, no_terms, term_then}
+use Rattle.lotos_base.specs.Sorting.{IsGround}
+use Rattle.lotos_base.specs.Term.{Term}
 use Rattle.sentence_trees.specs.Reading.{IsTermsFault}
 use Rattle.sentence_trees.specs.declared.fault.ReadFault.{ReadFault}
 use Rattle.sentence_trees.specs.declared.fault.ReadFault.TheVariants as fault
-use Rattle.sort_terms.specs.Reading.{Reads, AllRead}
 use Rattle.sort_terms.specs.ReadingOutcome as reading
 use Rattle.sort_terms.specs.ReadingOutcome.{SortedTerm, SortedPair, ReadingIs, PairReadingIs, answered, IsPairReading}
 use Rattle.sort_terms.specs.RefusalView.{UnlessNoMemory}
 use Rattle.sort_terms.specs.declared.sort_faults.SortFault.{SortFault}
 use Rattle.sort_terms.specs.declared.sort_faults.SortFault.TheVariants as sort_fault
-use Rattle.sort_terms.proofs.OutcomeLemmas.{read_ground, all_ground, is_reading}
+use Rattle.sort_terms.proofs.OutcomeLemmas.{read_ground, is_reading}
 use Rattle.session_lines.specs.Refusal.{bad_command, bad_term, term_number, AreTerms, AreUnread}
 use Rattle.session_lines.specs.Answer.{QuestionOutcome, refuses, gives, IsNormalAnswer, IsComparison, normal_text, comparison_text}
 use Rattle.session_lines.specs.View.{refused_for_text, refused_for_term, RefusesWith, AddsRefusal, AddsOutcome}

@@ -16,7 +16,20 @@ ghost use Rattle.sort_terms.specs.EquationView.{data_of};
 ghost use Rattle.sort_terms.specs.ReaderView.{signature_read};
 ghost use Rattle.sort_terms.specs.SignatureView.{signature_of};
 ghost use Rattle.sort_terms.specs.SortedView.{term_in};
-ghost use Rattle.std.specs.Prelude.{◌≡◌, ◌+◌, ◌<◌, ◌^◌, ◌++◌, ◌∷◌, [], MatchResult, OnOk, length};
+ghost use Rattle.std.specs.Prelude.{
+  ◌≡◌,
+  ◌+◌,
+  ◌<◌,
+  ◌^◌,
+  ◌++◌,
+  ◌∷◌,
+  [],
+  ℕ,
+  List,
+  MatchResult,
+  OnOk,
+  length,
+};
 
 use crate::refusals::{Refusal, push_refusal};
 use equation_book::Book;
@@ -82,27 +95,25 @@ pub fn normal_form(
     let [term] = terms.as_slice() else {
         return Err(Refusal::BadCommand);
     };
-    normal_of(alloc, reader, book, term, text)
+    normal_of(alloc, reader, book, term)
 }
 
-// The normal form of the term, which is the one in the text.
+// The normal form of the term, which is the answer for each text in which it is the one term.
 fn normal_of(
     alloc: Global,
     reader: &Reader<'_>,
     book: &mut Book,
     term: &Written,
-    text: &[u8],
 ) -> Result<Sorted, Refusal>
     requires read { signature_read reader.now ≡ (data_of book.old.flat).signature }
-    requires there { AreTerms text.now (written_term_of term.now ∷ []) }
-    ensures answered { MatchResult result
-        (λ form. IsNormalAnswer (data_of book.old.flat).signature (book_canon book.old) text.now
+    ensures answered { (text : List ℕ) → AreTerms text (written_term_of term.now ∷ [])
+        → MatchResult result
+        (λ form. IsNormalAnswer (data_of book.old.flat).signature (book_canon book.old) text
         (gives (term_in form)))
-        (RefusesWith (IsNormalAnswer (data_of book.old.flat).signature (book_canon book.old) text.now)) }
+        (RefusesWith (IsNormalAnswer (data_of book.old.flat).signature (book_canon book.old) text)) }
     ensures same_data { data_of book.new.flat ≡ data_of book.old.flat }
     ensures same_canon { book_canon book.new ≡ book_canon book.old }
 {
-    let _ = text;
     let scope = Scope::new(alloc);
     let read = reader.read_in(&scope, term, None)?;
     Ok(book.normal(&read)?)
@@ -160,27 +171,25 @@ pub fn are_equal(
     let [left, right] = terms.as_slice() else {
         return Err(Refusal::BadCommand);
     };
-    are_equal_terms(alloc, reader, book, (left, right), text)
+    are_equal_terms(alloc, reader, book, (left, right))
 }
 
-// Whether the two terms, which are those in the text, are equal.
+// Whether the two terms are equal, which is the answer for each text that has these two.
 fn are_equal_terms(
     alloc: Global,
     reader: &Reader<'_>,
     book: &mut Book,
     terms: (&Written, &Written),
-    text: &[u8],
 ) -> Result<bool, Refusal>
     requires read { signature_read reader.now ≡ (data_of book.old.flat).signature }
-    requires there { AreTerms text.now
-        (written_term_of terms.0.now ∷ written_term_of terms.1.now ∷ []) }
-    ensures answered { MatchResult result
-        (λ equal. IsComparison (data_of book.old.flat) text.now (gives equal))
-        (RefusesWith (IsComparison (data_of book.old.flat) text.now)) }
+    ensures answered { (text : List ℕ)
+        → AreTerms text (written_term_of terms.entry.0.now ∷ written_term_of terms.entry.1.now ∷ [])
+        → MatchResult result
+        (λ equal. IsComparison (data_of book.old.flat) text (gives equal))
+        (RefusesWith (IsComparison (data_of book.old.flat) text)) }
     ensures same_data { data_of book.new.flat ≡ data_of book.old.flat }
     ensures same_canon { book_canon book.new ≡ book_canon book.old }
 {
-    let _ = text;
     let scope = Scope::new(alloc);
     let (left, right) = reader.read_pair(&scope, terms.0, terms.1)?;
     Ok(book.equal(&left, &right)?)

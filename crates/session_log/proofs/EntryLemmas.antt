@@ -21,7 +21,7 @@ use Rattle.behaviour_tree.specs.BehaviourView.{terms_of}
 use Rattle.behaviour_tree.specs.Over.{AreTermsOf}
 use Rattle.event_offers.specs.Instances.{unmet_among}
 use Rattle.event_offers.specs.OfferView.{plain_entry}
-use Rattle.event_offers.specs.Offers.{IsEntryOver}
+use Rattle.event_offers.specs.Offers.{IsEntryOf, IsEntryOver}
 use Rattle.event_offers.specs.declared.drafts.Entry.{Entry}
 use Rattle.event_offers.specs.declared.menus.Menu.{Menu}
 use Rattle.menu_builder.specs.Menus.{entries_in}
@@ -167,9 +167,14 @@ told_sort signature value is_of =
     (fitting_has_sort signature (profiled_in value) is_of value.fits)
     ∙ ap (λ (s : ℕ). Some s) value.headed
 
+-- the entries that solving leaves are in order
+pub menu_kept : (signature : Signature) (entries : List Entry) → Every (IsEntryOver signature) entries → Every (IsEntryOf signature) entries
+menu_kept signature [] over = tt
+menu_kept signature (entry ∷ entries) over = (over.0.entry_of, menu_kept signature entries over.1)
+
 pub entry_over : (signature : Signature) (menu : Menu) (number : ℕ) (entry : Entry) → IsKeptMenu signature menu
-    → IsEntryAt menu number entry → IsEntryOver signature entry
-entry_over signature menu number entry kept h = every_at (IsEntryOver signature) menu.entries.items h.position entry kept h.found
+    → IsEntryAt menu number entry → IsEntryOf signature entry
+entry_over signature menu number entry kept h = every_at (IsEntryOf signature) menu.entries.items h.position entry kept h.found
 
 -- values of their sorts, which meet an entry with the conditions
 pub given_sorts : (signature : Signature) (sorts : List ℕ) (values : List Sorted) → AreGiven signature values

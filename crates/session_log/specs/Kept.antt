@@ -9,7 +9,7 @@ use Rattle.behaviour_tree.specs.Over.{AreTermsOf, IsSpecOver, IsStateOf}
 use Rattle.behaviour_tree.specs.declared.definitions.Spec.{Spec}
 use Rattle.behaviour_tree.specs.declared.states.State.{State}
 use Rattle.event_offers.specs.OfferView.{label_profiles}
-use Rattle.event_offers.specs.Offers.{IsEntryOver}
+use Rattle.event_offers.specs.Offers.{IsEntryOf}
 use Rattle.event_offers.specs.declared.menus.Menu.{Menu}
 use Rattle.process_checks.specs.Ranks.{AreRanksOf}
 use Rattle.process_checks.specs.declared.rank_table.Ranks.{Ranks}
@@ -24,9 +24,9 @@ pub record IsKeptState (signature : Signature) (spec : Spec) (state : State) : T
   pub over : IsStateOf signature spec state
   pub closed : IsClosedNode state.node
 
--- The entries of the menu are over the signature.
+-- The entries of the menu are in order over the signature.
 abbrev pub IsKeptMenu : Signature → Menu → Type 0
-IsKeptMenu signature menu = Every (IsEntryOver signature) menu.entries.items
+IsKeptMenu signature menu = Every (IsEntryOf signature) menu.entries.items
 
 -- So are the state and the menu before a step, and the terms of its values and of its label are of the signature.
 pub record IsKeptPast (signature : Signature) (spec : Spec) (past : Past) : Type 0 where

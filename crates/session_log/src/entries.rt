@@ -6,7 +6,7 @@ ghost use Rattle.behaviour_tree.specs.BehaviourView.{terms_of};
 ghost use Rattle.behaviour_tree.specs.Over.{AreTermsOf};
 ghost use Rattle.event_offers.specs.Keeping.{KeepsData};
 ghost use Rattle.event_offers.specs.OfferView.{plain_entry};
-ghost use Rattle.event_offers.specs.Offers.{IsEntryOver};
+ghost use Rattle.event_offers.specs.Offers.{IsEntryOf};
 ghost use Rattle.menu_builder.specs.Menus.{entries_in};
 ghost use Rattle.session_histories.specs.Refusal.{
   number_refusal,
@@ -66,7 +66,7 @@ pub fn check_values<D: Deciding>(
     values: &[Sorted],
     data: &mut D,
 ) -> Result<(), StepRefusal>
-    requires over { IsEntryOver (D.known_data data.old).signature entry.now }
+    requires over { IsEntryOf (D.known_data data.old).signature entry.now }
     requires given { AreGiven (D.known_data data.old).signature values.now }
     requires counted { length values.now ≡ length entry.now.vars.items }
     ensures checked { MatchResult result

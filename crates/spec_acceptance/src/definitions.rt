@@ -43,7 +43,7 @@ pub fn resolved(alloc: Global, tree: &SpecText, known: WithData) -> Result<WithS
         × StandsFor data_ text (specification_of made.spec))
         (Faulty (Breaks data_ text) (scopes_told read data_)) }
 {
-    match resolve(alloc, tree, &known.flat.signature) {
+    match resolve(alloc, tree, &known.flat) {
         Ok(spec) => {
             let WithData { libraries, flat } = known;
             Ok(WithSpec {

@@ -14,3 +14,4 @@ pub mod sizes;
 pub mod walk;
 
 pub use resolving::resolve;
+pub use scope_parts::ScopeFault;

@@ -26,28 +26,28 @@ use behaviour_tree::boxes::shared;
 use lotos_base::Name;
 use scope_parts::ScopeFault;
 use scope_parts::terms::Terms;
-use sort_terms::Signature;
+use sort_terms::{Flat, Signature};
 use std::alloc::Global;
 use syntax_trees::SpecText;
 
-/// The specification that the text stands for over the signature, or the first rule that it breaks:
+/// The specification that the text stands for over the data, or the first rule that it breaks:
 /// the heading is looked at first, then the body, then the processes of `where` in the order of
 /// the text, each before those of its own `where`. Where the places of the text rise along it, no
-/// fault of the text comes before the one that is answered.
-pub fn resolve(alloc: Global, text: &SpecText, signature: &Signature) -> Result<Spec, ScopeFault>
-    ensures read { Answers specification_of result (SpecificationIs (signature_of signature.now)
+/// fault of the text comes before the one that is answered. The equations of the data play no part.
+pub fn resolve(alloc: Global, text: &SpecText, flat: &Flat) -> Result<Spec, ScopeFault>
+    ensures read { Answers specification_of result (SpecificationIs (signature_of flat.now.signature)
         (written_specification text.now)) }
     ensures over { TextHasGateLists (written_specification text.now)
-        → IfOk result (IsSpecOver (signature_of signature.now)) }
+        → IfOk result (IsSpecOver (signature_of flat.now.signature)) }
     ensures places { IfOk result (λ spec. places_of spec
         ≡ text_places (written_specification text.now)) }
     ensures first { PlacesRise (written_specification text.now) → IfErr result (λ fault.
-        FaultIs fault (IsFirstScopeFault (signature_of signature.now)
+        FaultIs fault (IsFirstScopeFault (signature_of flat.now.signature)
         (written_specification text.now))) }
     ensures faultless { PlacesRise (written_specification text.now) → IfOk result (λ spec.
-        HasNoFault (signature_of signature.now) (written_specification text.now)) }
+        HasNoFault (signature_of flat.now.signature) (written_specification text.now)) }
 {
-    specification(alloc, text, signature)
+    specification(alloc, text, &flat.signature)
 }
 
 // The same, by its parts.

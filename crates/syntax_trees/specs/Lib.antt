@@ -4,6 +4,7 @@ pub mod WrittenItem
 pub mod WrittenBehaviour
 pub mod WrittenDefinition
 pub mod TreeViews
+pub mod ReadableTrees
 pub mod Strength
 pub mod Grouping
 pub mod Waiting

@@ -8,7 +8,7 @@ ghost use Rattle.syntax_trees.specs.WrittenBehaviour.{WrittenBehaviour};
 
 use crate::behaviours::{BehForm, BehText, Sign};
 use crate::grouping::{Operand, group_operands};
-use lotos_base::Place;
+use lotos_base::{NoMemory, Place};
 use std::alloc::{AllocError, Global};
 
 impl Operand for BehText {
@@ -60,10 +60,10 @@ pub fn group(
     alloc: Global,
     operands: Vec<BehText>,
     signs: Vec<(Place, Sign)>,
-) -> Result<BehText, AllocError>
+) -> Result<BehText, NoMemory>
     requires { length operands.items ≡ length signs.items + 1 }
     ensures computed { IfOk result (λ tree. grouped strength_of joined (map behaviour_of operands.items) (map placed_sign_of signs.items) ≡ Some (behaviour_of tree)) }
     ensures split { IfOk result (λ tree. IsGrouped strength_of joined (map behaviour_of operands.items) (map placed_sign_of signs.items) (behaviour_of tree)) }
 {
-    group_operands(alloc, operands, signs)
+    Ok(group_operands(alloc, operands, signs)?)
 }

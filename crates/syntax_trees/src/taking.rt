@@ -8,6 +8,7 @@ ghost use Rattle.syntax_trees.specs.WrittenDefinition.{inners_of, list_of_inners
 use crate::definitions::{InnerText, SpecText};
 use crate::items::ItemText;
 use crate::levels::{Level, Outer};
+use lotos_base::NoMemory;
 use std::alloc::{AllocError, Global};
 use std::mem;
 
@@ -79,7 +80,7 @@ fn move_items(
 impl SpecText {
     /// Moves all items out: first those before the behaviour, then those of `where` at every depth, in text order. All
     /// else stays. Only want of memory may come instead, and then the text is as before.
-    pub fn take_items(&mut self, alloc: Global) -> Result<Vec<ItemText>, AllocError>
+    pub fn take_items(&mut self, alloc: Global) -> Result<Vec<ItemText>, NoMemory>
         ensures taken { IfOk result (λ items. map item_of items.items ≡ items_of_specification (specification_of self.old)) }
         ensures left { OnOk result (specification_of self.new ≡ without_items (specification_of self.old)) }
         ensures unchanged { OnErr result (specification_of self.new ≡ specification_of self.old) }

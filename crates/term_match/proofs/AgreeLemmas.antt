@@ -10,8 +10,9 @@ use Rattle.lotos_base.specs.Sorting.{Occurs, OccursAmong}
 use Rattle.lotos_base.specs.Substitution.{Substitution, substituted, all_substituted}
 use Rattle.rewriting_theory.proofs.UnifyLemmas.{no_occurring_unifier}
 use Rattle.sort_terms.specs.ProfiledTerm.{ProfiledTerm, ProfiledTerms, profiled_variable, profiled_node, no_profiled_terms, profiled_term_then, bare, all_bare, head_sort, FitsProfiles, FitArguments, IsOf, AreOf}
+use Rattle.term_match.specs.ProfiledInstance.{ProfiledSubstitution, profiled_instance, profiled_instances}
 use Rattle.term_match.proofs.MatchLemmas.{All, IsInherited}
-use Rattle.term_match.specs.Disagreement.{TermDisagreement, agreed, clashing, binds, has_number, have_number, is_number, against, or_else, disagreement, disagreements}
+use Rattle.term_match.specs.Disagreement.{TermDisagreement, agreed, clashing, binds, has_number, have_number, is_number, against, or_else, disagreement, disagreements, clashes, clash_among}
 
 -- ---- Numbers that stand in terms
 
@@ -197,6 +198,38 @@ mutual
       go (inl h) first rest = first h
       go (inr h) first rest = rest h.1
 
+-- so does one with profiles
+mutual
+  pub bound_whole : (values : ProfiledSubstitution) (l r : ProfiledTerm) (n s : ℕ) (t : ProfiledTerm) → disagreement l r ≡ binds n s t
+      → profiled_instance values l ≡ profiled_instance values r → values n s ≡ profiled_instance values t
+  bound_whole values (profiled_variable m q) r n s t e same =
+      let is = against_bound m q r n s t e in
+      (λ i. values (sym is.number i) (sym is.sort i)) ∙ same ∙ (λ i. profiled_instance values (is.value i))
+  bound_whole values (profiled_node f operation ts) (profiled_variable m q) n s t e same =
+      let is = against_bound m q (profiled_node f operation ts) n s t e in
+      (λ i. values (sym is.number i) (sym is.sort i)) ∙ sym same ∙ (λ i. profiled_instance values (is.value i))
+  bound_whole values (profiled_node f operation ts) (profiled_node g other us) n s t e same =
+      let tails : profiled_instances values ts ≡ profiled_instances values us = cc in
+      all_bound_whole values ts us n s t (if_bound (nat_eq f g) (disagreements ts us) n s t e).1 tails
+
+  all_bound_whole : (values : ProfiledSubstitution) (ls rs : ProfiledTerms) (n s : ℕ) (t : ProfiledTerm)
+      → disagreements ls rs ≡ binds n s t
+      → profiled_instances values ls ≡ profiled_instances values rs → values n s ≡ profiled_instance values t
+  all_bound_whole values no_profiled_terms no_profiled_terms n s t e same = cc
+  all_bound_whole values no_profiled_terms (profiled_term_then u us) n s t e same = cc
+  all_bound_whole values (profiled_term_then l ls) no_profiled_terms n s t e same = cc
+  all_bound_whole values (profiled_term_then l ls) (profiled_term_then r rs) n s t e same =
+      let heads : profiled_instance values l ≡ profiled_instance values r = cc in
+      let tails : profiled_instances values ls ≡ profiled_instances values rs = cc in
+      go (or_bound (disagreement l r) (disagreements ls rs) n s t e)
+      (λ h. bound_whole values l r n s t h heads) (λ h. all_bound_whole values ls rs n s t h tails)
+    where
+      go : (disagreement l r ≡ binds n s t) ⊎ ((disagreement l r ≡ agreed) × (disagreements ls rs ≡ binds n s t))
+          → (disagreement l r ≡ binds n s t → values n s ≡ profiled_instance values t)
+          → (disagreements ls rs ≡ binds n s t → values n s ≡ profiled_instance values t) → values n s ≡ profiled_instance values t
+      go (inl h) first rest = first h
+      go (inr h) first rest = rest h.1
+
 -- over one signature the term has the sort of the variable
 mutual
   pub bound_sort : (signature : Signature) (l r : ProfiledTerm) (n s : ℕ) (t : ProfiledTerm) → disagreement l r ≡ binds n s t
@@ -324,5 +357,42 @@ mutual
     where
       go : (disagreement l r ≡ clashing) ⊎ (disagreements ls rs ≡ clashing) → (disagreement l r ≡ clashing → ⊥)
           → (disagreements ls rs ≡ clashing → ⊥) → ⊥
+      go (inl h) first rest = first h
+      go (inr h) first rest = rest h
+
+-- ---- Two operations that clash
+
+or_true : (a b : Bool) → (a || b) ≡ true → (a ≡ true) ⊎ (b ≡ true)
+or_true true b e = inl refl
+or_true false b e = inr e
+
+-- terms whose operations clash have no instances that are one, whatever is put for the variables of each
+mutual
+  pub clashing_apart : (values others : Substitution) (l r : ProfiledTerm) → clashes l r ≡ true
+      → substituted values (bare l) ≡ substituted others (bare r) → ⊥
+  clashing_apart values others (profiled_variable n s) r e same = cc
+  clashing_apart values others (profiled_node f operation ts) (profiled_variable m q) e same = cc
+  clashing_apart values others (profiled_node f operation ts) (profiled_node g other us) e same =
+      go (nat_eq f g) refl e (λ h. all_clashing_apart values others ts us h cc)
+    where
+      go : (b : Bool) → nat_eq f g ≡ b → (if b then clash_among ts us else true) ≡ true → (clash_among ts us ≡ true → ⊥) → ⊥
+      go true test h rest = rest h
+      go false test h rest =
+          let heads : f ≡ g = cc in
+          let yes : nat_eq f g ≡ true = (Decides-eqb f g).1 heads in
+          let clash : true ≡ false = sym yes ∙ test in cc
+
+  all_clashing_apart : (values others : Substitution) (ls rs : ProfiledTerms) → clash_among ls rs ≡ true
+      → all_substituted values (all_bare ls) ≡ all_substituted others (all_bare rs) → ⊥
+  all_clashing_apart values others no_profiled_terms no_profiled_terms e same = cc
+  all_clashing_apart values others no_profiled_terms (profiled_term_then u us) e same = cc
+  all_clashing_apart values others (profiled_term_then l ls) no_profiled_terms e same = cc
+  all_clashing_apart values others (profiled_term_then l ls) (profiled_term_then r rs) e same =
+      let heads : substituted values (bare l) ≡ substituted others (bare r) = cc in
+      let tails : all_substituted values (all_bare ls) ≡ all_substituted others (all_bare rs) = cc in
+      go (or_true (clashes l r) (clash_among ls rs) e)
+      (λ h. clashing_apart values others l r h heads) (λ h. all_clashing_apart values others ls rs h tails)
+    where
+      go : (clashes l r ≡ true) ⊎ (clash_among ls rs ≡ true) → (clashes l r ≡ true → ⊥) → (clash_among ls rs ≡ true → ⊥) → ⊥
       go (inl h) first rest = first h
       go (inr h) first rest = rest h

@@ -1,8 +1,9 @@
 -- Lists of terms of which one has more members.
-use Rattle.std.proofs.Common.{◌≡◌, ◌≤◌, ◌<◌, ℕ, zero, suc, List, [], ◌∷◌, length, drop, refl, arith}
-use Rattle.sort_terms.specs.TermView.{all_profiled}
+use Rattle.std.proofs.Common.{◌≡◌, ◌≤◌, ◌<◌, ℕ, zero, suc, List, [], ◌∷◌, length, drop, true, refl, ap, arith}
+use Rattle.std.proofs.lemmas.Bool.{or_right}
+use Rattle.sort_terms.specs.TermView.{all_profiled, profiled_of}
 use Rattle.sort_terms.specs.declared.terms.Term.{Term}
-use Rattle.term_match.specs.Disagreement.{clashing, disagreements}
+use Rattle.term_match.specs.Disagreement.{clash_among, clashes, clashing, disagreements}
 
 pub more_on_the_left : (xs ys : List Term) (i : ℕ) → i < length xs → length ys ≤ i → i ≤ length ys
     → disagreements (all_profiled (drop i xs)) (all_profiled (drop i ys)) ≡ clashing
@@ -19,3 +20,12 @@ more_on_the_right [] (y ∷ ys) zero h m k = refl
 more_on_the_right [] (y ∷ ys) (suc i) h m k = absurd (omega (arith, m))
 more_on_the_right (x ∷ xs) (y ∷ ys) zero h m k = absurd (omega (arith, h))
 more_on_the_right (x ∷ xs) (y ∷ ys) (suc i) h m k = more_on_the_right xs ys i (omega (arith, h)) (omega (arith, m)) (omega (arith, k))
+
+-- lists of different lengths clash
+pub lists_clash : (xs ys : List Term) → (length xs ≡ length ys → ⊥) → clash_among (all_profiled xs) (all_profiled ys) ≡ true
+lists_clash [] [] differ = absurd (differ refl)
+lists_clash [] (y ∷ ys) differ = refl
+lists_clash (x ∷ xs) [] differ = refl
+lists_clash (x ∷ xs) (y ∷ ys) differ =
+    or_right (clashes (profiled_of x) (profiled_of y)) (clash_among (all_profiled xs) (all_profiled ys))
+    (lists_clash xs ys (λ same. differ (ap (λ (k : ℕ). suc k) same)))

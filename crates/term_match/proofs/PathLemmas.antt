@@ -1,8 +1,9 @@
 -- Subterms and replacements in terms with profiles.
-use Rattle.std.proofs.Common.{◌≡◌, ℕ, zero, suc, ◌-◌, ◌<◌, ◌≤◌, List, [], ◌∷◌, length, get_or, take, drop, set, refl, ap, sym, ◌∙◌, subst, arith, Bor, ltb, ltb-true, ltb-false, Bool, true, false, nat_eq}
-use Rattle.std.specs.Prelude.{Option, Some, None, is_some, IfSome, if◌then◌else◌}
+use Rattle.std.proofs.Common.{◌≡◌, ℕ, zero, suc, ◌+◌, ◌-◌, ◌<◌, ◌≤◌, List, [], ◌∷◌, ◌++◌, map, length, get_or, take, drop, refl, append_assoc, ap, sym, ◌∙◌, subst, arith, Bor, ltb, ltb-true, ltb-false, Bool, true, false, nat_eq}
+use Rattle.std.specs.Prelude.{◌↔◌, Option, Some, None, is_some, IfSome, if◌then◌else◌}
 use Rattle.std.specs.Option.{option_map, option_and_then}
 use Rattle.std.proofs.Math.Seq.{take-length}
+use Rattle.std.proofs.lemmas.List.{map-append, length-drop}
 use Rattle.std.proofs.lemmas.Option.{same_Some}
 use Rattle.std.proofs.lemmas.Bool.Decides.{Decides-eqb}
 use Rattle.lotos_base.proofs.Options.{chained, mapped}
@@ -12,8 +13,10 @@ use Rattle.lotos_base.specs.Path.{argument_at, with_argument, subterm, put_at}
 use Rattle.lotos_base.proofs.PlainLemmas.{path_parts}
 use Rattle.sort_terms.specs.ProfiledTerm.{ProfiledTerm, ProfiledTerms, profiled_variable, profiled_node, no_profiled_terms, profiled_term_then, bare, all_bare, head_sort, FitsProfiles, FitArguments, IsOf, AreOf}
 use Rattle.sort_terms.specs.TermView.{profiled_of, all_profiled}
+use Rattle.sort_terms.specs.SortedView.{profiled_in}
+use Rattle.sort_terms.specs.declared.sorted.Sorted.{Sorted}
 use Rattle.sort_terms.specs.declared.terms.Term.{Term}
-use Rattle.term_match.specs.ProfiledPath.{profiled_argument_at, with_profiled_argument, profiled_subterm, profiled_put_at, replaced}
+use Rattle.term_match.specs.ProfiledPath.{profiled_argument_at, with_profiled_argument, profiled_subterm, profiled_put_at, where_sorts_agree, replaced, LeadsToSort}
 
 -- ---- Without profiles
 
@@ -154,19 +157,45 @@ put_fits (k ∷ path) part (profiled_node f operation ts) old whole h p found sa
 
 -- ---- Lists of the code
 
-pub all_profiled-set : (xs : List Term) (i : ℕ) (y : Term)
-    → all_profiled (set xs i y) ≡ with_profiled_argument i (profiled_of y) (all_profiled xs)
-all_profiled-set [] i y = refl
-all_profiled-set (x ∷ xs) zero y = refl
-all_profiled-set (x ∷ xs) (suc i) y = ap (λ ts. profiled_term_then (profiled_of x) ts) (all_profiled-set xs i y)
+-- the terms that a list of terms has, one by one
+abbrev as_terms : List ProfiledTerm → ProfiledTerms
+as_terms [] = no_profiled_terms
+as_terms (t ∷ ts) = profiled_term_then t (as_terms ts)
 
-pub profiled_length : (xs ys : List Term) → all_profiled xs ≡ all_profiled ys → length xs ≡ length ys
-profiled_length [] [] e = refl
-profiled_length [] (y ∷ ys) e = cc
-profiled_length (x ∷ xs) [] e = cc
-profiled_length (x ∷ xs) (y ∷ ys) e =
-    let rest : all_profiled xs ≡ all_profiled ys = cc in
-    ap (λ (n : ℕ). suc n) (profiled_length xs ys rest)
+as_terms_of : (xs : List Term) → as_terms (map profiled_of xs) ≡ all_profiled xs
+as_terms_of [] = refl
+as_terms_of (x ∷ xs) = ap (λ ts. profiled_term_then (profiled_of x) ts) (as_terms_of xs)
+
+put_among : (xs : List Term) (i : ℕ) (t : ProfiledTerm) → i < length xs
+    → as_terms (map profiled_of (take i xs) ++ t ∷ map profiled_of (drop (i + 1) xs)) ≡ with_profiled_argument i t (all_profiled xs)
+put_among [] i t h = absurd (omega arith)
+put_among (x ∷ xs) zero t h = ap (λ ts. profiled_term_then t ts) (as_terms_of xs)
+put_among (x ∷ xs) (suc i) t h =
+    let next : suc i + 1 ≡ suc (i + 1) = omega arith in
+    ap (λ (k : ℕ). as_terms (map profiled_of (take (suc i) (x ∷ xs)) ++ t ∷ map profiled_of (drop k (x ∷ xs)))) next
+    ∙ ap (λ ts. profiled_term_then (profiled_of x) ts) (put_among xs i t (omega (arith, h)))
+
+-- the terms before a position, another one, and those after it
+pub put_between : (xs made : List Term) (i : ℕ) (y : Term) → i < length xs
+    → map profiled_of made ≡ map profiled_of (take i xs) ++ profiled_of y ∷ map profiled_of (drop (i + 1) xs)
+    → all_profiled made ≡ with_profiled_argument i (profiled_of y) (all_profiled xs)
+put_between xs made i y h e = sym (as_terms_of made) ∙ ap as_terms e ∙ put_among xs i (profiled_of y) h
+
+rest_from : (n : ℕ) (xs : List Term) → take (length xs - n) (drop n xs) ≡ drop n xs
+rest_from n xs = ap (λ (k : ℕ). take k (drop n xs)) (sym (length-drop n xs)) ∙ take-length (drop n xs)
+
+pub put_pieces : (xs none first made more second whole : List Term) (i : ℕ) (y : Term) → none ≡ [] → first ≡ xs → second ≡ xs
+    → map profiled_of made ≡ map profiled_of none ++ map profiled_of (take i first) → more ≡ made ++ y ∷ []
+    → map profiled_of whole ≡ map profiled_of more ++ map profiled_of (take (length second - (i + 1)) (drop (i + 1) second))
+    → map profiled_of whole ≡ map profiled_of (take i xs) ++ profiled_of y ∷ map profiled_of (drop (i + 1) xs)
+put_pieces xs none first made more second whole i y nothing one two before pushed after =
+    after
+    ∙ (λ j. map profiled_of (pushed j) ++ map profiled_of (take (length (two j) - (i + 1)) (drop (i + 1) (two j))))
+    ∙ ap (λ (ts : List Term). map profiled_of (made ++ y ∷ []) ++ map profiled_of ts) (rest_from (i + 1) xs)
+    ∙ ap (λ (ts : List ProfiledTerm). ts ++ map profiled_of (drop (i + 1) xs)) (map-append profiled_of made (y ∷ []))
+    ∙ append_assoc (map profiled_of made) (profiled_of y ∷ []) (map profiled_of (drop (i + 1) xs))
+    ∙ ap (λ (ts : List ProfiledTerm). ts ++ profiled_of y ∷ map profiled_of (drop (i + 1) xs))
+    (before ∙ (λ j. map profiled_of (nothing j) ++ map profiled_of (take i (one j))))
 
 argument_within : (xs : List Term) (i : ℕ) (x : Term) → i < length xs → x ≡ get_or xs i x
     → profiled_argument_at i (all_profiled xs) ≡ Some (profiled_of x)
@@ -244,3 +273,52 @@ replaced_at path part t old found same =
 
 pub not_replaced_past : (path : List ℕ) (part t : ProfiledTerm) → profiled_subterm path t ≡ None → None ≡ replaced path part t
 not_replaced_past path part t found = rw found refl
+
+-- ---- What an answer says of the path
+
+-- where a path leads to a subterm something can be put
+put_exists : (path : List ℕ) (part t old : ProfiledTerm) → profiled_subterm path t ≡ Some old
+    → (whole : ProfiledTerm) × (profiled_put_at path part t ≡ Some whole)
+put_exists [] part t old found = (part, refl)
+put_exists (k ∷ path) part (profiled_variable n s) old found = cc
+put_exists (k ∷ path) part (profiled_node f operation ts) old found =
+    let under = chained (λ t. profiled_subterm path t) (profiled_argument_at k ts) found in
+    let below = put_exists path part under.0 old under.2 in (
+      profiled_node f operation (with_profiled_argument k below.0 ts),
+      sym (put_found k path part f operation ts under.0 (Some below.0) under.1 (sym below.1)),
+    )
+
+-- the parts of a replacement
+replaced_some : (path : List ℕ) (part t whole : ProfiledTerm) → replaced path part t ≡ Some whole
+    → LeadsToSort path part t × (profiled_put_at path part t ≡ Some whole)
+replaced_some path part t whole e =
+    let found = chained (where_sorts_agree part (profiled_put_at path part t)) (profiled_subterm path t) e in
+    go found.0 found.1 (nat_eq (head_sort found.0) (head_sort part)) refl found.2
+  where
+    go : (old : ProfiledTerm) → profiled_subterm path t ≡ Some old → (b : Bool) → nat_eq (head_sort old) (head_sort part) ≡ b
+        → (if b then profiled_put_at path part t else None) ≡ Some whole
+        → LeadsToSort path part t × (profiled_put_at path part t ≡ Some whole)
+    go old there true test h =
+        (record { old = old; is_there = there; one_sort = (Decides-eqb (head_sort old) (head_sort part)).0 test }, h)
+    go old there false test h = cc
+
+-- none exactly where the path leads to no subterm of the sort
+pub replaced_none : (path : List ℕ) (part t : ProfiledTerm) (o : Option Sorted) → option_map (λ w. profiled_in w) o ≡ replaced path part t
+    → (o ≡ None) ↔ (¬ LeadsToSort path part t)
+replaced_none path part t None e = (
+  (λ none leads.
+      let there = put_exists path part t leads.old leads.is_there in
+      let some : None ≡ Some there.0 = e ∙ sym (replaced_at path part t leads.old leads.is_there leads.one_sort) ∙ there.1 in cc),
+  (λ no. refl),
+)
+replaced_none path part t (Some w) e = (
+  (λ none. cc),
+  (λ no. absurd (no (replaced_some path part t (profiled_in w) (sym e)).0)),
+)
+
+-- and the replacement of the definition without profiles where there is one
+pub replaced_plain : (path : List ℕ) (part t : ProfiledTerm) (o : Option Sorted) → option_map (λ w. profiled_in w) o ≡ replaced path part t
+    → IfSome o (λ w. put_at path (bare part) (bare t) ≡ Some (bare (profiled_in w)))
+replaced_plain path part t None e = tt
+replaced_plain path part t (Some w) e =
+    sym (put_bare path part t) ∙ ap (option_map bare) (replaced_some path part t (profiled_in w) (sym e)).1

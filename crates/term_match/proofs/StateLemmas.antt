@@ -52,7 +52,7 @@ bound_binding n t (pair ∷ pairs) m r = go (nat_eq pair.0 m) (bound_binding n t
 
 -- an instance of an instance
 mutual
-  instance_twice : (first second : ProfiledSubstitution) (t : ProfiledTerm)
+  pub instance_twice : (first second : ProfiledSubstitution) (t : ProfiledTerm)
       → profiled_instance second (profiled_instance first t) ≡ profiled_instance (λ n s. profiled_instance second (first n s)) t
   instance_twice first second (profiled_variable n s) = refl
   instance_twice first second (profiled_node f operation ts) = ap (λ us. profiled_node f operation us) (instances_twice first second ts)
@@ -62,6 +62,21 @@ mutual
   instances_twice first second no_profiled_terms = refl
   instances_twice first second (profiled_term_then t ts) =
       λ i. profiled_term_then (instance_twice first second t i) (instances_twice first second ts i)
+
+-- instances are one where what is put for each variable that occurs is one
+mutual
+  pub instances_agree : (first second : ProfiledSubstitution) (t : ProfiledTerm)
+      → ((n s : ℕ) → Occurs n s (bare t) → first n s ≡ second n s) → profiled_instance first t ≡ profiled_instance second t
+  instances_agree first second (profiled_variable n s) all = all n s (refl, refl)
+  instances_agree first second (profiled_node f operation ts) all =
+      ap (λ us. profiled_node f operation us) (all_instances_agree first second ts all)
+
+  all_instances_agree : (first second : ProfiledSubstitution) (ts : ProfiledTerms)
+      → ((n s : ℕ) → OccursAmong n s (all_bare ts) → first n s ≡ second n s) → profiled_instances first ts ≡ profiled_instances second ts
+  all_instances_agree first second no_profiled_terms all = refl
+  all_instances_agree first second (profiled_term_then t ts) all =
+      λ i. profiled_term_then (instances_agree first second t (λ n s o. all n s (inl o)) i)
+      (all_instances_agree first second ts (λ n s o. all n s (inr o)) i)
 
 pub bound_instance : (n : ℕ) (t : ProfiledTerm) (pairs : Pairs) (u : ProfiledTerm)
     → profiled_instance (one_binding n t) (profiled_instance (profiled_binding pairs) u)
@@ -187,6 +202,9 @@ pub record IsSolving (left right : ProfiledTerm) (pairs : Pairs) (l r : Profiled
       → IsAbsent m (numbers_of pairs)
   pub absorbed : (others : Substitution) → IsUnifier (bare left) (bare right) others
       → (n s : ℕ) → OccursInEither (bare left) (bare right) n s → substituted others (values_of pairs n s) ≡ others n s
+  pub absorbed_whole : (values : ProfiledSubstitution) → profiled_instance values left ≡ profiled_instance values right
+      → (n s : ℕ) → OccursInEither (bare left) (bare right) n s
+      → profiled_instance values (profiled_binding pairs n s) ≡ values n s
   pub of_signature : (signature : Signature) → IsOf signature left → IsOf signature right
       → (n : ℕ) (u : ProfiledTerm) → IsPair pairs n u → IsOf signature u
 
@@ -212,6 +230,7 @@ solving_first left right heads = record {
       (subst (λ (k : ℕ). OccursInEither (bare left) (bare right) n k) p.1 o);
   solved = λ n s m q o p. λ i e. (let none : None ≡ Some m = e in cc);
   absorbed = λ others same n s o. refl;
+  absorbed_whole = λ values same n s o. refl;
   of_signature = λ signature one two n u is. (let none : None ≡ Some (n, u) = is.1 in cc);
 }
 
@@ -263,6 +282,20 @@ left_unified {left = left} {right = right} {l = l} {r = r} {pairs = pairs} is ot
     let two : substituted others (bare r) ≡ substituted others (bare right) =
     ap (substituted others) (right_bare is) ∙ substituted_twice (values_of pairs) others (bare right)
     ∙ substituted_agree (followed_by (values_of pairs) others) others (bare right) (λ n s o. is.absorbed others same n s (inr o)) in
+    one ∙ same ∙ sym two
+
+-- the same with profiles
+pub left_whole : {left right l r : ProfiledTerm} {pairs : Pairs} → IsSolving left right pairs l r → (values : ProfiledSubstitution)
+    → profiled_instance values left ≡ profiled_instance values right → profiled_instance values l ≡ profiled_instance values r
+left_whole {left = left} {right = right} {l = l} {r = r} {pairs = pairs} is values same =
+    let one : profiled_instance values l ≡ profiled_instance values left =
+    ap (profiled_instance values) is.is_left ∙ instance_twice (profiled_binding pairs) values left
+    ∙ instances_agree (λ n s. profiled_instance values (profiled_binding pairs n s)) values left
+    (λ n s o. is.absorbed_whole values same n s (inl o)) in
+    let two : profiled_instance values r ≡ profiled_instance values right =
+    ap (profiled_instance values) is.is_right ∙ instance_twice (profiled_binding pairs) values right
+    ∙ instances_agree (λ n s. profiled_instance values (profiled_binding pairs n s)) values right
+    (λ n s o. is.absorbed_whole values same n s (inr o)) in
     one ∙ same ∙ sym two
 
 -- what is put for a variable in a pair's term

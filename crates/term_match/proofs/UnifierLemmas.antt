@@ -12,7 +12,7 @@ use Rattle.rewriting_theory.specs.Numbering.{variable_numbers}
 use Rattle.rewriting_theory.specs.Unification.{IsUnifier, OccursInEither}
 use Rattle.rewriting_theory.proofs.PlaceListLemmas.{IsIn, in_left, in_right}
 use Rattle.sort_terms.specs.ProfiledTerm.{ProfiledTerm, profiled_variable, bare, head_sort, FitsProfiles, IsOf}
-use Rattle.term_match.specs.ProfiledInstance.{profiled_instance, profiled_binding}
+use Rattle.term_match.specs.ProfiledInstance.{ProfiledSubstitution, profiled_instance, profiled_binding}
 use Rattle.sort_terms.specs.SortedView.{profiled_in}
 use Rattle.sort_terms.specs.declared.sorted.Sorted.{Sorted}
 use Rattle.term_match.specs.SubstView.{profiled_pairs}
@@ -21,12 +21,12 @@ use Rattle.term_match.specs.Numbers.{AreDistinctNumbers}
 use Rattle.term_match.proofs.DistinctLemmas.{IsAbsent, distinct_more}
 use Rattle.term_match.proofs.MatchLemmas.{numbers_of, of_inherited}
 use Rattle.term_match.proofs.InstanceLemmas.{instance_bare, binding_bare}
-use Rattle.term_match.specs.Disagreement.{TermDisagreement, agreed, clashing, binds, has_number, disagreement}
+use Rattle.term_match.specs.Disagreement.{TermDisagreement, agreed, clashing, binds, has_number, disagreement, clashes}
 use Rattle.term_match.specs.Solving.{nothing_more, given_up, put_for, asked, one_binding, bound_pairs}
-use Rattle.term_match.specs.Unified.{HaveOneSortPerNumber, HasUnifier, IsUnifiedBy}
-use Rattle.term_match.proofs.AgreeLemmas.{has_number_true, bound_parts, bound_apart, bound_same, bound_sort, agreed_same, clashing_none}
+use Rattle.term_match.specs.Unified.{HaveOneSortPerNumber, HasUnifier, HasSortedUnifier, IsUnifiedBy}
+use Rattle.term_match.proofs.AgreeLemmas.{has_number_true, bound_parts, bound_apart, bound_same, bound_whole, bound_sort, agreed_same, clashing_none, clashing_apart}
 use Rattle.term_match.proofs.RoomLemmas.{absent_more, distinct_fits, occurs_numbered}
-use Rattle.term_match.proofs.StateLemmas.{Pairs, one_either, bound_binding, bound_instance, bound_numbers, bound_either, binding_either, pair_number, pairs_instance_of, instance_head, one_sorted, values_of, IsSolving, left_is_left, right_is_left, left_inherited, left_unified, left_bare, right_bare, value_of_pair}
+use Rattle.term_match.proofs.StateLemmas.{Pairs, one_either, bound_binding, instance_twice, instances_agree, bound_instance, bound_numbers, bound_either, binding_either, pair_number, pairs_instance_of, instance_head, one_sorted, values_of, IsSolving, left_is_left, right_is_left, left_inherited, left_unified, left_whole, left_bare, right_bare, value_of_pair}
 
 -- ---- Demands
 
@@ -171,6 +171,29 @@ after_absorbed left right pairs l r n s t single is e step others same k p occur
         ∙ sym (bound_same others l r n s t e (left_unified is others same)) ∙ (λ i. others (number i) (sorts i))
     one m q inside (inr (differ, value)) = ap (λ (w : ProfiledTerm). substituted others (bare w)) value
 
+-- and so does one with profiles
+after_whole : (left right : ProfiledTerm) (pairs : Pairs) (l r : ProfiledTerm) (n s : ℕ) (t : ProfiledTerm)
+    → HaveOneSortPerNumber (bare left) (bare right) → IsSolving left right pairs l r → disagreement l r ≡ binds n s t
+    → IsStep left right pairs l r n s t → (values : ProfiledSubstitution)
+    → profiled_instance values left ≡ profiled_instance values right
+    → (k p : ℕ) → OccursInEither (bare left) (bare right) k p
+    → profiled_instance values (profiled_binding (bound_pairs n t pairs) k p) ≡ values k p
+after_whole left right pairs l r n s t single is e step values same k p occurs =
+    ap (profiled_instance values) (bound_binding n t pairs k p)
+    ∙ instance_twice (one_binding n t) values (profiled_binding pairs k p)
+    ∙ instances_agree (λ m q. profiled_instance values (one_binding n t m q)) values (profiled_binding pairs k p)
+    (λ m q o. one m q (is.inside k p m q occurs (subst (λ (w : Term). Occurs m q w) (binding_bare pairs k p) o)) (one_either n t m q))
+    ∙ is.absorbed_whole values same k p occurs
+  where
+    one : (m q : ℕ) → OccursInEither (bare left) (bare right) m q
+        → ((n ≡ m) × (one_binding n t m q ≡ t)) ⊎ ((n ≡ m → ⊥) × (one_binding n t m q ≡ profiled_variable m q))
+        → profiled_instance values (one_binding n t m q) ≡ values m q
+    one m q inside (inl (number, value)) =
+        let sorts : s ≡ q = single n s q step.occurs (subst (λ (j : ℕ). OccursInEither (bare left) (bare right) j q) (sym number) inside) in
+        ap (λ (w : ProfiledTerm). profiled_instance values w) value
+        ∙ sym (bound_whole values l r n s t e (left_whole is values same)) ∙ (λ i. values (number i) (sorts i))
+    one m q inside (inr (differ, value)) = ap (λ (w : ProfiledTerm). profiled_instance values w) value
+
 -- a term with the term put for the variable has the sort that it had
 step_head : (left right : ProfiledTerm) (pairs : Pairs) (l r : ProfiledTerm) (n s : ℕ) (t u : ProfiledTerm)
     → HaveOneSortPerNumber (bare left) (bare right) → IsStep left right pairs l r n s t → head_sort t ≡ s
@@ -221,6 +244,7 @@ solving_bound left right pairs l r n t single is e =
           subst (λ (ns : List ℕ). IsAbsent m ns) (sym (bound_numbers n t pairs))
           (absent_more m n (numbers_of pairs) after.absent after.differs);
       absorbed = after_absorbed left right pairs l r n demand.sort t single is demand.is step;
+      absorbed_whole = after_whole left right pairs l r n demand.sort t single is demand.is step;
       of_signature = λ signature one two m u at. of_after signature one two demand.sort demand.is m u (bound_either n t pairs m u at);
     }
   where
@@ -317,6 +341,49 @@ failed_none left right pairs l r single fits also is e signature one two unifier
         (subst (λ (w : ProfiledTerm). IsOf signature w) (sym is.is_right)
         (pairs_instance_of signature pairs right two (is.of_signature signature one two)))
         fits also is.heads)
+
+-- a unifier with profiles is one without them
+bare_unifier : (left right : ProfiledTerm) (values : ProfiledSubstitution)
+    → profiled_instance values left ≡ profiled_instance values right → IsUnifier (bare left) (bare right) (λ n s. bare (values n s))
+bare_unifier left right values same = sym (instance_bare values left) ∙ ap bare same ∙ instance_bare values right
+
+-- where the step fails, there is no unifier that keeps sorts
+pub failed_none_sorted : (left right : ProfiledTerm) (pairs : Pairs) (l r : ProfiledTerm)
+    → HaveOneSortPerNumber (bare left) (bare right)
+    → IsSolving left right pairs l r → asked (disagreement l r) ≡ given_up → HasSortedUnifier left right → ⊥
+failed_none_sorted left right pairs l r single is e unifier = go (asked_failed (disagreement l r) e)
+  where
+    go : (disagreement l r ≡ clashing)
+        ⊎ ((n : ℕ) × (s : ℕ) × (t : ProfiledTerm) × (disagreement l r ≡ binds n s t) × (head_sort t ≡ s → ⊥)) → ⊥
+    go (inl clash) =
+        clashing_none (OccursInEither (bare left) (bare right)) single (λ n s. bare (unifier.values n s)) l r
+        (λ n s o. (left_is_left is n s o).0) (λ n s o. (right_is_left is n s o).0) clash
+        (left_unified is (λ n s. bare (unifier.values n s)) (bare_unifier left right unifier.values unifier.makes_one))
+    go (inr (n, s, t, d, differ)) =
+        let step = step_of left right pairs l r n s t is d in
+        differ (
+        sym (instance_head unifier.values t (λ m q o. unifier.keeps_sorts m q (step.within m q o).0))
+        ∙ sym (ap head_sort (bound_whole unifier.values l r n s t d (left_whole is unifier.values unifier.makes_one)))
+        ∙ unifier.keeps_sorts n s step.occurs
+        )
+
+-- nor where the heads have different sorts
+pub heads_none_sorted : (left right : ProfiledTerm) → (head_sort left ≡ head_sort right → ⊥) → HasSortedUnifier left right → ⊥
+heads_none_sorted left right differ unifier =
+    differ (
+    sym (instance_head unifier.values left (λ n s o. unifier.keeps_sorts n s (inl o)))
+    ∙ ap head_sort unifier.makes_one
+    ∙ instance_head unifier.values right (λ n s o. unifier.keeps_sorts n s (inr o))
+    )
+
+-- nor where two operations clash
+pub clash_none : (left right : ProfiledTerm) → clashes left right ≡ true → HasUnifier left right → ⊥
+clash_none left right e unifier = clashing_apart unifier.1.0 unifier.1.0 left right e unifier.1.1
+
+pub clash_none_sorted : (left right : ProfiledTerm) → clashes left right ≡ true → HasSortedUnifier left right → ⊥
+clash_none_sorted left right e unifier =
+    clashing_apart (λ n s. bare (unifier.values n s)) (λ n s. bare (unifier.values n s)) left right e
+    (bare_unifier left right unifier.values unifier.makes_one)
 
 -- ---- The steps end
 

@@ -1,5 +1,5 @@
 -- The first place, from left to right, at which two terms differ, as unification looks for it (Baader and Nipkow, 4.5).
-use Rattle.std.specs.Prelude.{ℕ, Bool, false, nat_eq, ◌||◌, if◌then◌else◌}
+use Rattle.std.specs.Prelude.{ℕ, Bool, true, false, nat_eq, ◌||◌, if◌then◌else◌}
 use Rattle.sort_terms.specs.ProfiledTerm.{ProfiledTerm, ProfiledTerms, profiled_variable, profiled_node, no_profiled_terms, profiled_term_then}
 
 -- Two terms agree, or clash at a place, or have at a place a variable, with its number and sort, and a term without it.
@@ -47,3 +47,17 @@ abbrev mutual
   disagreements no_profiled_terms (profiled_term_then u us) = clashing
   disagreements (profiled_term_then t ts) no_profiled_terms = clashing
   disagreements (profiled_term_then t ts) (profiled_term_then u us) = or_else (disagreement t u) (disagreements ts us)
+
+abbrev mutual
+  -- Two operations clash at a place, whatever the variables stand for.
+  pub clashes : ProfiledTerm → ProfiledTerm → Bool
+  clashes (profiled_variable n s) t = false
+  clashes (profiled_node f operation ts) (profiled_variable m r) = false
+  clashes (profiled_node f operation ts) (profiled_node g other us) = if nat_eq f g then clash_among ts us else true
+
+  -- The same of the terms of two lists, which clash where their lengths differ, too.
+  pub clash_among : ProfiledTerms → ProfiledTerms → Bool
+  clash_among no_profiled_terms no_profiled_terms = false
+  clash_among no_profiled_terms (profiled_term_then u us) = true
+  clash_among (profiled_term_then t ts) no_profiled_terms = true
+  clash_among (profiled_term_then t ts) (profiled_term_then u us) = clashes t u || clash_among ts us

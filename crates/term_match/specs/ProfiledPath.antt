@@ -1,5 +1,5 @@
 -- Paths in terms that carry profiles. A path lists argument positions, counted from 0, from the root down.
-use Rattle.std.specs.Prelude.{ℕ, zero, suc, List, [], ◌∷◌, Option, None, Some, nat_eq, if◌then◌else◌}
+use Rattle.std.specs.Prelude.{◌≡◌, ℕ, zero, suc, List, [], ◌∷◌, Option, None, Some, nat_eq, if◌then◌else◌}
 use Rattle.std.specs.Option.{option_map, option_and_then}
 use Rattle.sort_terms.specs.ProfiledTerm.{ProfiledTerm, ProfiledTerms, profiled_variable, profiled_node, no_profiled_terms, profiled_term_then, head_sort}
 
@@ -38,3 +38,9 @@ where_sorts_agree part whole old = if nat_eq (head_sort old) (head_sort part) th
 -- and where the sorts differ.
 abbrev pub replaced : List ℕ → ProfiledTerm → ProfiledTerm → Option ProfiledTerm
 replaced path part t = option_and_then (where_sorts_agree part (profiled_put_at path part t)) (profiled_subterm path t)
+
+-- The path leads to a subterm of the sort of the part.
+pub record LeadsToSort (path : List ℕ) (part t : ProfiledTerm) : Type 0 where
+  pub old : ProfiledTerm
+  pub is_there : profiled_subterm path t ≡ Some old
+  pub one_sort : head_sort old ≡ head_sort part

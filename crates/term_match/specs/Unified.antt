@@ -6,7 +6,7 @@ use Rattle.lotos_base.specs.Sorting.{Occurs}
 use Rattle.lotos_base.specs.Substitution.{Substitution, binding}
 use Rattle.rewriting_theory.specs.Unification.{IsUnifier, IsMostGeneral, OccursInEither, KeepsTo}
 use Rattle.sort_terms.specs.ProfiledTerm.{ProfiledTerm, bare, head_sort, IsOf}
-use Rattle.term_match.specs.ProfiledInstance.{bare_pairs}
+use Rattle.term_match.specs.ProfiledInstance.{ProfiledSubstitution, profiled_instance, bare_pairs}
 use Rattle.term_match.specs.Matched.{IsPair}
 
 -- Over both terms a variable number has one sort.
@@ -17,6 +17,12 @@ HaveOneSortPerNumber s t = (n r q : ℕ) → OccursInEither s t n r → OccursIn
 abbrev pub HasUnifier : ProfiledTerm → ProfiledTerm → Type 0
 HasUnifier left right =
     (head_sort left ≡ head_sort right) × ((values : Substitution) × IsUnifier (bare left) (bare right) values)
+
+-- Some substitution that puts for each variable of the terms a term of the variable's sort makes the two terms one.
+pub record HasSortedUnifier (left right : ProfiledTerm) : Type 0 where
+  pub values : ProfiledSubstitution
+  pub keeps_sorts : (n s : ℕ) → OccursInEither (bare left) (bare right) n s → head_sort (values n s) ≡ s
+  pub makes_one : profiled_instance values left ≡ profiled_instance values right
 
 -- The pairs unify the two terms, which have one sort: their substitution is a most general unifier that keeps to the
 -- variables of the terms. Each pair is of a variable of one of the terms and has a term of the variable's sort, in which

@@ -2,7 +2,7 @@
 
 ghost use Rattle.sort_terms.specs.TermView.{all_profiled, profiled_of};
 ghost use Rattle.std.specs.Prelude.{◌≡◌};
-ghost use Rattle.term_match.specs.Disagreement.{against, disagreement, disagreements};
+ghost use Rattle.term_match.specs.Disagreement.{against, clash_among, clashes, disagreement, disagreements};
 ghost use Rattle.term_match.specs.DifferenceView.{disagreement_of};
 
 use crate::occurrence::occurs;
@@ -101,4 +101,43 @@ fn compare(number: u64, sort: u32, term: &Term) -> Difference<'_>
         sort,
         value: term,
     }
+}
+
+/// Whether two operations clash at a place of the two terms, whatever their variables stand for. It
+/// takes no memory.
+#[cycle(clash)]
+pub fn clash(left: &Term, right: &Term) -> bool
+    ensures { result ≡ clashes (profiled_of left.now) (profiled_of right.now) }
+{
+    let Term::Node { op, arguments, .. } = left else {
+        return false;
+    };
+    let Term::Node {
+        op: f,
+        arguments: others,
+        ..
+    } = right
+    else {
+        return false;
+    };
+    if *op != *f {
+        return true;
+    }
+    clash_in(arguments, others)
+}
+
+// The same of the terms of two lists, which clash where their lengths differ, too.
+#[cycle(clash)]
+fn clash_in(terms: &Vec<Term>, others: &Vec<Term>) -> bool
+    ensures { result ≡ clash_among (all_profiled terms.now.items) (all_profiled others.now.items) }
+{
+    if terms.len() != others.len() {
+        return true;
+    }
+    for i in 0..terms.len() {
+        if clash(&terms[i], &others[i]) {
+            return true;
+        }
+    }
+    false
 }

@@ -4,9 +4,23 @@ ghost use Rattle.sort_terms.specs.ProfiledTerm.{bare, head_sort};
 ghost use Rattle.sort_terms.specs.SortedView.{profiled_in, term_in};
 ghost use Rattle.sort_terms.specs.TermView.{all_profiled, profiled_of};
 ghost use Rattle.std.specs.Option.{option_map};
-ghost use Rattle.std.specs.Prelude.{◌≡◌, ◌∷◌, ◌<◌, [], IfOk, length};
-ghost use Rattle.lotos_base.specs.Path.{subterm as subterm_at};
+ghost use Rattle.std.specs.Prelude.{
+  ◌≡◌,
+  ◌↔◌,
+  ◌∷◌,
+  ◌++◌,
+  ◌<◌,
+  [],
+  IfOk,
+  IfSome,
+  None,
+  Some,
+  length,
+  map,
+};
+ghost use Rattle.lotos_base.specs.Path.{put_at as part_put_at, subterm as subterm_at};
 ghost use Rattle.term_match.specs.ProfiledPath.{
+  LeadsToSort,
   profiled_put_at,
   profiled_subterm,
   replaced,
@@ -14,7 +28,6 @@ ghost use Rattle.term_match.specs.ProfiledPath.{
 };
 
 use lotos_base::NoMemory;
-use sort_terms::terms::copies;
 use sort_terms::{Sorted, Term};
 
 /// The subterm at the path, or `None` exactly where the path leads to no subterm.
@@ -34,6 +47,18 @@ pub fn subterm(term: &Sorted, path: &[u32]) -> Result<Option<Sorted>, NoMemory>
 /// The term with the part put at the path, or `None` exactly where the path leads to no subterm or
 /// to one of another sort than the part.
 pub fn put_at(term: &Sorted, path: &[u32], part: &Sorted) -> Result<Option<Sorted>, NoMemory>
+    ensures profiles { IfOk result (λ o. option_map (λ t. profiled_in t) o
+        ≡ replaced path.now (profiled_in part.now) (profiled_in term.now)) }
+    ensures none { IfOk result (λ o. (o ≡ None)
+        ↔ (¬ LeadsToSort path.now (profiled_in part.now) (profiled_in term.now))) }
+    ensures plain { IfOk result (λ o. IfSome o (λ whole.
+        part_put_at path.now (term_in part.now) (term_in term.now) ≡ Some (term_in whole))) }
+{
+    replacement(term, path, part)
+}
+
+// The same, by what it is with its profiles.
+fn replacement(term: &Sorted, path: &[u32], part: &Sorted) -> Result<Option<Sorted>, NoMemory>
     ensures { IfOk result (λ o. option_map (λ t. profiled_in t) o
         ≡ replaced path.now (profiled_in part.now) (profiled_in term.now)) }
 {
@@ -49,8 +74,8 @@ pub fn put_at(term: &Sorted, path: &[u32], part: &Sorted) -> Result<Option<Sorte
     }
 }
 
-// The subterm at the path, if the path leads to one.
-fn part_at<'a>(term: &'a Term, path: &[u32]) -> Option<&'a Term>
+/// The subterm at the path, if the path leads to one. It takes no memory.
+pub fn part_at<'a>(term: &'a Term, path: &[u32]) -> Option<&'a Term>
     ensures { option_map (λ t. profiled_of t.now) result
         ≡ profiled_subterm path.now (profiled_of term.now) }
 {
@@ -108,7 +133,18 @@ fn with_argument(terms: &Vec<Term>, position: usize, part: Term) -> Result<Vec<T
     ensures { IfOk result (λ ts. all_profiled ts.items
         ≡ with_profiled_argument position (profiled_of part) (all_profiled terms.now.items)) }
 {
-    let mut made = copies(terms)?;
-    made[position] = part;
+    let mut made = with_copies(Vec::new(*terms.allocator()), &terms[..position])?;
+    made.push(part)?;
+    with_copies(made, &terms[position + 1..])
+}
+
+// The terms, and after them copies of others.
+fn with_copies(mut made: Vec<Term>, terms: &[Term]) -> Result<Vec<Term>, NoMemory>
+    ensures { IfOk result (λ more.
+        map profiled_of more.items ≡ map profiled_of made.items ++ map profiled_of terms.now) }
+{
+    for term in terms {
+        made.push(term.copy()?)?;
+    }
     Ok(made)
 }

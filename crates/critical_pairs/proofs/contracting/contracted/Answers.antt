@@ -16,7 +16,7 @@ unreachable-requires c =
     ap head_sort c.in_ok-inner.ensures.profiles
     ∙ instance_head (profiled_substitution_of c.args.subst.now) (profiled_in c.args.second_right.now) c.requires.second in
     let none : replaced c.args.path.now (profiled_in c.in_ok-inner.inner) (profiled_in c.in_ok-peak.peak) ≡ None =
-    sym c.in_ok-right.ensures ∙ ap (option_map profiled_in) c.in-None.is in
+    sym c.in_ok-right.ensures.profiles ∙ ap (option_map profiled_in) c.in-None.is in
     put_there c.args.path.now (profiled_in c.in_ok-inner.inner) (profiled_in c.in_ok-peak.peak) c.requires.place.0
     (subst (λ (w : ProfiledTerm). profiled_subterm c.args.path.now w ≡ Some c.requires.place.0) (sym c.in_ok-peak.ensures.profiles)
     c.requires.place.1)

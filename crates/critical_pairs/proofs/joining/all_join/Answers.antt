@@ -1,7 +1,7 @@
 use Rattle.std.proofs.Common.{List, sym, ◌∙◌, ap, subst}
 use Rattle.std.specs.Prelude.{Option, IfNone, IfSome, slice_get}
 use Rattle.path_order.specs.RulesView.{plain_rules_in, signature_in}
-use Rattle.critical_pairs.specs.Joining.{NoneUnjoinedAmong, AnswersFirst}
+use Rattle.critical_pairs.specs.Joining.{NoneUnjoinedAmong, AnswersFirst, IsAnswerOver}
 use Rattle.critical_pairs.specs.PairView.{pairs_in}
 use Rattle.critical_pairs.specs.declared.joining.Unjoined.{Unjoined}
 use Rattle.critical_pairs.specs.declared.pair.Pair.{Pair}
@@ -31,3 +31,8 @@ returns-in-Some-clause-unjoined c =
     (subst (λ (o : Option Unjoined). IfSome o (λ answer. AnswersFirst (plain_rules_in c.args.rules) (pairs_in c.as_slice.result.now)
     answer))
     c.in-Some.is c.in_ok-first_unjoined.ensures.some))
+
+pub returns-in-Some-clause-over : goal.returns-in-Some-clause-over
+returns-in-Some-clause-over c =
+    subst (λ (o : Option Unjoined). IfSome o (λ answer. IsAnswerOver (signature_in c.args.rules) answer))
+    c.in-Some.is c.in_ok-first_unjoined.ensures.over

@@ -1,8 +1,8 @@
 use Rattle.std.proofs.Common.{◌<◌, [], ◌∷◌, sym, ◌∙◌, subst, arith, below_more}
 use Rattle.std.specs.Prelude.{Option, IfNone, IfSome}
 use Rattle.std.proofs.lemmas.Option.{same_Some}
-use Rattle.path_order.specs.RulesView.{plain_rules_in}
-use Rattle.critical_pairs.specs.Joining.{NoneUnjoinedAmong, AnswersPair}
+use Rattle.path_order.specs.RulesView.{plain_rules_in, signature_in}
+use Rattle.critical_pairs.specs.Joining.{NoneUnjoinedAmong, AnswersPair, IsAnswerOver}
 use Rattle.critical_pairs.specs.PairView.{pair_of}
 use Rattle.critical_pairs.specs.declared.joining.Unjoined.{Unjoined}
 use Rattle.critical_pairs.proofs.JoiningLemmas.{pair_listed, item_there, listed_within, alone}
@@ -24,6 +24,11 @@ returns-in-Some-clause-some c = record {
       c.in-Some.is c.in_ok-unjoined.ensures.some;
   none_before = λ k earlier t u less is. c.loop-pair.invariant k less earlier t u is;
 }
+
+pub returns-in-Some-clause-over : goal.returns-in-Some-clause-over
+returns-in-Some-clause-over c =
+    subst (λ (o : Option Unjoined). IfSome o (λ answer. IsAnswerOver (signature_in c.args.rules.now) answer))
+    c.in-Some.is c.in_ok-unjoined.ensures.over
 
 pub loop-pair-preserved : goal.loop-pair-preserved
 loop-pair-preserved c =

@@ -8,7 +8,7 @@ use Rattle.critical_pairs.specs.Extended.{paths_in}
 use Rattle.critical_pairs.specs.NodePlaces.{node_places}
 use Rattle.critical_pairs.specs.PairView.{node_place_of}
 use Rattle.critical_pairs.proofs.ExtendLemmas.{extended_nothing}
-use Rattle.critical_pairs.proofs.RuleLemmas.{plain_many, places_headed, places_paths, places_of_rule, candidate_within, second_more, no_more}
+use Rattle.critical_pairs.proofs.RuleLemmas.{plain_many, places_paths, places_of_rule, candidate_within, second_more, no_more}
 use Rattle.critical_pairs.proofs.listing.pairs_of_first.Goals as goal
 
 pub loop-second-init : goal.loop-second-init
@@ -23,15 +23,6 @@ pairs_of_two-requires-clause-second c =
     (map node_place_of c.as_slice.result.now) c.next_candidate.result c.in-Some.is c.next_candidate.ensures in
     let many = plain_many c.args.rules.now.rules.items in
     omega (arith, within.1, many)
-
-pub pairs_of_two-requires-clause-headed : goal.pairs_of_two-requires-clause-headed
-pairs_of_two-requires-clause-headed c =
-    places_headed c.args.rules.now c.args.first c.index-list-first.result c.as_slice-in-Some.result.now c.requires
-    (subst (λ (xs : List Rule). c.index-list-first.result ≡ get_or xs c.args.first c.index-list-first.result) c.list.ensures
-    c.index-list-first.is)
-    (ap (map node_place_of) c.as_slice-in-Some.ensures.value ∙ c.in_ok-places.ensures
-    ∙ ap (λ (t : Term). node_places [] (term_of t)) c.term.ensures
-    ∙ ap (λ (r : Rule). node_places [] (term_in r.left)) (sym c.index-list-first.is))
 
 pub overflow_add-next : goal.overflow_add-next
 overflow_add-next c =
@@ -70,9 +61,9 @@ loop-second-preserved c =
           second_more c.args.rules.now c.args.first rule c.loop-second.next c.in-Some.second (map node_place_of c.as_slice.result.now)
           (paths_in c.as_slice-in-Some.result.now) c.next_candidate.result c.args.found.items c.loop-second.found.items
           c.in_ok-found.found.items is
-          (sym (places_of_rule c.args.rules.now c.args.first c.index-list-first.result rule c.as_slice.result.now c.requires at are is))
+          (sym (places_of_rule c.args.rules.now c.args.first c.index-list-first.result rule c.as_slice.result.now c.requires.first at are is))
           (places_paths c.as_slice-in-Some.result.now rule.left
-          (places_of_rule c.args.rules.now c.args.first c.index-list-first.result rule c.as_slice-in-Some.result.now c.requires at also is))
+          (places_of_rule c.args.rules.now c.args.first c.index-list-first.result rule c.as_slice-in-Some.result.now c.requires.first at also is))
           c.in-Some.is c.next_candidate.ensures (c.loop-second.invariant.listed rule is) c.in_ok-found.ensures;
     }
 
@@ -86,5 +77,5 @@ returns c = λ rule is.
     ∙ ap (λ (r : Rule). node_places [] (term_in r.left)) (sym c.index-list-first.is) in
     no_more c.args.rules.now c.args.first rule c.loop-second.next (map node_place_of c.as_slice.result.now) c.next_candidate.result
     c.args.found.items c.loop-second.found.items is
-    (sym (places_of_rule c.args.rules.now c.args.first c.index-list-first.result rule c.as_slice.result.now c.requires at are is))
+    (sym (places_of_rule c.args.rules.now c.args.first c.index-list-first.result rule c.as_slice.result.now c.requires.first at are is))
     c.in_default.is c.next_candidate.ensures c.loop-second.invariant.within (c.loop-second.invariant.listed rule is)

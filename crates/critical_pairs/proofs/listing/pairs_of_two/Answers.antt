@@ -1,14 +1,9 @@
 use Rattle.critical_pairs.proofs.ExtendLemmas.{extended_nothing}
-use Rattle.critical_pairs.proofs.RuleLemmas.{place_more, place_there}
+use Rattle.critical_pairs.proofs.RuleLemmas.{place_more}
 use Rattle.critical_pairs.proofs.listing.pairs_of_two.Goals as goal
 
 pub loop-place-init : goal.loop-place-init
 loop-place-init c = extended_nothing c.args.rules.now c.args.found.items
-
-pub with_pair_at-requires-clause-headed : goal.with_pair_at-requires-clause-headed
-with_pair_at-requires-clause-headed c =
-    c.requires.headed c.loop-place.place-index c.place-item.result
-    (place_there c.args.places.now c.loop-place.place-index c.place-item.result c.loop-place-test.true c.place-item.is)
 
 pub loop-place-preserved : goal.loop-place-preserved
 loop-place-preserved c =

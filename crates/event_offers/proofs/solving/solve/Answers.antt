@@ -32,19 +32,27 @@ returns-in-None-clause-solved g c =
     (gives_none c.in_ok-given.given _ c.in-None.is c.in_ok-given.ensures.same) c.in_ok-entry-in-None.ensures.same
 
 pub returns-in-None-clause-over : goal.returns-in-None-clause-over
-returns-in-None-clause-over g c = record {
-  order = ordered_entry (g.D.Deciding.known_data c.args.decider.now) (g.D.Deciding.canon c.args.decider.now) (g.met.D.Deciding.is_canon
-      c.args.decider.now)
-      (plain_draft c.args.draft) (plain_entry c.in_ok-entry-in-None.entry) c.requires.order
-      (reached_entry (g.D.Deciding.known_data c.args.decider.now) (g.D.Deciding.canon c.args.decider.now) (g.met.D.Deciding.is_canon
-      c.args.decider.now)
-      (plain_draft c.args.draft) c.solving.now c.solving.invariant.0 (plain_entry c.in_ok-entry-in-None.entry) (sym c.if-has_closed.ensures)
-      (gives_none c.in_ok-given.given _ c.in-None.is c.in_ok-given.ensures.same) c.in_ok-entry-in-None.ensures.same);
-  values = c.in_ok-entry-in-None.ensures.values (g.D.Deciding.known_data c.args.decider.now).signature c.solving.invariant.0.terms.values;
-  leaves = c.in_ok-entry-in-None.ensures.leaves (g.D.Deciding.known_data c.args.decider.now).signature c.solving.invariant.0.terms.leaves;
-  conditions = c.in_ok-entry-in-None.ensures.conditions (g.D.Deciding.known_data c.args.decider.now).signature
-      c.solving.invariant.0.terms.conditions;
-}
+returns-in-None-clause-over g c =
+    let both =
+    ordered_entry (g.D.Deciding.known_data c.args.decider.now) (g.D.Deciding.canon c.args.decider.now) (g.met.D.Deciding.is_canon
+    c.args.decider.now)
+    (plain_draft c.args.draft) (plain_entry c.in_ok-entry-in-None.entry) c.requires.order
+    (reached_entry (g.D.Deciding.known_data c.args.decider.now) (g.D.Deciding.canon c.args.decider.now) (g.met.D.Deciding.is_canon
+    c.args.decider.now)
+    (plain_draft c.args.draft) c.solving.now c.solving.invariant.0 (plain_entry c.in_ok-entry-in-None.entry) (sym c.if-has_closed.ensures)
+    (gives_none c.in_ok-given.given _ c.in-None.is c.in_ok-given.ensures.same) c.in_ok-entry-in-None.ensures.same) in
+    record {
+      entry_of = record {
+        order = both.0;
+        values = c.in_ok-entry-in-None.ensures.values (g.D.Deciding.known_data c.args.decider.now).signature
+            c.solving.invariant.0.terms.values;
+        leaves = c.in_ok-entry-in-None.ensures.leaves (g.D.Deciding.known_data c.args.decider.now).signature
+            c.solving.invariant.0.terms.leaves;
+        conditions = c.in_ok-entry-in-None.ensures.conditions (g.D.Deciding.known_data c.args.decider.now).signature
+            c.solving.invariant.0.terms.conditions;
+      };
+      as_draft = both.1;
+    }
 
 pub stepped-requires-clause-values : goal.stepped-requires-clause-values
 stepped-requires-clause-values g c =

@@ -2,13 +2,14 @@ use Rattle.std.proofs.Common.{subst, sym}
 use Rattle.lotos_rows.specs.declared.starts.TheConstants as starts
 use Rattle.lotos_rows.specs.Rows.{grammar_from}
 use Rattle.lotos_rows.specs.Starts.{IsWrittenSpecification}
+use Rattle.lotos_rows.proofs.ReadableTexts.{specification_readable}
 use Rattle.sentence_trees.proofs.AllGiven.{rows_have}
 use Rattle.syntax_trees.specs.Depth.{nodes_of_specification}
 use Rattle.lotos_grammar.proofs.Readings.{too_deep}
 use Rattle.lotos_grammar.proofs.reading.read_spec.Goals as goal
 
-pub returns-in-Some : goal.returns-in-Some
-returns-in-Some c =
+pub returns-in-Some-clause-answer : goal.returns-in-Some-clause-answer
+returns-in-Some-clause-answer c =
     let tokens = c.in_ok-tokens.field-0.tokens.items in
     let fault =
     too_deep (IsWrittenSpecification c.args.text.now) nodes_of_specification c.args.number c.args.text.now (grammar_from starts.SPEC) tokens
@@ -20,3 +21,6 @@ returns-in-Some c =
     (subst (λ it. IsWrittenSpecification c.args.text.now it tree) (sym c.deref.ensures.value) is))
     c.in-Some.is in
     (c.in_ok-within_limit.ensures.short, fault)
+
+pub returns-clause-readable : goal.returns-clause-readable
+returns-clause-readable c = specification_readable c.in_ok-spec.ensures

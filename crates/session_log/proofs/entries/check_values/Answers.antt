@@ -16,5 +16,5 @@ returns-in-None-clause-checked g c =
     record {
       sorted = given_sorts signature c.args.entry.now.vars.items c.args.values.now c.requires.given c.requires.counted
           (c.in_default.ensures signature c.requires.given.terms);
-      met = c.in_ok-unmet.ensures.met.0 c.in-None.is;
+      met = c.in_ok-unmet.ensures.met c.in-None.is;
     }

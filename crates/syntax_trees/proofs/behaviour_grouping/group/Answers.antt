@@ -1,7 +1,4 @@
-use Rattle.std.proofs.Common.{◌≡◌}
-use Rattle.std.specs.Prelude.{Some, map}
-use Rattle.std.proofs.lemmas.Result.{IfOk-weaker}
-use Rattle.syntax_trees.specs.Grouping.{IsGrouped, grouped}
+use Rattle.std.specs.Prelude.{map}
 use Rattle.syntax_trees.specs.Strength.{strength_of, joined}
 use Rattle.syntax_trees.specs.TreeViews.{behaviour_of, placed_sign_of}
 use Rattle.syntax_trees.proofs.Groupings.{grouped_is}
@@ -12,9 +9,6 @@ returns c =
     let operands = map behaviour_of c.args.operands.items in
     let signs = map placed_sign_of c.args.signs.items in
     record {
-      computed = c.group_operands.ensures;
-      split =
-          IfOk-weaker c.group_operands.result (λ tree. grouped strength_of joined operands signs ≡ Some (behaviour_of tree))
-          (λ tree. IsGrouped strength_of joined operands signs (behaviour_of tree))
-          (λ tree is. grouped_is strength_of joined operands signs (behaviour_of tree) is) c.group_operands.ensures;
+      computed = c.in_ok-group_operands.ensures;
+      split = grouped_is strength_of joined operands signs (behaviour_of c.in_ok-group_operands.field-0) c.in_ok-group_operands.ensures;
     }

@@ -1,16 +1,17 @@
-use Rattle.std.proofs.Common.{◌≡◌, ◌<◌, ◌-◌, ℕ, List, [], Vec, Global, length, ap, sym, ◌∙◌, subst, refl}
+use Rattle.std.proofs.Common.{◌≡◌, ◌<◌, ◌-◌, ℕ, List, [], Vec, Global, length, true, ap, sym, ◌∙◌, subst, refl}
 use Rattle.sort_terms.specs.ProfiledTerm.{ProfiledTerm, head_sort}
 use Rattle.sort_terms.specs.SortedView.{profiled_in}
+use Rattle.sort_terms.specs.TermView.{profiled_of}
 use Rattle.sort_terms.specs.declared.sorted.Sorted.{Sorted}
 use Rattle.term_match.specs.Numbers.{AreDistinctNumbers}
 use Rattle.term_match.specs.SubstView.{profiled_pairs}
 use Rattle.term_match.proofs.MatchLemmas.{numbers_same}
-use Rattle.term_match.specs.Disagreement.{disagreement}
+use Rattle.term_match.specs.Disagreement.{clashes, disagreement}
 use Rattle.term_match.specs.DemandView.{demand_of}
 use Rattle.term_match.specs.Solving.{asked, nothing_more, given_up, put_for}
 use Rattle.term_match.specs.Unified.{IsUnifiedBy}
 use Rattle.term_match.proofs.StateLemmas.{solving_first, left_is_left, right_is_left}
-use Rattle.term_match.proofs.UnifierLemmas.{room, step_single, pair_within, solving_bound, solved_unified, failed_none, room_shrinks, solving_moved, pair_of_code}
+use Rattle.term_match.proofs.UnifierLemmas.{room, step_single, pair_within, solving_bound, solved_unified, failed_none, failed_none_sorted, clash_none, clash_none_sorted, room_shrinks, solving_moved, pair_of_code}
 use Rattle.term_match.proofs.unification.unify.Goals as goal
 
 pub loop-state-init : goal.loop-state-init
@@ -67,6 +68,28 @@ returns-in-Failed-clause-none c =
           c.loop-state.state.right.fits c.loop-state.invariant failed signature one two unifier),
       (λ no. refl),
     )
+
+pub returns-in-Failed-clause-none_sorted : goal.returns-in-Failed-clause-none_sorted
+returns-in-Failed-clause-none_sorted c =
+    let failed : asked (disagreement (profiled_in c.loop-state.state.left) (profiled_in c.loop-state.state.right)) ≡ given_up =
+    sym c.in_ok-demanded_by.ensures ∙ ap demand_of c.in-Failed.is in
+    failed_none_sorted (profiled_in c.args.left.now) (profiled_in c.args.right.now) (profiled_pairs c.loop-state.state.pairs.items)
+    (profiled_in c.loop-state.state.left) (profiled_in c.loop-state.state.right) c.requires.one_sort c.loop-state.invariant failed
+
+pub returns-then-clash-clause-none : goal.returns-then-clash-clause-none
+returns-then-clash-clause-none c =
+    let clash : clashes (profiled_in c.args.left.now) (profiled_in c.args.right.now) ≡ true =
+    (λ i. clashes (profiled_of (sym c.term.ensures i)) (profiled_of (sym c.term-2.ensures i))) ∙ sym c.clash.ensures ∙ c.if-clash.true in
+    λ signature one two. (
+      (λ none. clash_none (profiled_in c.args.left.now) (profiled_in c.args.right.now) clash),
+      (λ no. refl),
+    )
+
+pub returns-then-clash-clause-none_sorted : goal.returns-then-clash-clause-none_sorted
+returns-then-clash-clause-none_sorted c =
+    let clash : clashes (profiled_in c.args.left.now) (profiled_in c.args.right.now) ≡ true =
+    (λ i. clashes (profiled_of (sym c.term.ensures i)) (profiled_of (sym c.term-2.ensures i))) ∙ sym c.clash.ensures ∙ c.if-clash.true in
+    clash_none_sorted (profiled_in c.args.left.now) (profiled_in c.args.right.now) clash
 
 pub with_value-requires-clause-left : goal.with_value-requires-clause-left
 with_value-requires-clause-left c = λ r o.

@@ -1,4 +1,4 @@
-use Rattle.std.proofs.Common.{◌≡◌, ◌++◌, ◌<◌, ◌+◌, inl, refl, codes, length, arith}
+use Rattle.std.proofs.Common.{◌≡◌, ◌++◌, ◌<◌, inl, refl, codes, length, arith}
 use Rattle.line_server.specs.Request.{replay}
 use Rattle.history_lines.specs.ShelfAnswer.{trace_limit}
 use Rattle.history_lines.specs.LinesView.{standing_of}
@@ -21,5 +21,5 @@ returns-then-got-gt-TRACE_LIMIT-clause-answered g c = λ texts faults gets.
 
 pub returns-clause-answered : goal.returns-clause-answered
 returns-clause-answered g c = λ texts faults gets.
-    c.replay_whole.ensures.answered texts faults
+    c.replay_whole.ensures.answered c.args.name.now texts faults
     (got_short texts c.args.name.now c.args.got.now gets (omega (arith, c.if-got-gt-TRACE_LIMIT.false)))

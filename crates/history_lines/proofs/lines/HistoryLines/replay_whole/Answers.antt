@@ -9,11 +9,10 @@ use Rattle.history_lines.proofs.ShelfLemmas.{gives_replayed, gives_refused}
 use Rattle.history_lines.proofs.lines.HistoryLines.replay_whole.Goals as goal
 
 pub returns-in-Ok-clause-answered : goal.returns-in-Ok-clause-answered
-returns-in-Ok-clause-answered g c = λ texts faults stands.
+returns-in-Ok-clause-answered g c = λ name texts faults stands.
     let new = c.take_all.new.self in
     let before = standing_of c.args.self.now texts in
     let after = standing_of new texts in
-    let name = c.args.name.now in
     let told : List ℕ = codes "replayed " ++ decimal c.in-Ok.count ++ codes "\n" ++ shown_menu (basis_of new) (reached new) in
     either_way c.replayed.result (λ line. line.items ≡ told)
     (λ line. GivesAnswer (moment_of before faults) (replay name) line.items (moment_of after faults))
@@ -30,11 +29,10 @@ returns-in-Ok-clause-answered g c = λ texts faults stands.
     c.replayed.ensures
 
 pub returns-in-Err-clause-answered : goal.returns-in-Err-clause-answered
-returns-in-Err-clause-answered g c = λ texts faults stands.
+returns-in-Err-clause-answered g c = λ name texts faults stands.
     let before = standing_of c.args.self.now texts in
     let after = standing_of c.take_all.new.self texts in
     let same : after ≡ before = same_standing after before c.in-Err.ensures.stays.basis c.in-Err.ensures.answered.0 refl in
-    let name = c.args.name.now in
     either_way c.fault_line.result (λ line. AddsFault c.in-Err.fault [] line.items)
     (λ line. GivesAnswer (moment_of before faults) (replay name) line.items (moment_of after faults))
     (λ _. IsBeforeOrBehind (moment_of before faults) (replay name) (moment_of after faults))

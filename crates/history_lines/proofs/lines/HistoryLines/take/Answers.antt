@@ -12,3 +12,15 @@ returns-in_err-terms-clause-answered g c =
       unread (basis_of c.args.self.now) (reached c.args.self.now) c.args.number c.args.text.now c.in_err-terms.field-0.0
           c.in_err-terms.ensures,
     )
+
+pub take_with-requires-clause-chosen : goal.take_with-requires-clause-chosen
+take_with-requires-clause-chosen g c = (c.args.text.now, c.in_ok-values.ensures c.args.text.now c.in_ok-terms.ensures)
+
+pub returns-in_err-values-clause-answered : goal.returns-in_err-values-clause-answered
+returns-in_err-values-clause-answered g c =
+    gave_up _ _ c.from_residual-in_err-values.result c.in_err-values.field-0.0 c.from_residual-in_err-values.ensures.1
+    (refl, c.in_err-values.ensures c.args.text.now c.in_ok-terms.ensures)
+
+pub returns-clause-answered : goal.returns-clause-answered
+returns-clause-answered g c =
+    c.take_with.ensures.answered c.args.text.now (c.in_ok-values.ensures c.args.text.now c.in_ok-terms.ensures)

@@ -9,8 +9,8 @@ use Rattle.history_lines.proofs.StepLemmas.{step_declined}
 use Rattle.history_lines.proofs.lines.HistoryLines.take_with.Goals as goal
 
 pub returns-clause-answered : goal.returns-clause-answered
-returns-clause-answered g c =
-    is_taken c.requires.chosen.entry (terms_of c.args.values.items) (label_of c.in_ok-step.field-0) _ c.requires.chosen.valued
+returns-clause-answered g c = λ text chosen.
+    is_taken chosen.entry (terms_of c.args.values.items) (label_of c.in_ok-step.field-0) _ chosen.valued
     c.in_ok-step.ensures.answered
 
 pub returns-clause-stays : goal.returns-clause-stays
@@ -19,11 +19,11 @@ returns-clause-stays g c =
     c.step.ensures.same_known.same_canon c.step.ensures.same_spec c.step.ensures.lawful_after
 
 pub returns-in_err-step-clause-answered : goal.returns-in_err-step-clause-answered
-returns-in_err-step-clause-answered g c =
+returns-in_err-step-clause-answered g c = λ text chosen.
     gave_up _ _ c.from_residual.result (Step c.in_err-step.field-0.0) c.from_residual.ensures.1 (
       c.in_err-step.ensures.answered.0,
-      step_declined (basis_of c.args.self.now) (reached c.args.self.now) c.args.number c.args.text.now c.requires.chosen.entry
-          (terms_of c.args.values.items) c.requires.chosen.valued c.in_err-step.field-0.0 c.in_err-step.ensures.answered.1,
+      step_declined (basis_of c.args.self.now) (reached c.args.self.now) c.args.number text chosen.entry
+          (terms_of c.args.values.items) chosen.valued c.in_err-step.field-0.0 c.in_err-step.ensures.answered.1,
     )
 
 pub returns-in_err-step-clause-stays : goal.returns-in_err-step-clause-stays

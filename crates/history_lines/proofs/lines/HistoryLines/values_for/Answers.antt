@@ -20,18 +20,18 @@ use Rattle.history_lines.proofs.StepLemmas.{miscounted, misread, valued}
 use Rattle.history_lines.proofs.lines.HistoryLines.values_for.Goals as goal
 
 pub returns-in_err-entry : goal.returns-in_err-entry
-returns-in_err-entry g c =
+returns-in_err-entry g c = λ text there.
     let terms = c.args.terms.now.items in
     let counted : c.len.result ≡ length (map written_term_of terms) =
     omega (arith, c.len.ensures, c.args.terms.now.ok.0, length-map terms written_term_of) in
     gave_up _ _ c.from_residual.result (Step c.in_err-entry.field-0.0) c.from_residual.ensures.1
-    (miscounted (basis_of c.args.self.now) (reached c.args.self.now) c.args.number c.args.text.now (map written_term_of terms)
-    c.requires.there c.len.result counted c.in_err-entry.field-0.0
+    (miscounted (basis_of c.args.self.now) (reached c.args.self.now) c.args.number text (map written_term_of terms)
+    there c.len.result counted c.in_err-entry.field-0.0
     (subst (λ (it : Menu). TellsStep (number_refusal (entries_in it) c.args.number c.len.result) c.in_err-entry.field-0.0) c.menu.ensures
     c.in_err-entry.ensures))
 
 pub returns-in_err-values_at : goal.returns-in_err-values_at
-returns-in_err-values_at g c =
+returns-in_err-values_at g c = λ text there.
     let terms = map written_term_of c.args.terms.now.items in
     let entry = c.in_ok-entry.entry.now in
     let counted : length terms ≡ length entry.vars.items =
@@ -40,13 +40,13 @@ returns-in_err-values_at g c =
     subst (λ (it : Menu). entry_numbered (entries_in it) c.args.number ≡ Some (plain_entry entry)) c.menu.ensures
     (entry_there c.menu.result.now c.args.number entry c.in_ok-entry.ensures.0) in
     gave_up _ _ c.from_residual-in_err-values_at.result (Terms c.in_err-values_at.field-0.0) c.from_residual-in_err-values_at.ensures.1
-    (misread (basis_of c.args.self.now) (reached c.args.self.now) c.args.number c.args.text.now terms c.requires.there
+    (misread (basis_of c.args.self.now) (reached c.args.self.now) c.args.number text terms there
     (plain_entry entry) listed counted c.in_err-values_at.field-0.0
     (subst (λ (it : Signature). TellsMisread (IsFirstMisread it entry.vars.items terms) c.in_err-values_at.field-0.0)
     c.requires.serving.read c.in_err-values_at.ensures))
 
 pub returns : goal.returns
-returns g c =
+returns g c = λ text there.
     let terms = map written_term_of c.args.terms.now.items in
     let entry = c.in_ok-entry.entry.now in
     let values = c.in_ok-values_at.field-0.items in
@@ -57,7 +57,7 @@ returns g c =
     (entry_there c.menu.result.now c.args.number entry c.in_ok-entry.ensures.0) in
     record {
       entry = plain_entry entry;
-      valued = valued (basis_of c.args.self.now) (reached c.args.self.now) c.args.number c.args.text.now terms c.requires.there
+      valued = valued (basis_of c.args.self.now) (reached c.args.self.now) c.args.number text terms there
           (plain_entry entry) listed counted (terms_of values)
           (subst (λ (it : Signature). AreRead it entry.vars.items terms (terms_of values)) c.requires.serving.read
           c.in_ok-values_at.ensures.0);

@@ -6,7 +6,7 @@ use Rattle.behaviour_tree.specs.BehaviourView.{terms_of}
 use Rattle.behaviour_tree.specs.Over.{AreTermsOf}
 use Rattle.event_offers.specs.Instances.{canonical_derivation}
 use Rattle.event_offers.specs.OfferView.{plain_entry}
-use Rattle.event_offers.specs.Offers.{IsEntryOver}
+use Rattle.event_offers.specs.Offers.{IsEntryOf}
 use Rattle.session_log.proofs.CourseLemmas.{chosen_told}
 use Rattle.session_log.proofs.EntryLemmas.{entry_over}
 use Rattle.session_log.proofs.ResultLemmas.{gave_up}
@@ -22,7 +22,7 @@ returns-in_err-check_values-clause-chosen g c =
 
 pub derivation-requires-clause-over : goal.derivation-requires-clause-over
 derivation-requires-clause-over g c =
-    subst (λ (d : Data). IsEntryOver d.signature c.in_ok-entry.entry.now) (sym c.in_ok-check_values.ensures.same_known.same_data)
+    subst (λ (d : Data). IsEntryOf d.signature c.in_ok-entry.entry.now) (sym c.in_ok-check_values.ensures.same_known.same_data)
     (entry_over (g.D.Deciding.known_data c.args.data.now).signature c.args.self.now.menu c.args.number c.in_ok-entry.entry.now
     c.requires.menu c.in_ok-entry.ensures.0)
 

@@ -17,6 +17,7 @@ use Rattle.session_log.specs.RefusalView.{TellsStep}
 use Rattle.session_log.specs.declared.courses.Past.{Past}
 use Rattle.session_log.specs.declared.refusals.StepRefusal.TheVariants as step
 use Rattle.session_log.proofs.CourseLemmas.{state_over, chosen_free, has_stepped, kept_stepped, same_progress, kept_same, taken_over, exact_over}
+use Rattle.session_log.proofs.EntryLemmas.{menu_kept}
 use Rattle.session_log.proofs.ResultLemmas.{gave_up}
 use Rattle.session_log.proofs.courses.Course.step.Goals as goal
 
@@ -76,7 +77,8 @@ returns-clause-answered g c =
           c.in_ok-taken.taken.0 same.same_data same.same_canon c.in_ok-taken.ensures.answer;
       exact = exact_over known _ canon _ spec c.in_ok-taken.taken.1 c.in_ok-menu.menu later.same_data later.same_canon
           c.in_ok-menu.ensures.exact;
-      entries = subst (λ (d : Data). IsKeptMenu d.signature c.in_ok-menu.menu) later.same_data c.in_ok-menu.ensures.over;
+      entries = subst (λ (d : Data). IsKeptMenu d.signature c.in_ok-menu.menu) later.same_data
+          (menu_kept _ c.in_ok-menu.menu.entries.items c.in_ok-menu.ensures.over);
       numbered = refl;
       valued = refl;
       labelled = c.in_ok-kept.ensures.same;
@@ -107,7 +109,8 @@ returns-clause-kept_after g c =
           c.in_ok-taken.taken.0 same.same_data same.same_canon c.in_ok-taken.ensures.answer;
       exact = exact_over known _ canon _ spec c.in_ok-taken.taken.1 c.in_ok-menu.menu later.same_data later.same_canon
           c.in_ok-menu.ensures.exact;
-      entries = subst (λ (d : Data). IsKeptMenu d.signature c.in_ok-menu.menu) later.same_data c.in_ok-menu.ensures.over;
+      entries = subst (λ (d : Data). IsKeptMenu d.signature c.in_ok-menu.menu) later.same_data
+          (menu_kept _ c.in_ok-menu.menu.entries.items c.in_ok-menu.ensures.over);
       numbered = refl;
       valued = refl;
       labelled = c.in_ok-kept.ensures.same;

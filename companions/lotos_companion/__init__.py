@@ -1,0 +1,1 @@
+"""What the companions of the program `lotos` are made of. They run the program and show what it says."""

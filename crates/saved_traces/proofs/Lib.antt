@@ -1,0 +1,13 @@
+pub mod ReadDepths
+pub mod NumberBounds
+pub mod LineBounds
+pub mod AcceptedParts
+pub mod OneBeginning
+pub mod TokenSpellings
+pub mod WrittenNames
+pub mod GatheredNames
+pub mod FlattenedNames
+pub mod AcceptedNames
+pub mod RunLines
+pub mod SavedTraces
+pub mod VisibleEvents

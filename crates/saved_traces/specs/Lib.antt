@@ -1,0 +1,6 @@
+pub mod LineBounds
+pub mod AcceptedNames
+pub mod OneBeginning
+pub mod RunLines
+pub mod SavedTraces
+pub mod VisibleEvents

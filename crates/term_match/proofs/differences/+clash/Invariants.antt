@@ -1,0 +1,9 @@
+use Rattle.std.proofs.Common.{◌≡◌, drop}
+use Rattle.sort_terms.specs.TermView.{all_profiled}
+use Rattle.term_match.specs.Disagreement.{clash_among}
+use Rattle.term_match.proofs.differences.+clash.Given as goal
+
+abbrev pub invariant-clash_in-loop-i : goal.invariant-clash_in-loop-i
+invariant-clash_in-loop-i l =
+    clash_among (all_profiled l.terms.items) (all_profiled l.others.items)
+    ≡ clash_among (all_profiled (drop l.i l.terms.items)) (all_profiled (drop l.i l.others.items))

@@ -1,0 +1,17 @@
+pub mod BelowLemmas
+pub mod CanonicalLemmas
+pub mod CellLemmas
+pub mod FirstRuleLemmas
+pub mod GrowthLemmas
+pub mod KeptLemmas
+pub mod KeyLemmas
+pub mod NumberingLemmas
+pub mod ReadLemmas
+pub mod ReadyLemmas
+pub mod SearchLemmas
+pub mod SizeLemmas
+pub mod StepLemmas
+pub mod StoreLemmas
+pub mod TurnLemmas
+pub mod ValueLemmas
+pub mod WholeLemmas

@@ -1,0 +1,42 @@
+use Rattle.std.proofs.Common.{subst}
+use Rattle.std.proofs.lemmas.Result.{IfOk-weaker}
+use Rattle.sort_terms.specs.SortedView.{profiled_in}
+use Rattle.sort_terms.specs.TermView.{profiled_of}
+use Rattle.sort_terms.specs.declared.terms.Term.{Term}
+use Rattle.term_store.specs.Numbered.{TakesIn, IsNumberOf}
+use Rattle.term_store.specs.SharedView.{keys_in}
+use Rattle.term_store.proofs.CanonicalLemmas.{numbered_stays, canonical_form}
+use Rattle.term_store.proofs.TurnLemmas.{with_shared, stay_on}
+use Rattle.term_store.proofs.canonical.canonical.Goals as goal
+
+pub returns-in_err-number-clause-stay : goal.returns-in_err-number-clause-stay
+returns-in_err-number-clause-stay c =
+    numbered_stays c.args.rules.now c.args.forms.now c.number_of.new.shared (profiled_in c.args.term.now) c.requires.sound c.requires.term
+    (subst (λ (t : Term). TakesIn (profiled_of t) (keys_in c.args.forms.now.shared) (keys_in c.number_of.new.shared)) c.term.ensures
+    c.number_of.ensures.takes)
+
+pub chosen-requires-clause-sound : goal.chosen-requires-clause-sound
+chosen-requires-clause-sound c =
+    (numbered_stays c.args.rules.now c.args.forms.now c.number_of.new.shared (profiled_in c.args.term.now) c.requires.sound
+    c.requires.term
+    (subst (λ (t : Term). TakesIn (profiled_of t) (keys_in c.args.forms.now.shared) (keys_in c.number_of.new.shared)) c.term.ensures
+    c.number_of.ensures.takes)).sound
+
+pub returns-clause-stay : goal.returns-clause-stay
+returns-clause-stay c =
+    stay_on c.args.rules.now c.args.forms.now (with_shared c.args.forms.now c.number_of.new.shared) c.chosen.new.forms
+    (numbered_stays c.args.rules.now c.args.forms.now c.number_of.new.shared (profiled_in c.args.term.now) c.requires.sound
+    c.requires.term
+    (subst (λ (t : Term). TakesIn (profiled_of t) (keys_in c.args.forms.now.shared) (keys_in c.number_of.new.shared)) c.term.ensures
+    c.number_of.ensures.takes))
+    c.chosen.ensures.stay
+
+pub returns-clause-canonical : goal.returns-clause-canonical
+returns-clause-canonical c =
+    let numbered = subst (λ (t : Term). IsNumberOf (profiled_of t) (keys_in c.args.forms.now.shared) (keys_in c.number_of.new.shared)
+    c.in_ok-number.number) c.term.ensures c.in_ok-number.ensures.number in
+    IfOk-weaker c.chosen.result _ _
+    (λ form kept.
+    canonical_form c.args.rules.now c.args.forms.now c.number_of.new.shared c.chosen.new.forms (profiled_in c.args.term.now)
+    c.in_ok-number.number form c.requires.sound c.requires.term numbered c.chosen.ensures.stay kept)
+    c.chosen.ensures.kept

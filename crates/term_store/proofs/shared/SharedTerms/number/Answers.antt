@@ -1,0 +1,13 @@
+use Rattle.std.proofs.Common.{◌<◌, sym, subst, ℕ}
+use Rattle.term_store.proofs.KeyLemmas.{one_more, stored_key, as_many_keys}
+use Rattle.term_store.proofs.shared.SharedTerms.number.Goals as goal
+
+pub returns-clause-more : goal.returns-clause-more
+returns-clause-more c = one_more c.args.self.now.keys.keys c.insert_full.new.self.keys c.args.key c.in_ok-number.ensures.keys
+
+pub returns-clause-stands : goal.returns-clause-stands
+returns-clause-stands c = record {
+  within = subst (λ (many : ℕ). c.in_ok-number.number < many) (sym (as_many_keys c.insert_full.new.self.keys))
+      c.in_ok-number.ensures.within;
+  is = stored_key c.insert_full.new.self.keys c.args.key c.in_ok-number.number c.in_ok-number.ensures.stored;
+}

@@ -1,0 +1,14 @@
+pub mod Canonical
+pub mod Cells
+pub mod CellProps
+pub mod FirstRule
+pub mod FormsBelow
+pub mod Kept
+pub mod NumberSearch
+pub mod Numbered
+pub mod SharedView
+pub mod SoundProps
+pub mod StoreCanon
+pub mod Tasks
+pub mod Turns
+pub mod Weight

@@ -1,0 +1,4 @@
+//! Nothing executable: a token is the longest that fits where it stands.
+#![tactic(auto)]
+
+pub mod laws;

@@ -1,0 +1,2 @@
+pub mod VisibleGates
+pub mod DeclaredGates
