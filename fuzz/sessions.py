@@ -146,8 +146,11 @@ class Session:
                                b"save \xff", b"replay a\xc3", b"replay .", b"save .", b"replay no", b"normal \xff",
                                b"equal 0, \xff", b"normal (* ", b"normal 0 (* *)", b"normal {", b"\0", b"save a\0b", b"replay a\0b"])
         if way == 16:
-            count = rng.choice([10, 499, 500, 501, 5000])
-            return rng.choice([b"normal ", b"equal 0, ", b"step 1 "]) + b"Succ(" * count + b"0" + b")" * count
+            # A step may square its value, and normal forms of more than some 20,000 operations want more stack.
+            word, counts = rng.choice([(b"normal ", [10, 499, 500, 501, 5000]), (b"equal 0, ", [499, 500, 501]),
+                                       (b"step 1 ", [10, 100, 500, 5000])])
+            count = rng.choice(counts)
+            return word + b"Succ(" * count + b"0" + b")" * count
         if way == 17:
             return rng.choice([b"normal 0" + b" + 0" * 600, b"x" * rng.choice([4095, 4096, 4097, 100000]), b"normal " + b" " * 9000 + b"0",
                                b"step 1" + b" " * 5000, b"normal " + b"(" * 3000, b"normal " + b"0," * 3000])

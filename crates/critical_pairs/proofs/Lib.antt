@@ -1,5 +1,4 @@
 pub mod NodePlaceLemmas
-pub mod FirstIndexLemmas
 pub mod CandidateLemmas
 pub mod ExtendLemmas
 pub mod SkipLemmas

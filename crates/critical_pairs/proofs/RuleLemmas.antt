@@ -1,5 +1,5 @@
 -- Rules of the code by their numbers, and the pair of two of them at a place.
-use Rattle.std.proofs.Common.{◌≡◌, ◌+◌, ◌-◌, ◌<◌, ◌≤◌, ℕ, zero, suc, List, [], ◌∷◌, ◌++◌, map, length, get_or, take, Bool, true, false, nat_eq, refl, ap, sym, ◌∙◌, subst, inl, inr, arith, append-nil}
+use Rattle.std.proofs.Common.{◌≡◌, ◌+◌, ◌-◌, ◌<◌, ◌≤◌, ℕ, zero, suc, List, [], ◌∷◌, ◌++◌, map, length, get_or, take, Bool, true, false, nat_eq, refl, ap, sym, ◌∙◌, subst, arith, append-nil}
 use Rattle.std.specs.Prelude.{◌&&◌, Some, None, Option, IfSome, IfNone, slice_get, if◌then◌else◌}
 use Rattle.std.proofs.lemmas.Option.{same_Some}
 use Rattle.std.proofs.lemmas.List.{take_more, map-append}
@@ -7,7 +7,6 @@ use Rattle.std.proofs.lemmas.Bool.Decides.{Decides-eqb}
 use Rattle.rewriting_theory.specs.Rule.{Rule as PlainRule, IsRuleAt}
 use Rattle.rewriting_theory.specs.PairList.{PairPlace}
 use Rattle.rewriting_theory.specs.Places.{places_at, places_with, node_paths, is_root}
-use Rattle.rewriting_theory.proofs.PlaceListLemmas.{IsIn}
 use Rattle.lotos_base.specs.Term.{Term}
 use Rattle.critical_pairs.specs.TwoSides.{pair_with, IsFormedRuleOver}
 use Rattle.critical_pairs.specs.OverlapPair.{HaveOneSignature, HaveNoOverlap}

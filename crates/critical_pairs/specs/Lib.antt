@@ -1,5 +1,3 @@
-pub mod FirstHead
-pub mod FirstIndexView
 pub mod NodePlaces
 pub mod PairView
 pub mod Candidates

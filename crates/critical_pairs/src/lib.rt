@@ -3,7 +3,6 @@
 
 pub mod candidates;
 pub mod contracting;
-pub mod first_index;
 pub mod joined;
 pub mod joining;
 pub mod listing;

@@ -5,10 +5,10 @@ ghost use Rattle.critical_pairs.specs.PairView.{node_place_of};
 ghost use Rattle.sort_terms.specs.TermView.{term_of, terms_of};
 ghost use Rattle.std.specs.Prelude.{◌≡◌, ◌∷◌, ◌++◌, [], IfOk, map};
 
-use crate::first_index::first_operation;
 use lotos_base::NoMemory;
 use sort_terms::Term;
 use std::alloc::Global;
+use term_rewriter::first_index::first_operation;
 
 /// A place with an operation: its path, the number of the operation, and that of the operation at the
 /// head of its first argument.

@@ -16,9 +16,9 @@ ghost use Rattle.std.specs.Prelude.{◌≡◌, MatchResult};
 
 use crate::ended::Ended;
 use crate::opening::{Alone, Front, Opened, Ready, front_of, prepare};
-use history_lines::HistoryLines;
 use history_lines::laws::{lines_lead_on, served_lines_are_answered};
-use line_server::{SessionEnd, serve_session, write_whole};
+use history_lines::{HistoryLines, serve_input};
+use line_server::{SessionEnd, write_whole};
 use lotos_base::{Failed, NoMemory, Shelf, Sink, Source};
 use menu_builder::FreshMenus;
 use sort_terms::Reader;
@@ -217,7 +217,7 @@ fn serve_behind<F: Shelf, S: Source, K: Sink>(
         result }
 {
     match write_whole(output, text) {
-        Ok(()) => end_of(serve_session(alloc, lines, shelf, input, output)),
+        Ok(()) => end_of(serve_input(alloc, lines, shelf, input, output)),
         Err(Failed) => Ended::OutputFault,
     }
 }

@@ -11,3 +11,5 @@ pub mod AcceptedNames
 pub mod RunLines
 pub mod SavedTraces
 pub mod VisibleEvents
+pub mod ReadableLabels
+pub mod EndingSessions

@@ -5,10 +5,8 @@ use Rattle.lotos_base.specs.Term.{Term}
 use Rattle.lotos_grammar.specs.Gathering.{GotFile}
 use Rattle.syntax_trees.specs.TakenItems.{without_items}
 use Rattle.behaviour_semantics.specs.Behaviour.{Behaviour, Specification}
-use Rattle.behaviour_semantics.specs.Derives.{leaves_in}
-use Rattle.behaviour_semantics.specs.Draft.{label_with}
-use Rattle.behaviour_semantics.specs.Label.{Label, inner_event, gate_event, exit_event}
-use Rattle.behaviour_semantics.specs.Menu.{EqualLabels, Meets, IsEntry}
+use Rattle.behaviour_semantics.specs.Label.{Label}
+use Rattle.behaviour_semantics.specs.Menu.{IsEntry}
 use Rattle.behaviour_semantics.specs.Run.{Reaches, at_start, one_move}
 use Rattle.behaviour_semantics.specs.Rule.{as_given}
 use Rattle.behaviour_semantics.specs.Shape.{Derivation}
@@ -19,6 +17,7 @@ use Rattle.behaviour_semantics.specs.WellFormed.{IsSpecification}
 use Rattle.visible_gates.specs.VisibleGates.{IsOneOf, IsAt, UsesOnly, MovesStayAtGates}
 use Rattle.visible_gates.specs.DeclaredGates.{HasDistinctGates, HasDeclaredGates, TextsHaveDeclaredGates}
 use Rattle.visible_gates.proofs.GateLemmas.{put_in}
+use Rattle.visible_gates.specs.EntryGates.{EntriesStayAtGates}
 use Rattle.session_histories.specs.Lawful.{LeadTo}
 use Rattle.session_histories.specs.Session.{Situation, derivations_of}
 use Rattle.session_histories.specs.SessionLaws.{SessionsFollowDerivations, IsStateOver}
@@ -33,7 +32,7 @@ use Rattle.saved_traces.proofs.AcceptedParts.{StandsOn, accepted_on}
 
 -- ---- The specification
 
-declared : TextsHaveDeclaredGates → (asked : Asked) (files : List GotFile) (acceptance : Acceptance) (begun : Beginning)
+pub declared : TextsHaveDeclaredGates → (asked : Asked) (files : List GotFile) (acceptance : Acceptance) (begun : Beginning)
     → IsAccepted asked files (goes_on acceptance) → SessionBegins acceptance begun → HasDeclaredGates acceptance.spec
 declared texts asked files acceptance begun accepted begins =
     let on : StandsOn acceptance.data_ acceptance.spec = accepted_on asked files acceptance accepted in
@@ -43,7 +42,7 @@ declared texts asked files acceptance begun accepted begins =
 
 -- ---- On the way
 
-reached_uses : MovesStayAtGates → (data_ : Data) (canon : Term → Term) (spec : Specification) → HasDeclaredGates spec
+pub reached_uses : MovesStayAtGates → (data_ : Data) (canon : Term → Term) (spec : Specification) → HasDeclaredGates spec
     → (first last : Behaviour) (ds : List Derivation) → Reaches data_ canon spec.processes first ds last
     → UsesOnly (IsOneOf spec.gates) spec.processes first → UsesOnly (IsOneOf spec.gates) spec.processes last
 reached_uses stay data_ canon spec has first _ _ at_start uses = uses
@@ -51,26 +50,16 @@ reached_uses stay data_ canon spec has first last _ (one_move {next = next} {d =
     reached_uses stay data_ canon spec has next last ds more
     (stay data_ canon spec.processes spec.gates first d label next has.processes uses move).1
 
--- the label of an entry, whatever values are put in
-label_at_gates : (data_ : Data) (spec : Specification) (label shown : Label) (values : List Term)
-    → EqualLabels data_ (label_with (leaves_in values) label) shown → IsAt (IsOneOf spec.gates) shown → IsAt (IsOneOf spec.gates) label
-label_at_gates data_ spec inner_event shown values equal is = tt
-label_at_gates data_ spec (exit_event terms) shown values equal is = tt
-label_at_gates data_ spec (gate_event g terms) inner_event values equal is = absurd equal
-label_at_gates data_ spec (gate_event g terms) (exit_event others) values equal is = absurd equal
-label_at_gates data_ spec (gate_event g terms) (gate_event h others) values equal is = subst (IsOneOf spec.gates) (sym equal.0) is
-
 -- what is shown, over data and a specification
 record ShowsHere (data_ : Data) (spec : Specification) (standing : Standing) : Type 0 where
   pub transitions :
       (label : Label) (target : Behaviour) → Transition data_ spec.processes standing.progress.situation.state label target
       → IsAt (IsOneOf spec.gates) label
   pub entries :
-      (entry : Entry) (values : List Term) → IsEntry standing.progress.situation.menu entry → Meets data_ entry values
-      → IsAt (IsOneOf spec.gates) entry.label
+      (entry : Entry) → IsEntry standing.progress.situation.menu entry → IsAt (IsOneOf spec.gates) entry.label
   pub names : HasDistinctGates spec
 
-module _ (follow : SessionsFollowDerivations) (derived : TransitionsAreDerived) (stay : MovesStayAtGates) (begun : Beginning)
+module _ (follow : SessionsFollowDerivations) (derived : TransitionsAreDerived) (stay : MovesStayAtGates) (at_entries : EntriesStayAtGates) (begun : Beginning)
     (has : HasDeclaredGates begun.basis.specification) (standing : Standing) (over : IsStateOver begun.basis begun.progress.situation.state)
     (is : IsReached begun standing)
     (starts : UsesOnly (IsOneOf begun.basis.specification.gates) begun.basis.specification.processes begun.progress.situation.state) where
@@ -95,29 +84,27 @@ module _ (follow : SessionsFollowDerivations) (derived : TransitionsAreDerived) 
       let d = (derived begun.basis.data_ spec.processes state label target).0 transition in
       (stay begun.basis.data_ as_given spec.processes spec.gates state d.0 label target has.processes state_uses d.1).0
 
-  entry_shown : (entry : Entry) (values : List Term) → IsEntry standing.progress.situation.menu entry
-      → Meets begun.basis.data_ entry values → IsAt (IsOneOf spec.gates) entry.label
-  entry_shown entry values listed meets =
-      let found = is.menu.exact.sound entry listed values meets in
-      label_at_gates begun.basis.data_ spec entry.label found.0 values found.3
-      (shown found.0 found.1 ((derived begun.basis.data_ spec.processes state found.0 found.1).1 (_, found.2)))
+  entry_shown : (entry : Entry) → IsEntry standing.progress.situation.menu entry → IsAt (IsOneOf spec.gates) entry.label
+  entry_shown entry listed =
+      at_entries begun.basis.data_ begun.basis.canon spec.processes spec.gates state standing.progress.situation.menu has.processes
+      state_uses is.menu.exact entry listed
 
   shows : HasDeclaredGates spec → ShowsHere begun.basis.data_ spec standing
   shows declares = record { transitions = shown; entries = entry_shown; names = declares.names }
 
-body_uses : (acceptance : Acceptance) (begun : Beginning) → SessionBegins acceptance begun → HasDeclaredGates acceptance.spec
+pub body_uses : (acceptance : Acceptance) (begun : Beginning) → SessionBegins acceptance begun → HasDeclaredGates acceptance.spec
     → UsesOnly (IsOneOf begun.basis.specification.gates) begun.basis.specification.processes begun.progress.situation.state
 body_uses acceptance begun begins has =
     subst (λ (it : Specification). UsesOnly (IsOneOf it.gates) it.processes begun.progress.situation.state) (sym begins.specification_is)
     (subst (UsesOnly (IsOneOf acceptance.spec.gates) acceptance.spec.processes) (sym begins.state_is)
     (put_in acceptance.spec.processes acceptance.spec.body _ (IsOneOf acceptance.spec.gates) has.body))
 
-pub sessions_show_declared_gates : SessionsFollowDerivations → TransitionsAreDerived → MovesStayAtGates → TextsHaveDeclaredGates
-    → SessionsShowDeclaredGates
-sessions_show_declared_gates follow derived stay texts asked files acceptance begun standing accepted begins is =
+pub sessions_show_declared_gates : SessionsFollowDerivations → TransitionsAreDerived → MovesStayAtGates → EntriesStayAtGates
+    → TextsHaveDeclaredGates → SessionsShowDeclaredGates
+sessions_show_declared_gates follow derived stay at_entries texts asked files acceptance begun standing accepted begins is =
     let has : HasDeclaredGates acceptance.spec = declared texts asked files acceptance begun accepted begins in
     let here : HasDeclaredGates begun.basis.specification = subst HasDeclaredGates (sym begins.specification_is) has in
-    let there = shows follow derived stay begun here standing begins.can_begin.over is (body_uses acceptance begun begins has) here in
+    let there = shows follow derived stay at_entries begun here standing begins.can_begin.over is (body_uses acceptance begun begins has) here in
     let at : ShowsHere acceptance.data_ acceptance.spec standing =
     subst (λ (it : Data). ShowsHere it acceptance.spec standing) begins.data_is
     (subst (λ (it : Specification). ShowsHere begun.basis.data_ it standing) begins.specification_is there) in

@@ -4,3 +4,5 @@ pub mod OneBeginning
 pub mod RunLines
 pub mod SavedTraces
 pub mod VisibleEvents
+pub mod ReadableLabels
+pub mod EndingSessions

@@ -1,12 +1,11 @@
 -- The events that a session shows are at gates that its specification declares, and these have distinct names.
 use Rattle.std.specs.Prelude.{List}
-use Rattle.lotos_base.specs.Term.{Term}
 use Rattle.lotos_grammar.specs.Gathering.{GotFile}
 use Rattle.behaviour_semantics.specs.Behaviour.{Behaviour}
 use Rattle.behaviour_semantics.specs.Label.{Label}
 use Rattle.behaviour_semantics.specs.Transition.{Transition}
 use Rattle.behaviour_semantics.specs.Solving.{Entry}
-use Rattle.behaviour_semantics.specs.Menu.{IsEntry, Meets}
+use Rattle.behaviour_semantics.specs.Menu.{IsEntry}
 use Rattle.visible_gates.specs.VisibleGates.{IsOneOf, IsAt}
 use Rattle.visible_gates.specs.DeclaredGates.{HasDistinctGates}
 use Rattle.history_lines.specs.Beginning.{Beginning}
@@ -17,16 +16,16 @@ use Rattle.spec_acceptance.specs.Part.{goes_on}
 use Rattle.lotos_top.specs.Opening.{SessionBegins}
 
 -- Where the session stands, each transition is the inner event, a termination, or at a gate that the specification declares; and so
--- is each entry of the menu that has an instance. No two of these gates have one name, so that a printed name tells the gate.
+-- is each entry of the menu, whether it has an instance or not. No two of these gates have one name, so that a printed name tells
+-- the gate.
 pub record ShowsDeclaredGates (acceptance : Acceptance) (standing : Standing) : Type 0 where
   pub transitions :
       (label : Label) (target : Behaviour) →
       Transition acceptance.data_ acceptance.spec.processes standing.progress.situation.state label target →
       IsAt (IsOneOf acceptance.spec.gates) label
   pub entries :
-      (entry : Entry) (values : List Term) →
+      (entry : Entry) →
       IsEntry standing.progress.situation.menu entry →
-      Meets acceptance.data_ entry values →
       IsAt (IsOneOf acceptance.spec.gates) entry.label
   pub names : HasDistinctGates acceptance.spec
 

@@ -12,7 +12,7 @@ use history_lines::laws::lines_lead_on;
 use session_histories::laws::sessions_follow_derivations;
 use spec_acceptance::outcome_laws::data_are_well_formed;
 use texts_read_back::trace_laws::traces_are_replayed;
-use visible_gates::laws::{moves_stay_at_gates, texts_have_declared_gates};
+use visible_gates::laws::{entries_stay_at_gates, moves_stay_at_gates, texts_have_declared_gates};
 
 /// Numbers of entries and values that the lines of a session give keep within what a line of a
 /// trace can hold: at most ten digits, and terms nested at most 500 deep.
@@ -51,14 +51,15 @@ pub fn saved_traces_are_replayed()
     traces_are_replayed();
 }
 
-/// In every state that a session of an accepted specification reaches, each event is the inner one,
-/// a termination, or at a gate that the specification declares, and the names of these gates are
-/// distinct.
+/// In every state that a session of an accepted specification reaches, each transition and each
+/// entry of the menu is the inner event, a termination, or at a gate that the specification
+/// declares, and the names of these gates are distinct.
 pub fn sessions_show_declared_gates()
     ensures { SessionsShowDeclaredGates }
 {
     sessions_follow_derivations();
     transitions_are_derived();
     moves_stay_at_gates();
+    entries_stay_at_gates();
     texts_have_declared_gates();
 }

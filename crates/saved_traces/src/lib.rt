@@ -2,4 +2,6 @@
 //! the session that was saved, and a session shows events at gates that its specification declares.
 #![tactic(auto)]
 
+pub mod exit_laws;
+pub mod label_laws;
 pub mod laws;

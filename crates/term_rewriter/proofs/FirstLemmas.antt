@@ -56,7 +56,7 @@ pub rule_over : (rules : Rules) (k : ℕ) (rule : Rule) → slice_get rules.rule
     → AreSidesOver (signature_in rules) (sides_of rule)
 rule_over rules k rule is = rules.over k (sides_of rule) (sides_at rules.rules.items k rule is)
 
-left_node : (rules : Rules) (k : ℕ) (rule : Rule) → slice_get rules.rules.items k ≡ Some rule → IsNode (term_in rule.left)
+pub left_node : (rules : Rules) (k : ℕ) (rule : Rule) → slice_get rules.rules.items k ≡ Some rule → IsNode (term_in rule.left)
 left_node rules k rule is = (rules_well_formed rules (rule_of rule) (k, plain_at rules.rules.items k rule is)).left_node
 
 -- ---- the rules that were tried

@@ -3,10 +3,10 @@ use Rattle.std.proofs.Common.{◌≡◌, ℕ, zero, suc, ◌<◌, List, [], ◌�
 use Rattle.std.specs.Prelude.{Some, None, slice_get, if◌then◌else◌}
 use Rattle.std.proofs.lemmas.Option.{same_Some, slice_get_within}
 use Rattle.std.proofs.lemmas.Bool.Decides.{Decides-eqb}
-use Rattle.lotos_base.specs.Signature.{Signature, Operation, IsSort}
+use Rattle.lotos_base.specs.Signature.{Signature, Operation}
 use Rattle.lotos_base.specs.Term.{Terms, node, term_then}
 use Rattle.lotos_base.specs.Path.{argument_at}
-use Rattle.lotos_base.specs.Sorting.{Occurs, OccursAmong, HasSort}
+use Rattle.lotos_base.specs.Sorting.{OccursAmong, HasSort}
 use Rattle.lotos_base.specs.Substitution.{binding}
 use Rattle.rewriting_theory.specs.Rule.{Rule as PlainRule, IsNode}
 use Rattle.rewriting_theory.specs.Step.{in_arguments, StepAmong, here, there}

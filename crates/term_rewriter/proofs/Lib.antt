@@ -1,4 +1,5 @@
 pub mod HeadLemmas
+pub mod FirstIndexLemmas
 pub mod FirstLemmas
 pub mod FormLemmas
 pub mod SettledLemmas

@@ -1,3 +1,5 @@
+pub mod FirstHead
+pub mod FirstIndexView
 pub mod FirstMatch
 pub mod Form
 pub mod Reduced

@@ -2,6 +2,7 @@
 #![tactic(auto)]
 
 pub mod filling;
+pub mod first_index;
 pub mod first_match;
 pub mod forms;
 pub mod normal;

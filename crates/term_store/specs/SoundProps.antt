@@ -6,9 +6,14 @@ use Rattle.lotos_base.proofs.TestLemmas.{Term-set}
 use Rattle.path_order.specs.RuleSides.{IsOf-prop}
 use Rattle.path_order.specs.RulesView.{signature_in}
 use Rattle.path_order.specs.declared.rules.Rules.{Rules}
+use Rattle.term_rewriter.specs.FirstIndexView.{IsIndexOf}
+use Rattle.term_rewriter.specs.declared.first_index.FirstIndex.{FirstIndex}
 use Rattle.term_store.specs.Cells.{HaveTermsOf}
 use Rattle.term_store.specs.CellProps.{AreCells-prop, IsOnce-prop}
 use Rattle.term_store.specs.Kept.{IsSound}
+
+pub IsIndexOf-prop : (rules : Rules) (index : FirstIndex) → IsProp (IsIndexOf rules index)
+IsIndexOf-prop rules index = hlevel props
 
 HaveTermsOf-prop : (signature : Signature) (keys : List (List ℕ)) → IsProp (HaveTermsOf signature keys)
 HaveTermsOf-prop signature keys =

@@ -77,6 +77,6 @@ impl Store {
             (λ n. IsCanonical self.old.rules self.new.forms (term_in term.now) n) }
     {
         let alloc = *self.profiles.allocator();
-        canonical(alloc, &self.rules, &mut self.forms, term)
+        canonical(alloc, &self.rules, &self.index, &mut self.forms, term)
     }
 }

@@ -1,9 +1,21 @@
 //! The first rule that matches a term that is kept.
 
 ghost use Rattle.path_order.specs.RulesView.{signature_in};
-ghost use Rattle.std.specs.Prelude.{◌<◌, IfOk, MatchOption, length};
-ghost use Rattle.term_store.specs.Cells.{HaveTermsOf};
-ghost use Rattle.term_store.specs.FirstRule.{IsFirstRuleAt, NoRule};
+ghost use Rattle.sort_terms.specs.ProfiledTerm.{all_bare};
+ghost use Rattle.std.specs.Prelude.{◌≡◌, ◌<◌, IfOk, MatchOption, Some, length};
+ghost use Rattle.term_rewriter.specs.FirstHead.{first_head};
+ghost use Rattle.term_rewriter.specs.FirstIndexView.{IsIndexOf};
+ghost use Rattle.term_store.specs.Cells.{AreBelow, HaveTermsOf, key_terms, members};
+ghost use Rattle.term_store.specs.FirstRule.{
+  AreRuleNumbers,
+  BeginsAs,
+  HasAllRules,
+  IsFirstAmong,
+  IsFirstRuleAt,
+  NoRule,
+  NoneAmong,
+  earlier_of,
+};
 ghost use Rattle.term_store.specs.SharedView.{keys_in};
 
 use crate::matching::search;
@@ -11,26 +23,104 @@ use crate::shared::SharedTerms;
 use lotos_base::NoMemory;
 use path_order::Rules;
 use std::alloc::Global;
+use term_rewriter::first_index::FirstIndex;
 use term_rewriter::first_match::rule_at;
 
 /// The number of the first rule whose left side matches the term with the number, and what its
-/// variables have; or none where no left side does. Only the rules with the operation at the head
-/// are tried.
+/// variables have; or none where no left side does. Only rules with the operation at the head are
+/// tried, whose first argument does not begin with another operation than that of the term.
 pub fn first_rule(
     alloc: Global,
     rules: &Rules,
+    index: &FirstIndex,
     shared: &SharedTerms,
     number: usize,
 ) -> Result<Option<(usize, Vec<(u64, usize)>)>, NoMemory>
+    requires index { IsIndexOf rules.now index.now }
     requires have { HaveTermsOf (signature_in rules.now) (keys_in shared.now) }
     requires within { number < length (keys_in shared.now) }
     ensures { IfOk result (λ o. MatchOption o (NoRule rules.now (keys_in shared.now) number)
         (λ found. IsFirstRuleAt rules.now (keys_in shared.now) number found.0 found.1.items)) }
 {
-    let Some((op, _)) = shared.operation(number) else {
+    let Some((op, arguments)) = shared.operation(number) else {
         return Ok(None);
     };
-    let candidates = rules.headed(op as u32);
+    let head = op as u32;
+    let begun = beginning(rules, index, shared, head, arguments);
+    let open = first_among(alloc, rules, shared, index.open.under(head), number)?;
+    Ok(earlier(open, first_among(alloc, rules, shared, begun, number)?))
+}
+
+// The numbers of some rules, with all that have the operation at the head and whose first argument
+// begins as the first of these terms does; none where it is no operation or missing.
+fn beginning<'a>(
+    rules: &'a Rules,
+    index: &'a FirstIndex,
+    shared: &SharedTerms,
+    op: u32,
+    numbers: &[usize],
+) -> &'a [usize]
+    requires index { IsIndexOf rules.now index.now }
+    requires have { HaveTermsOf (signature_in rules.now) (keys_in shared.now) }
+    requires below { AreBelow (length (keys_in shared.now)) numbers.now }
+    ensures { HasAllRules rules.now (BeginsAs op (first_head (all_bare
+        (members (key_terms (signature_in rules.now) (keys_in shared.now)) numbers.now))))
+        result.now }
+{
+    match first_operation(rules, shared, numbers) {
+        None => &[],
+        Some(first) => begun_with(rules, index, op, first),
+    }
+}
+
+// The same where the first of the terms begins with this operation: the shorter of two lists that
+// have these rules.
+fn begun_with<'a>(rules: &'a Rules, index: &'a FirstIndex, op: u32, first: u32) -> &'a [usize]
+    requires { IsIndexOf rules.now index.now }
+    ensures { HasAllRules rules.now (BeginsAs op (Some first)) result.now }
+{
+    let headed = rules.headed(op);
+    let firsts = index.firsts.under(first);
+    if firsts.len() < headed.len() {
+        firsts
+    } else {
+        headed
+    }
+}
+
+// The operation at the head of the first of these terms, if one is there.
+fn first_operation(rules: &Rules, shared: &SharedTerms, numbers: &[usize]) -> Option<u32>
+    requires have { HaveTermsOf (signature_in rules.now) (keys_in shared.now) }
+    requires below { AreBelow (length (keys_in shared.now)) numbers.now }
+    ensures { result ≡ first_head (all_bare
+        (members (key_terms (signature_in rules.now) (keys_in shared.now)) numbers.now)) }
+{
+    if numbers.is_empty() {
+        return None;
+    }
+    match shared.operation(numbers[0]) {
+        None => None,
+        Some((op, _)) => Some(op as u32),
+    }
+}
+
+// The first of the rules with these numbers whose left side matches the term, and what its variables
+// have; or none where none of their left sides does.
+fn first_among(
+    alloc: Global,
+    rules: &Rules,
+    shared: &SharedTerms,
+    candidates: &[usize],
+    number: usize,
+) -> Result<Option<(usize, Vec<(u64, usize)>)>, NoMemory>
+    requires numbers { AreRuleNumbers rules.now candidates.now }
+    requires have { HaveTermsOf (signature_in rules.now) (keys_in shared.now) }
+    requires within { number < length (keys_in shared.now) }
+    ensures { IfOk result (λ o. MatchOption o
+        (NoneAmong rules.now (keys_in shared.now) number candidates.now)
+        (λ found. IsFirstAmong rules.now (keys_in shared.now) number candidates.now found.0
+        found.1.items)) }
+{
     for candidate in candidates {
         let rule = *candidate;
         let left = rule_at(rules, rule).left.term();
@@ -39,4 +129,24 @@ pub fn first_rule(
         }
     }
     Ok(None)
+}
+
+// The one of the two with the lesser number, if there are two.
+fn earlier(
+    one: Option<(usize, Vec<(u64, usize)>)>,
+    other: Option<(usize, Vec<(u64, usize)>)>,
+) -> Option<(usize, Vec<(u64, usize)>)>
+    ensures { result ≡ earlier_of one other }
+{
+    match one {
+        None => other,
+        Some(found) => match other {
+            None => Some(found),
+            Some(rival) => if rival.0 < found.0 {
+                Some(rival)
+            } else {
+                Some(found)
+            },
+        },
+    }
 }

@@ -2,6 +2,7 @@
 
 ghost use Rattle.path_order.specs.RulesView.{signature_in};
 ghost use Rattle.std.specs.Prelude.{◌<◌, IfOk, MatchOption, length};
+ghost use Rattle.term_rewriter.specs.FirstIndexView.{IsIndexOf};
 ghost use Rattle.term_store.specs.Cells.{Grows, HaveTermsOf};
 ghost use Rattle.term_store.specs.SharedView.{keys_in};
 ghost use Rattle.term_store.specs.Turns.{CannotStep, StepsTo};
@@ -12,6 +13,7 @@ use crate::shared::SharedTerms;
 use lotos_base::NoMemory;
 use path_order::Rules;
 use std::alloc::Global;
+use term_rewriter::first_index::FirstIndex;
 use term_rewriter::first_match::rule_at;
 
 /// The number of what the first rule that matches the term at its root makes of it, or none where
@@ -19,9 +21,11 @@ use term_rewriter::first_match::rule_at;
 pub fn step(
     alloc: Global,
     rules: &Rules,
+    index: &FirstIndex,
     shared: &mut SharedTerms,
     number: usize,
 ) -> Result<Option<usize>, NoMemory>
+    requires index { IsIndexOf rules.now index.now }
     requires have { HaveTermsOf (signature_in rules.now) (keys_in shared.old) }
     requires within { number < length (keys_in shared.old) }
     ensures grows { Grows (keys_in shared.old) (keys_in shared.new) }
@@ -30,7 +34,7 @@ pub fn step(
         (CannotStep rules.now (keys_in shared.new) number)
         (λ next. StepsTo rules.now (keys_in shared.new) number next)) }
 {
-    match first_rule(alloc, rules, shared, number)? {
+    match first_rule(alloc, rules, index, shared, number)? {
         None => Ok(None),
         Some((rule, pairs)) => {
             let right = rule_at(rules, rule).right.term();

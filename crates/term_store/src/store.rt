@@ -5,8 +5,9 @@ ghost use Rattle.rewriting_theory.specs.Rewriting.{AreConfluent};
 ghost use Rattle.sort_terms.specs.Operations.{operation_of};
 ghost use Rattle.std.proofs.Props.{props};
 ghost use Rattle.std.specs.Prelude.{◌≡◌, map};
+ghost use Rattle.term_rewriter.specs.FirstIndexView.{IsIndexOf};
 ghost use Rattle.term_store.specs.SharedView.{keys_in};
-ghost use Rattle.term_store.specs.SoundProps.{IsSound-prop};
+ghost use Rattle.term_store.specs.SoundProps.{IsIndexOf-prop, IsSound-prop};
 ghost use Rattle.term_store.specs.Turns.{AreSound};
 
 use crate::forms::Forms;
@@ -16,14 +17,17 @@ use path_order::Rules;
 use sort_terms::Op;
 use std::alloc::Global;
 use std::rc::Rc;
+use term_rewriter::first_index::{FirstIndex, indexed};
 
 /// Confluent rules, and terms of their signature, each kept once, some with their canonical terms.
 #[derive(Drop)]
 pub struct Store {
     pub(crate) rules: Rules,
+    pub(crate) index: FirstIndex,
     pub(crate) forms: Forms,
     pub(crate) profiles: Vec<Rc<Op>>,
     pub ghost confluent: { ∥ AreConfluent (plain_rules_in rules) ∥₁ },
+    pub ghost indexed: { IsIndexOf rules index } by { IsIndexOf-prop rules index },
     pub ghost sound: { AreSound rules forms } by { IsSound-prop rules (keys_in forms.shared)
         forms.kept.items },
     pub ghost profiled: { map (λ p. operation_of p.value) profiles.items
@@ -42,9 +46,11 @@ impl Store {
             (λ store. signature_in store.rules ≡ signature_in rules.now) }
     {
         let rules = rules.copy()?;
+        let index = indexed(alloc, &rules)?;
         let profiles = profiles_of(alloc, rules.signature().ops())?;
         Ok(Store {
             rules,
+            index,
             forms: Forms::new(alloc),
             profiles,
         })

@@ -1,6 +1,7 @@
 //! Tasks done one after another, in place of recursion over terms.
 
 ghost use Rattle.std.specs.Prelude.{◌≡◌, ◌++◌, ◌∷◌, ◌<◌, [], IfOk, Some, length};
+ghost use Rattle.term_rewriter.specs.FirstIndexView.{IsIndexOf};
 ghost use Rattle.term_store.specs.Cells.{AreCells};
 ghost use Rattle.term_store.specs.Kept.{kept_at};
 ghost use Rattle.term_store.specs.SharedView.{keys_in};
@@ -15,14 +16,17 @@ use crate::wholes::whole;
 use lotos_base::NoMemory;
 use path_order::Rules;
 use std::alloc::Global;
+use term_rewriter::first_index::FirstIndex;
 
 /// The number of the chosen form of the term with this number; it is kept from then on.
 pub fn chosen(
     alloc: Global,
     rules: &Rules,
+    index: &FirstIndex,
     forms: &mut Forms,
     number: usize,
 ) -> Result<usize, NoMemory>
+    requires index { IsIndexOf rules.now index.now }
     requires sound { AreSound rules.now forms.old }
     requires within { number < length (keys_in forms.old.shared) }
     ensures stay { StaySound rules.now forms.old forms.new }
@@ -31,7 +35,7 @@ pub fn chosen(
     let mut tasks = Vec::new(alloc);
     tasks.push(Task::Form(number))?;
     while let Some(task) = tasks.pop() {
-        turn(alloc, rules, forms, &mut tasks, task)?;
+        turn(alloc, rules, index, forms, &mut tasks, task)?;
     }
     Ok(forms.form_or_same(number))
 }
@@ -40,10 +44,12 @@ pub fn chosen(
 fn turn(
     alloc: Global,
     rules: &Rules,
+    index: &FirstIndex,
     forms: &mut Forms,
     tasks: &mut Vec<Task>,
     task: Task,
 ) -> Result<(), NoMemory>
+    requires index { IsIndexOf rules.now index.now }
     requires sound { AreSound rules.now forms.old }
     requires ready { CanBeDone rules.now forms.old (tasks.old.items ++ task ∷ []) }
     ensures stay { StaySound rules.now forms.old forms.new }
@@ -52,7 +58,7 @@ fn turn(
 {
     match task {
         Task::Form(number) => begin(forms, tasks, number),
-        Task::Apply(number) => apply(alloc, rules, forms, tasks, number),
+        Task::Apply(number) => apply(alloc, rules, index, forms, tasks, number),
         Task::Keep { term, whole, next } => forms.keep_both(term, whole, forms.form_or_same(next)),
     }
 }
@@ -104,10 +110,12 @@ fn add_task(forms: &Forms, tasks: &mut Vec<Task>, number: usize) -> Result<(), N
 fn apply(
     alloc: Global,
     rules: &Rules,
+    index: &FirstIndex,
     forms: &mut Forms,
     tasks: &mut Vec<Task>,
     number: usize,
 ) -> Result<(), NoMemory>
+    requires index { IsIndexOf rules.now index.now }
     requires sound { AreSound rules.now forms.old }
     requires ready { CanBeDone rules.now forms.old (tasks.old.items ++ Apply number ∷ []) }
     ensures stay { StaySound rules.now forms.old forms.new }
@@ -117,7 +125,7 @@ fn apply(
     let whole = whole(alloc, forms, number)?;
     match forms.form(whole) {
         Some(form) => forms.keep(number, form),
-        None => rewrite(alloc, rules, forms, tasks, number, whole),
+        None => rewrite(alloc, rules, index, forms, tasks, number, whole),
     }
 }
 
@@ -126,11 +134,13 @@ fn apply(
 fn rewrite(
     alloc: Global,
     rules: &Rules,
+    index: &FirstIndex,
     forms: &mut Forms,
     tasks: &mut Vec<Task>,
     term: usize,
     whole: usize,
 ) -> Result<(), NoMemory>
+    requires index { IsIndexOf rules.now index.now }
     requires sound { AreSound rules.now forms.old }
     requires ready { CanBeDone rules.now forms.old (tasks.old.items ++ Apply term ∷ []) }
     requires whole { IsWholeOf rules.now (keys_in forms.old.shared) term whole }
@@ -138,7 +148,7 @@ fn rewrite(
     ensures advances { IfOk result (λ done. Advances rules.now forms.old
         (tasks.old.items ++ Apply term ∷ []) forms.new tasks.new.items) }
 {
-    match step(alloc, rules, &mut forms.shared, whole)? {
+    match step(alloc, rules, index, &mut forms.shared, whole)? {
         None => forms.keep_both(term, whole, whole),
         Some(next) => {
             tasks.push(Task::Keep { term, whole, next })?;

@@ -14,7 +14,7 @@ use Rattle.lotos_lexer.specs.declared.kinds.TheConstants.{NAME, DIGIT_NAME, SIGN
 use Rattle.lotos_lexer.specs.declared.lexemes.Lexeme.{Lexeme}
 use Rattle.lotos_lexer.specs.Bytes.{first_is, begins_with, is_sign}
 use Rattle.lotos_lexer.specs.Spellings.{Spelling, reserved_words, operators, reserved_runs, single_signs}
-use Rattle.lotos_lexer.specs.Lexemes.{underscore_before, word_length, kind_in, word_kind_in, lexeme_of, spelling_at, word, closing}
+use Rattle.lotos_lexer.specs.Lexemes.{underscore_before, word_length, kind_in, word_kind_in, lexeme_of, spelling_at, closing}
 use Rattle.token_laws.proofs.WordLemmas.{word_within, word_again, run_within, run_again, taken_long, first_stays, word_some, run_some, first_alphanumeric}
 use Rattle.token_laws.specs.LongestTokens.{IsToken, a_word, a_digit_name, a_run, a_fixed, closing_gates, IsLongest, IsTokenTaken, TokensAreLongest}
 
@@ -36,10 +36,10 @@ row_begins test (row ∷ rows) (suc k) kind bytes none found =
     (and_parts (not (first_is test row.0)) (list_all (λ (r : Spelling). not (first_is test r.0)) rows) none).1 found
 
 -- what passes one test passes not the other
-abbrev Apart : (ℕ → Bool) → (ℕ → Bool) → Type 0
+abbrev pub Apart : (ℕ → Bool) → (ℕ → Bool) → Type 0
 Apart test other = (byte : ℕ) → test byte ≡ true → other byte ≡ false
 
-both_begin : (test other : ℕ → Bool) → Apart test other → (bytes : List ℕ) → first_is test bytes ≡ true → first_is other bytes ≡ true → ⊥
+pub both_begin : (test other : ℕ → Bool) → Apart test other → (bytes : List ℕ) → first_is test bytes ≡ true → first_is other bytes ≡ true → ⊥
 both_begin test other apart [] is also = cc is
 both_begin test other apart (byte ∷ rest) is also = let no = apart byte is in cc (no, also)
 
@@ -91,14 +91,14 @@ run_prefix test (suc n) (byte ∷ rest) within is =
 
 -- ---- Tokens by their first byte
 
-abbrev all_fixed : List Spelling
+abbrev pub all_fixed : List Spelling
 all_fixed = operators ++ single_signs
 
-fails : (b : Bool) → b ≡ true → b ≡ false → ⊥
+pub fails : (b : Bool) → b ≡ true → b ≡ false → ⊥
 fails b is not_so = cc (is, not_so)
 
 -- the test of each byte of a list
-each_in : (bytes : List ℕ) (test : ℕ → Bool) → list_all test bytes ≡ true → (b : ℕ) → list_any (λ x. x == b) bytes ≡ true → test b ≡ true
+pub each_in : (bytes : List ℕ) (test : ℕ → Bool) → list_all test bytes ≡ true → (b : ℕ) → list_any (λ x. x == b) bytes ≡ true → test b ≡ true
 each_in [] test all b is = cc
 each_in (x ∷ xs) test all b is = by (x == b) refl (test x) refl all is (λ rest found. each_in xs test rest b found)
   where
@@ -110,7 +110,7 @@ each_in (x ∷ xs) test all b is = by (x == b) refl (test x) refl all is (λ res
     by false same true here rest is below = below rest is
     by false same false here rest is below = cc
 
-sign_fails : (test : ℕ → Bool) → list_all (λ x. not (test x)) (codes "#%&*+-./<=>@\\^~{}") ≡ true → (b : ℕ) → is_sign b ≡ true
+pub sign_fails : (test : ℕ → Bool) → list_all (λ x. not (test x)) (codes "#%&*+-./<=>@\\^~{}") ≡ true → (b : ℕ) → is_sign b ≡ true
     → test b ≡ false
 sign_fails test none b is = not-true (test b) (each_in (codes "#%&*+-./<=>@\\^~{}") (λ x. not (test x)) none b is)
 
@@ -131,7 +131,7 @@ digit_no_letter b is =
     neither true lower h k = h
     neither false lower h k = k
 
-letter_no_digit : Apart is_ascii_alphabetic is_ascii_digit
+pub letter_no_digit : Apart is_ascii_alphabetic is_ascii_digit
 letter_no_digit byte is = by (is_ascii_digit byte) refl
   where
     by : (digit : Bool) → is_ascii_digit byte ≡ digit → digit ≡ false
@@ -275,19 +275,19 @@ AreInOrder [] = Unit {0}
 AreInOrder (row ∷ rows) = (list_all (λ (later : Spelling). not (begins_with row.0 later.0)) rows ≡ true) × AreInOrder rows
 
 -- what bytes begin with
-begins_so : (spelling bytes : List ℕ) → begins_with spelling bytes ≡ true → take (length spelling) bytes ≡ spelling
+pub begins_so : (spelling bytes : List ℕ) → begins_with spelling bytes ≡ true → take (length spelling) bytes ≡ spelling
 begins_so spelling bytes is = sym ((bytes_eq-Decides spelling (take (length spelling) bytes)).0 is)
 
-so_begins : (spelling bytes : List ℕ) → take (length spelling) bytes ≡ spelling → begins_with spelling bytes ≡ true
+pub so_begins : (spelling bytes : List ℕ) → take (length spelling) bytes ≡ spelling → begins_with spelling bytes ≡ true
 so_begins spelling bytes is = (bytes_eq-Decides spelling (take (length spelling) bytes)).1 (sym is)
 
-within_taken : (n : ℕ) (bytes : List ℕ) → length (take n bytes) ≡ n → n ≤ length bytes
+pub within_taken : (n : ℕ) (bytes : List ℕ) → length (take n bytes) ≡ n → n ≤ length bytes
 within_taken zero bytes is = omega arith
 within_taken (suc n) [] is = absurd (cc is)
 within_taken (suc n) (byte ∷ rest) is =
     let same : length (take n rest) ≡ n = (let e = is in omega (arith, e)) in let less = within_taken n rest same in omega (arith, less)
 
-take_less : (m n : ℕ) (bytes : List ℕ) → m ≤ n → take m (take n bytes) ≡ take m bytes
+pub take_less : (m n : ℕ) (bytes : List ℕ) → m ≤ n → take m (take n bytes) ≡ take m bytes
 take_less zero n bytes less = refl
 take_less (suc m) zero bytes less = absurd (omega (arith, less))
 take_less (suc m) (suc n) [] less = refl
@@ -309,7 +309,7 @@ abbrev IsRowTaken : List Spelling → List ℕ → Option Lexeme → Type 0
 IsRowTaken rows bytes None = (k n kind : ℕ) → IsRowAt rows bytes k n kind → ⊥
 IsRowTaken rows bytes (Some lexeme) = IsRowLongest rows bytes lexeme
 
-later_row : (test : Spelling → Bool) (rows : List Spelling) (k : ℕ) (row : Spelling) → list_all test rows ≡ true
+pub later_row : (test : Spelling → Bool) (rows : List Spelling) (k : ℕ) (row : Spelling) → list_all test rows ≡ true
     → slice_get rows k ≡ Some row → test row ≡ true
 later_row test [] k row all found = absurd (cc found)
 later_row test (first ∷ rows) zero row all found =

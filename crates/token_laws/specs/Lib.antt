@@ -1,1 +1,2 @@
+pub mod Cuttings
 pub mod LongestTokens

@@ -1,4 +1,4 @@
-//! Nothing executable: a token is the longest that fits where it stands.
+//! Nothing executable: tokens are the longest that fit, and a text is cut in one way.
 #![tactic(auto)]
 
 pub mod laws;

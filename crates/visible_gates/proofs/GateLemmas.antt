@@ -408,6 +408,12 @@ module _ (setting : Setting) (leaves : Substitution) (bodies : Every (UsesFormal
   all_stay (relabelled s) next b IsGate m e uses =
       relabelled_stays (move_of setting leaves s next) (all_stay s next) (opened b) IsGate m e (opened_uses b IsGate uses)
 
+-- the label of a move, whatever stands for its leaves
+pub label_stays : (setting : Setting) (leaves : Substitution) (shape : Shape) (next : ℕ) (b : Behaviour) (IsGate : ℕ → Type 0) (m : Move)
+    → Every (UsesFormals setting.processes) setting.processes → UsesOnly IsGate setting.processes b
+    → move_of setting leaves shape next b ≡ Some m → IsAt IsGate m.label
+label_stays setting leaves shape next b IsGate m bodies uses is = (all_stay setting leaves bodies shape next b IsGate m is uses).label
+
 pub stay_at_gates : (data_ : Data) (represent : Term → Term) (processes : List Process) (IsGate : ℕ → Type 0) (b : Behaviour)
     (d : Derivation) (label : Label) (target : Behaviour) → Every (UsesFormals processes) processes → UsesOnly IsGate processes b
     → GivesMove data_ represent processes b d label target → IsAt IsGate label × UsesOnly IsGate processes target

@@ -1,3 +1,4 @@
 pub mod GateLemmas
 pub mod ScopeLemmas
 pub mod DeclaredLemmas
+mod EntryLemmas

@@ -10,7 +10,7 @@ use Rattle.lotos_base.specs.Substitution.{is_listed}
 use Rattle.lotos_base.specs.WrittenTerm.{PlacedName}
 use Rattle.syntax_trees.specs.WrittenBehaviour as written
 use Rattle.syntax_trees.specs.WrittenBehaviour.{WrittenBehaviour, WrittenSign, WrittenGateChoice, choice_sign, interleaving, full_synchronisation, synchronising, disabling, enabling}
-use Rattle.behaviour_semantics.specs.Behaviour.{Behaviour, stop, action, inner_action, guard, choice, hide, let_be, choose_value, choose_gate, par_gate, call, Process, SynchronisationSet}
+use Rattle.behaviour_semantics.specs.Behaviour.{Behaviour, stop, Process, SynchronisationSet}
 use Rattle.behaviour_semantics.specs.WellFormed.{Every, IsBehaviour}
 use Rattle.scope_parts.specs.Resolution.{Resolution, resolved, faulty, and_then, put_in_front, beside}
 use Rattle.scope_parts.specs.Scope.{Binding, Scope, bound_to, bind, bind_all, found_gate, gate_at, gates_at, first_double}

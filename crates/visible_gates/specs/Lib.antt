@@ -1,2 +1,3 @@
 pub mod VisibleGates
 pub mod DeclaredGates
+pub mod EntryGates

@@ -1,7 +1,6 @@
-use Rattle.std.proofs.Common.{◌≡◌, Bor, true, ap, sym, ◌∙◌, subst}
+use Rattle.std.proofs.Common.{◌≡◌, Bor, true, ap, sym, ◌∙◌}
 use Rattle.std.specs.Prelude.{Option, Some}
 use Rattle.std.specs.Option.{option_map}
-use Rattle.sort_terms.specs.ProfiledTerm.{ProfiledTerm}
 use Rattle.sort_terms.specs.SortedView.{profiled_in}
 use Rattle.sort_terms.specs.TermView.{profiled_of}
 use Rattle.sort_terms.specs.declared.terms.Term.{Term}

@@ -11,16 +11,16 @@ pub returns-in-Ok : goal.returns-in-Ok
 returns-in-Ok g c =
     serves_behind (beginning_of c.args.lines.now)
     (shelf_state (g.F.Shelf.texts c.args.shelf.now) (g.F.Shelf.faults c.args.shelf.now) (g.F.Shelf.calls c.args.shelf.now))
-    (shelf_state (g.F.Shelf.texts c.serve_session.new.shelf) (g.F.Shelf.faults c.serve_session.new.shelf)
-    (g.F.Shelf.calls c.serve_session.new.shelf))
+    (shelf_state (g.F.Shelf.texts c.serve_input.new.shelf) (g.F.Shelf.faults c.serve_input.new.shelf)
+    (g.F.Shelf.calls c.serve_input.new.shelf))
     (streams (stream (g.S.Source.left c.args.input.now) (g.S.Source.faults c.args.input.now))
     (stream (g.K.Sink.written c.args.output.now) (g.K.Sink.faults c.args.output.now)))
-    (streams (stream (g.S.Source.left c.serve_session.new.input) (g.S.Source.faults c.serve_session.new.input))
-    (stream (g.K.Sink.written c.serve_session.new.output) (g.K.Sink.faults c.serve_session.new.output)))
+    (streams (stream (g.S.Source.left c.serve_input.new.input) (g.S.Source.faults c.serve_input.new.input))
+    (stream (g.K.Sink.written c.serve_input.new.output) (g.K.Sink.faults c.serve_input.new.output)))
     c.end_of.result c.args.text.now
     (stream (g.K.Sink.written c.write_whole.new.output) (g.K.Sink.faults c.write_whole.new.output))
-    (standing_of c.serve_session.new.lines (g.F.Shelf.texts c.serve_session.new.shelf)) c.serve_session.result c.requires.text
-    c.in-Ok.ensures.written c.in-Ok.ensures.counts refl c.serve_session.ensures.served c.end_of.ensures
+    (standing_of c.serve_input.new.lines (g.F.Shelf.texts c.serve_input.new.shelf)) c.serve_input.result c.requires.text
+    c.in-Ok.ensures.written c.in-Ok.ensures.counts refl c.serve_input.ensures.served c.end_of.ensures
 
 pub returns-in-Err : goal.returns-in-Err
 returns-in-Err g c =

@@ -1,68 +1,44 @@
-use Rattle.std.proofs.Common.{rules, ◌≡◌, ◌<◌, ℕ, [], Vec, Global, length, get_or, ap, sym, ◌∙◌, arith}
-use Rattle.std.specs.Prelude.{Option, Some, None}
-use Rattle.std.specs.Option.{option_map}
-use Rattle.std.proofs.lemmas.Option.{slice_get-get_or}
-use Rattle.sort_terms.specs.SortedView.{profiled_in}
-use Rattle.sort_terms.specs.TermView.{profiled_of}
+use Rattle.std.proofs.Common.{rules, ap, sym, subst}
+use Rattle.std.specs.Prelude.{Option, MatchOption}
+use Rattle.sort_terms.specs.ProfiledTerm.{bare, all_bare}
 use Rattle.path_order.specs.RulesView.{signature_in}
-use Rattle.term_rewriter.proofs.FirstLemmas.{DoesNotMatch, candidate_within}
-use Rattle.lotos_base.proofs.Members.{numbers_more, read_at}
-use Rattle.term_store.specs.NumberSearch.{number_searched}
-use Rattle.term_store.specs.Numbered.{term_at}
+use Rattle.term_store.specs.Cells.{members, key_terms}
+use Rattle.term_store.specs.FirstRule.{Found, NoRule, IsFirstRuleAt}
 use Rattle.term_store.specs.SharedView.{keys_in}
-use Rattle.term_store.proofs.FirstRuleLemmas.{operation_fits, no_rule_variable, rule_not, rule_found, no_rule}
+use Rattle.term_store.proofs.FirstRuleLemmas.{operation_fits, no_rule_variable, operation_term, open_rules, first_of_two}
+use Rattle.term_store.proofs.SearchLemmas.{members_below}
 use Rattle.term_store.proofs.first_rule.first_rule.Goals as goal
 
 pub returns-in_default : goal.returns-in_default
 returns-in_default c =
     no_rule_variable c.args.rules.now (keys_in c.args.shared.now) c.args.number c.requires.have c.requires.within c.in_default.ensures
 
-pub overflow_cast-op : goal.overflow_cast-op
-overflow_cast-op c =
-    let fits = operation_fits c.args.rules.now (keys_in c.args.shared.now) c.args.number c.in-Some.op c.in-Some.field-0-1.now
+pub overflow_cast-head : goal.overflow_cast-head
+overflow_cast-head c =
+    let fits = operation_fits c.args.rules.now (keys_in c.args.shared.now) c.args.number c.in-Some.op c.in-Some.arguments.now
     c.requires.have c.requires.within c.in-Some.ensures in
     search (rules, fits)
 
-pub rule_at-requires : goal.rule_at-requires
-rule_at-requires c =
-    let candidates = c.headed-candidates.result.now in
-    let within : c.loop-candidate.candidate-index < length c.headed-candidates.result.now = omega arith in
-    candidate_within c.args.rules.now c.in-Some.op candidates c.loop-candidate.candidate-index
-    (get_or candidates c.loop-candidate.candidate-index 0) c.headed-candidates.ensures
-    (slice_get-get_or candidates c.loop-candidate.candidate-index 0 within)
+pub beginning-begun-requires-clause-below : goal.beginning-begun-requires-clause-below
+beginning-begun-requires-clause-below c =
+    members_below (keys_in c.args.shared.now) c.args.number c.in-Some.op c.in-Some.arguments.now c.requires.have.cells
+    c.requires.within c.in-Some.ensures
 
-pub returns-in-Some-2 : goal.returns-in-Some-2
-returns-in-Some-2 c =
-    let candidates = c.headed-candidates.result.now in
-    let within : c.loop-candidate.candidate-index < length c.headed-candidates.result.now = omega arith in
-    let found : Some c.in-Some-2.pairs.items
-    ≡ number_searched (keys_in c.args.shared.now) (profiled_in c.rule_at.result.now.left) c.args.number [] =
-    ap (λ (o : Option (Vec (ℕ × ℕ) Global)). option_map (λ (pairs : Vec (ℕ × ℕ) Global). pairs.items) o) (sym c.in-Some-2.is)
-    ∙ c.in_ok-pairs.ensures
-    ∙ (λ i. number_searched (keys_in c.args.shared.now) (profiled_of (c.term-left.ensures i)) c.args.number (c.new.ensures.items i)) in
-    rule_found c.args.rules.now (keys_in c.args.shared.now) c.args.number c.in-Some.op c.in-Some.field-0-1.now candidates
-    c.loop-candidate.candidate-index (get_or candidates c.loop-candidate.candidate-index 0) c.rule_at.result.now c.in-Some-2.pairs.items
-    c.requires.have c.requires.within c.in-Some.ensures c.headed-candidates.ensures c.loop-candidate.invariant
-    (slice_get-get_or candidates c.loop-candidate.candidate-index 0 within) c.rule_at.ensures found
-
-pub loop-candidate-preserved : goal.loop-candidate-preserved
-loop-candidate-preserved c = λ k m before at.
-    let candidates = c.headed-candidates.result.now in
-    let within : c.loop-candidate.candidate-index < length c.headed-candidates.result.now = omega arith in
-    let x = get_or candidates c.loop-candidate.candidate-index 0 in
-    let none : None ≡ number_searched (keys_in c.args.shared.now) (profiled_in c.rule_at.result.now.left) c.args.number [] =
-    ap (λ (o : Option (Vec (ℕ × ℕ) Global)). option_map (λ (pairs : Vec (ℕ × ℕ) Global). pairs.items) o) (sym c.in_default-2.is)
-    ∙ c.in_ok-pairs.ensures
-    ∙ (λ i. number_searched (keys_in c.args.shared.now) (profiled_of (c.term-left.ensures i)) c.args.number (c.new.ensures.items i)) in
-    numbers_more (DoesNotMatch c.args.rules.now (term_at (signature_in c.args.rules.now) (keys_in c.args.shared.now) c.args.number))
-    candidates c.loop-candidate.candidate-index x (read_at candidates c.loop-candidate.candidate-index within)
-    c.loop-candidate.invariant
-    (rule_not c.args.rules.now (keys_in c.args.shared.now) c.args.number x c.rule_at.result.now c.requires.have c.requires.within
-    c.rule_at.ensures none) k m before at
+pub first_among-requires-clause-numbers : goal.first_among-requires-clause-numbers
+first_among-requires-clause-numbers c =
+    (open_rules c.args.rules.now c.args.index.now c.in-Some.op c.under.result.now c.requires.index c.under.ensures).within
 
 pub returns : goal.returns
 returns c =
-    let all : length c.headed-candidates.result.now ≡ c.loop-candidate.candidate-index = omega arith in
-    no_rule c.args.rules.now (keys_in c.args.shared.now) c.args.number c.in-Some.op c.in-Some.field-0-1.now
-    c.headed-candidates.result.now c.loop-candidate.candidate-index c.requires.have c.requires.within c.in-Some.ensures
-    c.headed-candidates.ensures c.loop-candidate.invariant all
+    let rules_ = c.args.rules.now in
+    let keys = keys_in c.args.shared.now in
+    let ns = c.in-Some.arguments.now in
+    subst (λ (o : Option Found). MatchOption o (NoRule c.args.rules.now (keys_in c.args.shared.now) c.args.number)
+    (λ found. IsFirstRuleAt c.args.rules.now (keys_in c.args.shared.now) c.args.number found.0 found.1.items))
+    (sym c.earlier.ensures)
+    (first_of_two rules_ keys c.args.number c.in-Some.op (all_bare (members (key_terms (signature_in rules_) keys) ns))
+    c.under.result.now c.beginning-begun.result.now c.in_ok-open.open c.in_ok-first_among.field-0
+    (ap bare (operation_term (signature_in rules_) keys c.args.number c.in-Some.op ns c.requires.have c.requires.within
+    c.in-Some.ensures))
+    (open_rules rules_ c.args.index.now c.in-Some.op c.under.result.now c.requires.index c.under.ensures) c.beginning-begun.ensures
+    c.in_ok-open.ensures c.in_ok-first_among.ensures)

@@ -10,6 +10,7 @@ use Rattle.term_store.proofs.store.Store.open.Goals as goal
 pub invariant_of-result : goal.invariant_of-result
 invariant_of-result c = record {
   confluent = subst (λ (rules : List NumberedRule). ∥ AreConfluent (rules_of rules) ∥₁) (sym c.in_ok-rules.ensures.rules) c.requires;
+  indexed = c.in_ok-index.ensures;
   sound = empty_sound c.in_ok-rules.rules c.new.result c.new.ensures.terms c.new.ensures.kept;
   profiled =
       c.in_ok-profiles.ensures ∙ ap (λ (ops : List Op). map operation_of ops) c.ops.ensures

@@ -1,0 +1,4 @@
+//! Nothing executable: declarations of gates and of variables are numbered in the order of the text.
+#![tactic(auto)]
+
+pub mod laws;

@@ -1,0 +1,3 @@
+pub mod HasFunctionality
+pub mod ExitLaws
+pub mod AgreementLaws

@@ -1,0 +1,4 @@
+pub mod LabelStands
+pub mod LabelsOnce
+pub mod LabelLemmas
+pub mod MenuLemmas

@@ -1,0 +1,3 @@
+pub mod LabelReading
+pub mod LabelLaws
+pub mod MenuReadings
