@@ -94,21 +94,28 @@ Succ(Succ(0)) ** Succ(Succ(0))";
 
 /// Types, and behind each of them terms of them.
 const TERMS: &str =
-    "type T is sorts N opns z : -> N s : N -> N p : N, N -> N d : N -> N eqns forall x : N ofsort N d(z) = z; d(s(x)) = p(d(x), d(x)) endtype
+    "type T is sorts N opns z : -> N s : N -> N p : N, N -> N d : N -> N eqns forall x : N \
+      ofsort N d(z) = z; d(s(x)) = p(d(x), d(x)) endtype
 z
 d(z)
 d(d(s(z)))
 d(s(s(s(s(s(z))))))
 p(d(s(z)), s(d(s(d(z)))))
 
-type S is sorts B, E, S opns true, false : -> B a, b : -> E _eq_ : E, E -> B none : -> S Insert : E, S -> S if : B, S, S -> S Remove : E, S -> S eqns forall f, g : E, r, t : S ofsort B f eq f = true; a eq b = false; b eq a = false ofsort S if(true, r, t) = r; if(false, r, t) = t; Remove(f, none) = none; Remove(f, Insert(g, r)) = if(f eq g, Remove(f, r), Insert(g, Remove(f, r))) endtype
+type S is sorts B, E, S opns true, false : -> B a, b : -> E _eq_ : E, E -> B none : -> S Insert \
+      : E, S -> S if : B, S, S -> S Remove : E, S -> S eqns forall f, g : E, r, t : S ofsort B \
+      f eq f = true; a eq b = false; b eq a = false ofsort S if(true, r, t) = r; if(false, r, \
+      t) = t; Remove(f, none) = none; Remove(f, Insert(g, r)) = if(f eq g, Remove(f, r), \
+      Insert(g, Remove(f, r))) endtype
 Remove(a, none)
 Remove(a, Insert(b, Insert(a, none)))
 Remove(a, Insert(b, Remove(b, Insert(a, Insert(b, none)))))
 if(a eq b, Insert(a, none), Remove(b, Insert(b, none)))
 Insert(a, Remove(b, Insert(a, Remove(a, Insert(b, Insert(a, none))))))
 
-type G is sorts G opns e, a, b : -> G _*_ : G, G -> G inv : G -> G eqns forall x, y : G ofsort G e * x = x; x * e = x; inv(inv(x)) = x; inv(e) = e; x * inv(x) = e; inv(x) * x = e endtype
+type G is sorts G opns e, a, b : -> G _*_ : G, G -> G inv : G -> G eqns forall x, y : G ofsort \
+      G e * x = x; x * e = x; inv(inv(x)) = x; inv(e) = e; x * inv(x) = e; inv(x) * x = e \
+      endtype
 inv(inv(a * e))
 (a * b) * inv(a * b)
 inv(inv(e) * (inv(a) * inv(inv(a))))";

@@ -24,7 +24,8 @@ use Rattle.sort_terms.specs.declared.equations.Flat.{Flat}
 use Rattle.sort_terms.proofs.ProfiledTermLemmas.{fitting_has_sort, sorted_fits}
 use Rattle.path_order.specs.RuleSides.{IsOf-prop}
 use Rattle.path_order.specs.RulesView.{rules_in, plain_rules_in, precedence_in, signature_in}
-use Rattle.path_order.proofs.RulesLemmas.{rules_well_formed}
+use Rattle.path_order.proofs.RulesLemmas.{rules_have_forms, rules_well_formed}
+use Rattle.critical_pairs.specs.declared.joined.Joined.{Joined}
 use Rattle.critical_pairs.proofs.JoinedLemmas.{joined_confluent}
 use Rattle.path_order.specs.OrientFaultView.{IsOrientFault}
 use Rattle.path_order.specs.declared.orient_fault.OrientFault.{OrientFault}
@@ -41,7 +42,7 @@ use Rattle.path_order.specs.declared.order_fault.OrderFault.TheVariants.{Unknown
 use Rattle.path_order.specs.OrderedBy.{IsPrecedenceBy}
 use Rattle.path_order.specs.PrecedenceView.{precedence_of}
 use Rattle.path_order.specs.declared.precedence.Precedence.{Precedence as CodePrecedence}
-use Rattle.equation_book.specs.Refusal.{SaysOfData, IsBookPrecedence, IsBookFault, IsBookFaultOver, book_fault_of_order, book_fault_of_orientation, book_fault_of_pair}
+use Rattle.equation_book.specs.Refusal.{SaysOfData, IsBookPrecedence, IsBookFault, IsBookFaultOver, IsOpenedBy, book_fault_of_order, book_fault_of_orientation, book_fault_of_pair}
 use Rattle.equation_book.specs.declared.book_fault.BookFault.{BookFault}
 use Rattle.equation_book.specs.declared.book_fault.BookFault.TheVariants.{UnknownOperation as BookUnknown, TwiceListed as BookTwice, Unorientable as BookUnorientable, Unjoined as BookUnjoined, NoMemory as BookNoMemory}
 use Rattle.equation_book.specs.BookCanon.{book_canon, book_chooses, book_oriented}
@@ -81,6 +82,18 @@ store_is_book book t =
     (λ same.
     chosen_is_canon book t (store_canon book.store t)
     (subst (λ (rules : List PlainRule). Chosen rules t (store_canon book.store t)) same (store_chooses book.store t)))
+
+-- books of the same rules have one canon, and are opened by the same items
+pub canon_stays : (one other : Book) → one.joined ≡ other.joined → book_canon one ≡ book_canon other
+canon_stays one other same =
+    let canon : Joined → Term → Term = (λ joined t. (rules_have_forms joined.rules t).0) in
+    ap canon same
+
+pub opened_stays : (items : List ListedOperation) (data_ : Data) (one other : Book) → one.joined ≡ other.joined
+    → IsOpenedBy items data_ (precedence_in other.joined.rules) (rules_in other.joined.rules)
+    → IsOpenedBy items data_ (precedence_in one.joined.rules) (rules_in one.joined.rules)
+opened_stays items data_ one other same opened =
+    subst (λ (joined : Joined). IsOpenedBy items data_ (precedence_in joined.rules) (rules_in joined.rules)) (sym same) opened
 
 -- ground terms are equal exactly where their chosen forms are identical
 pub forms_decide : (book : Book) (left right : Sorted) (c d : Term) → IsOf (signature_of book.flat.signature) (profiled_in left)

@@ -21,11 +21,24 @@ impl Deciding for Book {
     ghost is_canon = { λ it. book_is_canon it };
 
     fn normal(&mut self, term: &Sorted) -> Result<Sorted, NoMemory> {
-        self.store.canonical_term(term)
+        self.normal_form(term)
     }
 }
 
 impl Book {
+    /// The normal form of the term. The data and the rules stay as they are.
+    pub fn normal_form(&mut self, term: &Sorted) -> Result<Sorted, NoMemory>
+        requires { IsOf (signature_of self.old.flat.signature) (profiled_in term.now) }
+        ensures canonical { IfOk result
+            (λ form. term_in form ≡ book_canon self.old (term_in term.now)) }
+        ensures is_of { IfOk result
+            (λ form. IsOf (signature_of self.old.flat.signature) (profiled_in form)) }
+        ensures flat { self.new.flat ≡ self.old.flat }
+        ensures joined { self.new.joined ≡ self.old.joined }
+    {
+        self.store.canonical_term(term)
+    }
+
     /// Whether the equations derive the equality of the two ground terms.
     pub fn equal(&mut self, left: &Sorted, right: &Sorted) -> Result<bool, NoMemory>
         requires left { IsOf (signature_of self.old.flat.signature) (profiled_in left.now) }

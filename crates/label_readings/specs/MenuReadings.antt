@@ -26,11 +26,9 @@ pub record IsShownMenu (data_ : Data) (canon : Term → Term) (specification : S
   pub processes : Every (UsesFormals specification.processes) specification.processes
   pub uses : UsesOnly (IsOneOf specification.gates) specification.processes b
 
--- No variable is in the label of the entry, and some values meet the entry's conditions.
-pub record HasPlainLabel (data_ : Data) (entry : Entry) : Type 0 where
-  pub ground : Every IsGround (label_values entry.label)
-  pub values : List Term
-  pub meets : Meets data_ entry values
+-- No variable is in the label of the entry. Whether values meet the entry's conditions is not asked.
+abbrev pub HasPlainLabel : Entry → Type 0
+HasPlainLabel entry = Every IsGround (label_values entry.label)
 
 module _ (data_ : Data) (specification : Specification) where
   -- the text of the label is read as this label
@@ -49,16 +47,16 @@ module _ (data_ : Data) (specification : Specification) where
     pub instances :
         (entry : Entry) (values : List Term) → IsEntry entries entry → Meets data_ entry values → IsLabelReadBack (label_at entry values)
     -- and the label of an entry without variables in it, as the menu shows it
-    pub shown : (entry : Entry) → IsEntry entries entry → HasPlainLabel data_ entry → IsLabelReadBack entry.label
-    -- an entry without variables has such a label
-    pub plain : (entry : Entry) → IsEntry entries entry → entry.variables ≡ [] → HasPlainLabel data_ entry
-    -- two different labels without variables are never printed alike
+    pub shown : (entry : Entry) → IsEntry entries entry → HasPlainLabel entry → IsLabelReadBack entry.label
+    -- an entry without variables has such a label, and the empty list of values meets its conditions
+    pub plain : (entry : Entry) → IsEntry entries entry → entry.variables ≡ [] → HasPlainLabel entry × Meets data_ entry []
+    -- two different labels without variables are never printed alike, also where nothing meets the conditions of their entries
     pub apart :
         (one other : Entry) →
         IsEntry entries one →
         IsEntry entries other →
-        HasPlainLabel data_ one →
-        HasPlainLabel data_ other →
+        HasPlainLabel one →
+        HasPlainLabel other →
         ArePrintedAlike one.label other.label →
         one.label ≡ other.label
 

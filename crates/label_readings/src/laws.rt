@@ -3,12 +3,12 @@
 ghost use Rattle.label_readings.specs.LabelLaws.{LabelTextsAreReadBack, LabelTextsAreReadOnce};
 ghost use Rattle.label_readings.specs.MenuReadings.{MenusAreReadBack};
 
-use behaviour_semantics::solving::entries_are_solved;
+use behaviour_semantics::solving::{entries_are_solved, solving_names_no_behaviour};
 use behaviour_semantics::targets::targets_are_well_formed;
 use behaviour_semantics::transition::transitions_are_derived;
 use sentence_trees::laws::texts_are_unambiguous;
 use sort_terms::laws::reading_comes_to_one_thing;
-use visible_gates::laws::moves_stay_at_gates;
+use visible_gates::laws::{entries_stay_at_gates, moves_stay_at_gates};
 
 /// A text is read as one label at most, where no two gates of the specification have one name.
 pub fn label_texts_are_read_once()
@@ -27,7 +27,8 @@ pub fn label_texts_are_read_back()
 }
 
 /// What the menu of a state shows as a label without variables is read as this label, so that two
-/// different ones never print alike; and so is the label of each transition.
+/// different ones never print alike, whether values meet the conditions of their entries or not;
+/// and so is the label of each transition.
 pub fn menus_are_read_back()
     ensures { MenusAreReadBack }
 {
@@ -36,4 +37,6 @@ pub fn menus_are_read_back()
     targets_are_well_formed();
     moves_stay_at_gates();
     entries_are_solved();
+    entries_stay_at_gates();
+    solving_names_no_behaviour();
 }

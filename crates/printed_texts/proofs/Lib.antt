@@ -1,3 +1,5 @@
 pub mod BracketLemmas
 pub mod TermLemmas
+pub mod PartLemmas
+pub mod TwinLemmas
 pub mod MenuLemmas

@@ -149,6 +149,18 @@ node_before s names number op ts operand found before =
     ∙ ap (shown operand) (before_is (signature_of s) (operation_of op) (operation_of op).form (phrases_in s names ts) same)
     ∙ shown_before operand (signature_of s) (operation_of op) (phrases_in s names ts)
 
+pub node_between :
+    (s : KeptSignature) (names : List Variable) (number : ℕ) (op : Op) (ts : List Term) (operand : Bool) →
+    Some (operation_of op) ≡ slice_get (signature_of s).operations number →
+    is_between (operation_of op).form (length ts) ≡ true →
+    shown operand (node_phrase (signature_of s) (slice_get (signature_of s).operations number) (phrases_in s names ts))
+    ≡ shown operand (infix_in s names op ts)
+node_between s names number op ts operand found between =
+    let same : is_between (operation_of op).form (length (phrases_in s names ts)) ≡ true
+    = ap (is_between (operation_of op).form) (as_many_phrases s names ts) ∙ between in
+    ap (λ o. shown operand (node_phrase (signature_of s) o (phrases_in s names ts))) (sym found)
+    ∙ ap (shown operand) (between_is (signature_of s) (operation_of op) (operation_of op).form (phrases_in s names ts) same)
+
 pub node_is :
     (s : KeptSignature) (names : List Variable) (f : ℕ) (profile : Rc Op Global) (ts : Vec Term Global) →
     phrase_in s names (TermNode f profile ts)

@@ -4,6 +4,9 @@ pub mod MenuText
 pub mod BehaviourText
 pub mod ReportLines
 pub mod TextView
+pub mod Parts
+pub mod KnownTwins
+pub mod TwinsView
 pub mod Samples
 pub mod TextCases
 pub mod HandedOn

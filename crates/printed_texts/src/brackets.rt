@@ -59,6 +59,14 @@ pub fn space_before(into: &mut Vec<u8>, position: usize, sign: u8) -> Result<(),
     ensures { OnOk result (into.new.items
         ≡ take position into.old.items ++ spaced sign (drop position into.old.items)) }
 {
+    space(into, position, sign)
+}
+
+// The same at any position. Nothing stands at one behind the end.
+fn space(into: &mut Vec<u8>, position: usize, sign: u8) -> Result<(), NoMemory>
+    ensures { OnOk result (into.new.items
+        ≡ take position into.old.items ++ spaced sign (drop position into.old.items)) }
+{
     if !begins(into.as_slice(), position, sign) {
         return Ok(());
     }
@@ -83,9 +91,16 @@ pub fn close_bracket(into: &mut Vec<u8>, is_needed: bool, position: usize) -> Re
     requires { position ≤ vec_len into.old }
     ensures { OnOk result (into.new.items ≡ closed is_needed position into.old.items) }
 {
+    close(into, is_needed, position)
+}
+
+/// The same at any position.
+pub fn close(into: &mut Vec<u8>, is_needed: bool, position: usize) -> Result<(), NoMemory>
+    ensures { OnOk result (into.new.items ≡ closed is_needed position into.old.items) }
+{
     if !is_needed {
         return Ok(());
     }
-    space_before(into, position, b'*')?;
+    space(into, position, b'*')?;
     push_text(into, b")")
 }

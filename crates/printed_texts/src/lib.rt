@@ -8,5 +8,6 @@ pub mod labels;
 pub mod menus;
 pub mod operations;
 pub mod terms;
+pub mod twins;
 
 pub use calls::{label_text, menu_text, term_text};

@@ -1,7 +1,8 @@
 //! Operations and sorts of a signature, and which operations have twins.
 
 ghost use Rattle.lotos_base.specs.WrittenView.{form_of};
-ghost use Rattle.printed_texts.specs.TermText.{of_text, sort_text};
+ghost use Rattle.printed_texts.specs.Parts.{of_text_if};
+ghost use Rattle.printed_texts.specs.TermText.{sort_text};
 ghost use Rattle.printed_texts.specs.TextView.{is_between};
 ghost use Rattle.sort_terms.specs.Operations.{operation_of};
 ghost use Rattle.sort_terms.specs.SignatureView.{signature_of};
@@ -83,12 +84,17 @@ pub fn push_sort(signature: &Signature, sort: u32, into: &mut Vec<u8>) -> Result
     }
 }
 
-/// Appends the sort of an operation that has a twin.
-pub fn push_of(signature: &Signature, operation: &Op, into: &mut Vec<u8>) -> Result<(), NoMemory>
-    ensures { OnOk result (into.new.items
-        ≡ into.old.items ++ of_text (signature_of signature.now) (operation_of operation.now)) }
+/// Appends the sort of an operation, where it is to be written.
+pub fn push_of(
+    signature: &Signature,
+    operation: &Op,
+    with_sort: bool,
+    into: &mut Vec<u8>,
+) -> Result<(), NoMemory>
+    ensures { OnOk result (into.new.items ≡ into.old.items
+        ++ of_text_if with_sort (signature_of signature.now) (operation_of operation.now)) }
 {
-    if !is_overloaded(signature, operation) {
+    if !with_sort {
         return Ok(());
     }
     push_text(into, b" of ")?;

@@ -1,5 +1,6 @@
 pub mod ProfiledTermLemmas
 pub mod TermListLemmas
+pub mod SizeLemmas
 pub mod NameIndexLemmas
 pub mod PositionLemmas
 pub mod ScopeLemmas

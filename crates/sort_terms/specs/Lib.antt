@@ -4,6 +4,7 @@ pub mod ProfiledTermLaws
 pub mod SignatureLemmas
 pub mod SignatureView
 pub mod TermView
+pub mod TermSize
 pub mod SortedView
 pub mod EquationView
 pub mod NoEquations

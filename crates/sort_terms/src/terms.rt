@@ -1,16 +1,18 @@
 //! Terms over the operations of a signature.
 
 ghost use Rattle.sort_terms.specs.ProfiledTerm.{head_sort};
+ghost use Rattle.sort_terms.specs.TermSize.{IsTurnOf, size_of, sizes_of, whole_of};
 ghost use Rattle.sort_terms.specs.TermView.{all_profiled, profiled_of, term_of, terms_of};
 ghost use Rattle.std.specs.Prelude.{◌≡◌, ◌↔◌, IfOk, IsTrue};
 ghost use Rattle.lotos_base.specs.Sorting.{AreGround, IsGround};
 
+use crate::discarding::{Turn, exchanged, opened};
 use crate::operations::Op;
 use lotos_base::NoMemory;
 use std::rc::Rc;
 
 /// A term.
-#[derive(Debug, Drop)]
+#[derive(Debug)]
 pub enum Term {
     /// A variable.
     Var {
@@ -24,6 +26,27 @@ pub enum Term {
         /// The number of the operation in the signature.
         op: u32,
         /// The operation, shared by all terms that have it.
+        profile: Rc<Op>,
+        /// The arguments in order.
+        arguments: Vec<Term>,
+    },
+}
+
+/// What a term is made of. A term is dropped by a loop, and so it is not taken apart itself.
+#[derive(Debug, Drop)]
+pub enum Parts {
+    /// A variable.
+    Variable {
+        /// Its number.
+        number: u64,
+        /// The number of its sort.
+        sort: u32,
+    },
+    /// An operation with its arguments.
+    Operation {
+        /// The number of the operation in the signature.
+        op: u32,
+        /// The operation.
         profile: Rc<Op>,
         /// The arguments in order.
         arguments: Vec<Term>,
@@ -94,6 +117,63 @@ impl Term {
                 profile: profile.clone()?,
                 arguments: copies(arguments)?,
             }),
+        }
+    }
+}
+
+impl Drop for Term {
+    /// Drops the term, however deep it is. Takes no memory.
+    fn drop(self) {
+        match self {
+            Term::Var { number: _, sort: _ } => {}
+            Term::Node {
+                op: _,
+                profile: _,
+                arguments,
+            } => {
+                let mut left = arguments;
+                while let Some(last) = left.pop() {
+                    let (next, _) = opened(last, left);
+                    left = next;
+                }
+            }
+        }
+    }
+}
+
+impl Term {
+    /// What the term is made of.
+    pub fn into_parts(self) -> Parts
+        ensures { whole_of result ≡ self }
+    {
+        match self {
+            Term::Var { number, sort } => Parts::Variable { number, sort },
+            Term::Node {
+                op,
+                profile,
+                arguments,
+            } => Parts::Operation {
+                op,
+                profile,
+                arguments,
+            },
+        }
+    }
+
+    /// Drops the term, or exchanges it for what is to be looked at next.
+    pub(crate) fn turned(self, others: Vec<Term>) -> Turn
+        ensures { IsTurnOf (size_of self) (sizes_of others.items) result }
+    {
+        match self {
+            Term::Var { number: _, sort: _ } => {
+                let nothing = Vec::new(*others.allocator());
+                Turn::Done(others, nothing)
+            }
+            Term::Node {
+                op,
+                profile,
+                arguments,
+            } => exchanged(op, profile, arguments, others),
         }
     }
 }

@@ -15,7 +15,9 @@ use Rattle.process_checks.specs.Ranks.{AreRanksOf}
 use Rattle.process_checks.specs.declared.rank_table.Ranks.{Ranks}
 use Rattle.equation_book.specs.BookCanon.{book_canon}
 use Rattle.equation_book.specs.Refusal.{IsOpenedBy}
-use Rattle.equation_book.specs.declared.book.Book.{Book}
+use Rattle.equation_book.proofs.BookLemmas.{canon_stays, opened_stays}
+use Rattle.sort_terms.specs.declared.equations.Flat.{Flat}
+use Rattle.lotos_base.specs.Term.{Term}
 use Rattle.path_order.specs.RulesView.{precedence_in, rules_in}
 use Rattle.lotos_grammar.specs.Gathering.{Gathered}
 use Rattle.lotos_grammar.specs.ShelfUse.{ShelfState}
@@ -204,20 +206,19 @@ holds whole items words known accepted knows starts = record {
       subst (λ (spec : CodeSpec). AreRanksOf spec accepted.ranks) (sym starts.same_spec)
       (subst (λ (ranks : Ranks). AreRanksOf known.known.spec ranks) (sym starts.same_ranks) knows.book_known.ranks_known);
   opened =
-      subst (λ (b : Book). IsOpenedBy items whole.data_ (precedence_in b.joined.rules) (rules_in b.joined.rules)) (sym starts.same_book)
-      knows.book_known.opened;
+      opened_stays items whole.data_ accepted.book known.known.book starts.same_joined knows.book_known.opened;
   begins =
       subst (λ (spec : CodeSpec). state_of accepted.start
       ≡ with_values (binding_of (variables_of spec.parameters.items) (map (book_canon accepted.book) (terms_of known.values.items)))
       (behaviour_of spec.body.value)) (sym starts.same_spec)
-      (subst (λ (b : Book). state_of accepted.start
-      ≡ with_values (binding_of (variables_of known.known.spec.parameters.items) (map (book_canon b) (terms_of known.values.items)))
-      (behaviour_of known.known.spec.body.value)) (sym starts.same_book) starts.begins);
+      (subst (λ (canon : Term → Term). state_of accepted.start
+      ≡ with_values (binding_of (variables_of known.known.spec.parameters.items) (map canon (terms_of known.values.items)))
+      (behaviour_of known.known.spec.body.value)) (sym (canon_stays accepted.book known.known.book starts.same_joined)) starts.begins);
   state =
       subst (λ (spec : CodeSpec). IsStateOf (data_of accepted.book.flat).signature spec accepted.start) (sym starts.same_spec)
-      (subst (λ (b : Book). IsStateOf (data_of b.flat).signature known.known.spec accepted.start) (sym starts.same_book) starts.state);
+      (subst (λ (flat : Flat). IsStateOf (data_of flat).signature known.known.spec accepted.start) (sym starts.same_flat) starts.state);
   closed = starts.closed;
 }
   where
     same_data : data_of accepted.book.flat ≡ whole.data_
-    same_data = ap (λ (b : Book). data_of b.flat) starts.same_book ∙ knows.book_known.data_is
+    same_data = ap (λ (flat : Flat). data_of flat) starts.same_flat ∙ knows.book_known.data_is

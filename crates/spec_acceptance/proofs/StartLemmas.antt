@@ -175,23 +175,25 @@ state_over valued normal state fit terms may begins kept = record {
     spec : Specification
     spec = specification_of valued.known.spec
 
-pub started_so : (valued : WithValues) (normal : List Sorted) (state : State) (accepted : Accepted)
+pub started_so : (valued : WithValues) (normal : List Sorted) (state : State) (book : Book) (accepted : Accepted)
     → terms_of normal ≡ map (book_canon valued.known.book) (terms_of valued.values.items)
     → AreTermsOf (data_of valued.known.book.flat).signature (profiles_of normal) → MayStart valued
     → state_of state ≡ with_values (binding_of (variables_of valued.known.spec.parameters.items) (terms_of normal))
     (behaviour_of valued.known.spec.body.value)
     → node_profiles state.node ≡ profiles_in valued.known.spec.body.value ++ profiles_of normal → IsClosedNode state.node
+    → book.flat ≡ valued.known.book.flat → book.joined ≡ valued.known.book.joined
     → accepted ≡ record {
       spec = valued.known.spec;
       ranks = valued.known.ranks;
-      book = valued.known.book;
+      book = book;
       start = state;
     } → Starts valued accepted
-started_so valued normal state accepted are terms may begins kept closed made =
+started_so valued normal state book accepted are terms may begins kept closed flat joined made =
     subst (λ (a : Accepted). Starts valued a) (sym made) (record {
       same_spec = refl;
       same_ranks = refl;
-      same_book = refl;
+      same_flat = flat;
+      same_joined = joined;
       begins =
           begins ∙ ap (λ (ts : List Term). with_values (binding_of (variables_of valued.known.spec.parameters.items) ts)
           (behaviour_of valued.known.spec.body.value)) are;

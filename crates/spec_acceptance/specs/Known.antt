@@ -126,7 +126,8 @@ pub record MayStart (known : WithValues) : Type 0 where
 pub record Starts (known : WithValues) (accepted : Accepted) : Type 0 where
   pub same_spec : accepted.spec ≡ known.known.spec
   pub same_ranks : accepted.ranks ≡ known.known.ranks
-  pub same_book : accepted.book ≡ known.known.book
+  pub same_flat : accepted.book.flat ≡ known.known.book.flat
+  pub same_joined : accepted.book.joined ≡ known.known.book.joined
   pub begins :
       state_of accepted.start
       ≡ with_values (binding_of (variables_of known.known.spec.parameters.items)

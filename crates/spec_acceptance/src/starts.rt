@@ -78,7 +78,8 @@ pub fn started(alloc: Global, valued: WithValues) -> Result<Accepted, NotAccepte
     ensures { StartsWith valued result }
 {
     let WithValues { known, values } = valued;
-    let normal = normal_values(alloc, &known.book, values.as_slice())?;
+    let mut known = known;
+    let normal = normal_values(alloc, &mut known.book, values.as_slice())?;
     let start = State::start(alloc, &known.spec, normal)?;
     let WithBook {
         spec,

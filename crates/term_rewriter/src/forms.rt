@@ -12,7 +12,7 @@ use crate::filling::rewritten;
 use crate::first_match::{first_match, rule_at};
 use lotos_base::NoMemory;
 use path_order::Rules;
-use sort_terms::Term;
+use sort_terms::{Parts, Term};
 use std::alloc::Global;
 
 /// An instance of a term on the way to its chosen form.
@@ -60,9 +60,9 @@ fn begun(alloc: Global, rules: &Rules, shape: &Term, instance: Term) -> Result<P
     else {
         return Ok(Progress::Form(instance));
     };
-    match instance {
-        Term::Var { number, sort } => Ok(Progress::Form(Term::Var { number, sort })),
-        Term::Node {
+    match instance.into_parts() {
+        Parts::Variable { number, sort } => Ok(Progress::Form(Term::Var { number, sort })),
+        Parts::Operation {
             op,
             profile,
             arguments,

@@ -6,7 +6,7 @@ ghost use Rattle.term_rewriter.specs.Taken.{AreAllTaken, AreTaken, IsTakenAtVari
 
 use crate::wanting::place_of;
 use lotos_base::NoMemory;
-use sort_terms::Term;
+use sort_terms::{Parts, Term};
 
 /// The pairs found before and those of the pattern's other variables, with the parts of the term
 /// themselves, where the pattern matches the term. What stands beside them is dropped.
@@ -24,9 +24,9 @@ pub fn taken(
         Term::Node {
             arguments: patterns,
             ..
-        } => match term {
-            Term::Var { .. } => Ok(values),
-            Term::Node { arguments, .. } => all_taken(patterns, arguments, values),
+        } => match term.into_parts() {
+            Parts::Variable { .. } => Ok(values),
+            Parts::Operation { arguments, .. } => all_taken(patterns, arguments, values),
         },
     }
 }

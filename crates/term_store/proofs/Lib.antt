@@ -5,6 +5,7 @@ pub mod FirstRuleLemmas
 pub mod GrowthLemmas
 pub mod KeptLemmas
 pub mod KeyLemmas
+pub mod MadeLemmas
 pub mod NumberingLemmas
 pub mod ReadLemmas
 pub mod ReadyLemmas

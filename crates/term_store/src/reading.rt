@@ -2,12 +2,22 @@
 
 ghost use Rattle.path_order.specs.RulesView.{signature_in};
 ghost use Rattle.sort_terms.specs.Operations.{operation_of};
-ghost use Rattle.sort_terms.specs.TermView.{all_profiled, profiled_of};
-ghost use Rattle.std.specs.Prelude.{◌≡◌, ◌<◌, [], IfOk, None, length, map};
+ghost use Rattle.sort_terms.specs.TermView.{profiled_of};
+ghost use Rattle.std.specs.Prelude.{◌≡◌, ◌+◌, ◌<◌, ◌∷◌, ◌++◌, [], IfOk, OnOk, None, length, map};
 ghost use Rattle.std.proofs.Common.{get_or};
-ghost use Rattle.term_store.specs.Cells.{AreBelow, HaveTermsOf, key_terms, members, operation_in};
+ghost use Rattle.term_store.specs.Cells.{HaveTermsOf, operation_in};
+ghost use Rattle.term_store.specs.Made.{
+  AreMadeOf,
+  all_made,
+  made_of,
+  number_in,
+  turns,
+  turns_of,
+  with_made,
+};
 ghost use Rattle.term_store.specs.Numbered.{term_at};
 ghost use Rattle.term_store.specs.SharedView.{keys_in};
+ghost use Rattle.term_store.specs.declared.reading.Making.TheVariants.{Term as term_making};
 
 use crate::shared::SharedTerms;
 use lotos_base::NoMemory;
@@ -28,8 +38,17 @@ pub fn profiles_of(alloc: Global, ops: &[Op]) -> Result<Vec<Rc<Op>>, NoMemory>
     Ok(made)
 }
 
+/// What is still to be done until a term is made.
+#[derive(Clone, Copy, Debug)]
+pub enum Making {
+    /// To make the term with this number.
+    Term(usize),
+    /// To make the operation at the head of the term with this number. Its arguments are the last
+    /// terms made, the first one last.
+    Operation(usize),
+}
+
 /// The term with this number, with these profiles.
-#[cycle(reading)]
 pub fn read(
     alloc: Global,
     rules: &Rules,
@@ -44,37 +63,110 @@ pub fn read(
     ensures { IfOk result (λ t. profiled_of t
         ≡ term_at (signature_in rules.now) (keys_in shared.now) number) }
 {
-    match shared.operation(number) {
-        None => Ok(read_variable(rules, shared, number)),
-        Some((op, arguments)) => Ok(Term::Node {
-            op: op as u32,
-            profile: profiles[op].clone()?,
-            arguments: read_all(alloc, rules, profiles, shared, arguments)?,
-        }),
+    let mut left = Vec::new(alloc);
+    let mut made = Vec::new(alloc);
+    left.push(Making::Term(number))?;
+    while let Some(next) = left.pop() {
+        make(alloc, rules, profiles, shared, next, &mut left, &mut made)?;
     }
+    let Some(term) = made.pop() else {
+        return Err(NoMemory);
+    };
+    Ok(term)
 }
 
-// The terms with these numbers.
-#[cycle(reading)]
-fn read_all(
+// Does what comes next.
+fn make(
     alloc: Global,
     rules: &Rules,
     profiles: &Vec<Rc<Op>>,
     shared: &SharedTerms,
-    numbers: &[usize],
-) -> Result<Vec<Term>, NoMemory>
+    next: Making,
+    left: &mut Vec<Making>,
+    made: &mut Vec<Term>,
+) -> Result<(), NoMemory>
     requires profiled { map (λ p. operation_of p.value) profiles.now.items
         ≡ (signature_in rules.now).operations }
     requires have { HaveTermsOf (signature_in rules.now) (keys_in shared.now) }
-    requires below { AreBelow (length (keys_in shared.now)) numbers.now }
-    ensures { IfOk result (λ ts. all_profiled ts.items
-        ≡ members (key_terms (signature_in rules.now) (keys_in shared.now)) numbers.now) }
+    requires within { number_in next < length (keys_in shared.now) }
+    ensures same { OnOk result (all_made (signature_in rules.now) (keys_in shared.now)
+        left.new.items (made_of made.new.items) ≡ all_made (signature_in rules.now)
+        (keys_in shared.now) left.old.items (with_made (signature_in rules.now)
+        (keys_in shared.now) next (made_of made.old.items))) }
+    ensures within { OnOk result (AreMadeOf (keys_in shared.now) left.old.items
+        → AreMadeOf (keys_in shared.now) left.new.items) }
+    ensures less { OnOk result (turns_of (signature_in rules.now) (keys_in shared.now)
+        left.new.items < turns (signature_in rules.now) (keys_in shared.now) next
+        + turns_of (signature_in rules.now) (keys_in shared.now) left.old.items) }
 {
-    let mut made = Vec::with_capacity(alloc, numbers.len())?;
-    for number in numbers {
-        made.push(read(alloc, rules, profiles, shared, *number)?)?;
+    match next {
+        Making::Term(number) => begin(rules, shared, number, left, made),
+        Making::Operation(number) => match shared.operation(number) {
+            None => Ok(()),
+            Some((op, arguments)) => {
+                let term = Term::Node {
+                    op: op as u32,
+                    profile: profiles[op].clone()?,
+                    arguments: taken(alloc, arguments.len(), made)?,
+                };
+                Ok(made.push(term)?)
+            }
+        },
     }
-    Ok(made)
+}
+
+// Makes a variable, and puts what is to be done for an operation on the list.
+fn begin(
+    rules: &Rules,
+    shared: &SharedTerms,
+    number: usize,
+    left: &mut Vec<Making>,
+    made: &mut Vec<Term>,
+) -> Result<(), NoMemory>
+    requires have { HaveTermsOf (signature_in rules.now) (keys_in shared.now) }
+    requires within { number < length (keys_in shared.now) }
+    ensures same { OnOk result (all_made (signature_in rules.now) (keys_in shared.now)
+        left.new.items (made_of made.new.items) ≡ all_made (signature_in rules.now)
+        (keys_in shared.now) left.old.items
+        (term_at (signature_in rules.now) (keys_in shared.now) number ∷ made_of made.old.items)) }
+    ensures within { OnOk result (AreMadeOf (keys_in shared.now) left.old.items
+        → AreMadeOf (keys_in shared.now) left.new.items) }
+    ensures less { OnOk result (turns_of (signature_in rules.now) (keys_in shared.now)
+        left.new.items < turns (signature_in rules.now) (keys_in shared.now) (term_making number)
+        + turns_of (signature_in rules.now) (keys_in shared.now) left.old.items) }
+{
+    match shared.operation(number) {
+        None => Ok(made.push(read_variable(rules, shared, number))?),
+        Some((_, arguments)) => {
+            left.push(Making::Operation(number))?;
+            add_terms(arguments, left)
+        }
+    }
+}
+
+// Puts the making of these terms on the list, the first one first.
+fn add_terms(numbers: &[usize], left: &mut Vec<Making>) -> Result<(), NoMemory>
+    ensures { OnOk result (left.new.items ≡ left.old.items ++ map term_making numbers.now) }
+{
+    for number in numbers {
+        left.push(Making::Term(*number))?;
+    }
+    Ok(())
+}
+
+// So many of the last terms, the last one first.
+fn taken(alloc: Global, count: usize, made: &mut Vec<Term>) -> Result<Vec<Term>, NoMemory>
+    ensures { IfOk result (λ ts. (length ts.items ≡ count)
+        × (made_of made.old.items ≡ map profiled_of ts.items ++ made_of made.new.items)) }
+{
+    let mut terms = Vec::with_capacity(alloc, count)?;
+    for _index in 0..count {
+        let Some(term) = made.pop() else {
+            return Err(NoMemory);
+        };
+        terms.push(term)?;
+    }
+    Ok(terms)
 }
 
 // The variable with this number among the terms.

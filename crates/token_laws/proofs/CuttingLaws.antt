@@ -204,7 +204,8 @@ one_cutting open_list before text (part ∷ parts) rest ending (other ∷ others
     let stands = first_stands before text part parts rest ending is in
     let made = first_made before text part parts rest ending is in
     let made' = first_made before text other others left end also in
-    let piece' = stands_piece open_list before other (all_bytes others ++ left) told (first_stands before text other others left end also) in
+    let piece' =
+    stands_piece open_list before other (all_bytes others ++ left) told (first_stands before text other others left end also) in
     let alike : piece_of other ≡ piece_of part =
     sym piece' ∙ (ap (piece_at open_list) (sym made' ∙ made) ∙ stands_piece open_list before part (all_bytes parts ++ rest) told stands) in
     let same = same_part other part (all_bytes others ++ left) (all_bytes parts ++ rest) alike (sym made' ∙ made) in
@@ -237,11 +238,13 @@ texts_have_one_cutting text =
 abbrev position_behind : List ℕ → Position
 position_behind bytes = record { offset = length bytes; line = suc (line_feeds bytes); column = suc (on_line bytes) }
 
-behind_more : (bytes more : List ℕ) (position : Position) → behind_all (bytes ++ more) position ≡ behind_all more (behind_all bytes position)
+behind_more : (bytes more : List ℕ) (position : Position)
+    → behind_all (bytes ++ more) position ≡ behind_all more (behind_all bytes position)
 behind_more [] more position = refl
 behind_more (byte ∷ bytes) more position = behind_more bytes more (behind byte position)
 
-feeds_more : (bytes : List ℕ) (byte : ℕ) → line_feeds (bytes ++ byte ∷ []) ≡ (if byte == 10 then suc (line_feeds bytes) else line_feeds bytes)
+feeds_more : (bytes : List ℕ) (byte : ℕ)
+    → line_feeds (bytes ++ byte ∷ []) ≡ (if byte == 10 then suc (line_feeds bytes) else line_feeds bytes)
 feeds_more [] byte = by (byte == 10)
   where
     by : (feed : Bool) → (if feed then suc 0 else 0) ≡ (if feed then suc 0 else 0)
@@ -365,7 +368,8 @@ module _ (number : ℕ) (bytes : List ℕ) where
       by part stands (stands_long before part rest stands) (stands_piece open_list before part rest told stands) later
     where
       moved : (opened : Bool) (front : List ℕ)
-          → cut number 0 opened (behind_all (take (length front) (front ++ rest)) (position_behind bytes)) (drop (length front) (front ++ rest))
+          → cut number 0 opened (behind_all (take (length front) (front ++ rest)) (position_behind bytes))
+          (drop (length front) (front ++ rest))
           ≡ cut number 0 opened (position_behind (bytes ++ front)) rest
       moved opened front =
           ap (λ (bs : List ℕ). cut number 0 opened (behind_all bs (position_behind bytes)) (drop (length front) (front ++ rest)))
@@ -402,7 +406,8 @@ cut_from number bytes open_list before text (part ∷ parts) rest ending told is
     let later = later_cut before text part parts rest ending is in
     ap (cut number 0 open_list (position_behind bytes)) (first_made before text part parts rest ending is)
     ∙ part_cut number bytes open_list before part (all_bytes parts ++ rest) parts ending told stands
-    (cut_from number (bytes ++ part_bytes part) (open_after part open_list) (before ++ (part ∷ [])) (all_bytes parts ++ rest) parts rest ending
+    (cut_from number (bytes ++ part_bytes part) (open_after part open_list) (before ++ (part ∷ []))
+    (all_bytes parts ++ rest) parts rest ending
     (told_behind open_list before part (all_bytes parts ++ rest) told stands) later)
 
 pub tokens_are_of_cuttings : TokensAreOfCuttings

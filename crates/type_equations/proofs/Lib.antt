@@ -2,6 +2,7 @@ pub mod SignatureLemmas
 pub mod OccurrenceLemmas
 pub mod OverLemmas
 pub mod AskedLemmas
+pub mod ScopeLemmas
 pub mod SortLemmas
 pub mod SideLemmas
 pub mod PremissLemmas

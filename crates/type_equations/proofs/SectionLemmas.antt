@@ -69,7 +69,7 @@ pub scope_for_over : (p q : Presentation) (variables : List WrittenVariable) (so
 scope_for_over p q variables sort scope same is = record {
   variables_are = is.variables_are ∙ sym (scope_over p q 0 variables same);
   scope_is = is.scope_is ∙ sym (scope_over p q 0 variables same);
-  over = subst (λ (s : Signature). IsScopeOver s (variables_in scope.scope)) (sym same) is.over;
+  over = subst (λ (s : Signature). IsScopeOver s (variables_in scope.scope.now)) (sym same) is.over;
   sort_is = is.sort_is ∙ sym (sort_over p q sort same);
 }
 
@@ -106,7 +106,7 @@ sides_are_over p asked scope place left right is sides =
 -- the equation that was made of them
 pub made_over : (p : Presentation) (asked : AskedEquation) (scope : EquationScope) (place : Place) (left right : Sorted) (e : Equation)
     → IsScopeFor p asked.variables asked.sort scope → AreSides p asked left right
-    → e ≡ equation_of_sides place (map variable_of scope.variables.items) (term_in left) (term_in right)
+    → e ≡ equation_of_sides place (map variable_of scope.variables.now) (term_in left) (term_in right)
     → IsEquationOver p.signature e
 made_over p asked scope place left right e is sides made =
     subst (λ (d : Equation). IsEquationOver p.signature d) (sym (made ∙ over_scope p asked scope place left right is))
@@ -114,14 +114,14 @@ made_over p asked scope place left right e is sides made =
   where
     over_scope : (p : Presentation) (asked : AskedEquation) (scope : EquationScope) (place : Place) (left right : Sorted)
         → IsScopeFor p asked.variables asked.sort scope
-        → equation_of_sides place (map variable_of scope.variables.items) (term_in left) (term_in right)
+        → equation_of_sides place (map variable_of scope.variables.now) (term_in left) (term_in right)
         ≡ equation_of_sides place (scope_of p asked) (term_in left) (term_in right)
     over_scope p asked scope place left right is =
         ap (λ (vs : List Variable). equation_of_sides place vs (term_in left) (term_in right)) is.variables_are
 
 pub grown_with_sides : (p q : Presentation) (asked : AskedEquation) (scope : EquationScope) (place : Place) (left right : Sorted) (e : Equation)
     → IsScopeFor p asked.variables asked.sort scope → asked.equation.place ≡ place
-    → e ≡ equation_of_sides place (map variable_of scope.variables.items) (term_in left) (term_in right)
+    → e ≡ equation_of_sides place (map variable_of scope.variables.now) (term_in left) (term_in right)
     → q ≡ with_equation p e → q ≡ with_sides p asked (term_in left) (term_in right)
 grown_with_sides p q asked scope place left right e is at made grown =
     grown ∙ ap (λ (d : Equation). with_equation p d) made
@@ -147,12 +147,6 @@ section_is p signature s old new texts section none are is same added = record {
       ∙ ap (λ (vs : List CodeVariable). map variable_of vs ++ scope_from p (length vs) (variables_of texts)) none
       ∙ ap (λ (vs : List VarText). scope_from p 0 (variables_of vs)) are;
 }
-
--- the equation made over the variables of the scope
-pub made_in : (place : Place) (variables given : List CodeVariable) (left right : Term) (e : Equation) → given ≡ variables
-    → e ≡ equation_of_sides place (map variable_of given) left right → e ≡ equation_of_sides place (map variable_of variables) left right
-made_in place variables given left right e are made =
-    made ∙ ap (λ (vs : List CodeVariable). equation_of_sides place (map variable_of vs) left right) are
 
 -- ---- An equation of the type's own.
 

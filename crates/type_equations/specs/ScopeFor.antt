@@ -12,9 +12,9 @@ use Rattle.type_equations.specs.declared.equation_scope.EquationScope.{EquationS
 
 -- It has these variables, and the sides have the sort of this name.
 pub record IsScopeFor (p : Presentation) (variables : List WrittenVariable) (sort : List ℕ) (scope : EquationScope) : Type 0 where
-  pub variables_are : map variable_of scope.variables.items ≡ scope_from p 0 variables
-  pub scope_is : variables_in scope.scope ≡ scope_from p 0 variables
-  pub over : IsScopeOver p.signature (variables_in scope.scope)
+  pub variables_are : map variable_of scope.variables.now ≡ scope_from p 0 variables
+  pub scope_is : variables_in scope.scope.now ≡ scope_from p 0 variables
+  pub over : IsScopeOver p.signature (variables_in scope.scope.now)
   pub sort_is : scope.sort ≡ sort_numbered p sort
 
 -- the sorts that are asked for a group: that of its sides, then those of its variables

@@ -20,9 +20,10 @@ ghost use Rattle.type_definitions.specs.DeclaredEquations.{
 };
 ghost use Rattle.type_definitions.specs.Presentation.{Presentation as PlainPresentation};
 
+use crate::equation_scope::Section;
 use crate::sorts::add_variables;
 use crate::{EquationScope, check_premisses, read_sides};
-use sort_terms::{Reader, Variable};
+use sort_terms::Reader;
 use std::alloc::Global;
 use syntax_trees::{EqText, EqnsText, GroupText};
 use type_definitions::TypeFault;
@@ -45,8 +46,9 @@ pub fn check_section(
 {
     let mut variables = Vec::new(alloc);
     add_variables(alloc, reader, &mut variables, section.variables.as_slice())?;
+    let shared = Section::of(alloc, variables)?;
     for group in &section.groups {
-        check_group(alloc, reader, truth, variables.as_slice(), group)?;
+        check_group(alloc, reader, truth, &shared, group)?;
     }
     Ok(())
 }
@@ -56,18 +58,21 @@ fn check_group(
     alloc: Global,
     reader: &Reader<'_>,
     truth: Option<u32>,
-    section: &[Variable],
+    section: &Section,
     group: &GroupText,
 ) -> Result<(), TypeFault>
     requires { (p : PlainPresentation) × (written : List WrittenVariable)
-        × IsSectionFor p written (signature_read reader.now) section.now }
+        × IsSectionFor p written (signature_read reader.now)
+        section.now.variables.items }
     ensures { (p : PlainPresentation) (written : List WrittenVariable)
-        → IsSectionFor p written (signature_read reader.now) section.now → IsTruth p truth
+        → IsSectionFor p written (signature_read reader.now)
+        section.now.variables.items → IsTruth p truth
         → MatchResult result (λ _. GiveAll p (asked_of_group true written (group_of group.now)) p)
         (λ fault. HoldsOfFault fault (λ f. (type_name : List ℕ) → HasFirstFault type_name p
         (asked_of_group true written (group_of group.now)) f)) }
 {
-    let scope = EquationScope::of_group(alloc, reader, section, group)?;
+    let mut room = Section::new(alloc);
+    let scope = EquationScope::of_group(alloc, reader, section, &mut room, group)?;
     for equation in &group.equations {
         check_equation(reader, truth, &scope, equation)?;
     }
@@ -78,7 +83,7 @@ fn check_group(
 fn check_equation(
     reader: &Reader<'_>,
     truth: Option<u32>,
-    scope: &EquationScope,
+    scope: &EquationScope<'_>,
     equation: &EqText,
 ) -> Result<(), TypeFault>
     requires { (p : PlainPresentation) × (asked : AskedEquation)

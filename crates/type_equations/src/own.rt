@@ -24,11 +24,12 @@ ghost use Rattle.type_presentations.specs.PresentationView.{
   presentation_of,
 };
 
+use crate::equation_scope::Section;
 use crate::section_sides::add_sides;
 use crate::sorts::add_variables;
 use crate::{EquationScope, read_sides};
 use lotos_base::Name;
-use sort_terms::{Reader, Variable};
+use sort_terms::Reader;
 use std::alloc::Global;
 use syntax_trees::{EqText, EqnsText, GroupText};
 use type_definitions::TypeFault;
@@ -57,15 +58,9 @@ pub fn add_section(
 {
     let mut variables = Vec::new(alloc);
     add_variables(alloc, reader, &mut variables, section.variables.as_slice())?;
+    let shared = Section::of(alloc, variables)?;
     for group in &section.groups {
-        add_group(
-            alloc,
-            reader,
-            presentation,
-            type_name,
-            variables.as_slice(),
-            group,
-        )?;
+        add_group(alloc, reader, presentation, type_name, &shared, group)?;
     }
     Ok(())
 }
@@ -76,24 +71,25 @@ fn add_group(
     reader: &Reader<'_>,
     presentation: &mut Presentation,
     type_name: &Name,
-    section: &[Variable],
+    section: &Section,
     group: &GroupText,
 ) -> Result<(), TypeFault>
     requires sound { IsSound presentation.old }
     requires within { IsWithinLimits presentation.old }
     requires section { (written : List WrittenVariable)
         × IsSectionFor (presentation_of presentation.old) written (signature_read reader.now)
-        section.now }
+        section.now.variables.items }
     ensures given { (written : List WrittenVariable)
         → IsSectionFor (presentation_of presentation.old) written (signature_read reader.now)
-        section.now → MatchResult result (λ _. GiveAll (presentation_of presentation.old)
+        section.now.variables.items → MatchResult result (λ _. GiveAll (presentation_of presentation.old)
         (asked_of_group false written (group_of group.now)) (presentation_of presentation.new))
         (λ fault. HoldsOfFault fault (HasFirstFault (spelling type_name.now)
         (presentation_of presentation.old) (asked_of_group false written (group_of group.now)))) }
     ensures sound { OnOk result (IsSound presentation.new) }
     ensures within { OnOk result (IsWithinLimits presentation.new) }
 {
-    let scope = EquationScope::of_group(alloc, reader, section, group)?;
+    let mut room = Section::new(alloc);
+    let scope = EquationScope::of_group(alloc, reader, section, &mut room, group)?;
     for equation in &group.equations {
         add_equation(alloc, reader, presentation, type_name, &scope, equation)?;
     }
@@ -106,7 +102,7 @@ fn add_equation(
     reader: &Reader<'_>,
     presentation: &mut Presentation,
     type_name: &Name,
-    scope: &EquationScope,
+    scope: &EquationScope<'_>,
     equation: &EqText,
 ) -> Result<(), TypeFault>
     requires sound { IsSound presentation.old }

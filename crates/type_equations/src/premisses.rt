@@ -25,7 +25,7 @@ use type_definitions::TypeFault;
 /// such a premiss has no reading.
 pub fn check_premisses(
     reader: &Reader<'_>,
-    scope: &EquationScope,
+    scope: &EquationScope<'_>,
     truth: Option<u32>,
     premisses: &[TestText],
 ) -> Result<(), TypeFault>
@@ -48,7 +48,7 @@ pub fn check_premisses(
 // Reads one premiss.
 fn check_premiss(
     reader: &Reader<'_>,
-    scope: &EquationScope,
+    scope: &EquationScope<'_>,
     truth: Option<u32>,
     premiss: &TestText,
 ) -> Result<(), TypeFault>
@@ -64,7 +64,7 @@ fn check_premiss(
 {
     match &premiss.right {
         Some(right) => {
-            reader.read_pair(&scope.scope, &premiss.left, right)?;
+            reader.read_pair(scope.scope, &premiss.left, right)?;
             Ok(())
         }
         None => check_single(reader, scope, truth, premiss),
@@ -74,7 +74,7 @@ fn check_premiss(
 // Reads a premiss of a single term.
 fn check_single(
     reader: &Reader<'_>,
-    scope: &EquationScope,
+    scope: &EquationScope<'_>,
     truth: Option<u32>,
     premiss: &TestText,
 ) -> Result<(), TypeFault>
@@ -93,6 +93,6 @@ fn check_single(
             place: premiss.left.place,
         }));
     };
-    reader.read_in(&scope.scope, &premiss.left, Some(sort))?;
+    reader.read_in(scope.scope, &premiss.left, Some(sort))?;
     Ok(())
 }

@@ -18,7 +18,7 @@ use type_presentations::{Presentation, grow_by_equation};
 pub fn add_sides(
     alloc: Global,
     presentation: &mut Presentation,
-    scope: &EquationScope,
+    scope: &EquationScope<'_>,
     place: Place,
     left: &Sorted,
     right: &Sorted,
@@ -36,7 +36,7 @@ pub fn add_sides(
     ensures same { OnOk result ((presentation_of presentation.new).signature
         ≡ (presentation_of presentation.old).signature) }
 {
-    let made = equation_made(alloc, place, scope.variables.as_slice(), left, right)?;
+    let made = equation_made(alloc, place, scope.variables, left, right)?;
     grow_by_equation(alloc, presentation, made)?;
     Ok(())
 }

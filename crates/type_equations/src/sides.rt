@@ -19,7 +19,7 @@ use type_definitions::TypeFault;
 /// one.
 pub fn read_sides(
     reader: &Reader<'_>,
-    scope: &EquationScope,
+    scope: &EquationScope<'_>,
     equation: &EqText,
 ) -> Result<(Sorted, Sorted), TypeFault>
     requires { (p : PlainPresentation) × (asked : AskedEquation)
@@ -34,7 +34,7 @@ pub fn read_sides(
         × (sides.0.sort ≡ scope.now.sort) × (sides.1.sort ≡ scope.now.sort))
         (λ fault. HoldsOfFault fault (IsFaultOfSides p asked)) }
 {
-    let left = reader.read_in(&scope.scope, &equation.left, Some(scope.sort))?;
-    let right = reader.read_in(&scope.scope, &equation.right, Some(scope.sort))?;
+    let left = reader.read_in(scope.scope, &equation.left, Some(scope.sort))?;
+    let right = reader.read_in(scope.scope, &equation.right, Some(scope.sort))?;
     Ok((left, right))
 }

@@ -8,7 +8,8 @@ use Rattle.syntax_trees.specs.WrittenItem.{WrittenPair}
 use Rattle.type_definitions.specs.TypeFault.{TypeFault, double_sort, double_operation, first_fault, fault_along}
 use Rattle.type_definitions.specs.Renaming.{pair_for, renamed_sort, renamed_operation, clash_at, clash_with, clash_among}
 use Rattle.type_fault_laws.specs.FaultCauses.{FirstAlong, AreOneSort, AreOneOperation}
-use Rattle.type_fault_laws.specs.RenamingCauses.{FaultStandsAt, Coincides, and_also}
+use Rattle.type_fault_laws.specs.FirstCause.{and_also}
+use Rattle.type_fault_laws.specs.RenamingCauses.{FaultStandsAt, Coincides}
 use Rattle.type_fault_laws.specs.RenamingCauseLaws.{RenamingsAreFaultyWhereCaused}
 use Rattle.type_fault_laws.proofs.CauseLemmas.{Tells, Decides, or_else, along_told, told_as, names_decided, operations_decided, pairs_faulty}
 

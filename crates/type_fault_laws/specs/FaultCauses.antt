@@ -1,4 +1,4 @@
--- The causes of the faults of types, and which of several causes comes first.
+-- The causes of the faults of unions, of declarations and of pairs.
 use Rattle.std.specs.Prelude.{◌≡◌, ◌≢◌, ◌⊎◌, ◌<◌, ℕ, Bool, true, false, List, [], ◌∷◌, ◌++◌, length, Some, slice_get}
 use Rattle.lotos_base.specs.Equation.{Place}
 use Rattle.lotos_base.specs.Names.{AreOneName}
@@ -9,25 +9,11 @@ use Rattle.type_definitions.specs.TypeFault.{TypeFault, double_sort, double_oper
 use Rattle.type_definitions.specs.Presentation.{Presentation, presentation_limit}
 use Rattle.type_definitions.specs.Union.{Mentioned, with_mentioned}
 use Rattle.type_definitions.specs.Declarations.{with_sort, with_operation, with_formal_sorts, with_sorts, with_formal_operations}
-
--- ---- Which cause comes first
+pub use Rattle.type_fault_laws.specs.FirstCause.{IsNowhere, OrElse, FirstAlong, at_once, further_on}
 
 -- the fault is there
 abbrev pub Cause : Type 1
 Cause = TypeFault → Type 0
-
-abbrev pub IsNowhere : Cause → Type 0
-IsNowhere Is = (fault : TypeFault) → ¬ Is fault
-
--- one cause, or where it is not there another one
-abbrev pub OrElse : Cause → Cause → Cause
-OrElse One Other fault = One fault ⊎ (IsNowhere One × Other fault)
-
--- On a way of steps, each of which has its causes where the steps before it led to: the first step with a cause has it.
-pub data FirstAlong {S D : Type 0} (Is : S → D → Cause) (after : S → D → S) : S → List D → TypeFault → Type 0 where
-  at_once : {state : S} {d : D} {ds : List D} {fault : TypeFault} → Is state d fault → FirstAlong Is after state (d ∷ ds) fault
-  further_on : {state : S} {d : D} {ds : List D} {fault : TypeFault} →
-      IsNowhere (Is state d) → FirstAlong Is after (after state d) ds fault → FirstAlong Is after state (d ∷ ds) fault
 
 -- ---- Presentations
 

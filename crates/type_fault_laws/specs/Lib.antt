@@ -1,6 +1,16 @@
+pub mod FirstCause
 pub mod FaultCauses
+pub mod NameCauses
+pub mod NameCauseLaws
+pub mod ReadingCauses
+pub mod ReadingCauseLaws
+pub mod EquationCauses
+pub mod EquationCauseLaws
 pub mod FaultCauseLaws
 pub mod ActualisationCauses
 pub mod ActualisationCauseLaws
+pub mod CoincidingImages
 pub mod RenamingCauses
 pub mod RenamingCauseLaws
+pub mod FlatteningCauses
+pub mod FlatteningCauseLaws

@@ -1,11 +1,12 @@
 -- The causes of the faults of a renaming, in their order: its pairs, and then images that coincide.
-use Rattle.std.specs.Prelude.{◌≡◌, ◌<◌, ℕ, List, [], ◌∷◌, ◌++◌, Option, None, Some, slice_get}
+use Rattle.std.specs.Prelude.{◌≡◌, ◌<◌, ℕ, List, [], Option, None, Some, slice_get}
 use Rattle.lotos_base.specs.Equation.{Place}
 use Rattle.lotos_base.specs.Signature.{Sort, Operation}
 use Rattle.syntax_trees.specs.WrittenItem.{WrittenPair, WrittenPairs}
 use Rattle.type_definitions.specs.TypeFault.{TypeFault, double_sort, double_operation}
 use Rattle.type_definitions.specs.Presentation.{Presentation}
 use Rattle.type_definitions.specs.Renaming.{pair_for, renamed_sort, renamed_operation}
+use Rattle.type_fault_laws.specs.FirstCause.{and_also}
 use Rattle.type_fault_laws.specs.FaultCauses.{Cause, OrElse, FirstAlong, AreOneSort, AreOneOperation, SortPairBrings, OperationPairBrings, with_pair}
 
 -- the fault stands at the pair of the later one, or where it has none at that of the earlier one
@@ -36,9 +37,6 @@ OperationsMeet type_name pairs =
     (λ (one : Operation) (other : Operation).
     AreOneOperation (renamed_operation type_name pairs one) (renamed_operation type_name pairs other))
     (λ (operation : Operation). pair_for pairs.operation_pairs operation.name) double_operation
-
-abbrev pub and_also : {A : Type 0} → List A → A → List A
-and_also earlier x = earlier ++ x ∷ []
 
 -- the pairs of sorts, those of operations, the images of sorts, and those of operations
 abbrev pub RenamingBrings : Presentation → List ℕ → WrittenPairs → Cause

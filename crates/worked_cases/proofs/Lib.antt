@@ -11,3 +11,9 @@ pub mod EquationTests
 pub mod ShownMenus
 pub mod CaseLemmas
 pub mod MenuCaseLemmas
+pub mod CertificateTests
+pub mod BufferMenus
+pub mod BufferPairs
+pub mod OfferPairs
+pub mod UnmatchedPairs
+pub mod FaultyLines

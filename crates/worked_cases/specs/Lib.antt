@@ -14,3 +14,6 @@ pub mod ComparisonCases
 pub mod WellFormedCases
 pub mod FaultCases
 pub mod DraftCases
+pub mod BisimulationCases
+pub mod CertificateCases
+pub mod IdentityCases

@@ -1,7 +1,8 @@
-//! Worked cases of rewriting and of the dynamic semantics of behaviours, computed from the
-//! definitions. Nothing stands on this crate.
+//! Worked cases of rewriting, of the dynamic semantics of behaviours and of certificates of
+//! bisimulation, computed from the definitions. Nothing stands on this crate.
 #![tactic(auto)]
 
+pub mod bisimulation_cases;
 pub mod cases;
 pub mod comparison_cases;
 pub mod draft_cases;

@@ -22,11 +22,11 @@ start-requires c =
 
 pub returns : goal.returns
 returns c =
-    started_so c.args.valued c.in_ok-normal.normal.items c.in_ok-start.start _
+    started_so c.args.valued c.in_ok-normal.normal.items c.in_ok-start.start c.normal_values.new.book _
     (c.in_ok-normal.ensures.normal
     ∙ ap (λ (vs : List Sorted). map (book_canon c.args.valued.known.book) (terms_of vs)) c.as_slice.ensures.value)
     c.in_ok-normal.ensures.profiles c.requires c.in_ok-start.ensures.begins c.in_ok-start.ensures.terms c.in_ok-start.ensures.closed
-    refl
+    c.normal_values.ensures.flat c.normal_values.ensures.joined refl
 
 pub returns-in_err-normal : goal.returns-in_err-normal
 returns-in_err-normal c = start_fails c.args.valued c.from_residual.result c.from_residual.ensures.1

@@ -5,6 +5,7 @@ use Rattle.std.proofs.lemmas.List.{nil_from_length}
 use Rattle.lotos_base.proofs.Pieces.{next_member}
 use Rattle.sort_terms.specs.Operations.{operation_of}
 use Rattle.sort_terms.specs.ProfiledTerm.{profiled_node}
+use Rattle.sort_terms.specs.TermSize.{whole_of}
 use Rattle.sort_terms.specs.TermView.{profiled_of, all_profiled}
 use Rattle.sort_terms.specs.declared.terms.Term.{Term}
 use Rattle.sort_terms.proofs.CountedLemmas.{of_none, of_some}
@@ -14,7 +15,7 @@ use Rattle.term_rewriter.proofs.FormLemmas.{variable_done, matched_within, no_fo
 use Rattle.term_rewriter.proofs.RootLemmas.{ready_done, next_right, begun_under, whole_leads}
 use Rattle.term_rewriter.proofs.TakenLemmas.{nothing_left}
 use Rattle.term_rewriter.proofs.forms.+form.Goals as goal
-use Rattle.term_rewriter.proofs.forms.+form.Goals.{begun-in-Some+in_ok-form-in-Node-instance+in_ok-push-in-Node-instance, begun-in_default-next}
+use Rattle.term_rewriter.proofs.forms.+form.Goals.{begun-in-Some+in_ok-form-in-Operation+in_ok-push-in-Operation, begun-in_default-next}
 
 -- ---- the first rule that matches
 
@@ -67,21 +68,21 @@ begun-returns-in_default t c =
 
 pub begun-loop-argument-init : goal.begun-loop-argument-init
 begun-loop-argument-init t c =
-    no_forms c.args.rules.now (profiled_of c.args.shape.now) (profiled_of c.args.instance) c.in-Node-instance.op c.in-Node.op
-    (operation_of c.in-Node-instance.profile.value) (operation_of c.in-Node.profile.value) c.deref-argument-items.result.now
-    c.in-Node-instance.arguments.items (into_iter_items c.into_iter-rest.result) c.in_ok-forms-in-Node-instance.forms.items
+    no_forms c.args.rules.now (profiled_of c.args.shape.now) (profiled_of c.args.instance) c.in-Operation.op c.in-Node.op
+    (operation_of c.in-Operation.profile.value) (operation_of c.in-Node.profile.value) c.deref-argument-items.result.now
+    c.in-Operation.arguments.items (into_iter_items c.into_iter-rest.result) c.in_ok-forms-in-Operation.forms.items
     (ap profiled_of c.in-Node.is ∙ profiled_Node c.in-Node.op c.in-Node.profile c.in-Node.shapes
     ∙ ap (λ (ts : List Term). profiled_node c.in-Node.op (operation_of c.in-Node.profile.value) (all_profiled ts))
     (sym c.deref-argument-items.ensures.value))
-    (ap profiled_of c.in-Node-instance.is
-    ∙ profiled_Node c.in-Node-instance.op c.in-Node-instance.profile c.in-Node-instance.arguments)
-    c.into_iter-rest.ensures.rest c.in_ok-forms-in-Node-instance.ensures.items c.requires.values
+    (ap profiled_of (sym c.into_parts.ensures ∙ ap whole_of c.in-Operation.is)
+    ∙ profiled_Node c.in-Operation.op c.in-Operation.profile c.in-Operation.arguments)
+    c.into_iter-rest.ensures.rest c.in_ok-forms-in-Operation.ensures.items c.requires.values
 
 pub begun-form-requires : goal.begun-form-requires
 begun-form-requires t c =
     let xs = c.deref-argument-items.result.now in
-    let asked = argument_asked c.args.rules.now (profiled_of c.args.instance) c.in-Node-instance.op
-    (operation_of c.in-Node-instance.profile.value) (drop c.loop-argument.argument-index xs) (drop (c.loop-argument.argument-index + 1) xs)
+    let asked = argument_asked c.args.rules.now (profiled_of c.args.instance) c.in-Operation.op
+    (operation_of c.in-Operation.profile.value) (drop c.loop-argument.argument-index xs) (drop (c.loop-argument.argument-index + 1) xs)
     (into_iter_items c.loop-argument.rest) (into_iter_items c.next.new.self) c.loop-argument.forms.items c.argument-item.result
     c.in-Some.part
     (next_member xs c.loop-argument.argument-index c.argument-item.result c.loop-argument-test.true c.argument-item.is)
@@ -93,19 +94,19 @@ pub begun-loop-argument-preserved : goal.begun-loop-argument-preserved
 begun-loop-argument-preserved t c =
     let xs = c.deref-argument-items.result.now in
     elim c.match-next.branch [
-      | begun-in-Some+in_ok-form-in-Node-instance+in_ok-push-in-Node-instance w ↦
-          argument_made c.args.rules.now (profiled_of c.args.instance) c.in-Node-instance.op
-          (operation_of c.in-Node-instance.profile.value) (drop c.loop-argument.argument-index xs)
+      | begun-in-Some+in_ok-form-in-Operation+in_ok-push-in-Operation w ↦
+          argument_made c.args.rules.now (profiled_of c.args.instance) c.in-Operation.op
+          (operation_of c.in-Operation.profile.value) (drop c.loop-argument.argument-index xs)
           (drop (c.loop-argument.argument-index + 1) xs) (into_iter_items c.loop-argument.rest) (into_iter_items c.next.new.self)
           c.loop-argument.forms.items c.match-next.forms.items c.argument-item.result w.in-Some.part
-          w.in_ok-form-in-Node-instance.field-0
+          w.in_ok-form-in-Operation.field-0
           (next_member xs c.loop-argument.argument-index c.argument-item.result c.loop-argument-test.true c.argument-item.is)
           w.in-Some.ensures.items
-          (ap (λ (forms : Vec Term Global). forms.items) w.forms-is ∙ w.in_ok-push-in-Node-instance.ensures.items)
-          c.loop-argument.invariant w.in_ok-form-in-Node-instance.ensures
+          (ap (λ (forms : Vec Term Global). forms.items) w.forms-is ∙ w.in_ok-push-in-Operation.ensures.items)
+          c.loop-argument.invariant w.in_ok-form-in-Operation.ensures
       | begun-in_default-next w ↦
-          absurd (argument_lacks c.args.rules.now (profiled_of c.args.instance) c.in-Node-instance.op
-          (operation_of c.in-Node-instance.profile.value) (drop c.loop-argument.argument-index xs)
+          absurd (argument_lacks c.args.rules.now (profiled_of c.args.instance) c.in-Operation.op
+          (operation_of c.in-Operation.profile.value) (drop c.loop-argument.argument-index xs)
           (drop (c.loop-argument.argument-index + 1) xs) (into_iter_items c.loop-argument.rest) c.loop-argument.forms.items
           c.argument-item.result
           (next_member xs c.loop-argument.argument-index c.argument-item.result c.loop-argument-test.true c.argument-item.is)
@@ -118,9 +119,9 @@ begun-returns-after-loop-argument t c =
     let xs = c.deref-argument-items.result.now in
     let end : c.loop-argument.argument-index ≡ length c.deref-argument-items.result.now =
     omega (arith, c.loop-argument-test.false, c.loop-argument.auto.argument-index-end) in
-    whole_leads c.args.rules.now (profiled_of c.args.instance) _ c.in-Node-instance.op
-    (operation_of c.in-Node-instance.profile.value) c.loop-argument.forms.items
-    (profiled_Node c.in-Node-instance.op c.in-Node-instance.profile c.loop-argument.forms) c.requires.term
-    (all_made c.args.rules.now (profiled_of c.args.instance) c.in-Node-instance.op
-    (operation_of c.in-Node-instance.profile.value) (drop c.loop-argument.argument-index xs) (into_iter_items c.loop-argument.rest)
+    whole_leads c.args.rules.now (profiled_of c.args.instance) _ c.in-Operation.op
+    (operation_of c.in-Operation.profile.value) c.loop-argument.forms.items
+    (profiled_Node c.in-Operation.op c.in-Operation.profile c.loop-argument.forms) c.requires.term
+    (all_made c.args.rules.now (profiled_of c.args.instance) c.in-Operation.op
+    (operation_of c.in-Operation.profile.value) (drop c.loop-argument.argument-index xs) (into_iter_items c.loop-argument.rest)
     c.loop-argument.forms.items (nothing_left xs c.loop-argument.argument-index end) c.loop-argument.invariant)

@@ -10,5 +10,5 @@ use Rattle.type_equations.proofs.formal.check_group.Given as goal
 
 abbrev pub invariant-loop-equation : goal.invariant-loop-equation
 invariant-loop-equation l = (p : Presentation) (written : List WrittenVariable)
-    → IsSectionFor p written (signature_read l.reader) l.section → IsTruth p l.truth
+    → IsSectionFor p written (signature_read l.reader) l.section.variables.items → IsTruth p l.truth
     → GiveAll p (map (question_in true written (group_of l.group)) (map equation_of (take l.equation-index l.equation-items))) p

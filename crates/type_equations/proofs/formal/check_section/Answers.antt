@@ -1,8 +1,9 @@
-use Rattle.std.proofs.Common.{◌≡◌, true, List, [], length, refl, subst, arith}
+use Rattle.std.proofs.Common.{Vec, Global, ◌≡◌, true, List, [], length, refl, ap, subst, arith}
 use Rattle.std.proofs.lemmas.Result.{err_from_is_err_and}
 use Rattle.syntax_trees.specs.TreeViews.{group_of, variables_of}
 use Rattle.syntax_trees.specs.declared.named.VarText.{VarText}
 use Rattle.sort_terms.specs.ReaderView.{signature_read}
+use Rattle.sort_terms.specs.declared.equations.Variable.{Variable as CodeVariable}
 use Rattle.type_definitions.proofs.HoldsLemmas.{holds_weaker}
 use Rattle.type_definitions.specs.Presentation.{Presentation}
 use Rattle.type_definitions.specs.DeclaredEquations.{none_asked, asked_of_group, asked_of_variables, HasFirstFault}
@@ -32,14 +33,14 @@ check_group-requires c =
       p,
       variables_of c.args.section.now.variables.items,
       section_is p (signature_read c.args.reader.now) c.args.section.now _ _ _ _ c.new-variables.ensures.items c.as_slice.ensures.value
-          c.as_slice-in-loop-group.ensures.value refl (c.in_ok-add_variables.ensures p refl),
+          (ap (λ (v : Vec CodeVariable Global). v.items) c.in_ok-shared.ensures) refl (c.in_ok-add_variables.ensures p refl),
     )
 
 pub loop-group-preserved : goal.loop-group-preserved
 loop-group-preserved c = λ p same truth.
     let here =
     section_is p (signature_read c.args.reader.now) c.args.section.now _ _ _ _ c.new-variables.ensures.items c.as_slice.ensures.value
-    c.as_slice-in-loop-group.ensures.value same (c.in_ok-add_variables.ensures p same) in
+    (ap (λ (v : Vec CodeVariable Global). v.items) c.in_ok-shared.ensures) same (c.in_ok-add_variables.ensures p same) in
     groups_next group_of (asked_of_group true (variables_of c.args.section.now.variables.items)) p p p c.deref-group-items.result.now
     c.loop-group.group-index c.group-item.result c.loop-group-test.true c.group-item.is (c.loop-group.invariant p same truth)
     (c.in_ok-check_group.ensures p (variables_of c.args.section.now.variables.items) here truth)
@@ -50,7 +51,7 @@ returns-in_err-check_group c =
     rw (e.1, e.2) (λ p same truth.
     let here =
     section_is p (signature_read c.args.reader.now) c.args.section.now _ _ _ _ c.new-variables.ensures.items c.as_slice.ensures.value
-    c.as_slice-in-loop-group.ensures.value same (c.in_ok-add_variables.ensures p same) in
+    (ap (λ (v : Vec CodeVariable Global). v.items) c.in_ok-shared.ensures) same (c.in_ok-add_variables.ensures p same) in
     holds_weaker _ _ c.in_err-check_group.field-0.0
     (λ f found type_name.
     section_fault true c.args.section.now type_name p c.deref-group-items.result.now f c.deref-group-items.ensures.value here.given

@@ -10,7 +10,7 @@ use Rattle.type_equations.proofs.own.add_group.Given as goal
 abbrev pub invariant-loop-equation : goal.invariant-loop-equation
 invariant-loop-equation l = record {
   given : (written : List WrittenVariable)
-      → IsSectionFor (presentation_of l.fn.presentation) written (signature_read l.reader) l.section
+      → IsSectionFor (presentation_of l.fn.presentation) written (signature_read l.reader) l.section.variables.items
       → GiveAll (presentation_of l.fn.presentation)
       (map (question_in false written (group_of l.group)) (map equation_of (take l.equation-index l.equation-items)))
       (presentation_of l.presentation);

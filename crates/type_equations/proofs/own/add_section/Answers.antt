@@ -1,9 +1,10 @@
-use Rattle.std.proofs.Common.{◌≡◌, false, List, length, subst, arith}
+use Rattle.std.proofs.Common.{Vec, Global, ◌≡◌, false, List, length, ap, subst, arith}
 use Rattle.std.proofs.lemmas.Result.{err_from_is_err_and}
 use Rattle.lotos_base.specs.Name.{spelling}
 use Rattle.syntax_trees.specs.TreeViews.{group_of, variables_of}
 use Rattle.syntax_trees.specs.declared.named.VarText.{VarText}
 use Rattle.sort_terms.specs.ReaderView.{signature_read}
+use Rattle.sort_terms.specs.declared.equations.Variable.{Variable as CodeVariable}
 use Rattle.type_definitions.proofs.HoldsLemmas.{holds_weaker}
 use Rattle.type_definitions.specs.DeclaredEquations.{none_asked, asked_of_group, asked_of_variables, HasFirstFault}
 use Rattle.type_presentations.specs.PresentationView.{presentation_of}
@@ -41,7 +42,7 @@ add_group-requires-clause-section c =
       section_over start now written (signature_read c.args.reader.now) _
           (give_all_same start now _ c.loop-group.invariant.given)
           (section_is start (signature_read c.args.reader.now) c.args.section.now _ _ _ _ c.new-variables.ensures.items
-          c.as_slice.ensures.value c.as_slice-in-loop-group.ensures.value c.requires.same (c.in_ok-add_variables.ensures start c.requires.same)),
+          c.as_slice.ensures.value (ap (λ (v : Vec CodeVariable Global). v.items) c.in_ok-shared.ensures) c.requires.same (c.in_ok-add_variables.ensures start c.requires.same)),
     )
 
 pub loop-group-preserved : goal.loop-group-preserved
@@ -57,7 +58,7 @@ loop-group-preserved c =
           (section_over start now written (signature_read c.args.reader.now) _
           (give_all_same start now _ c.loop-group.invariant.given)
           (section_is start (signature_read c.args.reader.now) c.args.section.now _ _ _ _ c.new-variables.ensures.items
-          c.as_slice.ensures.value c.as_slice-in-loop-group.ensures.value c.requires.same (c.in_ok-add_variables.ensures start c.requires.same))));
+          c.as_slice.ensures.value (ap (λ (v : Vec CodeVariable Global). v.items) c.in_ok-shared.ensures) c.requires.same (c.in_ok-add_variables.ensures start c.requires.same))));
       sound = c.in_ok-add_group.ensures.sound;
       within = c.in_ok-add_group.ensures.within;
     }
@@ -70,7 +71,7 @@ returns-in_err-add_group-clause-given c =
     let written = variables_of c.args.section.now.variables.items in
     let here =
     section_is start (signature_read c.args.reader.now) c.args.section.now _ _ _ _ c.new-variables.ensures.items
-    c.as_slice.ensures.value c.as_slice-in-loop-group.ensures.value c.requires.same (c.in_ok-add_variables.ensures start c.requires.same) in
+    c.as_slice.ensures.value (ap (λ (v : Vec CodeVariable Global). v.items) c.in_ok-shared.ensures) c.requires.same (c.in_ok-add_variables.ensures start c.requires.same) in
     rw (e.1, e.2)
     (holds_weaker _ _ c.in_err-add_group.field-0.0
     (λ f found.

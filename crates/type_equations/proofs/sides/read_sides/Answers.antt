@@ -21,7 +21,7 @@ returns-in_err-left c =
     (unless_weaker _ _ c.in_err-left.field-0.0
     (λ r refused.
     left_fault p asked (equation_of c.args.equation.now) (fault_of r) is
-    (side_refused p asked (signature_read c.args.reader.now) (variables_in c.args.scope.now.scope) c.args.scope.now.sort
+    (side_refused p asked (signature_read c.args.reader.now) (variables_in c.args.scope.now.scope.now) c.args.scope.now.sort
     (written_term_of c.args.equation.now.left) r same scope.scope_is scope.sort_is refused))
     c.in_err-left.ensures.refused))
 
@@ -30,35 +30,35 @@ returns-in_err-right c =
     let e = err_from_is_err_and c.from_residual-in_err-right.result c.from_residual-in_err-right.ensures.1 in
     rw (e.1, e.2) (λ p asked same scope is.
     let one =
-    side_read p asked (signature_read c.args.reader.now) (variables_in c.args.scope.now.scope) c.args.scope.now.sort
+    side_read p asked (signature_read c.args.reader.now) (variables_in c.args.scope.now.scope.now) c.args.scope.now.sort
     (written_term_of c.args.equation.now.left) (record { term = term_in c.in_ok-left.left; sort = c.in_ok-left.left.sort }) same
     scope.scope_is scope.sort_is c.in_ok-left.ensures.read.1 in
     refused_term (IsFaultOfSides p asked) c.in_err-right.field-0.0
     (unless_weaker _ _ c.in_err-right.field-0.0
     (λ r refused.
     right_fault p asked (equation_of c.args.equation.now) (term_in c.in_ok-left.left) (fault_of r) is one
-    (side_refused p asked (signature_read c.args.reader.now) (variables_in c.args.scope.now.scope) c.args.scope.now.sort
+    (side_refused p asked (signature_read c.args.reader.now) (variables_in c.args.scope.now.scope.now) c.args.scope.now.sort
     (written_term_of c.args.equation.now.right) r same scope.scope_is scope.sort_is refused))
     c.in_err-right.ensures.refused))
 
 pub returns : goal.returns
 returns c = λ p asked same scope is.
     let one =
-    side_read p asked (signature_read c.args.reader.now) (variables_in c.args.scope.now.scope) c.args.scope.now.sort
+    side_read p asked (signature_read c.args.reader.now) (variables_in c.args.scope.now.scope.now) c.args.scope.now.sort
     (written_term_of c.args.equation.now.left) (record { term = term_in c.in_ok-left.left; sort = c.in_ok-left.left.sort }) same
     scope.scope_is scope.sort_is c.in_ok-left.ensures.read.1 in
     let other =
-    side_read p asked (signature_read c.args.reader.now) (variables_in c.args.scope.now.scope) c.args.scope.now.sort
+    side_read p asked (signature_read c.args.reader.now) (variables_in c.args.scope.now.scope.now) c.args.scope.now.sort
     (written_term_of c.args.equation.now.right) (record { term = term_in c.in_ok-right.right; sort = c.in_ok-right.right.sort }) same
     scope.scope_is scope.sort_is c.in_ok-right.ensures.read.1 in (
       subst (λ (d : WrittenEquation). IsSide p asked d.left (term_in c.in_ok-left.left)) (sym is) one,
       subst (λ (d : WrittenEquation). IsSide p asked d.right (term_in c.in_ok-right.right)) (sym is) other,
       subst (λ (s : Signature). IsOf s (profiled_in c.in_ok-left.left)) (sym same) c.in_ok-left.ensures.read.0,
       subst (λ (s : Signature). IsOf s (profiled_in c.in_ok-right.right)) (sym same) c.in_ok-right.ensures.read.0,
-      of_expected_sort (signature_read c.args.reader.now) (variables_in c.args.scope.now.scope)
+      of_expected_sort (signature_read c.args.reader.now) (variables_in c.args.scope.now.scope.now)
           (written_term_of c.args.equation.now.left) c.args.scope.now.sort
           (record { term = term_in c.in_ok-left.left; sort = c.in_ok-left.left.sort }) c.in_ok-left.ensures.read.1,
-      of_expected_sort (signature_read c.args.reader.now) (variables_in c.args.scope.now.scope)
+      of_expected_sort (signature_read c.args.reader.now) (variables_in c.args.scope.now.scope.now)
           (written_term_of c.args.equation.now.right) c.args.scope.now.sort
           (record { term = term_in c.in_ok-right.right; sort = c.in_ok-right.right.sort }) c.in_ok-right.ensures.read.1,
     )

@@ -1,0 +1,15 @@
+pub mod MoveLaws
+pub mod EqualValues
+pub mod AlikeBeside
+pub mod AlikeMoves
+pub mod ClosedEntries
+pub mod AlikeChains
+pub mod MatchedMoves
+pub mod ReadStates
+pub mod AcceptedPairs
+pub mod ClosedLabels
+pub mod OneOutcome
+pub mod IdentityTest
+pub mod SameSignatures
+pub mod InterchangeableData
+pub mod SameDoings

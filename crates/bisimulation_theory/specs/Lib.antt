@@ -1,0 +1,15 @@
+pub mod Agreement
+pub mod SameSorts
+pub mod Bisimulation
+pub mod LabelSequence
+pub mod Certificate
+pub mod NamedStates
+pub mod MatchedPairs
+pub mod Checking
+pub mod AgreementLaws
+pub mod BisimulationLaws
+pub mod CertificateLaws
+pub mod Identity
+pub mod IdentityLaws
+pub mod SameData
+pub mod SameDataLaws

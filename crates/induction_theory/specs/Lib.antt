@@ -1,0 +1,14 @@
+pub mod Certificate
+pub mod Lines
+pub mod Covers
+pub mod Faults
+pub mod Patterns
+pub mod Splits
+pub mod Uses
+pub mod Proofs
+pub mod Certified
+pub mod Requirements
+pub mod InductionLaws
+pub mod Addition
+pub mod CommutativityCases
+pub mod RefusedCases

@@ -1,0 +1,16 @@
+pub mod RisingLists
+pub mod LabelKinds
+pub mod RuleLabels
+pub mod ChangedSolving
+pub mod RuleDrafts
+pub mod FormDrafts
+pub mod SolvedMenus
+pub mod RuleMenus
+pub mod Shares
+pub mod FormShapes
+pub mod GuardMenus
+pub mod EnableMenus
+pub mod GateMenus
+pub mod JoinedMenus
+pub mod PartMenuLemmas
+pub mod KeptTreeLemmas

@@ -1,0 +1,5 @@
+//! Nothing executable: the exact menu of a behaviour is made from the exact menus of its parts, and
+//! a tree of menus that are kept for parts gives the exact menu of the whole.
+#![tactic(auto)]
+
+pub mod laws;

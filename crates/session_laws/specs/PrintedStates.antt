@@ -1,0 +1,44 @@
+-- What is printed of the states of a session: one line of printable characters, since each name in it is one of the specification's.
+use Rattle.std.specs.Prelude.{ℕ, List}
+use Rattle.lotos_grammar.specs.Gathering.{GotFile}
+use Rattle.behaviour_semantics.specs.Behaviour.{Process}
+use Rattle.behaviour_semantics.specs.WellFormed.{Every}
+use Rattle.printed_texts.specs.BehaviourText.{state_text}
+use Rattle.state_texts.specs.BoundNames.{bound_names}
+use Rattle.state_texts.specs.TextBytes.{AllPass, is_printable, IsOnOneLine}
+use Rattle.texts_read_back.specs.TextNames.{IsWordSpelling}
+use Rattle.history_lines.specs.Beginning.{Beginning}
+use Rattle.history_lines.specs.Standing.{Standing}
+use Rattle.history_lines.specs.Reached.{IsReached}
+use Rattle.spec_acceptance.specs.Acceptance.{Asked, Acceptance, IsAccepted}
+use Rattle.spec_acceptance.specs.Part.{goes_on}
+use Rattle.lotos_top.specs.Opening.{SessionBegins}
+
+-- a process with its name and those of the variables that its body binds
+pub record IsNamedProcess (process : Process) : Type 0 where
+  pub name : IsWordSpelling process.name
+  pub variables : Every IsWordSpelling (bound_names process.body)
+
+-- The specification, its processes, and the variables that its body and theirs bind have names that are each one whole token.
+pub record HasNamedDefinitions (acceptance : Acceptance) : Type 0 where
+  pub name : IsWordSpelling acceptance.spec.name
+  pub variables : Every IsWordSpelling (bound_names acceptance.spec.body)
+  pub processes : Every IsNamedProcess acceptance.spec.processes
+
+abbrev pub AcceptedDefinitionsAreNamed : Type 0
+AcceptedDefinitionsAreNamed = (asked : Asked) (files : List GotFile) (acceptance : Acceptance)
+    → IsAccepted asked files (goes_on acceptance)
+    → HasNamedDefinitions acceptance
+
+-- the text has printable characters of ASCII alone, and so neither a line feed nor a carriage return
+pub record IsPrintedLine (text : List ℕ) : Type 0 where
+  pub printable : AllPass is_printable text
+  pub on_one_line : IsOnOneLine text
+
+-- it is so with what is printed of every state that a session of an accepted specification reaches
+abbrev pub StatesPrintOnOneLine : Type 0
+StatesPrintOnOneLine = (asked : Asked) (files : List GotFile) (acceptance : Acceptance) (begun : Beginning) (standing : Standing)
+    → IsAccepted asked files (goes_on acceptance)
+    → SessionBegins acceptance begun
+    → IsReached begun standing
+    → IsPrintedLine (state_text acceptance.data_.signature acceptance.spec standing.progress.situation.state)

@@ -1,0 +1,2 @@
+pub mod MovedNames
+pub mod TextLemmas

@@ -1,0 +1,3 @@
+pub mod TextBytes
+pub mod BoundNames
+pub mod StateTexts
