@@ -1,0 +1,2 @@
+pub mod ListOutcome
+pub mod ListLaws

@@ -1,0 +1,9 @@
+pub mod RisingLists
+pub mod OrderLemmas
+pub mod NormalParts
+pub mod Profiles
+pub mod SearchLemmas
+pub mod TableLemmas
+pub mod ClassLemmas
+pub mod ListLemmas
+pub mod TupleOrderLemmas
