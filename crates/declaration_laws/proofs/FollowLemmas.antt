@@ -106,7 +106,8 @@ pub variables_made : (signature : Signature) (next : ℕ) (ws : List WrittenVari
     → resolved xs ≡ sorted_variables signature next ws → Variables next ws xs
 variables_made signature next [] xs is = subst (Variables next []) (sym (one_value xs [] is)) tt
 variables_made signature next (w ∷ ws) xs is =
-    by (variable_at signature next w) refl (sorted_variables signature (suc next) ws) (λ vs there. variables_made signature (suc next) ws vs there)
+    by (variable_at signature next w) refl (sorted_variables signature (suc next) ws)
+    (λ vs there. variables_made signature (suc next) ws vs there)
     is
   where
     by : (first : Resolution Variable) → variable_at signature next w ≡ first → (rest : Resolution (List Variable))

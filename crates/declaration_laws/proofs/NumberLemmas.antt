@@ -65,7 +65,8 @@ module _ (signature : Signature) where
   )
 
   sign_made : (scope : Scope) (numbers : Numbers) (place : Place) (sign : WrittenSign) (left right : WrittenBehaviour) (first b : Behaviour)
-      → ((inside : Scope) (behind : Numbers) (c : Behaviour) → BehaviourIs signature inside behind right (resolved c) → IsMade behind right c)
+      → ((inside : Scope) (behind : Numbers) (c : Behaviour) → BehaviourIs signature inside behind right (resolved c)
+      → IsMade behind right c)
       → IsMade numbers left first
       → SignIs signature scope (past left numbers) sign first (λ inside behind. BehaviourIs signature inside behind right) (resolved b)
       → IsMade numbers (written.binary place sign left right) b

@@ -118,7 +118,8 @@ pub record IsInOrderOfText (text : WrittenSpecification) (specification : Specif
   pub gate_names : specification.gate_names ≡ declared_gates text
   pub gates : Follow (List ℕ) ℕ HasGateNumber 0 (declared_gates text) (all_gates_of specification)
   pub variables : Follow WrittenVariable Variable HasVariableNumber 0 (declared_variables text) (all_variables_of specification)
-  pub gates_differ : (i j n : ℕ) → slice_get (all_gates_of specification) i ≡ Some n → slice_get (all_gates_of specification) j ≡ Some n → i ≡ j
+  pub gates_differ : (i j n : ℕ) → slice_get (all_gates_of specification) i ≡ Some n → slice_get (all_gates_of specification) j ≡ Some n
+      → i ≡ j
   pub variables_differ : (i j : ℕ) (one other : Variable) → slice_get (all_variables_of specification) i ≡ Some one
       → slice_get (all_variables_of specification) j ≡ Some other → one.number ≡ other.number → i ≡ j
 

@@ -112,15 +112,18 @@ instances_once basis menu number size one other (has_no_entry none) (has_instanc
 instances_once basis menu number size one other (has_too_many_values entry is some more) (has_no_entry none) =
     absurd (no_entry_and_one menu number entry none is)
 instances_once basis menu number size one other (has_too_many_values entry is some more) (has_too_many_values again at most all) = refl
-instances_once basis menu number size one other (has_too_many_values entry is some more) (has_too_many_instances again choices at may are most) =
+instances_once basis menu number size one other (has_too_many_values entry is some more)
+    (has_too_many_instances again choices at may are most) =
     absurd (cannot basis size entry some more
     (subst (λ (e : Entry). MayChoose basis size e) (sym (one_entry menu number entry again is at)) may))
-instances_once basis menu number size one other (has_too_many_values entry is some more) (has_instances again choices tuples at may are few lists) =
+instances_once basis menu number size one other (has_too_many_values entry is some more)
+    (has_instances again choices tuples at may are few lists) =
     absurd (cannot basis size entry some more
     (subst (λ (e : Entry). MayChoose basis size e) (sym (one_entry menu number entry again is at)) may))
 instances_once basis menu number size one other (has_too_many_instances entry choices is may are more) (has_no_entry none) =
     absurd (no_entry_and_one menu number entry none is)
-instances_once basis menu number size one other (has_too_many_instances entry choices is may are more) (has_too_many_values again at some most) =
+instances_once basis menu number size one other (has_too_many_instances entry choices is may are more)
+    (has_too_many_values again at some most) =
     absurd (cannot basis size again some most
     (subst (λ (e : Entry). MayChoose basis size e) (one_entry menu number entry again is at) may))
 instances_once basis menu number size one other (has_too_many_instances entry choices is may are more)
@@ -131,7 +134,8 @@ instances_once basis menu number size one other (has_too_many_instances entry ch
     (choices_once basis size entry again choices others (one_entry menu number entry again is at) are all) more few)
 instances_once basis menu number size one other (has_instances entry choices tuples is may are few lists) (has_no_entry none) =
     absurd (no_entry_and_one menu number entry none is)
-instances_once basis menu number size one other (has_instances entry choices tuples is may are few lists) (has_too_many_values again at some most) =
+instances_once basis menu number size one other (has_instances entry choices tuples is may are few lists)
+    (has_too_many_values again at some most) =
     absurd (cannot basis size again some most
     (subst (λ (e : Entry). MayChoose basis size e) (one_entry menu number entry again is at) may))
 instances_once basis menu number size one other (has_instances entry choices tuples is may are few lists)

@@ -76,7 +76,8 @@ canon_values data_ canon is (sort ∷ sorts) (value ∷ values) fit =
 module _ (exits : ExitsHaveTheirSorts) (follow : SessionsFollowDerivations) (derived : TransitionsAreDerived) (begun : Beginning)
     (standing : Standing) (over : IsStateOver begun.basis begun.progress.situation.state) (is : IsReached begun standing)
     (agrees : AllAgree begun.basis.data_.signature begun.basis.specification)
-    (starts : EndsWithin begun.basis.data_.signature begun.basis.specification.processes begun.progress.situation.state begun.basis.specification.exit)
+    (starts : EndsWithin begun.basis.data_.signature begun.basis.specification.processes begun.progress.situation.state
+    begun.basis.specification.exit)
   where
     abbrev data_there : Data
     data_there = begun.basis.data_
@@ -118,7 +119,8 @@ record EndsHere (data_ : Data) (spec : Specification) (standing : Standing) : Ty
       → EndsWith data_.signature spec.exit values
 
 body_ends : ExitsHaveTheirSorts → (acceptance : Acceptance) (begun : Beginning) → SessionBegins acceptance begun → IsSound acceptance
-    → EndsWithin begun.basis.data_.signature begun.basis.specification.processes begun.progress.situation.state begun.basis.specification.exit
+    → EndsWithin begun.basis.data_.signature begun.basis.specification.processes begun.progress.situation.state
+    begun.basis.specification.exit
 body_ends exits acceptance begun begins sound =
     subst (λ (it : Specification). EndsWithin begun.basis.data_.signature it.processes begun.progress.situation.state it.exit)
     (sym begins.specification_is)

@@ -27,7 +27,8 @@ menu_there : SessionsFollowDerivations → MovesStayAtGates → (begun : Beginni
     → IsReached begun standing
     → (UsesOnly (IsOneOf begun.basis.specification.gates) begun.basis.specification.processes begun.progress.situation.state)
     → (acceptance : Acceptance) → SessionBegins acceptance begun
-    → IsShownMenu begun.basis.data_ begun.basis.canon begun.basis.specification standing.progress.situation.state standing.progress.situation.menu
+    → IsShownMenu begun.basis.data_ begun.basis.canon begun.basis.specification standing.progress.situation.state
+    standing.progress.situation.menu
 menu_there follow stay begun standing fine names has is starts acceptance begins = record {
   fine = fine;
   over =

@@ -59,7 +59,8 @@ record ShowsHere (data_ : Data) (spec : Specification) (standing : Standing) : T
       (entry : Entry) → IsEntry standing.progress.situation.menu entry → IsAt (IsOneOf spec.gates) entry.label
   pub names : HasDistinctGates spec
 
-module _ (follow : SessionsFollowDerivations) (derived : TransitionsAreDerived) (stay : MovesStayAtGates) (at_entries : EntriesStayAtGates) (begun : Beginning)
+module _ (follow : SessionsFollowDerivations) (derived : TransitionsAreDerived) (stay : MovesStayAtGates) (at_entries : EntriesStayAtGates)
+    (begun : Beginning)
     (has : HasDeclaredGates begun.basis.specification) (standing : Standing) (over : IsStateOver begun.basis begun.progress.situation.state)
     (is : IsReached begun standing)
     (starts : UsesOnly (IsOneOf begun.basis.specification.gates) begun.basis.specification.processes begun.progress.situation.state) where
@@ -104,7 +105,8 @@ pub sessions_show_declared_gates : SessionsFollowDerivations → TransitionsAreD
 sessions_show_declared_gates follow derived stay at_entries texts asked files acceptance begun standing accepted begins is =
     let has : HasDeclaredGates acceptance.spec = declared texts asked files acceptance begun accepted begins in
     let here : HasDeclaredGates begun.basis.specification = subst HasDeclaredGates (sym begins.specification_is) has in
-    let there = shows follow derived stay at_entries begun here standing begins.can_begin.over is (body_uses acceptance begun begins has) here in
+    let there = shows follow derived stay at_entries begun here standing begins.can_begin.over is (body_uses acceptance begun begins has)
+    here in
     let at : ShowsHere acceptance.data_ acceptance.spec standing =
     subst (λ (it : Data). ShowsHere it acceptance.spec standing) begins.data_is
     (subst (λ (it : Specification). ShowsHere begun.basis.data_ it standing) begins.specification_is there) in

@@ -43,8 +43,8 @@ pub fn actualisations_are_faulty_where_caused()
 {}
 
 /// In an actualisation two formal sorts may have one actual sort. Operations and equations of the
-/// base that are alike but for such sorts become one then, and are no clash. Two operations that two
-/// different pairs make one are a clash, at the pair of the later one.
+/// base that are alike but for such sorts become one then, and are no clash. Two operations that
+/// two different pairs make one are a clash, at the pair of the later one.
 pub fn coinciding_images_are_decided()
     ensures { CoincidingImagesAreDecided }
 {}
@@ -62,10 +62,10 @@ pub fn names_are_faulty_where_caused()
     ensures { NamesAreFaultyWhereCaused }
 {}
 
-/// A written term, or a pair of them, is refused exactly where its cause stands, and the first cause
-/// counts: a name that stands for nothing or the sort behind an `of` that is none, in the order of
-/// the text, or else that there is no reading, or that there are two. Without a cause there is the
-/// one reading.
+/// A written term, or a pair of them, is refused exactly where its cause stands, and the first
+/// cause counts: a name that stands for nothing or the sort behind an `of` that is none, in the
+/// order of the text, or else that there is no reading, or that there are two. Without a cause
+/// there is the one reading.
 pub fn readings_are_refused_where_caused()
     ensures { ReadingsAreRefusedWhereCaused }
 {}

@@ -101,7 +101,8 @@ mutual
       sizes (λ profile. all_first signature ts us h.0.arguments h.3 profile ground_t ground_u)
       (compared (term_sizes ts) (term_sizes us))
     where
-      heads : (HaveSorts signature us h.0.arguments → Compare ts us) → term_sizes ts ≡ term_sizes us → (f < g) ⊎ ((f ≡ g) ⊎ (g < f)) → Compares (node f ts) (node g us)
+      heads : (HaveSorts signature us h.0.arguments → Compare ts us) → term_sizes ts ≡ term_sizes us → (f < g) ⊎ ((f ≡ g) ⊎ (g < f))
+          → Compares (node f ts) (node g us)
       heads rest same (inl less) = inl (inr (same, inl less))
       heads rest same (inr (inr more)) = inr (inr (inr (sym same, inl more)))
       heads rest same (inr (inl head)) =
@@ -110,7 +111,8 @@ mutual
           by_arguments f g ts us same head
           (rest (subst (λ (o : Operation). HaveSorts signature us o.arguments) (sym operations) k.3))
 
-      sizes : (HaveSorts signature us h.0.arguments → Compare ts us) → (term_sizes ts < term_sizes us) ⊎ ((term_sizes ts ≡ term_sizes us) ⊎ (term_sizes us < term_sizes ts))
+      sizes : (HaveSorts signature us h.0.arguments → Compare ts us)
+          → (term_sizes ts < term_sizes us) ⊎ ((term_sizes ts ≡ term_sizes us) ⊎ (term_sizes us < term_sizes ts))
           → Compares (node f ts) (node g us)
       sizes rest (inl less) = inl (inl less)
       sizes rest (inr (inr more)) = inr (inr (inl more))
