@@ -152,5 +152,6 @@ class Sentences:
         return self.some(self.item, 0, 2, "\n").encode()
 
     def order(self):
-        one = lambda: self.op() + self.maybe(f" : {self.some(self.sort, 0, 2)} -> {self.sort()}", 0.3) + ";"
+        profile = lambda: self.maybe(f" : {self.some(self.sort, 0, 2)} -> {self.sort()}", 0.3)
+        one = lambda: self.op() + profile() + self.maybe(f" {self.rng.choice(('left', 'RIGHT', 'up'))}", 0.3) + ";"
         return self.some(one, 0, 3, " ").encode()

@@ -13,6 +13,34 @@ class Wrong(Exception):
     """What the program does is not what it must do."""
 
 
+class Patience:
+    """How long a process may take: so many seconds, or more where it had less of a processor and wants more."""
+
+    def __init__(self, process, seconds):
+        self.process, self.seconds = process, seconds
+        self.had, self.limit, self.is_last = self.used()[0], time.monotonic() + seconds, False
+
+    def used(self):
+        """The seconds of a processor that the process had, and whether it wants more."""
+        try:
+            with open(f"/proc/{self.process.pid}/stat", encoding="latin-1") as file:
+                parts = file.read().rpartition(")")[2].split()
+        except FileNotFoundError:
+            return 0, False
+        return (int(parts[11]) + int(parts[12])) / os.sysconf("SC_CLK_TCK"), parts[0] in "RD"
+
+    def left(self):
+        """The seconds that are left; 0 once it is over."""
+        left = self.limit - time.monotonic()
+        if left > 0 or self.is_last:
+            return max(0, left)
+        used, wants = self.used()
+        # What does not want a processor may have answered while this script had none: it is looked at once more.
+        self.is_last = not wants or used - self.had >= self.seconds
+        self.limit = time.monotonic() + (1 if self.is_last else self.seconds)
+        return self.limit - time.monotonic()
+
+
 class Program:
     """The program at work on a session."""
 
@@ -24,14 +52,14 @@ class Program:
     def send(self, data, until):
         """Writes the data, and reads until this text came or the output ended; what came before it."""
         self.input += data
-        limit = time.monotonic() + self.seconds
+        patience = Patience(self.process, self.seconds)
         into, out = self.process.stdin.fileno(), self.process.stdout.fileno()
         while True:
             found = self.said.find(until) if until else -1
             if found >= 0:
                 answer, self.said = self.said[:found], self.said[found + len(until):]
                 return answer
-            left = limit - time.monotonic()
+            left = patience.left()
             if left <= 0:
                 self.process.kill()
                 self.process.wait()
@@ -68,9 +96,12 @@ class Program:
     def end(self):
         """Closes the input, and answers the status."""
         self.process.stdin.close()
-        limit = time.monotonic() + self.seconds
+        patience = Patience(self.process, self.seconds)
         while True:
-            readable, _, _ = select.select([self.process.stdout], [], [], max(0, limit - time.monotonic()))
+            left = patience.left()
+            readable, _, _ = select.select([self.process.stdout], [], [], left)
+            if not readable and left > 0:
+                continue
             if not readable:
                 self.process.kill()
                 self.process.wait()
@@ -173,7 +204,8 @@ class Session:
                 lines[at] = lines[at] + rng.choice([b"\r", b" ", b"0", b" => i", b"\0", b"\xff"])
             elif way == 3:
                 lines[at] = rng.choice([b"", b"0 => i", b"01 => i", b"9999999999 => i", b"10000000000 => i", b"1 =>", b"1 => ", b"1  => i",
-                                        b"1 0 => i", b"1 " + b"(" * 700 + b" => i", b"1 Succ(0), 0 => i", b"lotos-trace 2", b"i", b"1 => i => i"])
+                                        b"1 0 => i", b"1 " + b"(" * 700 + b" => i", b"1 Succ(0), 0 => i", b"lotos-trace 1", b"lotos-trace 2",
+                                        b"lotos-trace 2 Other", b"at stop", b"at ", b"i", b"1 => i => i"])
             elif way == 4:
                 lines[at] = lines[at].replace(b"0", b"Succ(0)", 1)
             elif way == 5:
@@ -219,13 +251,14 @@ class Session:
             label = answer[4:].split(b"\n")[0]
             self.expect(word == b"step", "an event without a step")
             self.expect(answer == b"did " + label + b"\n" + new[0], "the menu behind a step is not the menu")
-            self.expect(new[2].startswith(old[2]) and new[2].count(b"\n") == old[2].count(b"\n") + 1
-                        and new[2].endswith(b" => " + label + b"\n"), "a step does not lengthen the trace by its label")
+            self.expect(new[2].startswith(old[2]) and new[2].count(b"\n") == old[2].count(b"\n") + 2
+                        and new[2].endswith(b" => " + label + b"\nat " + new[1]),
+                        "a step does not lengthen the trace by its label and its state")
             self.past.append(old)
         elif answer.startswith(b"replayed "):
             self.expect(word == b"replay", "a replay without its line")
             count = int(answer.split()[1])
-            self.expect(answer == b"replayed %d\n" % count + new[0] and new[2].count(b"\n") == count + 1,
+            self.expect(answer == b"replayed %d\n" % count + new[0] and new[2].count(b"\n") == 2 * count + 1,
                         "a replay of so many steps has another trace")
             self.expect(new == self.by_trace[new[2]], "a replay does not restore")
             self.past = self.states_before(new[2])
@@ -258,11 +291,12 @@ class Session:
             self.expect(re.fullmatch(rb"refused (801 BadCommand|802 NoEntry \d+ of \d+|803 ValueCount wanted \d+ given \d+|"
                                      rb"804 BadTerm (101|102|104|105|205|211|212|213)|806 Unmet .* is not .*|807 Unread .*|"
                                      rb"808 Unwritten .*|810 BadLine line \d+|811 LabelDiffers line \d+ kept .* found .*|"
+                                     rb"813 OtherSpecification kept .* found .*|814 StateDiffers line \d+ kept .* found .*|"
                                      rb"812 Step line \d+ (802|803|806))\n", answer, re.S) is not None, "a refusal of no form")
 
     def states_before(self, trace):
         """The states before each step of a trace. Those that were not seen are found by undo, and the trace is replayed."""
-        states, steps = [], trace.count(b"\n") - 1
+        states, steps = [], trace.count(b"\n") // 2
         for _ in range(steps):
             answers = self.program.ask(b"undo")
             if answers is None:

@@ -282,4 +282,5 @@ class Drawn:
         """The text of an order file over operations of the specification."""
         every = [it for its in self.sorts.values() for it in its]
         chosen = self.rng.sample(every, min(len(every), self.rng.randrange(4)))
-        return " ".join((f"_{name}_;" if infix else f"{name};") for name, _, infix in chosen).encode()
+        status = lambda: self.rng.choice(("", "", " left", " right"))
+        return " ".join((f"_{name}_" if infix else name) + status() + ";" for name, _, infix in chosen).encode()

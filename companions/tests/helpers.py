@@ -31,7 +31,7 @@ for line in sys.stdin:
     elif line == "menu":
         say("events 1", "1: g")
     elif line == "trace":
-        say("lotos-trace 1")
+        say("lotos-trace 2 S")
     elif line == "normal hang":
         with open("hanging.new", "w") as file:
             file.write(str(os.getpid()))

@@ -11,7 +11,7 @@ SPEC = ("specification S [g, h] : noexit library NaturalNumber endlib\n"
         " behaviour g ?x:Nat [x lt Succ(Succ(0))]; h !x; stop endspec\n")
 MENU = ("events 1", "1: g !$1 for $1:Nat if $1 lt Succ(Succ(0)) = true")
 MENU_BEHIND = ("events 1", "1: h !0")
-TRACE = ("lotos-trace 1", "1 0 => g !0")
+TRACE = ("lotos-trace 2 S", "1 0 => g !0", "at h !0; stop")
 
 # Lines one after another, each with its whole answer.
 LINES = [
@@ -19,7 +19,7 @@ LINES = [
     ("", ()),
     (" \t ", ()),
     ("undo", ("nothing to undo",)),
-    ("trace", ("lotos-trace 1",)),
+    ("trace", ("lotos-trace 2 S",)),
     ("step", ("refused 801 BadCommand",)),
     ("step 01", ("refused 801 BadCommand",)),
     ("Menu", ("refused 801 BadCommand",)),
@@ -43,6 +43,8 @@ LINES = [
     ("replay bad", ("refused 810 BadLine line 2",)),
     ("replay other", ("refused 811 LabelDiffers line 2 kept g !0 found g !Succ(0)",)),
     ("replay far", ("refused 812 Step line 2 802",)),
+    ("replay alien", ("refused 813 OtherSpecification kept Other found S",)),
+    ("replay changed", ("refused 814 StateDiffers line 3 kept stop found h !0; stop",)),
     ("normal 0 + 0", ("0",)),
     ("normal", ("refused 801 BadCommand",)),
     ("equal 0, 0 + 0", ("equal",)),
@@ -89,6 +91,8 @@ class AnswersOfTheProgram(FolderTest):
         self.write("bad", "lotos-trace 1\ng !0\n")
         self.write("other", "lotos-trace 1\n1 Succ(0) => g !0\n")
         self.write("far", "lotos-trace 1\n5 => i\n")
+        self.write("alien", "lotos-trace 2 Other\n")
+        self.write("changed", "lotos-trace 2 S\n1 0 => g !0\nat stop\n")
         session = Session(PROGRAM, Words(("s.lotos",)))
         self.assertEqual(session.opening().menu.lines, MENU[1:])
         for line, answer in LINES:

@@ -90,7 +90,8 @@ class Faults(FolderTest):
         self.assertEqual((status, said), (0, ""))
         wanted = [f"saved {kept}", f"# not saved: {kept} is there (save! {kept} writes over it)"]
         self.assertEqual(output.split("\n")[-3:-1], wanted)
-        self.assertEqual(read(kept), "lotos-trace 1\n1 0 => give !0\n")
+        self.assertEqual(read(kept), "lotos-trace 2 Buffer\n1 0 => give !0\n"
+                         "at hide pass in Places[give, pass](add(0, empty)) |[pass]| Window[pass, take]\n")
 
     def test_a_program_that_dies(self):
         status, output, _ = self.run_companion("lotos-shell", "s", program=self.stand_in(), typed="step 1\nnormal die\nmenu\n")

@@ -30,7 +30,8 @@ marked_last {A = A} marks k (y ∷ ys) x = go (is_marked marks k) (marked_last m
 
 -- those that have come, and the next one
 marked_next : {A B : Type 0} (f : A → B) (marks : List ℕ) (xs : List A) (i : ℕ) (x : A) → i < length xs → x ≡ get_or xs i x
-    → marked_from marks 0 (map f (take (i + 1) xs)) ≡ marked_from marks 0 (map f (take i xs)) ++ (if is_marked marks i then f x ∷ [] else [])
+    → marked_from marks 0 (map f (take (i + 1) xs)) ≡ marked_from marks 0 (map f (take i xs))
+    ++ (if is_marked marks i then f x ∷ [] else [])
 marked_next {B = B} f marks xs i x within is =
     let many : i ≤ length xs = omega (arith, within) in
     let at : 0 + length (map f (take i xs)) ≡ i =
@@ -57,7 +58,8 @@ no_name_next {B = B} f name_of marks xs i x within is other =
     ∙ sym (marked_next f marks xs i x within is))
 
 -- one more
-pub count_next : {A : Type 0} (ys : List A) (y : A) (zs : List A) (count : ℕ) → length ys ≡ count → ys ++ y ∷ [] ≡ zs → length zs ≡ count + 1
+pub count_next : {A : Type 0} (ys : List A) (y : A) (zs : List A) (count : ℕ) → length ys ≡ count → ys ++ y ∷ [] ≡ zs
+    → length zs ≡ count + 1
 count_next {A = A} ys y zs count many is =
     ap (λ (xs : List A). length xs) (sym is) ∙ length-append ys (y ∷ []) ∙ ap (λ (n : ℕ). n + 1) many
 

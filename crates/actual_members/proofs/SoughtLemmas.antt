@@ -80,7 +80,8 @@ found_none {A = A} test xs is = go (nat_lt (position_or_len test xs) (length xs)
     same = first_is_position test xs
 
     any : (b : Bool) → list_any test xs ≡ b → length xs ≤ position_or_len test xs → b ≡ false
-    any true told least = let at : first_position test xs < length xs = position_within test xs told in absurd (omega (arith, at, same, least))
+    any true told least = let at : first_position test xs < length xs =
+        position_within test xs told in absurd (omega (arith, at, same, least))
     any false told least = refl
 
     go : (b : Bool) → nat_lt (position_or_len test xs) (length xs) ≡ b → None ≡ cond b (Some (position_or_len test xs)) None
@@ -156,7 +157,8 @@ in_same_form a o n any at =
     let has : has_actual a o o.form ≡ true = sym (any_wanted a o o.form) ∙ any in (
       ap (λ (b : Bool). b || has_actual a o (other_form o.form)) has,
       at ∙ first_wanted a o o.form
-          ∙ ap (λ (b : Bool). first_position (is_actual a o (if b then o.form else other_form o.form)) a.actual.signature.operations) (sym has),
+          ∙ ap (λ (b : Bool). first_position (is_actual a o (if b then o.form else other_form o.form)) a.actual.signature.operations)
+          (sym has),
     )
 
 pub in_other_form : (a : Actualising) (o : Operation) (n : ℕ)
@@ -169,7 +171,8 @@ in_other_form a o n none any at =
     let has : has_actual a o (other_form o.form) ≡ true = sym (any_wanted a o (other_form o.form)) ∙ any in (
       ap (λ (b : Bool). b || has_actual a o (other_form o.form)) lacks ∙ has,
       at ∙ first_wanted a o (other_form o.form)
-          ∙ ap (λ (b : Bool). first_position (is_actual a o (if b then o.form else other_form o.form)) a.actual.signature.operations) (sym lacks),
+          ∙ ap (λ (b : Bool). first_position (is_actual a o (if b then o.form else other_form o.form)) a.actual.signature.operations)
+          (sym lacks),
     )
 
 pub in_no_form : (a : Actualising) (o : Operation)
@@ -214,7 +217,8 @@ pub position_small : (operations : List Operation) (o : Operation) (n big : ℕ)
     → (list_any (are_one_operation o) operations ≡ true) × (n ≡ first_position (are_one_operation o) operations)
     → length operations < big → n < big
 position_small operations o n big found few =
-    let inside : first_position (are_one_operation o) operations < length operations = position_within (are_one_operation o) operations found.0 in
+    let inside : first_position (are_one_operation o) operations < length operations =
+    position_within (are_one_operation o) operations found.0 in
     omega (arith, found.1, inside, few)
 
 abbrev pub IsFoundAt : List Operation → Operation → ℕ → Type 0
@@ -260,5 +264,7 @@ pub turned_actual : (a : Actualising) (told marked : Bool) (seen shared : CodeOp
     → IsActualOf told (operation_lacks_actual a (operation_of seen)) (actual_operation a (operation_of seen)) found
     → IsActualOf marked (operation_lacks_actual a (operation_of shared)) (actual_operation a (operation_of shared)) found
 turned_actual a told marked seen shared found same is here =
-    subst (λ (b : Bool). IsActualOf b (operation_lacks_actual a (operation_of shared)) (actual_operation a (operation_of shared)) found) same
-    (subst (λ (o : CodeOp). IsActualOf told (operation_lacks_actual a (operation_of o)) (actual_operation a (operation_of o)) found) is here)
+    subst (λ (b : Bool). IsActualOf b (operation_lacks_actual a (operation_of shared)) (actual_operation a (operation_of shared)) found)
+    same
+    (subst (λ (o : CodeOp). IsActualOf told (operation_lacks_actual a (operation_of o)) (actual_operation a (operation_of o)) found) is
+    here)

@@ -111,7 +111,8 @@ fn actual_of_formal(
     requires { AreFewNames names.now }
     ensures { (a : Actualising) → AreSortParts a mention.now pairs.now names.now
         → MatchResult result
-        (λ n. (sort_lacks_actual a (sort_of sort.now) ≡ None) × (n ≡ actual_sort a (sort_of sort.now)))
+        (λ n. (sort_lacks_actual a (sort_of sort.now) ≡ None)
+        × (n ≡ actual_sort a (sort_of sort.now)))
         (IsFaultFound (sort_lacks_actual a (sort_of sort.now))) }
 {
     let found = pairs.pair_for(alloc, &sort.name)?;

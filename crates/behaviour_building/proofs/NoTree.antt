@@ -7,7 +7,8 @@ use Rattle.ll_engine.specs.Run.{from_last}
 use Rattle.ll_engine.proofs.Running.{length-from_last}
 
 module _ {A S : Type 0} (strength : S → ℕ) (join : S → A → A → A) where
-  no_leftmost : (operands : List A) (signs : List S) → (length operands ≡ length signs + 1 → ⊥) → leftmost strength join operands signs ≡ None
+  no_leftmost : (operands : List A) (signs : List S) → (length operands ≡ length signs + 1 → ⊥)
+      → leftmost strength join operands signs ≡ None
   no_leftmost [] signs uneven = refl
   no_leftmost (last ∷ []) [] uneven = absurd (uneven refl)
   no_leftmost (last ∷ []) (sign ∷ signs) uneven = refl
@@ -19,7 +20,8 @@ module _ {A S : Type 0} (strength : S → ℕ) (join : S → A → A → A) wher
   no_grouped : (operands : List A) (signs : List S) → (length operands ≡ length signs + 1 → ⊥) → grouped strength join operands signs ≡ None
   no_grouped operands signs uneven = ap (option_map (λ all. closed join all.waiting all.first)) (no_leftmost operands signs uneven)
 
-pub no_tree : {A S O G : Type 0} (strength : S → ℕ) (join : S → A → A → A) (plain : O → A) (plain_sign : G → S) (operands : List O) (signs : List G) →
+pub no_tree : {A S O G : Type 0} (strength : S → ℕ) (join : S → A → A → A) (plain : O → A) (plain_sign : G → S) (operands : List O)
+    (signs : List G) →
     (length operands ≡ length signs + 1 → ⊥) → grouped strength join (from_last plain operands) (from_last plain_sign signs) ≡ None
 no_tree strength join plain plain_sign operands signs uneven =
     no_grouped strength join (from_last plain operands) (from_last plain_sign signs)

@@ -28,7 +28,8 @@ use tree_building::value::take;
 
 /// `stop` before the tail of a flat list.
 fn stop(token: Option<Token>, parts: &mut Vec<Value>) -> Built
-    ensures { IfOk result (λ built. option_map meaning built ≡ stopped token (from_last meaning parts.old.items)) }
+    ensures { IfOk result (λ built. option_map meaning built
+        ≡ stopped token (from_last meaning parts.old.items)) }
 {
     let Some(word) = token else {
         return Ok(None);
@@ -46,7 +47,8 @@ fn stop(token: Option<Token>, parts: &mut Vec<Value>) -> Built
 /// `exit` with its values, which are held from the last to the first.
 #[tactic(auto, using(tree_building::proofs::FromLast::map_reverse))]
 fn exit_with(place: Place, values: Vec<ExitText>) -> BehText
-    ensures { behaviour_of result ≡ plain.exit (text_place_of place) (from_last exit_value_of values.items) }
+    ensures { behaviour_of result ≡ plain.exit (text_place_of place)
+        (from_last exit_value_of values.items) }
 {
     BehText {
         place,
@@ -56,7 +58,8 @@ fn exit_with(place: Place, values: Vec<ExitText>) -> BehText
 
 /// `exit` before the tail of a flat list.
 fn exit(token: Option<Token>, parts: &mut Vec<Value>) -> Built
-    ensures { IfOk result (λ built. option_map meaning built ≡ exited token (from_last meaning parts.old.items)) }
+    ensures { IfOk result (λ built. option_map meaning built
+        ≡ exited token (from_last meaning parts.old.items)) }
 {
     let Some(word) = token else {
         return Ok(None);
@@ -78,7 +81,8 @@ pub fn build(
     token: Option<Token>,
     parts: &mut Vec<Value>,
 ) -> Built
-    ensures { IfOk result (λ built. option_map meaning built ≡ behaviours_row_means row token (from_last meaning parts.old.items)) }
+    ensures { IfOk result (λ built. option_map meaning built
+        ≡ behaviours_row_means row token (from_last meaning parts.old.items)) }
 {
     match row {
         BehavioursRow::Hide => hide_gates(alloc, token, parts),

@@ -26,7 +26,8 @@ use tree_building::value::{of_another_kind, take};
 #[tactic(auto, using(tree_building::proofs::FromLast::map_reverse))]
 fn choose_variables(place: Place, variables: Vec<VarText>, inside: Box<BehText>) -> BehText
     ensures { behaviour_of result
-        ≡ plain.choose_value (text_place_of place) (from_last variable_of variables.items) (behaviour_of inside.value) }
+        ≡ plain.choose_value (text_place_of place) (from_last variable_of variables.items)
+        (behaviour_of inside.value) }
 {
     let form = BehForm::ChooseValue(turned(variables), inside);
     BehText { place, form }
@@ -40,7 +41,8 @@ fn choose_values(
     end: ValueChoiceEnd,
 ) -> Result<Value, AllocError>
     ensures { IfOk result (λ value. meaning value ≡ alone (plain.choose_value (text_place_of place)
-        (variables_of_sort (from_last placed_name_of names.items) (placed_name_of end.sort) ++ from_last variable_of end.more.items)
+        (variables_of_sort (from_last placed_name_of names.items) (placed_name_of end.sort)
+        ++ from_last variable_of end.more.items)
         (behaviour_of end.inside.value))) }
 {
     let ValueChoiceEnd { sort, more, inside } = end;
@@ -54,7 +56,8 @@ fn choose_values(
 #[tactic(auto, using(tree_building::proofs::FromLast::map_reverse))]
 fn choose_declared(place: Place, gates: Vec<GateText>, inside: Box<BehText>) -> BehText
     ensures { behaviour_of result
-        ≡ plain.choose_gate (text_place_of place) (from_last gate_choice_of gates.items) (behaviour_of inside.value) }
+        ≡ plain.choose_gate (text_place_of place) (from_last gate_choice_of gates.items)
+        (behaviour_of inside.value) }
 {
     let form = BehForm::ChooseGate(turned(gates), inside);
     BehText { place, form }
@@ -69,7 +72,8 @@ fn choose_gates(
     end: GateChoiceEnd,
 ) -> Result<Value, AllocError>
     ensures { IfOk result (λ value. meaning value ≡ alone (plain.choose_gate (text_place_of place)
-        (gate_choices_among (from_last placed_name_of names.items) (from_last placed_name_of end.among.items) ++ from_last gate_choice_of end.more.items)
+        (gate_choices_among (from_last placed_name_of names.items)
+        (from_last placed_name_of end.among.items) ++ from_last gate_choice_of end.more.items)
         (behaviour_of end.inside.value))) }
 {
     let GateChoiceEnd {
@@ -86,8 +90,10 @@ fn choose_gates(
 /// What stands behind the names of a `choice`, over values or over gates.
 fn chosen_over(alloc: Global, place: Place, names: Vec<Named>, end: Value) -> Built
     ensures { IfOk result (λ built. (rest : List Meaning) → option_map meaning built
-        ≡ or_else (choice_of_values (text_place_of place) (from_last placed_name_of names.items) (meaning end ∷ rest))
-        (choice_of_gates (text_place_of place) (from_last placed_name_of names.items) (meaning end ∷ rest))) }
+        ≡ or_else (choice_of_values (text_place_of place) (from_last placed_name_of names.items)
+        (meaning end ∷ rest))
+        (choice_of_gates (text_place_of place) (from_last placed_name_of names.items)
+        (meaning end ∷ rest))) }
 {
     match end {
         Value::ValueChoice(end) => Ok(Some(choose_values(alloc, place, names, end)?)),
@@ -99,7 +105,8 @@ fn chosen_over(alloc: Global, place: Place, names: Vec<Named>, end: Value) -> Bu
 /// `choice .. [] B`, at the place of its word.
 #[tactic(auto, using(tree_building::proofs::FromLast::from_last_more, tree_building::proofs::FromLast::from_last_none))]
 fn choice_at(alloc: Global, word: Token, parts: &mut Vec<Value>) -> Built
-    ensures { IfOk result (λ built. option_map meaning built ≡ choice_after_word (Some word) (from_last meaning parts.old.items)) }
+    ensures { IfOk result (λ built. option_map meaning built
+        ≡ choice_after_word (Some word) (from_last meaning parts.old.items)) }
 {
     let Some(names) = take::<Vec<Named>>(parts) else {
         return Ok(None);
@@ -112,7 +119,8 @@ fn choice_at(alloc: Global, word: Token, parts: &mut Vec<Value>) -> Built
 
 /// `choice .. [] B`.
 pub fn choice(alloc: Global, token: Option<Token>, parts: &mut Vec<Value>) -> Built
-    ensures { IfOk result (λ built. option_map meaning built ≡ choice_after_word token (from_last meaning parts.old.items)) }
+    ensures { IfOk result (λ built. option_map meaning built
+        ≡ choice_after_word token (from_last meaning parts.old.items)) }
 {
     match token {
         Some(word) => choice_at(alloc, word, parts),

@@ -22,7 +22,8 @@ use tree_building::value::{Value, take};
 /// `!term`.
 #[tactic(auto, using(tree_building::proofs::FromLast::from_last_more, tree_building::proofs::FromLast::from_last_none))]
 pub fn give(alloc: Global, parts: &mut Vec<Value>) -> Built
-    ensures { IfOk result (λ built. option_map meaning built ≡ offer_of_value (from_last meaning parts.old.items)) }
+    ensures { IfOk result (λ built. option_map meaning built
+        ≡ offer_of_value (from_last meaning parts.old.items)) }
 {
     let Some(term) = take::<StartedTerm>(parts) else {
         return Ok(None);
@@ -36,7 +37,8 @@ pub fn give(alloc: Global, parts: &mut Vec<Value>) -> Built
 #[tactic(auto, using(tree_building::proofs::FromLast::from_last_more, tree_building::proofs::FromLast::from_last_none))]
 fn questions(alloc: Global, names: Vec<Named>, sort: &Named) -> Result<Vec<OfferText>, AllocError>
     ensures { IfOk result (λ offers. from_last offer_of offers.items
-        ≡ map offer_variable (variables_of_sort (from_last placed_name_of names.items) (placed_name_of sort.now))) }
+        ≡ map offer_variable (variables_of_sort (from_last placed_name_of names.items)
+        (placed_name_of sort.now))) }
 {
     let mut offers = Vec::new(alloc);
     for name in names {
@@ -47,7 +49,8 @@ fn questions(alloc: Global, names: Vec<Named>, sort: &Named) -> Result<Vec<Offer
 
 /// `?names: sort`.
 pub fn ask(alloc: Global, parts: &mut Vec<Value>) -> Built
-    ensures { IfOk result (λ built. option_map meaning built ≡ offers_of_variables (from_last meaning parts.old.items)) }
+    ensures { IfOk result (λ built. option_map meaning built
+        ≡ offers_of_variables (from_last meaning parts.old.items)) }
 {
     let Some(names) = take::<Vec<Named>>(parts) else {
         return Ok(None);
@@ -61,7 +64,8 @@ pub fn ask(alloc: Global, parts: &mut Vec<Value>) -> Built
 /// `any sort` before values of `exit`.
 #[tactic(auto, using(tree_building::proofs::FromLast::from_last_more))]
 pub fn any_value(parts: &mut Vec<Value>) -> Built
-    ensures { IfOk result (λ built. option_map meaning built ≡ any_before_exit_values (from_last meaning parts.old.items)) }
+    ensures { IfOk result (λ built. option_map meaning built
+        ≡ any_before_exit_values (from_last meaning parts.old.items)) }
 {
     let Some(sort) = take::<Named>(parts) else {
         return Ok(None);
@@ -76,7 +80,8 @@ pub fn any_value(parts: &mut Vec<Value>) -> Built
 /// A term before values of `exit`.
 #[tactic(auto, using(tree_building::proofs::FromLast::from_last_more))]
 pub fn given_value(parts: &mut Vec<Value>) -> Built
-    ensures { IfOk result (λ built. option_map meaning built ≡ term_before_exit_values (from_last meaning parts.old.items)) }
+    ensures { IfOk result (λ built. option_map meaning built
+        ≡ term_before_exit_values (from_last meaning parts.old.items)) }
 {
     let Some(term) = take::<StartedTerm>(parts) else {
         return Ok(None);
@@ -91,7 +96,8 @@ pub fn given_value(parts: &mut Vec<Value>) -> Built
 /// A declaration of a `let` before others.
 #[tactic(auto, using(tree_building::proofs::FromLast::from_last_more))]
 pub fn joined_lets(alloc: Global, parts: &mut Vec<Value>) -> Built
-    ensures { IfOk result (λ built. option_map meaning built ≡ let_before_lets (from_last meaning parts.old.items)) }
+    ensures { IfOk result (λ built. option_map meaning built
+        ≡ let_before_lets (from_last meaning parts.old.items)) }
 {
     let Some(variable) = take::<Named>(parts) else {
         return Ok(None);
@@ -135,7 +141,8 @@ pub fn gate_choice(parts: &mut Vec<Value>) -> Option<Value>
 
 /// The declaration of a gate among others, which are in text order.
 fn gate_among(alloc: Global, name: Named, among: &Vec<Named>) -> Result<GateText, AllocError>
-    ensures { IfOk result (λ gate. gate_choice_of gate ∷ [] ≡ gate_choices_among (placed_name_of name ∷ []) (map placed_name_of among.now.items)) }
+    ensures { IfOk result (λ gate. gate_choice_of gate ∷ []
+        ≡ gate_choices_among (placed_name_of name ∷ []) (map placed_name_of among.now.items)) }
 {
     Ok(GateText {
         place: name.0,
@@ -144,8 +151,8 @@ fn gate_among(alloc: Global, name: Named, among: &Vec<Named>) -> Result<GateText
     })
 }
 
-/// Puts a declaration for each of the names in front. The names are held from the last to the first, and the gates that they
-/// stand for are in text order.
+/// Puts a declaration for each of the names in front. The names are held from the last to the
+/// first, and the gates that they stand for are in text order.
 #[tactic(auto, using(tree_building::proofs::FromLast::from_last_more, tree_building::proofs::FromLast::from_last_none))]
 pub fn add_gate_choices(
     alloc: Global,
@@ -154,7 +161,8 @@ pub fn add_gate_choices(
     gates: &mut Vec<GateText>,
 ) -> Result<(), AllocError>
     ensures { OnOk result (from_last gate_choice_of gates.new.items
-        ≡ gate_choices_among (from_last placed_name_of names.items) (map placed_name_of among.now.items) ++ from_last gate_choice_of gates.old.items) }
+        ≡ gate_choices_among (from_last placed_name_of names.items)
+        (map placed_name_of among.now.items) ++ from_last gate_choice_of gates.old.items) }
 {
     for name in names {
         gates.push(gate_among(alloc, name, among)?)?;
@@ -165,7 +173,8 @@ pub fn add_gate_choices(
 /// Declarations of gates before others.
 #[tactic(auto, using(tree_building::proofs::FromLast::map_reverse))]
 pub fn joined_gate_choices(alloc: Global, parts: &mut Vec<Value>) -> Built
-    ensures { IfOk result (λ built. option_map meaning built ≡ gates_before_gate_choices (from_last meaning parts.old.items)) }
+    ensures { IfOk result (λ built. option_map meaning built
+        ≡ gates_before_gate_choices (from_last meaning parts.old.items)) }
 {
     let Some(names) = take::<Vec<Named>>(parts) else {
         return Ok(None);

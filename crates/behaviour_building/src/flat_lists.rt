@@ -47,7 +47,8 @@ pub fn only_operand(alloc: Global, behaviour: BehText) -> Result<Value, AllocErr
 /// The behaviour before the tail of a flat list.
 #[tactic(auto, using(tree_building::proofs::FromLast::from_last_more))]
 pub fn operand_before(behaviour: BehText, tail: Flat) -> Result<Value, AllocError>
-    ensures { IfOk result (λ value. meaning value ≡ before_tail (behaviour_of behaviour) (flat_of tail)) }
+    ensures { IfOk result (λ value. meaning value
+        ≡ before_tail (behaviour_of behaviour) (flat_of tail)) }
 {
     let Flat {
         mut operands,
@@ -59,7 +60,8 @@ pub fn operand_before(behaviour: BehText, tail: Flat) -> Result<Value, AllocErro
 
 /// A behaviour in brackets before a tail.
 pub fn bracketed(alloc: Global, parts: &mut Vec<Value>) -> Built
-    ensures { IfOk result (λ built. option_map meaning built ≡ bracketed_behaviour (from_last meaning parts.old.items)) }
+    ensures { IfOk result (λ built. option_map meaning built
+        ≡ bracketed_behaviour (from_last meaning parts.old.items)) }
 {
     let Some(flat) = take::<Flat>(parts) else {
         return Ok(None);
@@ -87,7 +89,8 @@ pub fn empty_tail(alloc: Global) -> Value
 /// A sign before a flat list.
 #[tactic(auto, using(tree_building::proofs::FromLast::from_last_more))]
 pub fn sign_before(parts: &mut Vec<Value>) -> Built
-    ensures { IfOk result (λ built. option_map meaning built ≡ sign_before_behaviour (from_last meaning parts.old.items)) }
+    ensures { IfOk result (λ built. option_map meaning built
+        ≡ sign_before_behaviour (from_last meaning parts.old.items)) }
 {
     let Some(sign) = take::<(Place, Sign)>(parts) else {
         return Ok(None);
@@ -105,7 +108,8 @@ pub fn sign_before(parts: &mut Vec<Value>) -> Built
 
 /// The behaviour of a `choice`, which is grouped.
 pub fn chosen_behaviour(alloc: Global, parts: &mut Vec<Value>) -> Built
-    ensures { IfOk result (λ built. option_map meaning built ≡ chosen (from_last meaning parts.old.items)) }
+    ensures { IfOk result (λ built. option_map meaning built
+        ≡ chosen (from_last meaning parts.old.items)) }
 {
     let Some(flat) = take::<Flat>(parts) else {
         return Ok(None);

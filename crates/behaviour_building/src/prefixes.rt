@@ -22,7 +22,8 @@ use tree_building::value::{held, of_another_kind, take};
 
 /// `i; B`.
 fn inner_action(alloc: Global, place: Place, next: BehText) -> Result<BehText, AllocError>
-    ensures { IfOk result (λ it. behaviour_of it ≡ plain.inner_action (text_place_of place) (behaviour_of next)) }
+    ensures { IfOk result (λ it. behaviour_of it
+        ≡ plain.inner_action (text_place_of place) (behaviour_of next)) }
 {
     let form = BehForm::Inner(Box::new(alloc, next)?);
     Ok(BehText { place, form })
@@ -31,7 +32,8 @@ fn inner_action(alloc: Global, place: Place, next: BehText) -> Result<BehText, A
 /// The flat list with `i` before its first operand.
 #[tactic(auto, using(tree_building::proofs::FromLast::from_last_more, tree_building::proofs::FromLast::from_last_none))]
 fn inner_before(alloc: Global, place: Place, flat: Flat) -> Result<Value, AllocError>
-    ensures { IfOk result (λ value. meaning value ≡ prefixed (plain.inner_action (text_place_of place)) (flat_of flat)) }
+    ensures { IfOk result (λ value. meaning value
+        ≡ prefixed (plain.inner_action (text_place_of place)) (flat_of flat)) }
 {
     let Flat {
         mut operands,
@@ -46,7 +48,8 @@ fn inner_before(alloc: Global, place: Place, flat: Flat) -> Result<Value, AllocE
 
 /// `i` before a flat list.
 pub fn inner(alloc: Global, token: Option<Token>, parts: &mut Vec<Value>) -> Built
-    ensures { IfOk result (λ built. option_map meaning built ≡ inner_prefixed token (from_last meaning parts.old.items)) }
+    ensures { IfOk result (λ built. option_map meaning built
+        ≡ inner_prefixed token (from_last meaning parts.old.items)) }
 {
     let Some(word) = token else {
         return Ok(None);
@@ -59,7 +62,8 @@ pub fn inner(alloc: Global, token: Option<Token>, parts: &mut Vec<Value>) -> Bui
 
 /// `[test] -> B`.
 fn guard(alloc: Global, place: Place, test: TestText, next: BehText) -> Result<BehText, AllocError>
-    ensures { IfOk result (λ it. behaviour_of it ≡ plain.guard (text_place_of place) (premiss_of test) (behaviour_of next)) }
+    ensures { IfOk result (λ it. behaviour_of it
+        ≡ plain.guard (text_place_of place) (premiss_of test) (behaviour_of next)) }
 {
     let form = BehForm::Guard(test, Box::new(alloc, next)?);
     Ok(BehText { place, form })
@@ -73,7 +77,8 @@ fn guard_before(
     test: TestText,
     flat: Flat,
 ) -> Result<Value, AllocError>
-    ensures { IfOk result (λ value. meaning value ≡ prefixed (plain.guard (text_place_of place) (premiss_of test)) (flat_of flat)) }
+    ensures { IfOk result (λ value. meaning value
+        ≡ prefixed (plain.guard (text_place_of place) (premiss_of test)) (flat_of flat)) }
 {
     let Flat {
         mut operands,
@@ -88,7 +93,8 @@ fn guard_before(
 
 /// A guard before a flat list.
 pub fn guarded_list(alloc: Global, token: Option<Token>, parts: &mut Vec<Value>) -> Built
-    ensures { IfOk result (λ built. option_map meaning built ≡ guarded token (from_last meaning parts.old.items)) }
+    ensures { IfOk result (λ built. option_map meaning built
+        ≡ guarded token (from_last meaning parts.old.items)) }
 {
     let Some(left) = token else {
         return Ok(None);
@@ -112,7 +118,8 @@ fn action(
     next: BehText,
 ) -> Result<BehText, AllocError>
     ensures { IfOk result (λ it. behaviour_of it
-        ≡ plain.action (placed_name_of gate).place (placed_name_of gate).name (from_last offer_of offers.items) (option_map premiss_of test)
+        ≡ plain.action (placed_name_of gate).place (placed_name_of gate).name
+        (from_last offer_of offers.items) (option_map premiss_of test)
         (behaviour_of next)) }
 {
     let form = BehForm::Action {
@@ -131,7 +138,8 @@ fn action(
 #[tactic(auto, using(tree_building::proofs::FromLast::from_last_more, tree_building::proofs::FromLast::from_last_none))]
 fn action_before(alloc: Global, gate: Named, end: ActionEnd) -> Result<Value, AllocError>
     ensures { IfOk result (λ value. meaning value ≡ prefixed
-        (plain.action (placed_name_of gate).place (placed_name_of gate).name (from_last offer_of end.offers.items) (option_map premiss_of end.test))
+        (plain.action (placed_name_of gate).place (placed_name_of gate).name
+        (from_last offer_of end.offers.items) (option_map premiss_of end.test))
         (flat_of end.behind)) }
 {
     let ActionEnd {
@@ -154,7 +162,8 @@ fn action_before(alloc: Global, gate: Named, end: ActionEnd) -> Result<Value, Al
 #[tactic(auto, using(tree_building::proofs::FromLast::map_reverse))]
 fn call(name: Named, gates: Vec<Named>, values: Vec<Written>) -> BehText
     ensures { behaviour_of result
-        ≡ plain.call (placed_name_of name).place (placed_name_of name).name (from_last placed_name_of gates.items) (from_last written_term_of values.items) }
+        ≡ plain.call (placed_name_of name).place (placed_name_of name).name
+        (from_last placed_name_of gates.items) (from_last written_term_of values.items) }
 {
     let form = BehForm::Call {
         name: name.1,
@@ -170,7 +179,8 @@ fn call(name: Named, gates: Vec<Named>, values: Vec<Written>) -> BehText
 /// A call of the process before the tail of a flat list.
 fn call_before(name: Named, end: CallEnd) -> Result<Value, AllocError>
     ensures { IfOk result (λ value. meaning value ≡ before_tail
-        (plain.call (placed_name_of name).place (placed_name_of name).name (from_last placed_name_of end.gates.items)
+        (plain.call (placed_name_of name).place (placed_name_of name).name
+        (from_last placed_name_of end.gates.items)
         (from_last written_term_of end.values.items)) (flat_of end.behind)) }
 {
     let CallEnd {
@@ -184,7 +194,8 @@ fn call_before(name: Named, end: CallEnd) -> Result<Value, AllocError>
 /// A name before what makes it the gate of an action, or the process of a call.
 fn name_before(alloc: Global, name: Named, end: Value) -> Built
     ensures { IfOk result (λ built. (rest : List Meaning) → option_map meaning built
-        ≡ or_else (action_of_gate (placed_name_of name) (meaning end ∷ rest)) (call_of_process (placed_name_of name) (meaning end ∷ rest))) }
+        ≡ or_else (action_of_gate (placed_name_of name) (meaning end ∷ rest))
+        (call_of_process (placed_name_of name) (meaning end ∷ rest))) }
 {
     match end {
         Value::Action(end) => Ok(Some(action_before(alloc, name, Box::into_inner(end))?)),
@@ -196,7 +207,8 @@ fn name_before(alloc: Global, name: Named, end: Value) -> Built
 /// An action or a call.
 #[tactic(auto, using(tree_building::proofs::FromLast::from_last_more, tree_building::proofs::FromLast::from_last_none))]
 pub fn named(alloc: Global, parts: &mut Vec<Value>) -> Built
-    ensures { IfOk result (λ built. option_map meaning built ≡ name_first (from_last meaning parts.old.items)) }
+    ensures { IfOk result (λ built. option_map meaning built
+        ≡ name_first (from_last meaning parts.old.items)) }
 {
     let Some(name) = take::<Named>(parts) else {
         return Ok(None);
@@ -210,7 +222,8 @@ pub fn named(alloc: Global, parts: &mut Vec<Value>) -> Built
 /// The end of an action without offers and without a selection predicate.
 #[tactic(auto, using(tree_building::proofs::FromLast::from_last_none))]
 pub fn without_offers(alloc: Global, parts: &mut Vec<Value>) -> Built
-    ensures { IfOk result (λ built. option_map meaning built ≡ action_without_offers (from_last meaning parts.old.items)) }
+    ensures { IfOk result (λ built. option_map meaning built
+        ≡ action_without_offers (from_last meaning parts.old.items)) }
 {
     let Some(behind) = take::<Flat>(parts) else {
         return Ok(None);
@@ -226,7 +239,8 @@ pub fn without_offers(alloc: Global, parts: &mut Vec<Value>) -> Built
 /// Offers before the end of an action.
 #[tactic(auto, using(tree_building::proofs::FromLast::from_last_append))]
 pub fn with_offers(alloc: Global, parts: &mut Vec<Value>) -> Built
-    ensures { IfOk result (λ built. option_map meaning built ≡ offers_before_action (from_last meaning parts.old.items)) }
+    ensures { IfOk result (λ built. option_map meaning built
+        ≡ offers_before_action (from_last meaning parts.old.items)) }
 {
     let Some(mut first) = take::<Vec<OfferText>>(parts) else {
         return Ok(None);
@@ -251,7 +265,8 @@ pub fn with_offers(alloc: Global, parts: &mut Vec<Value>) -> Built
 /// The end of an action with a selection predicate.
 #[tactic(auto, using(tree_building::proofs::FromLast::from_last_none))]
 pub fn with_selection(alloc: Global, parts: &mut Vec<Value>) -> Built
-    ensures { IfOk result (λ built. option_map meaning built ≡ action_with_selection (from_last meaning parts.old.items)) }
+    ensures { IfOk result (λ built. option_map meaning built
+        ≡ action_with_selection (from_last meaning parts.old.items)) }
 {
     let Some(test) = take::<TestText>(parts) else {
         return Ok(None);

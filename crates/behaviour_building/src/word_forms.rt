@@ -28,7 +28,8 @@ fn hide(
     inside: BehText,
 ) -> Result<BehText, AllocError>
     ensures { IfOk result (λ it. behaviour_of it
-        ≡ plain.hide (text_place_of place) (from_last placed_name_of gates.items) (behaviour_of inside)) }
+        ≡ plain.hide (text_place_of place) (from_last placed_name_of gates.items)
+        (behaviour_of inside)) }
 {
     let form = BehForm::Hide(turned(gates), Box::new(alloc, inside)?);
     Ok(BehText { place, form })
@@ -36,7 +37,8 @@ fn hide(
 
 /// `hide .. in B`.
 pub fn hide_gates(alloc: Global, token: Option<Token>, parts: &mut Vec<Value>) -> Built
-    ensures { IfOk result (λ built. option_map meaning built ≡ hidden token (from_last meaning parts.old.items)) }
+    ensures { IfOk result (λ built. option_map meaning built
+        ≡ hidden token (from_last meaning parts.old.items)) }
 {
     let Some(word) = token else {
         return Ok(None);
@@ -71,7 +73,8 @@ fn let_be(
 
 /// `let .. in B`.
 pub fn let_values(alloc: Global, token: Option<Token>, parts: &mut Vec<Value>) -> Built
-    ensures { IfOk result (λ built. option_map meaning built ≡ let_in token (from_last meaning parts.old.items)) }
+    ensures { IfOk result (λ built. option_map meaning built
+        ≡ let_in token (from_last meaning parts.old.items)) }
 {
     let Some(word) = token else {
         return Ok(None);
@@ -100,7 +103,8 @@ fn par(
     inside: BehText,
 ) -> Result<BehText, AllocError>
     ensures { IfOk result (λ it. behaviour_of it
-        ≡ plain.par_gate (text_place_of place) (from_last gate_choice_of gates.items) (sign_of sign) (behaviour_of inside)) }
+        ≡ plain.par_gate (text_place_of place) (from_last gate_choice_of gates.items) (sign_of sign)
+        (behaviour_of inside)) }
 {
     let form = BehForm::ParGate(turned(gates), sign, Box::new(alloc, inside)?);
     Ok(BehText { place, form })
@@ -108,7 +112,8 @@ fn par(
 
 /// `par .. sign B`.
 pub fn par_gates(alloc: Global, token: Option<Token>, parts: &mut Vec<Value>) -> Built
-    ensures { IfOk result (λ built. option_map meaning built ≡ par_after_word token (from_last meaning parts.old.items)) }
+    ensures { IfOk result (λ built. option_map meaning built
+        ≡ par_after_word token (from_last meaning parts.old.items)) }
 {
     let Some(word) = token else {
         return Ok(None);

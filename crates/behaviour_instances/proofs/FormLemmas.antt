@@ -46,6 +46,7 @@ module _ (numbers : List ℕ) (inner outer : List (ℕ × Sorted)) where
 
   pub inside_terms : (part made : Beh)
       → profiled_binding (profiled_pairs inner) ≡ profiled_without numbers (profiled_binding (profiled_pairs outer))
-      → IsInstance inner part made → profiles_in made ≡ instance_profiles (profiled_without numbers (profiled_binding (profiled_pairs outer)))
+      → IsInstance inner part made → profiles_in made ≡ instance_profiles
+      (profiled_without numbers (profiled_binding (profiled_pairs outer)))
       part
   inside_terms part made is h = h.terms ∙ ap (λ (values : ProfiledSubstitution). instance_profiles values part) is

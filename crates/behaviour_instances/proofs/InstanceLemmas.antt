@@ -154,7 +154,8 @@ found (pair ∷ environment) n s (suc k) value at once =
     by rest false e = rest
 
 pub given_suits :
-    (environment : List (ℕ × Sorted)) (n s : ℕ) → IsGivenOnce environment n s → head_sort (profiled_binding (profiled_pairs environment) n s) ≡ s
+    (environment : List (ℕ × Sorted)) (n s : ℕ) → IsGivenOnce environment n s
+    → head_sort (profiled_binding (profiled_pairs environment) n s) ≡ s
 given_suits environment n s once =
     ap head_sort (found environment n s once.position once.value once.given once.once) ∙ once.sorted
 

@@ -15,7 +15,8 @@ use Rattle.behaviour_instances.specs.Suited.{SuitsWhere}
 use Rattle.behaviour_instances.specs.Unlisted.{profiled_without, unlisted_pairs}
 
 -- what an environment puts for a variable
-pub put_for : (pairs : List (ℕ × Sorted)) (n s : ℕ) → bare (profiled_binding (profiled_pairs pairs) n s) ≡ binding (environment_of pairs) n s
+pub put_for : (pairs : List (ℕ × Sorted)) (n s : ℕ) → bare (profiled_binding (profiled_pairs pairs) n s)
+    ≡ binding (environment_of pairs) n s
 put_for pairs n s =
     binding_bare (profiled_pairs pairs) n s ∙ ap (λ (ps : List (ℕ × Term)). binding ps n s) (pairs_bare pairs)
 

@@ -180,7 +180,8 @@ fn action_instance(
         (plain.action gate (map offer_of offers.now.items)
         (option_map test_of test.now) (behaviour_of next.now.value))) }
     ensures terms { IfOk result (λ b. profiles_in b ≡ action_profiles
-        (profiled_binding (profiled_pairs environment.now.items)) offers.now.items test.now next.now.value) }
+        (profiled_binding (profiled_pairs environment.now.items)) offers.now.items test.now
+        next.now.value) }
 {
     let inner = below_action(environment, offers)?;
     action_below(environment, &inner, gate, offers, test, next)
@@ -200,7 +201,8 @@ fn action_below(
         (λ n s. IsFree n s (plain.action gate (map offer_of offers.now.items)
         (option_map test_of test.now) (behaviour_of next.now.value))) }
     requires profiled { profiled_binding (profiled_pairs inner.now.items)
-        ≡ profiled_without (plain.numbers_of (plain.asked_variables (map offer_of offers.now.items)))
+        ≡ profiled_without (plain.numbers_of
+        (plain.asked_variables (map offer_of offers.now.items)))
         (profiled_binding (profiled_pairs environment.now.items)) }
     requires plain { binding (environment_of inner.now.items)
         ≡ without (plain.numbers_of (plain.asked_variables (map offer_of offers.now.items)))
@@ -210,7 +212,8 @@ fn action_below(
         (plain.action gate (map offer_of offers.now.items)
         (option_map test_of test.now) (behaviour_of next.now.value))) }
     ensures terms { IfOk result (λ b. profiles_in b ≡ action_profiles
-        (profiled_binding (profiled_pairs environment.now.items)) offers.now.items test.now next.now.value) }
+        (profiled_binding (profiled_pairs environment.now.items)) offers.now.items test.now
+        next.now.value) }
 {
     let next = shared_instance(inner, next)?;
     let head = placed_head(environment, inner, offers, test)?;
@@ -397,7 +400,8 @@ fn let_instance(
     next: &Rc<Beh>,
 ) -> Result<Beh, NoMemory>
     requires { SuitsWhere (profiled_pairs environment.now.items)
-        (λ n s. IsFree n s (plain.let_be (map let_of bindings.now.items) (behaviour_of next.now.value))) }
+        (λ n s. IsFree n s (plain.let_be (map let_of bindings.now.items)
+        (behaviour_of next.now.value))) }
     ensures same { IfOk result (λ b. behaviour_of b
         ≡ with_values (binding (environment_of environment.now.items))
         (plain.let_be (map let_of bindings.now.items) (behaviour_of next.now.value))) }
@@ -422,7 +426,8 @@ fn value_instance(
     next: &Rc<Beh>,
 ) -> Result<Beh, NoMemory>
     requires { SuitsWhere (profiled_pairs environment.now.items)
-        (λ n s. IsFree n s (plain.choose_value (variable_of variable.now) (behaviour_of next.now.value))) }
+        (λ n s. IsFree n s (plain.choose_value (variable_of variable.now)
+        (behaviour_of next.now.value))) }
     ensures same { IfOk result (λ b. behaviour_of b
         ≡ with_values (binding (environment_of environment.now.items))
         (plain.choose_value (variable_of variable.now) (behaviour_of next.now.value))) }

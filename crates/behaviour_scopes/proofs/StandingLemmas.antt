@@ -35,7 +35,8 @@ lifted f (faulty fault) = faulty fault
 -- A form whose last part is looked at where more is known: its value, where a form with this part stands for it, and its fault.
 pub form_value : (s between : State) (whole inside : WrittenBehaviour) (form : Behaviour → Behaviour)
     → ((o : Resolution Behaviour) → BehaviourStandsFor between inside o → BehaviourStandsFor s whole (lifted form o))
-    → (b : Behaviour) (made : Behaviour) → made ≡ form b → BehaviourStandsFor between inside (resolved b) → BehaviourStandsFor s whole (resolved made)
+    → (b : Behaviour) (made : Behaviour) → made ≡ form b → BehaviourStandsFor between inside (resolved b)
+    → BehaviourStandsFor s whole (resolved made)
 form_value s between whole inside form stands b made is part =
     subst (λ (x : Behaviour). BehaviourStandsFor s whole (resolved x)) (sym is) (stands (resolved b) part)
 
@@ -45,7 +46,8 @@ pub form_fault : (s between : State) (whole inside : WrittenBehaviour) (form : B
     → FaultIs fault (λ f. BehaviourStandsFor between inside (faulty f)) → Answers behaviour_of result (BehaviourStandsFor s whole)
 form_fault s between whole inside form stands result fault is part =
     err_is behaviour_of result fault (BehaviourStandsFor s whole) is
-    (means_map fault (λ f. BehaviourStandsFor between inside (faulty f)) (λ f. BehaviourStandsFor s whole (faulty f)) (λ f. stands (faulty f)) part)
+    (means_map fault (λ f. BehaviourStandsFor between inside (faulty f)) (λ f. BehaviourStandsFor s whole (faulty f))
+    (λ f. stands (faulty f)) part)
 
 -- whatever the answer is, where it is a value
 pub on_ok : (result : Result Beh code.ScopeFault) (P : Type 0) → P → OnOk result P
@@ -261,7 +263,8 @@ abbrev pub SignStands : State → WrittenSign → Behaviour → WrittenBehaviour
 SignStands s sign left right =
     SignIs s.signature s.scope (numbers_at s) sign left (λ inside behind. BehaviourIs s.signature inside behind right)
 
-pub made_stands : (s : State) (right : WrittenBehaviour) (f : Behaviour → Behaviour) (o : Resolution Behaviour) → BehaviourStandsFor s right o
+pub made_stands : (s : State) (right : WrittenBehaviour) (f : Behaviour → Behaviour) (o : Resolution Behaviour)
+    → BehaviourStandsFor s right o
     → Made f (BehaviourIs s.signature s.scope (numbers_at s) right) (lifted f o)
 made_stands s right f (resolved b) is = (b, is, refl)
 made_stands s right f (faulty g) is = is
@@ -344,7 +347,8 @@ sign_passed s left sign first right o is =
     (length-append s.names (gates_in left)) is
 
 pub binary_stands : (s between : State) (place : Place) (sign : WrittenSign) (left right : WrittenBehaviour) (first : Behaviour)
-    (o : Resolution Behaviour) → BehaviourStandsFor s left (resolved first) → between ≡ passed left s → SignStands between sign first right o
+    (o : Resolution Behaviour) → BehaviourStandsFor s left (resolved first) → between ≡ passed left s
+    → SignStands between sign first right o
     → BehaviourStandsFor s (written.binary place sign left right) o
 binary_stands s between place sign left right first o stands are is =
     go o (sign_passed s left sign first right o (subst (λ (b : State). SignStands b sign first right o) are is))

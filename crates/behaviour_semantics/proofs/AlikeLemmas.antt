@@ -15,7 +15,8 @@ use Rattle.behaviour_semantics.proofs.RelatedMoves.{RelatedLabels, both_inner_ev
 use Rattle.behaviour_semantics.proofs.InstanceLemmas.{plain, plain_grounded}
 
 module _ (data_ : Data) (base : ℕ) (represent other_represent : Term → Term) (leaves other_leaves : Substitution) where
-  one_side : (f : Term → Term) (l : Substitution) (scope : List Variable) (values : Substitution) (n r : ℕ) → Placed data_ base (plain f l) scope n r → values n r ≡ with_leaves base (plain f l) values n r
+  one_side : (f : Term → Term) (l : Substitution) (scope : List Variable) (values : Substitution) (n r : ℕ)
+      → Placed data_ base (plain f l) scope n r → values n r ≡ with_leaves base (plain f l) values n r
   one_side f l scope values n r (inl h) = sym (with_leaves-bound base (plain f l) values n r h.0)
   one_side f l scope values n r (inr h) = absurd h.1
 
@@ -29,7 +30,8 @@ module _ (data_ : Data) (base : ℕ) (represent other_represent : Term → Term)
       (equal_same data_ _ _ (sym (substituted_agree values (with_leaves base (plain other_represent other_leaves) values) u
       (λ n q o. one_side other_represent other_leaves scope values n q (r.right_free n q o))))))
     where
-      grounds : (values : Substitution) → IsGrounding data_.signature t values → IsGrounding data_.signature u values → (n q : ℕ) → Occurs n q t ⊎ Occurs n q u → IsGroundOf data_.signature q (values n q)
+      grounds : (values : Substitution) → IsGrounding data_.signature t values → IsGrounding data_.signature u values → (n q : ℕ)
+          → Occurs n q t ⊎ Occurs n q u → IsGroundOf data_.signature q (values n q)
       grounds values left right n q (inl o) = left n q o
       grounds values left right n q (inr o) = right n q o
 

@@ -60,24 +60,32 @@ module _ (signature : Signature) (represent : Term → Term) (keeps : KeepsGroun
   offered_values : (offers : List Offer) (chosen : List Term) → Every (IsOffer signature []) offers
       → AreValues signature (sorts_of (asked_variables offers)) chosen → Every (IsValue signature) (offered represent offers chosen)
   offered_values [] chosen h values = tt
-  offered_values (give t ∷ offers) chosen h values = ((h.0.0, keeps t h.0.0 (ground_of signature h.0.0 t h.0.1)), offered_values offers chosen h.1 values)
+  offered_values (give t ∷ offers) chosen h values = (
+    (h.0.0, keeps t h.0.0 (ground_of signature h.0.0 t h.0.1)),
+    offered_values offers chosen h.1 values,
+  )
   offered_values (ask x ∷ offers) [] h values = absurd values
   offered_values (ask x ∷ offers) (v ∷ chosen) h values = ((x.sort, keeps v x.sort values.0), offered_values offers chosen h.1 values.1)
 
   result_values : (results : List ExitValue) (chosen : List Term) → Every (IsExitValue signature []) results
       → AreValues signature (open_sorts results) chosen → Every (IsValue signature) (results_of represent results chosen)
   result_values [] chosen h values = tt
-  result_values (exit_value t ∷ results) chosen h values = ((h.0.0, keeps t h.0.0 (ground_of signature h.0.0 t h.0.1)), result_values results chosen h.1 values)
+  result_values (exit_value t ∷ results) chosen h values =
+      ((h.0.0, keeps t h.0.0 (ground_of signature h.0.0 t h.0.1)), result_values results chosen h.1 values)
   result_values (any_of s ∷ results) [] h values = absurd values
   result_values (any_of s ∷ results) (v ∷ chosen) h values = ((s, keeps v s values.0), result_values results chosen h.1 values.1)
 
   -- values of the sorts of variables
-  sorted_values : (values : List Term) (variables : List Variable) → Every (IsValue signature) values → have_sorts signature values (sorts_of variables) ≡ true → AreValues signature (sorts_of variables) values
+  sorted_values : (values : List Term) (variables : List Variable) → Every (IsValue signature) values
+      → have_sorts signature values (sorts_of variables) ≡ true → AreValues signature (sorts_of variables) values
   sorted_values [] [] h e = tt
   sorted_values (v ∷ values) (x ∷ variables) h e =
-      let known : sort_of signature v ≡ Some x.sort = same_sort (sort_of signature v) x.sort (first_so (is_same_sort (sort_of signature v) (Some x.sort)) _ e) in
-      let same : h.0.0 ≡ x.sort = some_value (sym (sort_of_sorted signature v h.0.0 h.0.1.sorted) ∙ known) in
-      (subst (λ (s : ℕ). IsGroundOf signature s v) same h.0.1, sorted_values values variables h.1 (second_so (is_same_sort (sort_of signature v) (Some x.sort)) _ e))
+      let known : sort_of signature v ≡ Some x.sort = same_sort (sort_of signature v) x.sort
+      (first_so (is_same_sort (sort_of signature v) (Some x.sort)) _ e) in
+      let same : h.0.0 ≡ x.sort = some_value (sym (sort_of_sorted signature v h.0.0 h.0.1.sorted) ∙ known) in (
+        subst (λ (s : ℕ). IsGroundOf signature s v) same h.0.1,
+        sorted_values values variables h.1 (second_so (is_same_sort (sort_of signature v) (Some x.sort)) _ e),
+      )
   sorted_values [] (x ∷ variables) h e = absurd (cc e)
   sorted_values (v ∷ values) [] h e = absurd (cc e)
 
@@ -102,15 +110,23 @@ module _ (data_ : Data) (specification : Specification) (well_formed : IsSpecifi
   abbrev Good : ℕ → Move → Type 0
   Good next m = Supplied data_.signature leaves next m.sorts → IsGood m
 
-  label_closed : (pairs : Relabelling) (label : Label) → IsRelabelling names pairs → IsClosedLabel data_.signature specification label → IsClosedLabel data_.signature specification (label_under pairs label)
+  label_closed : (pairs : Relabelling) (label : Label) → IsRelabelling names pairs → IsClosedLabel data_.signature specification label
+      → IsClosedLabel data_.signature specification (label_under pairs label)
   label_closed pairs inner_event h l = tt
   label_closed pairs (gate_event g values) h l = (gate_named names pairs g h.1 l.0, l.1)
   label_closed pairs (exit_event values) h l = l
 
   under_closed : (b : Behaviour) (pairs : Relabelling) → IsRelabelling names pairs → Closed b → Closed (under b pairs)
   under_closed stop pairs h c = tt
-  under_closed (call number gates arguments) pairs h c =
-      (gates_named names pairs gates h.1 c.0, record { process = c.1.process; exists = c.1.exists; gate_count = same_length gates ∙ c.1.gate_count; values = c.1.values })
+  under_closed (call number gates arguments) pairs h c = (
+    gates_named names pairs gates h.1 c.0,
+    record {
+      process = c.1.process;
+      exists = c.1.exists;
+      gate_count = same_length gates ∙ c.1.gate_count;
+      values = c.1.values;
+    },
+  )
     where
       same_length : (gs : List ℕ) → length (map (gate_under pairs) gs) ≡ length gs
       same_length [] = refl
@@ -137,7 +153,11 @@ module _ (data_ : Data) (specification : Specification) (well_formed : IsSpecifi
       → IsSynchronisationSet names meet → Closed b → Closed (copies g gates meet b)
   copies_closed g [] meet b lt h m c = tt
   copies_closed g (a ∷ []) meet b lt h m c = under_closed b ((g, a) ∷ []) (of_gate names g a lt h.0) c
-  copies_closed g (a ∷ a' ∷ gates) meet b lt h m c = (m, under_closed b ((g, a) ∷ []) (of_gate names g a lt h.0) c, copies_closed g (a' ∷ gates) meet b lt h.1 m c)
+  copies_closed g (a ∷ a' ∷ gates) meet b lt h m c = (
+    m,
+    under_closed b ((g, a) ∷ []) (of_gate names g a lt h.0) c,
+    copies_closed g (a' ∷ gates) meet b lt h.1 m c,
+  )
 
   pub opened_closed : (b : Behaviour) → Closed b → Closed (opened b)
   opened_closed (par_gate g gates meet b) c = copies_closed g gates meet b c.0 c.2 c.3 c.4
@@ -212,7 +232,8 @@ module _ (data_ : Data) (specification : Specification) (well_formed : IsSpecifi
       subst (Good next) test.1 (λ sorted. let g : IsGood from.0 = good b from.0 c.1 from.1 sorted in (g.0, (c.0, g.1, c.2)))
   left_good next moves good (disable b d) m c e =
       let from : _ = mapped (disabling d) (moves b) e in
-      subst (Good next) from.2 (λ sorted. let g : IsGood from.0 = good b from.0 c.0 from.1 sorted in (g.0, disabled_closed from.0.label from.0.target d g.1 c.1))
+      subst (Good next) from.2 (λ sorted. let g : IsGood from.0 =
+      good b from.0 c.0 from.1 sorted in (g.0, disabled_closed from.0.label from.0.target d g.1 c.1))
   left_good next moves good _ m c e = absurd (cc e)
 
   right_good : (next : ℕ) (moves : Behaviour → Option Move) → AreGood next moves → AreGood next (right_move moves)
@@ -224,15 +245,22 @@ module _ (data_ : Data) (specification : Specification) (well_formed : IsSpecifi
   right_good next moves good (disable b d) m c e = λ sorted. good d m c.1 e sorted
   right_good next moves good _ m c e = absurd (cc e)
 
-  both_good : (next : ℕ) (moves : Behaviour → Option Move) → AreGood next moves → (others : ℕ → Behaviour → Option Move) → ((n : ℕ) → AreGood n (others n)) → AreGood next (both_move setting next moves others)
+  both_good : (next : ℕ) (moves : Behaviour → Option Move) → AreGood next moves → (others : ℕ → Behaviour → Option Move)
+      → ((n : ℕ) → AreGood n (others n)) → AreGood next (both_move setting next moves others)
   both_good next moves good others goods (parallel meet b d) m c e =
-      let from : _ = chained (λ (n : Move). option_and_then (together data_.signature meet n) (others (next + length n.sorts) d)) (moves b) e in
+      let from : _ = chained (λ (n : Move). option_and_then (together data_.signature meet n) (others (next + length n.sorts) d)) (moves b)
+      e in
       let n : Move = from.0 in
       let then_ : _ = chained (together data_.signature meet n) (others (next + length n.sorts) d) from.2 in
       let k : Move = then_.0 in
       let test : _ =
       tested (move_together data_.signature meet n.label k.label)
-      (record { label = n.label; target = parallel meet n.target k.target; asked = n.asked ++ k.asked ++ pairwise (label_values n.label) (label_values k.label); sorts = n.sorts ++ k.sorts }) then_.2 in
+      (record {
+        label = n.label;
+        target = parallel meet n.target k.target;
+        asked = n.asked ++ k.asked ++ pairwise (label_values n.label) (label_values k.label);
+        sorts = n.sorts ++ k.sorts;
+      }) then_.2 in
       subst (Good next) test.1 (λ sorted.
       let supplied : _ × _ = Supplied-append data_.signature leaves next n.sorts k.sorts sorted in
       let left : IsGood n = good b n c.1 from.1 supplied.0 in
@@ -240,7 +268,8 @@ module _ (data_ : Data) (specification : Specification) (well_formed : IsSpecifi
       (left.0, (c.0, left.1, right.1)))
   both_good next moves good others goods _ m c e = absurd (cc e)
 
-  hidden_closed : (gates : List ℕ) (label : Label) → IsClosedLabel data_.signature specification label → IsClosedLabel data_.signature specification (hidden_label gates label)
+  hidden_closed : (gates : List ℕ) (label : Label) → IsClosedLabel data_.signature specification label
+      → IsClosedLabel data_.signature specification (hidden_label gates label)
   hidden_closed gates inner_event l = tt
   hidden_closed gates (gate_event g values) l = by (is_listed gates g)
     where
@@ -252,25 +281,32 @@ module _ (data_ : Data) (specification : Specification) (well_formed : IsSpecifi
   hidden_good : (next : ℕ) (moves : Behaviour → Option Move) → AreGood next moves → AreGood next (hidden_move moves)
   hidden_good next moves good (hide gates b) m c e =
       let from : _ = mapped (hiding gates) (moves b) e in
-      subst (Good next) from.2 (λ sorted. let g : IsGood from.0 = good b from.0 c.1 from.1 sorted in (hidden_closed gates from.0.label g.0, (c.0, g.1)))
+      subst (Good next) from.2 (λ sorted. let g : IsGood from.0 =
+      good b from.0 c.1 from.1 sorted in (hidden_closed gates from.0.label g.0, (c.0, g.1)))
   hidden_good next moves good _ m c e = absurd (cc e)
 
-  enabling_good : (variables : List Variable) (d : Behaviour) (n m : Move) (label : Label) → IsClosedLabel data_.signature specification label → IsBehaviour data_.signature names specification.processes (variables ++ []) d → enabling data_.signature variables d n label ≡ Some m → IsGood m
+  enabling_good : (variables : List Variable) (d : Behaviour) (n m : Move) (label : Label)
+      → IsClosedLabel data_.signature specification label → IsBehaviour data_.signature names specification.processes (variables ++ []) d
+      → enabling data_.signature variables d n label ≡ Some m → IsGood m
   enabling_good variables d n m (exit_event values) l c e =
-      let test : _ = tested (have_sorts data_.signature values (sorts_of variables)) (record n { label = inner_event; target = with_values (binding_of variables values) d }) e in
+      let test : _ = tested (have_sorts data_.signature values (sorts_of variables))
+      (record n { label = inner_event; target = with_values (binding_of variables values) d }) e in
       subst IsGood test.1 (tt, inside variables values d (sorted_values data_.signature represent keeps values variables l test.0) c)
   enabling_good variables d n m _ l c e = absurd (cc e)
 
-  enabling_sorts : (variables : List Variable) (d : Behaviour) (n m : Move) (label : Label) → enabling data_.signature variables d n label ≡ Some m → m.sorts ≡ n.sorts
+  enabling_sorts : (variables : List Variable) (d : Behaviour) (n m : Move) (label : Label)
+      → enabling data_.signature variables d n label ≡ Some m → m.sorts ≡ n.sorts
   enabling_sorts variables d n m (exit_event values) e =
-      let test : _ = tested (have_sorts data_.signature values (sorts_of variables)) (record n { label = inner_event; target = with_values (binding_of variables values) d }) e in
+      let test : _ = tested (have_sorts data_.signature values (sorts_of variables))
+      (record n { label = inner_event; target = with_values (binding_of variables values) d }) e in
       ap (λ (k : Move). k.sorts) (sym test.1)
   enabling_sorts variables d n m _ e = absurd (cc e)
 
   enabled_good : (next : ℕ) (moves : Behaviour → Option Move) → AreGood next moves → AreGood next (enabled_move setting moves)
   enabled_good next moves good (enable b variables d) m c e =
       let from : _ = chained (λ (n : Move). enabling data_.signature variables d n n.label) (moves b) e in λ sorted.
-      let g : IsGood from.0 = good b from.0 c.0 from.1 (subst (Supplied data_.signature leaves next) (enabling_sorts variables d from.0 m from.0.label from.2) sorted) in
+      let g : IsGood from.0 = good b from.0 c.0 from.1 (subst (Supplied data_.signature leaves next)
+      (enabling_sorts variables d from.0 m from.0.label from.2) sorted) in
       enabling_good variables d from.0 m from.0.label g.0 c.2 from.2
   enabled_good next moves good _ m c e = absurd (cc e)
 
@@ -301,7 +337,8 @@ module _ (data_ : Data) (specification : Specification) (well_formed : IsSpecifi
   gate_good k next moves good (choose_gate g gates b) m c e =
       let at : _ = chained (λ (a : ℕ). option_map (relabelling ((g, a) ∷ [])) (moves b)) (slice_get gates k) e in
       let from : _ = mapped (relabelling ((g, at.0) ∷ [])) (moves b) at.2 in
-      subst (Good next) from.2 (λ sorted. relabelled_good ((g, at.0) ∷ []) from.0 (of_gate names g at.0 c.0 (Every-at (λ (a : ℕ). a < names) gates k at.0 c.1 at.1)) (good b from.0 c.2 from.1 sorted))
+      subst (Good next) from.2 (λ sorted. relabelled_good ((g, at.0) ∷ []) from.0
+      (of_gate names g at.0 c.0 (Every-at (λ (a : ℕ). a < names) gates k at.0 c.1 at.1)) (good b from.0 c.2 from.1 sorted))
   gate_good k next moves good _ m c e = absurd (cc e)
 
   abbrev Defined : Process → Type 0
@@ -317,10 +354,12 @@ module _ (data_ : Data) (specification : Specification) (well_formed : IsSpecifi
       let defined : Defined process = Every-at Defined specification.processes number process well_formed.each at.1 in
       let within : Behaviour = with_values (binding_of process.parameters (map represent arguments)) process.body in
       let from : _ = mapped (relabelling (zip process.gates gates)) (moves within) at.2 in
-      let terms : AreTermsIn data_.signature [] process.parameters arguments = subst (λ (p : Process). AreTermsIn data_.signature [] p.parameters arguments) same c.1.values in
+      let terms : AreTermsIn data_.signature [] process.parameters arguments =
+      subst (λ (p : Process). AreTermsIn data_.signature [] p.parameters arguments) same c.1.values in
       let count : length gates ≡ length process.gates = subst (λ (p : Process). length gates ≡ length p.gates) same c.1.gate_count in
       subst (Good next) from.2 (λ sorted.
-      relabelled_good (zip process.gates gates) from.0 (of_call names process.gates gates defined.distinct_gates defined.named_gates c.0 count)
+      relabelled_good (zip process.gates gates) from.0 (of_call names process.gates gates defined.distinct_gates defined.named_gates c.0
+      count)
       (good within from.0 (closed_by data_.signature names specification.processes process.parameters
       (map represent arguments) process.body (represented_terms data_.signature represent keeps process.parameters arguments terms)
       defined.behaviour) from.1 sorted))
@@ -336,18 +375,30 @@ module _ (data_ : Data) (specification : Specification) (well_formed : IsSpecifi
   good_moves act next b m c e = act_good next (opened b) m (opened_closed b c) e
   good_moves quit next b m c e = quit_good next (opened b) m (opened_closed b c) e
   good_moves inner_step next b m c e = inner_good next (opened b) m (opened_closed b c) e
-  good_moves (guarded s) next b m c e = guarded_good next (move_of setting leaves s next) (good_moves s next) (opened b) m (opened_closed b c) e
-  good_moves (left_side s) next b m c e = left_good next (move_of setting leaves s next) (good_moves s next) (opened b) m (opened_closed b c) e
-  good_moves (right_side s) next b m c e = right_good next (move_of setting leaves s next) (good_moves s next) (opened b) m (opened_closed b c) e
-  good_moves (both_sides s t) next b m c e = both_good next (move_of setting leaves s next) (good_moves s next) (move_of setting leaves t) (good_moves t) (opened b) m (opened_closed b c) e
-  good_moves (hidden s) next b m c e = hidden_good next (move_of setting leaves s next) (good_moves s next) (opened b) m (opened_closed b c) e
-  good_moves (enabled s) next b m c e = enabled_good next (move_of setting leaves s next) (good_moves s next) (opened b) m (opened_closed b c) e
-  good_moves (passed s) next b m c e = passed_good next (move_of setting leaves s next) (good_moves s next) (opened b) m (opened_closed b c) e
-  good_moves (let_bound s) next b m c e = let_good next (move_of setting leaves s next) (good_moves s next) (opened b) m (opened_closed b c) e
-  good_moves (with_value s) next b m c e = value_good next (move_of setting leaves s (suc next)) (good_moves s (suc next)) (opened b) m (opened_closed b c) e
-  good_moves (at_gate k s) next b m c e = gate_good k next (move_of setting leaves s next) (good_moves s next) (opened b) m (opened_closed b c) e
-  good_moves (called s) next b m c e = called_good next (move_of setting leaves s next) (good_moves s next) (opened b) m (opened_closed b c) e
-  good_moves (relabelled s) next b m c e = relabelled_row next (move_of setting leaves s next) (good_moves s next) (opened b) m (opened_closed b c) e
+  good_moves (guarded s) next b m c e = guarded_good next (move_of setting leaves s next) (good_moves s next) (opened b) m
+      (opened_closed b c) e
+  good_moves (left_side s) next b m c e = left_good next (move_of setting leaves s next) (good_moves s next) (opened b) m
+      (opened_closed b c) e
+  good_moves (right_side s) next b m c e = right_good next (move_of setting leaves s next) (good_moves s next) (opened b) m
+      (opened_closed b c) e
+  good_moves (both_sides s t) next b m c e = both_good next (move_of setting leaves s next) (good_moves s next) (move_of setting leaves t)
+      (good_moves t) (opened b) m (opened_closed b c) e
+  good_moves (hidden s) next b m c e = hidden_good next (move_of setting leaves s next) (good_moves s next) (opened b) m (opened_closed b c)
+      e
+  good_moves (enabled s) next b m c e = enabled_good next (move_of setting leaves s next) (good_moves s next) (opened b) m
+      (opened_closed b c) e
+  good_moves (passed s) next b m c e = passed_good next (move_of setting leaves s next) (good_moves s next) (opened b) m (opened_closed b c)
+      e
+  good_moves (let_bound s) next b m c e = let_good next (move_of setting leaves s next) (good_moves s next) (opened b) m (opened_closed b c)
+      e
+  good_moves (with_value s) next b m c e = value_good next (move_of setting leaves s (suc next)) (good_moves s (suc next)) (opened b) m
+      (opened_closed b c) e
+  good_moves (at_gate k s) next b m c e = gate_good k next (move_of setting leaves s next) (good_moves s next) (opened b) m
+      (opened_closed b c) e
+  good_moves (called s) next b m c e = called_good next (move_of setting leaves s next) (good_moves s next) (opened b) m (opened_closed b c)
+      e
+  good_moves (relabelled s) next b m c e = relabelled_row next (move_of setting leaves s next) (good_moves s next) (opened b) m
+      (opened_closed b c) e
 
 pub closed_move : (data_ : Data) (specification : Specification) (represent : Term → Term)
     → IsSpecification data_.signature specification → KeepsGround data_.signature represent → (b : Behaviour)
@@ -356,4 +407,5 @@ pub closed_move : (data_ : Data) (specification : Specification) (represent : Te
     × IsClosedBehaviour data_.signature specification target
 closed_move data_ specification represent well_formed keeps b closed d label target m =
     good_moves data_ specification well_formed represent keeps (leaves_in d.leaves) d.shape 0 b
-    (record { label = label; target = target; asked = m.asked; sorts = m.sorts }) closed m.move (Supplied-leaves_in data_.signature m.sorts d.leaves m.leaves)
+    (record { label = label; target = target; asked = m.asked; sorts = m.sorts }) closed m.move
+    (Supplied-leaves_in data_.signature m.sorts d.leaves m.leaves)

@@ -150,7 +150,8 @@ module _ (setting : Setting) (leaves : Substitution) where
       row _ e = absurd cc
 
   -- Where one variant has two moves of a behaviour, a part of it has two moves.
-  guarded_pair : (f g : Behaviour → Option Move) (c : Behaviour) (m n : Move) → guarded_move f c ≡ Some m → guarded_move g c ≡ Some n → Common f g
+  guarded_pair : (f g : Behaviour → Option Move) (c : Behaviour) (m n : Move) → guarded_move f c ≡ Some m → guarded_move g c ≡ Some n
+      → Common f g
   guarded_pair f g (guard test b) m n e e' =
       let p : _ = mapped (asking test) (f b) e in
       let q : _ = mapped (asking test) (g b) e' in
@@ -178,33 +179,38 @@ module _ (setting : Setting) (leaves : Substitution) where
   right_pair f g (disable b d) m n e e' = record { behaviour = d; first = m; second = n; first_move = e; second_move = e' }
   right_pair f g _ m n e e' = absurd cc
 
-  hidden_pair : (f g : Behaviour → Option Move) (c : Behaviour) (m n : Move) → hidden_move f c ≡ Some m → hidden_move g c ≡ Some n → Common f g
+  hidden_pair : (f g : Behaviour → Option Move) (c : Behaviour) (m n : Move) → hidden_move f c ≡ Some m → hidden_move g c ≡ Some n
+      → Common f g
   hidden_pair f g (hide gates b) m n e e' =
       let p : _ = mapped (hiding gates) (f b) e in
       let q : _ = mapped (hiding gates) (g b) e' in
       record { behaviour = b; first = p.0; second = q.0; first_move = p.1; second_move = q.1 }
   hidden_pair f g _ m n e e' = absurd cc
 
-  enabled_pair : (f g : Behaviour → Option Move) (c : Behaviour) (m n : Move) → enabled_move setting f c ≡ Some m → enabled_move setting g c ≡ Some n → Common f g
+  enabled_pair : (f g : Behaviour → Option Move) (c : Behaviour) (m n : Move) → enabled_move setting f c ≡ Some m
+      → enabled_move setting g c ≡ Some n → Common f g
   enabled_pair f g (enable b variables d) m n e e' =
       let p : _ = chained (λ (k : Move). enabling setting.signature variables d k k.label) (f b) e in
       let q : _ = chained (λ (k : Move). enabling setting.signature variables d k k.label) (g b) e' in
       record { behaviour = b; first = p.0; second = q.0; first_move = p.1; second_move = q.1 }
   enabled_pair f g _ m n e e' = absurd cc
 
-  passed_pair : (f g : Behaviour → Option Move) (c : Behaviour) (m n : Move) → passed_move f c ≡ Some m → passed_move g c ≡ Some n → Common f g
+  passed_pair : (f g : Behaviour → Option Move) (c : Behaviour) (m n : Move) → passed_move f c ≡ Some m → passed_move g c ≡ Some n
+      → Common f g
   passed_pair f g (enable b variables d) m n e e' =
       let p : _ = chained (passing variables d) (f b) e in
       let q : _ = chained (passing variables d) (g b) e' in
       record { behaviour = b; first = p.0; second = q.0; first_move = p.1; second_move = q.1 }
   passed_pair f g _ m n e e' = absurd cc
 
-  pub enabling-exit : (variables : List Variable) (c : Behaviour) (k : Move) (label : Label) (m : Move) → enabling setting.signature variables c k label ≡ Some m → is_exit label ≡ true
+  pub enabling-exit : (variables : List Variable) (c : Behaviour) (k : Move) (label : Label) (m : Move)
+      → enabling setting.signature variables c k label ≡ Some m → is_exit label ≡ true
   enabling-exit variables c k (exit_event values) m e = refl
   enabling-exit variables c k _ m e = absurd cc
 
   -- one part that ends and one that goes on
-  mixed_pair : (f g : Behaviour → Option Move) (c : Behaviour) (m n : Move) → enabled_move setting f c ≡ Some m → passed_move g c ≡ Some n → (p : Common f g) × (is_exit p.first.label ≡ true) × (is_exit p.second.label ≡ false)
+  mixed_pair : (f g : Behaviour → Option Move) (c : Behaviour) (m n : Move) → enabled_move setting f c ≡ Some m → passed_move g c ≡ Some n
+      → (p : Common f g) × (is_exit p.first.label ≡ true) × (is_exit p.second.label ≡ false)
   mixed_pair f g (enable b variables d) m n e e' =
       let p : _ = chained (λ (k : Move). enabling setting.signature variables d k k.label) (f b) e in
       let q : _ = chained (passing variables d) (g b) e' in (
@@ -214,7 +220,8 @@ module _ (setting : Setting) (leaves : Substitution) where
       )
   mixed_pair f g _ m n e e' = absurd cc
 
-  let_pair : (f g : Behaviour → Option Move) (c : Behaviour) (m n : Move) → let_move setting f c ≡ Some m → let_move setting g c ≡ Some n → Common f g
+  let_pair : (f g : Behaviour → Option Move) (c : Behaviour) (m n : Move) → let_move setting f c ≡ Some m → let_move setting g c ≡ Some n
+      → Common f g
   let_pair f g (let_be bindings b) m n e e' =
       record {
         behaviour = with_values (binding_of (let_variables bindings) (map setting.represent (let_terms bindings))) b;
@@ -225,7 +232,8 @@ module _ (setting : Setting) (leaves : Substitution) where
       }
   let_pair f g _ m n e e' = absurd cc
 
-  value_pair : (next : ℕ) (f g : Behaviour → Option Move) (c : Behaviour) (m n : Move) → value_move setting leaves next f c ≡ Some m → value_move setting leaves next g c ≡ Some n → Common f g
+  value_pair : (next : ℕ) (f g : Behaviour → Option Move) (c : Behaviour) (m n : Move) → value_move setting leaves next f c ≡ Some m
+      → value_move setting leaves next g c ≡ Some n → Common f g
   value_pair next f g (choose_value x b) m n e e' =
       let inside : Behaviour = with_values (binding_of (x ∷ []) (setting.represent (leaves next x.sort) ∷ [])) b in
       let p : _ = mapped (after_leaf x.sort) (f inside) e in
@@ -233,7 +241,8 @@ module _ (setting : Setting) (leaves : Substitution) where
       record { behaviour = inside; first = p.0; second = q.0; first_move = p.1; second_move = q.1 }
   value_pair next f g _ m n e e' = absurd cc
 
-  gate_pair : (j k : ℕ) (f g : Behaviour → Option Move) (c : Behaviour) (m n : Move) → gate_move j f c ≡ Some m → gate_move k g c ≡ Some n → Common f g
+  gate_pair : (j k : ℕ) (f g : Behaviour → Option Move) (c : Behaviour) (m n : Move) → gate_move j f c ≡ Some m → gate_move k g c ≡ Some n
+      → Common f g
   gate_pair j k f g (choose_gate gate gates b) m n e e' =
       let p : _ = chained (λ (a : ℕ). option_map (relabelling ((gate, a) ∷ [])) (f b)) (slice_get gates j) e in
       let q : _ = chained (λ (a : ℕ). option_map (relabelling ((gate, a) ∷ [])) (g b)) (slice_get gates k) e' in
@@ -242,20 +251,24 @@ module _ (setting : Setting) (leaves : Substitution) where
       record { behaviour = b; first = p'.0; second = q'.0; first_move = p'.1; second_move = q'.1 }
   gate_pair j k f g _ m n e e' = absurd cc
 
-  called_at : (f g : Behaviour → Option Move) (pairs : Process → Relabelling) (inside : Process → Behaviour) (o : Option Process) (m n : Move) → option_and_then (λ (p : Process). option_map (relabelling (pairs p)) (f (inside p))) o ≡ Some m → option_and_then (λ (p : Process). option_map (relabelling (pairs p)) (g (inside p))) o ≡ Some n → Common f g
+  called_at : (f g : Behaviour → Option Move) (pairs : Process → Relabelling) (inside : Process → Behaviour) (o : Option Process)
+      (m n : Move) → option_and_then (λ (p : Process). option_map (relabelling (pairs p)) (f (inside p))) o ≡ Some m
+      → option_and_then (λ (p : Process). option_map (relabelling (pairs p)) (g (inside p))) o ≡ Some n → Common f g
   called_at f g pairs inside None m n e e' = absurd cc
   called_at f g pairs inside (Some process) m n e e' =
       let p : _ = mapped (relabelling (pairs process)) (f (inside process)) e in
       let q : _ = mapped (relabelling (pairs process)) (g (inside process)) e' in
       record { behaviour = inside process; first = p.0; second = q.0; first_move = p.1; second_move = q.1 }
 
-  called_pair : (f g : Behaviour → Option Move) (c : Behaviour) (m n : Move) → called_move setting f c ≡ Some m → called_move setting g c ≡ Some n → Common f g
+  called_pair : (f g : Behaviour → Option Move) (c : Behaviour) (m n : Move) → called_move setting f c ≡ Some m
+      → called_move setting g c ≡ Some n → Common f g
   called_pair f g (call number gates arguments) m n e e' =
       called_at f g (λ p. zip p.gates gates) (λ p. with_values (binding_of p.parameters (map setting.represent arguments)) p.body)
       (slice_get setting.processes number) m n e e'
   called_pair f g _ m n e e' = absurd cc
 
-  relabelled_pair : (f g : Behaviour → Option Move) (c : Behaviour) (m n : Move) → relabelled_move f c ≡ Some m → relabelled_move g c ≡ Some n → Common f g
+  relabelled_pair : (f g : Behaviour → Option Move) (c : Behaviour) (m n : Move) → relabelled_move f c ≡ Some m
+      → relabelled_move g c ≡ Some n → Common f g
   relabelled_pair f g (relabel pairs b) m n e e' =
       let p : _ = mapped (relabelling pairs) (f b) e in
       let q : _ = mapped (relabelling pairs) (g b) e' in
@@ -263,7 +276,9 @@ module _ (setting : Setting) (leaves : Substitution) where
   relabelled_pair f g _ m n e e' = absurd cc
 
   -- both sides: two moves of the left part, and two of the right part, each behind the leaves of its left one
-  both_pair : (next : ℕ) (f g : Behaviour → Option Move) (f' g' : ℕ → Behaviour → Option Move) (c : Behaviour) (m n : Move) → both_move setting next f f' c ≡ Some m → both_move setting next g g' c ≡ Some n → (p : Common f g) × Common (f' (next + length p.first.sorts)) (g' (next + length p.second.sorts))
+  both_pair : (next : ℕ) (f g : Behaviour → Option Move) (f' g' : ℕ → Behaviour → Option Move) (c : Behaviour) (m n : Move)
+      → both_move setting next f f' c ≡ Some m → both_move setting next g g' c ≡ Some n → (p : Common f g)
+      × Common (f' (next + length p.first.sorts)) (g' (next + length p.second.sorts))
   both_pair next f g f' g' (parallel meet b d) m n e e' =
       let p : _ = chained (λ (k : Move). option_and_then (together setting.signature meet k) (f' (next + length k.sorts) d)) (f b) e in
       let q : _ = chained (λ (k : Move). option_and_then (together setting.signature meet k) (g' (next + length k.sorts) d)) (g b) e' in
@@ -275,11 +290,13 @@ module _ (setting : Setting) (leaves : Substitution) where
   both_pair next f g f' g' _ m n e e' = absurd cc
 
   -- Where the same shape gives both, the moves are the same.
-  same_move : (s t : Shape) (next : ℕ) (b : Behaviour) (m n : Move) → s ≡ t → move_of setting leaves s next b ≡ Some m → move_of setting leaves t next b ≡ Some n → m ≡ n
+  same_move : (s t : Shape) (next : ℕ) (b : Behaviour) (m n : Move) → s ≡ t → move_of setting leaves s next b ≡ Some m
+      → move_of setting leaves t next b ≡ Some n → m ≡ n
   same_move s t next b m n same e e' = some_value (sym e ∙ (ap (λ u. move_of setting leaves u next b) same ∙ e'))
 
   -- A part that ends and one that goes on are not the same.
-  mixed : (s t : Shape) (next : ℕ) (p : Common (move_of setting leaves s next) (move_of setting leaves t next)) → is_exit p.first.label ≡ true → is_exit p.second.label ≡ false → Ordered s t → Before s t ⊎ Before t s
+  mixed : (s t : Shape) (next : ℕ) (p : Common (move_of setting leaves s next) (move_of setting leaves t next))
+      → is_exit p.first.label ≡ true → is_exit p.second.label ≡ false → Ordered s t → Before s t ⊎ Before t s
   mixed s t next p ends goes_on (inl same) =
       let moves : p.first ≡ p.second = same_move s t next p.behaviour p.first p.second same p.first_move p.second_move in
       let labels : is_exit p.first.label ≡ is_exit p.second.label = ap (λ (m : Move). is_exit m.label) moves in
@@ -308,7 +325,10 @@ module _ (setting : Setting) (leaves : Substitution) where
   second_order s u t v same (inr (inl h)) = inr (inl (in_second (subst (λ x. Agree s x) same (Agree-refl s)) h))
   second_order s u t v same (inr (inr h)) = inr (inr (in_second (subst (λ x. Agree x s) same (Agree-refl s)) h))
 
-  both_order : (s u t v : Shape) (next : ℕ) (p : Common (move_of setting leaves s next) (move_of setting leaves t next)) → Common (move_of setting leaves u (next + length p.first.sorts)) (move_of setting leaves v (next + length p.second.sorts)) → ((n : ℕ) → Common (move_of setting leaves u n) (move_of setting leaves v n) → Ordered u v) → Ordered s t → Ordered (both_sides s u) (both_sides t v)
+  both_order : (s u t v : Shape) (next : ℕ) (p : Common (move_of setting leaves s next) (move_of setting leaves t next))
+      → Common (move_of setting leaves u (next + length p.first.sorts)) (move_of setting leaves v (next + length p.second.sorts))
+      → ((n : ℕ) → Common (move_of setting leaves u n) (move_of setting leaves v n) → Ordered u v) → Ordered s t
+      → Ordered (both_sides s u) (both_sides t v)
   both_order s u t v next p q below (inl same) =
       let moves : p.first ≡ p.second = same_move s t next p.behaviour p.first p.second same p.first_move p.second_move in
       let place : next + length p.second.sorts ≡ next + length p.first.sorts = ap (λ (m : Move). next + length m.sorts) (sym moves) in
@@ -322,58 +342,78 @@ module _ (setting : Setting) (leaves : Substitution) where
   both_order s u t v next p q below (inr (inl h)) = inr (inl (in_first h))
   both_order s u t v next p q below (inr (inr h)) = inr (inr (in_first h))
 
-  pub comparable : (s t : Shape) (next : ℕ) (b : Behaviour) (m n : Move) → move_of setting leaves s next b ≡ Some m → move_of setting leaves t next b ≡ Some n → Ordered s t
+  pub comparable : (s t : Shape) (next : ℕ) (b : Behaviour) (m n : Move) → move_of setting leaves s next b ≡ Some m
+      → move_of setting leaves t next b ≡ Some n → Ordered s t
   comparable act act next b m n e e' = inl refl
   comparable quit quit next b m n e e' = inl refl
   comparable inner_step inner_step next b m n e e' = inl refl
   comparable (guarded s) (guarded t) next b m n e e' =
-      let p : Common (move_of setting leaves s next) (move_of setting leaves t next) = guarded_pair (move_of setting leaves s next) (move_of setting leaves t next) (opened b) m n e e' in
+      let p : Common (move_of setting leaves s next) (move_of setting leaves t next) =
+      guarded_pair (move_of setting leaves s next) (move_of setting leaves t next) (opened b) m n e e' in
       lifted guarded (λ x y h. in_guarded h) s t (comparable s t next p.behaviour p.first p.second p.first_move p.second_move)
   comparable (left_side s) (left_side t) next b m n e e' =
-      let p : Common (move_of setting leaves s next) (move_of setting leaves t next) = left_pair (move_of setting leaves s next) (move_of setting leaves t next) (opened b) m n e e' in
+      let p : Common (move_of setting leaves s next) (move_of setting leaves t next) =
+      left_pair (move_of setting leaves s next) (move_of setting leaves t next) (opened b) m n e e' in
       lifted left_side (λ x y h. in_left h) s t (comparable s t next p.behaviour p.first p.second p.first_move p.second_move)
   comparable (left_side s) (right_side t) next b m n e e' = inr (inl left_then_right)
   comparable (left_side s) (both_sides t v) next b m n e e' = inr (inl left_then_both)
   comparable (right_side s) (left_side t) next b m n e e' = inr (inr left_then_right)
   comparable (right_side s) (right_side t) next b m n e e' =
-      let p : Common (move_of setting leaves s next) (move_of setting leaves t next) = right_pair (move_of setting leaves s next) (move_of setting leaves t next) (opened b) m n e e' in
+      let p : Common (move_of setting leaves s next) (move_of setting leaves t next) =
+      right_pair (move_of setting leaves s next) (move_of setting leaves t next) (opened b) m n e e' in
       lifted right_side (λ x y h. in_right h) s t (comparable s t next p.behaviour p.first p.second p.first_move p.second_move)
   comparable (right_side s) (both_sides t v) next b m n e e' = inr (inl right_then_both)
   comparable (both_sides s u) (left_side t) next b m n e e' = inr (inr left_then_both)
   comparable (both_sides s u) (right_side t) next b m n e e' = inr (inr right_then_both)
   comparable (both_sides s u) (both_sides t v) next b m n e e' =
-      let pq : (p : Common (move_of setting leaves s next) (move_of setting leaves t next)) × Common (move_of setting leaves u (next + length p.first.sorts)) (move_of setting leaves v (next + length p.second.sorts)) =
-      both_pair next (move_of setting leaves s next) (move_of setting leaves t next) (move_of setting leaves u) (move_of setting leaves v) (opened b) m n e e' in
+      let pq : (p : Common (move_of setting leaves s next) (move_of setting leaves t next))
+      × Common (move_of setting leaves u (next + length p.first.sorts)) (move_of setting leaves v (next + length p.second.sorts)) =
+      both_pair next (move_of setting leaves s next) (move_of setting leaves t next) (move_of setting leaves u) (move_of setting leaves v)
+      (opened b) m n e e' in
       both_order s u t v next pq.0 pq.1 (λ k q. comparable u v k q.behaviour q.first q.second q.first_move q.second_move)
       (comparable s t next pq.0.behaviour pq.0.first pq.0.second pq.0.first_move pq.0.second_move)
   comparable (hidden s) (hidden t) next b m n e e' =
-      let p : Common (move_of setting leaves s next) (move_of setting leaves t next) = hidden_pair (move_of setting leaves s next) (move_of setting leaves t next) (opened b) m n e e' in
+      let p : Common (move_of setting leaves s next) (move_of setting leaves t next) =
+      hidden_pair (move_of setting leaves s next) (move_of setting leaves t next) (opened b) m n e e' in
       lifted hidden (λ x y h. in_hidden h) s t (comparable s t next p.behaviour p.first p.second p.first_move p.second_move)
   comparable (enabled s) (enabled t) next b m n e e' =
-      let p : Common (move_of setting leaves s next) (move_of setting leaves t next) = enabled_pair (move_of setting leaves s next) (move_of setting leaves t next) (opened b) m n e e' in
+      let p : Common (move_of setting leaves s next) (move_of setting leaves t next) =
+      enabled_pair (move_of setting leaves s next) (move_of setting leaves t next) (opened b) m n e e' in
       lifted enabled (λ x y h. in_enabled h) s t (comparable s t next p.behaviour p.first p.second p.first_move p.second_move)
   comparable (enabled s) (passed t) next b m n e e' =
-      let p : (p : Common (move_of setting leaves s next) (move_of setting leaves t next)) × (is_exit p.first.label ≡ true) × (is_exit p.second.label ≡ false) = mixed_pair (move_of setting leaves s next) (move_of setting leaves t next) (opened b) m n e e' in
+      let p : (p : Common (move_of setting leaves s next) (move_of setting leaves t next)) × (is_exit p.first.label ≡ true)
+      × (is_exit p.second.label ≡ false) = mixed_pair (move_of setting leaves s next) (move_of setting leaves t next) (opened b) m n e
+      e' in
       mixed_order s t (mixed s t next p.0 p.1 p.2 (comparable s t next p.0.behaviour p.0.first p.0.second p.0.first_move p.0.second_move))
   comparable (passed s) (enabled t) next b m n e e' =
-      let p : (p : Common (move_of setting leaves t next) (move_of setting leaves s next)) × (is_exit p.first.label ≡ true) × (is_exit p.second.label ≡ false) = mixed_pair (move_of setting leaves t next) (move_of setting leaves s next) (opened b) n m e' e in
-      swapped (enabled t) (passed s) (mixed_order t s (mixed t s next p.0 p.1 p.2 (swapped s t (comparable s t next p.0.behaviour p.0.second p.0.first p.0.second_move p.0.first_move))))
+      let p : (p : Common (move_of setting leaves t next) (move_of setting leaves s next)) × (is_exit p.first.label ≡ true)
+      × (is_exit p.second.label ≡ false) = mixed_pair (move_of setting leaves t next) (move_of setting leaves s next) (opened b) n m e'
+      e in
+      swapped (enabled t) (passed s) (mixed_order t s (mixed t s next p.0 p.1 p.2
+      (swapped s t (comparable s t next p.0.behaviour p.0.second p.0.first p.0.second_move p.0.first_move))))
   comparable (passed s) (passed t) next b m n e e' =
-      let p : Common (move_of setting leaves s next) (move_of setting leaves t next) = passed_pair (move_of setting leaves s next) (move_of setting leaves t next) (opened b) m n e e' in
+      let p : Common (move_of setting leaves s next) (move_of setting leaves t next) =
+      passed_pair (move_of setting leaves s next) (move_of setting leaves t next) (opened b) m n e e' in
       lifted passed (λ x y h. in_passed h) s t (comparable s t next p.behaviour p.first p.second p.first_move p.second_move)
   comparable (let_bound s) (let_bound t) next b m n e e' =
-      let p : Common (move_of setting leaves s next) (move_of setting leaves t next) = let_pair (move_of setting leaves s next) (move_of setting leaves t next) (opened b) m n e e' in
+      let p : Common (move_of setting leaves s next) (move_of setting leaves t next) =
+      let_pair (move_of setting leaves s next) (move_of setting leaves t next) (opened b) m n e e' in
       lifted let_bound (λ x y h. in_let h) s t (comparable s t next p.behaviour p.first p.second p.first_move p.second_move)
   comparable (with_value s) (with_value t) next b m n e e' =
-      let p : Common (move_of setting leaves s (suc next)) (move_of setting leaves t (suc next)) = value_pair next (move_of setting leaves s (suc next)) (move_of setting leaves t (suc next)) (opened b) m n e e' in
+      let p : Common (move_of setting leaves s (suc next)) (move_of setting leaves t (suc next)) =
+      value_pair next (move_of setting leaves s (suc next)) (move_of setting leaves t (suc next)) (opened b) m n e e' in
       lifted with_value (λ x y h. in_value h) s t (comparable s t (suc next) p.behaviour p.first p.second p.first_move p.second_move)
   comparable (at_gate j s) (at_gate k t) next b m n e e' =
-      let p : Common (move_of setting leaves s next) (move_of setting leaves t next) = gate_pair j k (move_of setting leaves s next) (move_of setting leaves t next) (opened b) m n e e' in
+      let p : Common (move_of setting leaves s next) (move_of setting leaves t next) =
+      gate_pair j k (move_of setting leaves s next) (move_of setting leaves t next) (opened b) m n e e' in
       gate_order j k s t (comparable s t next p.behaviour p.first p.second p.first_move p.second_move) (cases_order j k)
   comparable (called s) (called t) next b m n e e' =
-      let p : Common (move_of setting leaves s next) (move_of setting leaves t next) = called_pair (move_of setting leaves s next) (move_of setting leaves t next) (opened b) m n e e' in
+      let p : Common (move_of setting leaves s next) (move_of setting leaves t next) =
+      called_pair (move_of setting leaves s next) (move_of setting leaves t next) (opened b) m n e e' in
       lifted called (λ x y h. in_called h) s t (comparable s t next p.behaviour p.first p.second p.first_move p.second_move)
   comparable (relabelled s) (relabelled t) next b m n e e' =
-      let p : Common (move_of setting leaves s next) (move_of setting leaves t next) = relabelled_pair (move_of setting leaves s next) (move_of setting leaves t next) (opened b) m n e e' in
+      let p : Common (move_of setting leaves s next) (move_of setting leaves t next) =
+      relabelled_pair (move_of setting leaves s next) (move_of setting leaves t next) (opened b) m n e e' in
       lifted relabelled (λ x y h. in_relabelled h) s t (comparable s t next p.behaviour p.first p.second p.first_move p.second_move)
-  comparable s t next b m n e e' = absurd (let h : group_of s ≡ group_of t = suited s next b m e ∙ sym (suited t next b n e') in omega arith)
+  comparable s t next b m n e e' = absurd (let h : group_of s ≡ group_of t = suited s next b m e
+      ∙ sym (suited t next b n e') in omega arith)

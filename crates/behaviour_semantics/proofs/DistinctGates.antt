@@ -35,8 +35,10 @@ apart_of (n ∷ numbers) d = (
 distinct_of : (numbers : List ℕ) → Apart numbers → AreDistinct numbers
 distinct_of [] a i j n at at' = absurd (cc at)
 distinct_of (m ∷ numbers) a zero zero n at at' = refl
-distinct_of (m ∷ numbers) a zero (suc j) n at at' = absurd (a.0 (subst (λ (k : ℕ). IsAmong k numbers) (sym (some_value at)) (at_among numbers j n at')))
-distinct_of (m ∷ numbers) a (suc i) zero n at at' = absurd (a.0 (subst (λ (k : ℕ). IsAmong k numbers) (sym (some_value at')) (at_among numbers i n at)))
+distinct_of (m ∷ numbers) a zero (suc j) n at at' = absurd
+    (a.0 (subst (λ (k : ℕ). IsAmong k numbers) (sym (some_value at)) (at_among numbers j n at')))
+distinct_of (m ∷ numbers) a (suc i) zero n at at' = absurd
+    (a.0 (subst (λ (k : ℕ). IsAmong k numbers) (sym (some_value at')) (at_among numbers i n at)))
 distinct_of (m ∷ numbers) a (suc i) (suc j) n at at' = ap suc (distinct_of numbers a.1 i j n at at')
 
 among_cases : (xs ys : List ℕ) (n : ℕ) → IsAmong n (xs ++ ys) → IsAmong n xs ⊎ IsAmong n ys
@@ -58,11 +60,14 @@ Apart-append (x ∷ xs) ys a b h = (λ c. here (among_cases xs ys x c), Apart-ap
 
 -- the formal gates of what is kept of a relabelling
 module _ (keep : ℕ × ℕ → Bool) where
-  among_kept : (pairs : Relabelling) (n : ℕ) → IsAmong n (formals_of (filter keep pairs)) → (pair : ℕ × ℕ) × IsAmong n (formals_of pairs) × (keep pair ≡ true) × (pair.0 ≡ n)
+  among_kept : (pairs : Relabelling) (n : ℕ) → IsAmong n (formals_of (filter keep pairs)) → (pair : ℕ × ℕ) × IsAmong n (formals_of pairs)
+      × (keep pair ≡ true) × (pair.0 ≡ n)
   among_kept [] n a = absurd a
   among_kept (pair ∷ pairs) n a = by (keep pair) refl (among_kept pairs n) a
     where
-      by : (b : Bool) → keep pair ≡ b → (IsAmong n (formals_of (filter keep pairs)) → (p : ℕ × ℕ) × IsAmong n (formals_of pairs) × (keep p ≡ true) × (p.0 ≡ n)) → IsAmong n (formals_of (cond b (pair ∷ filter keep pairs) (filter keep pairs))) → (p : ℕ × ℕ) × IsAmong n (formals_of (pair ∷ pairs)) × (keep p ≡ true) × (p.0 ≡ n)
+      by : (b : Bool) → keep pair ≡ b → (IsAmong n (formals_of (filter keep pairs)) → (p : ℕ × ℕ) × IsAmong n (formals_of pairs)
+          × (keep p ≡ true) × (p.0 ≡ n)) → IsAmong n (formals_of (cond b (pair ∷ filter keep pairs) (filter keep pairs))) → (p : ℕ × ℕ)
+          × IsAmong n (formals_of (pair ∷ pairs)) × (keep p ≡ true) × (p.0 ≡ n)
       by true e rest (inl same) = (pair, inl same, e, same)
       by true e rest (inr a) = let p : _ = rest a in (p.0, inr p.1, p.2, p.3)
       by false e rest a = let p : _ = rest a in (p.0, inr p.1, p.2, p.3)
@@ -87,7 +92,8 @@ formals-append : (first second : Relabelling) → formals_of (first ++ second) �
 formals-append [] second = refl
 formals-append (pair ∷ first) second = ap (λ (gates : List ℕ). pair.0 ∷ gates) (formals-append first second)
 
-formals-map : (second first : Relabelling) → formals_of (map (λ (pair : ℕ × ℕ). (pair.0, gate_under second pair.1)) first) ≡ formals_of first
+formals-map : (second first : Relabelling) → formals_of (map (λ (pair : ℕ × ℕ). (pair.0, gate_under second pair.1)) first)
+    ≡ formals_of first
 formals-map second [] = refl
 formals-map second (pair ∷ first) = ap (λ (gates : List ℕ). pair.0 ∷ gates) (formals-map second first)
 
@@ -116,16 +122,19 @@ module _ (names : ℕ) where
       by true rest = h.0.1
       by false rest = rest
 
-  pub gates_named : (pairs : Relabelling) (gates : List ℕ) → Every Named pairs → AreGates names gates → AreGates names (map (gate_under pairs) gates)
+  pub gates_named : (pairs : Relabelling) (gates : List ℕ) → Every Named pairs → AreGates names gates
+      → AreGates names (map (gate_under pairs) gates)
   gates_named pairs [] h gates = tt
   gates_named pairs (g ∷ gates) h k = (gate_named pairs g h k.0, gates_named pairs gates h k.1)
 
-  first_named : (second first : Relabelling) → Every Named second → Every Named first → Every Named (map (λ (pair : ℕ × ℕ). (pair.0, gate_under second pair.1)) first)
+  first_named : (second first : Relabelling) → Every Named second → Every Named first
+      → Every Named (map (λ (pair : ℕ × ℕ). (pair.0, gate_under second pair.1)) first)
   first_named second [] h k = tt
   first_named second (pair ∷ first) h k = ((k.0.0, gate_named second pair.1 h k.0.1), first_named second first h k.1)
 
   -- The composition of two relabellings is one.
-  pub composed : (first second : Relabelling) → IsRelabelling names first → IsRelabelling names second → IsRelabelling names (then_relabelling first second)
+  pub composed : (first second : Relabelling) → IsRelabelling names first → IsRelabelling names second
+      → IsRelabelling names (then_relabelling first second)
   composed first second h k =
       let kept : ℕ × ℕ → Bool = λ (pair : ℕ × ℕ). not (is_listed (formals_of first) pair.0) in
       let renamed : Relabelling = map (λ (pair : ℕ × ℕ). (pair.0, gate_under second pair.1)) first in (
@@ -137,7 +146,8 @@ module _ (names : ℕ) where
             (λ n a b.
             let p : (pair : ℕ × ℕ) × IsAmong n (formals_of second) × (kept pair ≡ true) × (pair.0 ≡ n) = among_kept kept second n b in
             let inside : IsAmong n (formals_of first) = subst (IsAmong n) (formals-map second first) a in
-            not_both (is_listed (formals_of first) p.0.0) p.2 (among_listed (formals_of first) p.0.0 (subst (λ (m : ℕ). IsAmong m (formals_of first)) (sym p.3) inside))))),
+            not_both (is_listed (formals_of first) p.0.0) p.2 (among_listed (formals_of first) p.0.0
+            (subst (λ (m : ℕ). IsAmong m (formals_of first)) (sym p.3) inside))))),
         Every-append Named renamed (filter kept second) (first_named second first k.1 h.1) (Every-kept kept Named second k.1),
       )
 
@@ -152,7 +162,8 @@ module _ (names : ℕ) where
   zip_named (f ∷ formals) (a ∷ actuals) h k = ((h.0, k.0), zip_named formals actuals h.1 k.1)
 
   -- A call's formal gates with its actual ones are a relabelling.
-  pub of_call : (formals actuals : List ℕ) → AreDistinct formals → AreGates names formals → AreGates names actuals → length actuals ≡ length formals → IsRelabelling names (zip formals actuals)
+  pub of_call : (formals actuals : List ℕ) → AreDistinct formals → AreGates names formals → AreGates names actuals
+      → length actuals ≡ length formals → IsRelabelling names (zip formals actuals)
   of_call formals actuals distinct h k e = (subst AreDistinct (sym (formals-zip formals actuals e)) distinct, zip_named formals actuals h k)
 
   -- So is a gate with another one.

@@ -44,7 +44,8 @@ formal canon base sorts = record {
       λ n r. slice_get sorts (n - base) ≡ Some r;
 }
 
-loose_leaf : (data_ : Data) (canon : Term → Term) (base next s : ℕ) → IsSort data_.signature s → Related data_ base (loose canon base) (loose canon base) [] s (variable (base + next) s) (variable (base + next) s)
+loose_leaf : (data_ : Data) (canon : Term → Term) (base next s : ℕ) → IsSort data_.signature s
+    → Related data_ base (loose canon base) (loose canon base) [] s (variable (base + next) s) (variable (base + next) s)
 loose_leaf data_ canon base next s is_sort = record {
   left_sorted = (refl, is_sort);
   right_sorted = (refl, is_sort);
@@ -56,7 +57,9 @@ loose_leaf data_ canon base next s is_sort = record {
     le_of : (n : ℕ) → base + next ≡ n → base ≤ n
     le_of n e = omega arith
 
-formal_leaf : (data_ : Data) (canon : Term → Term) (base : ℕ) (sorts : List ℕ) (next s : ℕ) → IsSort data_.signature s → slice_get sorts next ≡ Some s → Related data_ base (formal canon base sorts) (formal canon base sorts) [] s (variable (base + next) s) (variable (base + next) s)
+formal_leaf : (data_ : Data) (canon : Term → Term) (base : ℕ) (sorts : List ℕ) (next s : ℕ) → IsSort data_.signature s
+    → slice_get sorts next ≡ Some s → Related data_ base (formal canon base sorts) (formal canon base sorts) [] s (variable (base + next) s)
+    (variable (base + next) s)
 formal_leaf data_ canon base sorts next s is_sort at = record {
   left_sorted = (refl, is_sort);
   right_sorted = (refl, is_sort);
@@ -69,26 +72,35 @@ formal_leaf data_ canon base sorts next s is_sort at = record {
     le_of n e = omega arith
 
     leaf : (n r : ℕ) → base + next ≡ n → s ≡ r → slice_get sorts (n - base) ≡ Some r
-    leaf n r e e' = subst (λ (k : ℕ). slice_get sorts (n - base) ≡ Some k) e' (subst (λ (k : ℕ). slice_get sorts k ≡ Some s) (let h : next ≡ n - base = omega arith in h) at)
+    leaf n r e e' = subst (λ (k : ℕ). slice_get sorts (n - base) ≡ Some k) e'
+        (subst (λ (k : ℕ). slice_get sorts k ≡ Some s) (let h : next ≡ n - base = omega arith in h) at)
 
-formal_leaves : (data_ : Data) (canon : Term → Term) (processes : List Process) (base : ℕ) (sorts : List ℕ) (next : ℕ) (ss : List ℕ) → Every (IsSort data_.signature) ss → ((i s : ℕ) → slice_get ss i ≡ Some s → slice_get sorts (next + i) ≡ Some s) → RelatedLeaves data_ base processes (formal canon base sorts) (formal canon base sorts) next ss
+formal_leaves : (data_ : Data) (canon : Term → Term) (processes : List Process) (base : ℕ) (sorts : List ℕ) (next : ℕ) (ss : List ℕ)
+    → Every (IsSort data_.signature) ss → ((i s : ℕ) → slice_get ss i ≡ Some s → slice_get sorts (next + i) ≡ Some s)
+    → RelatedLeaves data_ base processes (formal canon base sorts) (formal canon base sorts) next ss
 formal_leaves data_ canon processes base sorts next [] h at = tt
 formal_leaves data_ canon processes base sorts next (s ∷ ss) h at = (
-  formal_leaf data_ canon base sorts next s h.0 (subst (λ (k : ℕ). slice_get sorts k ≡ Some s) (let e : next + 0 ≡ next = omega arith in e) (at 0 s refl)),
-  formal_leaves data_ canon processes base sorts (suc next) ss h.1 (λ i q e. subst (λ (k : ℕ). slice_get sorts k ≡ Some q) (let k : next + suc i ≡ suc next + i = omega arith in k) (at (suc i) q e)),
+  formal_leaf data_ canon base sorts next s h.0 (subst (λ (k : ℕ). slice_get sorts k ≡ Some s) (let e : next + 0 ≡ next = omega arith in e)
+      (at 0 s refl)),
+  formal_leaves data_ canon processes base sorts (suc next) ss h.1
+      (λ i q e. subst (λ (k : ℕ). slice_get sorts k ≡ Some q) (let k : next + suc i ≡ suc next + i = omega arith in k) (at (suc i) q e)),
 )
 
-taken_at : (next : ℕ) (ss : List ℕ) (i s : ℕ) → slice_get ss i ≡ Some s → slice_get (taken variable next ss) i ≡ Some (variable (next + i) s)
+taken_at : (next : ℕ) (ss : List ℕ) (i s : ℕ) → slice_get ss i ≡ Some s
+    → slice_get (taken variable next ss) i ≡ Some (variable (next + i) s)
 taken_at next [] i s e = absurd (cc e)
-taken_at next (q ∷ ss) zero s e = ap (λ (o : Option ℕ). option_map (variable next) o) e ∙ ap (λ (n : ℕ). Some (variable n s)) (let k : next ≡ next + 0 = omega arith in k)
-taken_at next (q ∷ ss) (suc i) s e = taken_at (suc next) ss i s e ∙ ap (λ (n : ℕ). Some (variable n s)) (let k : suc next + i ≡ next + suc i = omega arith in k)
+taken_at next (q ∷ ss) zero s e = ap (λ (o : Option ℕ). option_map (variable next) o) e
+    ∙ ap (λ (n : ℕ). Some (variable n s)) (let k : next ≡ next + 0 = omega arith in k)
+taken_at next (q ∷ ss) (suc i) s e = taken_at (suc next) ss i s e
+    ∙ ap (λ (n : ℕ). Some (variable n s)) (let k : suc next + i ≡ next + suc i = omega arith in k)
 
 module _ (data_ : Data) (canon : Term → Term) (base : ℕ) (sorts : List ℕ) where
   -- the leaves of the draft
   abbrev drafts : List Term
   drafts = map (substituted (numbered_from_zero base)) (taken (leaves_from base) 0 sorts)
 
-  own_leaf : (i s : ℕ) → slice_get sorts i ≡ Some s → slice_get (map (substituted (numbered_from_zero base)) (taken (leaves_from base) 0 sorts)) i ≡ Some (variable i s)
+  own_leaf : (i s : ℕ) → slice_get sorts i ≡ Some s → slice_get
+      (map (substituted (numbered_from_zero base)) (taken (leaves_from base) 0 sorts)) i ≡ Some (variable i s)
   own_leaf i s e =
       ap (λ (ts : List Term). slice_get ts i) (numbered-taken base 0 sorts)
       ∙ (taken_at 0 sorts i s e ∙ ap (λ (n : ℕ). Some (variable n s)) (let k : 0 + i ≡ i = omega arith in k))
@@ -97,7 +109,8 @@ module _ (data_ : Data) (canon : Term → Term) (base : ℕ) (sorts : List ℕ) 
       → HasLeafVariables data_.signature (map (substituted (numbered_from_zero base)) (taken (leaves_from base) 0 sorts)) s
       (substituted (numbered_from_zero base) t)
   fine_term s t u r = record {
-    sorted = substituted_sort data_.signature (numbered_from_zero base) t s r.left_sorted (λ n q o. (refl, occurs_sort data_.signature t s n q r.left_sorted o));
+    sorted = substituted_sort data_.signature (numbered_from_zero base) t s r.left_sorted
+        (λ n q o. (refl, occurs_sort data_.signature t s n q r.left_sorted o));
     own = λ n q o.
         let from : ComesFrom n q (numbered_from_zero base) t = substituted_occurs n q (numbered_from_zero base) t o in
         let leaf : (base ≤ from.number) × (slice_get sorts (from.number - base) ≡ Some from.sort) =
@@ -146,7 +159,8 @@ module _ (data_ : Data) (canon : Term → Term) (base : ℕ) (sorts : List ℕ) 
         );
       },
     ),
-    fine_taken (suc next) ss h.1 (λ i q e. subst (λ (k : ℕ). slice_get sorts k ≡ Some q) (let k : next + suc i ≡ suc next + i = omega arith in k) (at (suc i) q e)),
+    fine_taken (suc next) ss h.1 (λ i q e. subst (λ (k : ℕ). slice_get sorts k ≡ Some q)
+        (let k : next + suc i ≡ suc next + i = omega arith in k) (at (suc i) q e)),
   )
 
 -- Leaf number `k` is the variable number `k`.
@@ -198,18 +212,21 @@ made_fine data_ canon specification b over shape m e =
     move_sorts data_ base specification.processes x (canon_represents data_ canon over.is_canon) (loose_leaf data_ canon base)
     (bodies_of data_ base x x specification over.well_formed le_processes) shape 0 b b
     (same_beside data_ base x x _ specification.processes [] b (low_nothing data_ base) le_b over.closed) m e in
-    let answer : Answer data_ base specification.processes y y (move_of (setting_of data_ base specification.processes y) y.leaves shape 0 b) m =
+    let answer : Answer data_ base specification.processes y y
+    (move_of (setting_of data_ base specification.processes y) y.leaves shape 0 b) m =
     follows data_ base specification.processes y y (canon_represents data_ canon over.is_canon)
     (canon_represents data_ canon over.is_canon) (bodies_of data_ base y y specification over.well_formed le_processes) shape 0 b b
     (same_beside data_ base y y _ specification.processes [] b (low_nothing data_ base) le_b over.closed) m e
-    (formal_leaves data_ canon specification.processes base m.sorts 0 m.sorts are_sorts (λ i s at. subst (λ (k : ℕ). slice_get m.sorts k ≡ Some s) (let h : i ≡ 0 + i = omega arith in h) at)) in
+    (formal_leaves data_ canon specification.processes base m.sorts 0 m.sorts are_sorts
+    (λ i s at. subst (λ (k : ℕ). slice_get m.sorts k ≡ Some s) (let h : i ≡ 0 + i = omega arith in h) at)) in
     record {
       sorts = m.sorts;
       order = record {
         values = fine_label data_ canon base m.sorts answer.2.label;
         leaves = subst (Every (IsDraftTerm data_.signature (map (substituted (numbered_from_zero base))
             (taken (leaves_from base) 0 m.sorts)))) (sym (numbered-taken base 0 m.sorts))
-            (fine_taken data_ canon base m.sorts 0 m.sorts are_sorts (λ i s at. subst (λ (k : ℕ). slice_get m.sorts k ≡ Some s) (let h : i ≡ 0 + i = omega arith in h) at));
+            (fine_taken data_ canon base m.sorts 0 m.sorts are_sorts
+            (λ i s at. subst (λ (k : ℕ). slice_get m.sorts k ≡ Some s) (let h : i ≡ 0 + i = omega arith in h) at));
         conditions = fine_asked data_ canon base m.sorts answer.2.asked;
         below = subst (λ (ts : List Term). (n s : ℕ) → IsLeaf ts n s → n < length ts) (sym (numbered-taken base 0 m.sorts))
             (taken_below m.sorts);
@@ -220,18 +237,22 @@ made_fine data_ canon specification b over shape m e =
       are_sorts = draft_sorts shape base m;
     }
 
-pub fine_draft : (data_ : Data) (canon : Term → Term) (specification : Specification) (b : Behaviour) → AreOver data_ canon specification b → (shape : Shape) (draft : Draft) → draft_of data_ canon specification.processes shape b ≡ Some draft → FineDraft data_ draft
+pub fine_draft : (data_ : Data) (canon : Term → Term) (specification : Specification) (b : Behaviour) → AreOver data_ canon specification b
+    → (shape : Shape) (draft : Draft) → draft_of data_ canon specification.processes shape b ≡ Some draft → FineDraft data_ draft
 fine_draft data_ canon specification b over shape draft e =
     let base : ℕ = first_apart specification.processes b in
     let setting : Setting = record { signature = data_.signature; represent = canon; processes = specification.processes } in
-    let from : (m : Move) × (move_of setting (leaves_from base) shape 0 b ≡ Some m) × (draft_by shape base m ≡ draft) = mapped (draft_by shape base) (move_of setting (leaves_from base) shape 0 b) e in
+    let from : (m : Move) × (move_of setting (leaves_from base) shape 0 b ≡ Some m)
+    × (draft_by shape base m ≡ draft) = mapped (draft_by shape base) (move_of setting (leaves_from base) shape 0 b) e in
     subst (FineDraft data_) from.2 (made_fine data_ canon specification b over shape from.0 from.1)
 
-pub shape_of_draft : (data_ : Data) (canon : Term → Term) (processes : List Process) (shape : Shape) (b : Behaviour) (draft : Draft) → draft_of data_ canon processes shape b ≡ Some draft → draft.shape ≡ shape
+pub shape_of_draft : (data_ : Data) (canon : Term → Term) (processes : List Process) (shape : Shape) (b : Behaviour) (draft : Draft)
+    → draft_of data_ canon processes shape b ≡ Some draft → draft.shape ≡ shape
 shape_of_draft data_ canon processes shape b draft e =
     let base : ℕ = first_apart processes b in
     let setting : Setting = record { signature = data_.signature; represent = canon; processes = processes } in
-    let from : (m : Move) × (move_of setting (leaves_from base) shape 0 b ≡ Some m) × (draft_by shape base m ≡ draft) = mapped (draft_by shape base) (move_of setting (leaves_from base) shape 0 b) e in
+    let from : (m : Move) × (move_of setting (leaves_from base) shape 0 b ≡ Some m)
+    × (draft_by shape base m ≡ draft) = mapped (draft_by shape base) (move_of setting (leaves_from base) shape 0 b) e in
     ap (λ (d : Draft). d.shape) (sym from.2)
 
 -- The values that leaves give the variables of such a draft are these leaves, by their numbers.

@@ -20,9 +20,13 @@ use Rattle.behaviour_semantics.proofs.SolvedValues.{equal_labels_then}
 use Rattle.behaviour_semantics.proofs.SolvingAnyDraft.{solving_any}
 
 -- Values that meet an entry make it a derivation.
-sound : (data_ : Data) (canon : Term → Term) (specification : Specification) (b : Behaviour) (entries : List Entry) → AreOver data_ canon specification b → IsSolvedMenu data_ canon specification.processes b entries → (entry : Entry) → IsEntry entries entry → (values : List Term) → Meets data_ entry values → (label : Label) × (target : Behaviour) × Derives data_ specification.processes b (derivation_at entry values) label target × EqualLabels data_ (label_at entry values) label
+sound : (data_ : Data) (canon : Term → Term) (specification : Specification) (b : Behaviour) (entries : List Entry)
+    → AreOver data_ canon specification b → IsSolvedMenu data_ canon specification.processes b entries → (entry : Entry)
+    → IsEntry entries entry → (values : List Term) → Meets data_ entry values → (label : Label) × (target : Behaviour)
+    × Derives data_ specification.processes b (derivation_at entry values) label target × EqualLabels data_ (label_at entry values) label
 sound data_ canon specification b entries over menu entry listed values meets =
-    let solved : (draft : Draft) × (draft_of data_ canon specification.processes entry.shape b ≡ Some draft) × SolvesTo canon draft (Some entry) = menu.solved entry listed in
+    let solved : (draft : Draft) × (draft_of data_ canon specification.processes entry.shape b ≡ Some draft)
+    × SolvesTo canon draft (Some entry) = menu.solved entry listed in
     let draft : Draft = solved.0 in
     let f : FineDraft data_ draft = fine_draft data_ canon specification b over entry.shape draft solved.1 in
     let s : LeavesMeet data_ draft (derivation_at entry values).leaves
@@ -64,14 +68,20 @@ entry_for data_ canon specification b entries over menu d label found f (Some en
           (label_by_number data_ found.draft f d.leaves meets) found.labels);
     }
 
-complete : (data_ : Data) (canon : Term → Term) (specification : Specification) (b : Behaviour) (entries : List Entry) → AreOver data_ canon specification b → IsSolvedMenu data_ canon specification.processes b entries → (d : Derivation) (label : Label) (target : Behaviour) → Derives data_ specification.processes b d label target → HasEntry data_ entries d label
+complete : (data_ : Data) (canon : Term → Term) (specification : Specification) (b : Behaviour) (entries : List Entry)
+    → AreOver data_ canon specification b → IsSolvedMenu data_ canon specification.processes b entries
+    → (d : Derivation) (label : Label) (target : Behaviour) → Derives data_ specification.processes b d label target
+    → HasEntry data_ entries d label
 complete data_ canon specification b entries over menu d label target derives =
-    let found : DraftOf data_ canon specification.processes b d label = complete_law data_ canon specification b over d label target derives in
+    let found : DraftOf data_ canon specification.processes b d label =
+    complete_law data_ canon specification b over d label target derives in
     let f : FineDraft data_ found.draft = fine_draft data_ canon specification b over d.shape found.draft found.is_draft in
     let o = solving_any.outcome data_ canon found.draft over.is_canon f.order in
     entry_for data_ canon specification b entries over menu d label found f o.0 o.1
 
-pub exact_menu : (data_ : Data) (canon : Term → Term) (specification : Specification) (b : Behaviour) (entries : List Entry) → AreOver data_ canon specification b → IsSolvedMenu data_ canon specification.processes b entries → Exact data_ canon specification.processes b entries
+pub exact_menu : (data_ : Data) (canon : Term → Term) (specification : Specification) (b : Behaviour) (entries : List Entry)
+    → AreOver data_ canon specification b → IsSolvedMenu data_ canon specification.processes b entries
+    → Exact data_ canon specification.processes b entries
 exact_menu data_ canon specification b entries over menu = record {
   rising = menu.rising;
   fitting = menu.fitting;

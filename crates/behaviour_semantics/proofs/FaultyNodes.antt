@@ -128,7 +128,8 @@ module _ (data_ : Data) (setting : Setting) (leaves : List Term) where
       by (inl same) =
           subst (λ (q : NodePlace). Faulty root (record { node = q.number; wrong = w })) same
           (labels w (subst (λ (q : NodePlace). wrong_by_itself data_ setting leaves q ≡ None) (sym same) e)
-          (subst (λ (q : NodePlace). (r : NodePlace) → IsPart data_ setting leaves q r → HasSoundMove data_ setting leaves r) (sym same) parts)
+          (subst (λ (q : NodePlace). (r : NodePlace) → IsPart data_ setting leaves q r → HasSoundMove data_ setting leaves r) (sym same)
+          parts)
           (subst (λ (q : NodePlace). LabelsWrong data_ setting leaves q w) (sym same) wrong))
       by (inr from) = below from.part (record { node = p.number; wrong = w }) from.none from.is_part
           (by_labels p w from.looked e parts wrong)

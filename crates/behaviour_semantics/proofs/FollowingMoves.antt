@@ -24,7 +24,8 @@ use Rattle.behaviour_semantics.proofs.InstanceLemmas.{plain, plain_grounded, bod
 pub hold_plain : (data_ : Data) (tests : List Test) → AllHold data_ tests → AllHold data_ (map (test_with variable) tests)
 hold_plain data_ [] h = tt
 hold_plain data_ (test ∷ tests) h =
-    let same : test_with variable test ≡ test = ap (λ (t : Term). record { left = t; right = substituted variable test.right }) (substituted_variables test.left) ∙ ap (λ (t : Term). record { left = test.left; right = t }) (substituted_variables test.right) in
+    let same : test_with variable test ≡ test = ap (λ (t : Term). record { left = t; right = substituted variable test.right })
+    (substituted_variables test.left) ∙ ap (λ (t : Term). record { left = test.left; right = t }) (substituted_variables test.right) in
     (subst (Holds data_) (sym same) h.0, hold_plain data_ tests h.1)
 
 same_leaves : (data_ : Data) (base : ℕ) (processes : List Process) (represent other : Term → Term) (leaves : Substitution) (next : ℕ)
@@ -40,7 +41,13 @@ same_leaves data_ base processes represent other leaves next (s ∷ sorts) h = (
 module _ (data_ : Data) (base : ℕ) (represent other : Term → Term) (leaves more : Substitution) where
   with_others : {scope : List Variable} {s : ℕ} {t u : Term} → Related data_ base (plain represent leaves)
       (plain other leaves) scope s t u → Related data_ base (plain represent more) (plain other more) scope s t u
-  with_others r = record { left_sorted = r.left_sorted; right_sorted = r.right_sorted; left_free = r.left_free; right_free = r.right_free; equal = r.equal }
+  with_others r = record {
+    left_sorted = r.left_sorted;
+    right_sorted = r.right_sorted;
+    left_free = r.left_free;
+    right_free = r.right_free;
+    equal = r.equal;
+  }
 
   tests_with_others : {scope : List Variable} {test another : Test} → RelatedTests data_ base (plain represent leaves)
       (plain other leaves) scope test another → RelatedTests data_ base (plain represent more) (plain other more) scope test another
@@ -77,7 +84,8 @@ module _ (data_ : Data) (base : ℕ) (represent other : Term → Term) (leaves m
       → Beside data_ base processes (plain represent more) (plain other more) scope b c
   beside_with_others both_stop = both_stop
   beside_with_others (both_exit_with r) = both_exit_with (results_with_others r)
-  beside_with_others (both_action r binders tests rest) = both_action (offers_with_others r) binders (options_with_others tests) (beside_with_others rest)
+  beside_with_others (both_action r binders tests rest) =
+      both_action (offers_with_others r) binders (options_with_others tests) (beside_with_others rest)
   beside_with_others (both_inner r) = both_inner (beside_with_others r)
   beside_with_others (both_guard r q) = both_guard (tests_with_others r) (beside_with_others q)
   beside_with_others (both_choice r q) = both_choice (beside_with_others r) (beside_with_others q)
@@ -85,7 +93,8 @@ module _ (data_ : Data) (base : ℕ) (represent other : Term → Term) (leaves m
   beside_with_others (both_hide r) = both_hide (beside_with_others r)
   beside_with_others (both_enable r binders q) = both_enable (beside_with_others r) binders (beside_with_others q)
   beside_with_others (both_disable r q) = both_disable (beside_with_others r) (beside_with_others q)
-  beside_with_others (both_let variables e e' binders terms r) = both_let variables e e' binders (terms_with_others terms) (beside_with_others r)
+  beside_with_others (both_let variables e e' binders terms r) =
+      both_let variables e e' binders (terms_with_others terms) (beside_with_others r)
   beside_with_others (both_choose_value binders r) = both_choose_value binders (beside_with_others r)
   beside_with_others (both_choose_gate r) = both_choose_gate (beside_with_others r)
   beside_with_others (both_par_gate r) = both_par_gate (beside_with_others r)
@@ -110,7 +119,8 @@ another data_ base represent other specification b c fine le f g d beside label 
     let x : Side = plain represent (leaves_in d.leaves) in
     let y : Side = plain other (leaves_in d.leaves) in
     let m : Move = record { label = label; target = target; asked = moves.asked; sorts = moves.sorts } in
-    let answer : Answer data_ base specification.processes x y (move_of (setting_of data_ base specification.processes y) y.leaves d.shape 0 c) m =
+    let answer : Answer data_ base specification.processes x y
+    (move_of (setting_of data_ base specification.processes y) y.leaves d.shape 0 c) m =
     follows data_ base specification.processes x y f g (bodies_of data_ base x y specification fine le) d.shape 0 b c beside m moves.move
     (same_leaves data_ base specification.processes represent other (leaves_in d.leaves) 0 moves.sorts
     (Supplied-leaves_in data_.signature moves.sorts d.leaves moves.leaves)) in

@@ -22,7 +22,8 @@ among_any : (q : ℕ) (xs : List ℕ) → list_any (eqb q) xs ≡ true → IsAmo
 among_any q [] e = absurd (cc e)
 among_any q (x ∷ xs) e = by_test (eqb q x) refl (among_any q xs) e
   where
-    by_test : (b : Bool) → eqb q x ≡ b → (list_any (eqb q) xs ≡ true → IsAmong q xs) → (b || list_any (eqb q) xs) ≡ true → (x ≡ q) ⊎ IsAmong q xs
+    by_test : (b : Bool) → eqb q x ≡ b → (list_any (eqb q) xs ≡ true → IsAmong q xs) → (b || list_any (eqb q) xs) ≡ true
+        → (x ≡ q) ⊎ IsAmong q xs
     by_test true same rest h = inl (sym (eqb-true q x same))
     by_test false differ rest h = inr (rest h)
 
@@ -36,7 +37,8 @@ none_equal q (x ∷ xs) h = (by_test (eqb q x) refl, none_equal q xs (λ a. h (i
 
 module _ (processes : List Process) (guarded : IsGuarded processes) where
   -- A source of a walk is the end of a walk that the walk begins with.
-  reached : (from : ℕ) (walk : List ℕ) (q : ℕ) → IsWalk processes from walk → IsAmong q (sources from walk) → (first : List ℕ) × IsWalk processes from first × (end_of from first ≡ q)
+  reached : (from : ℕ) (walk : List ℕ) (q : ℕ) → IsWalk processes from walk → IsAmong q (sources from walk) → (first : List ℕ)
+      × IsWalk processes from first × (end_of from first ≡ q)
   reached from [] q w a = absurd a
   reached from (to ∷ rest) q w (inl same) = ([], tt, same)
   reached from (to ∷ rest) q w (inr a) =
@@ -64,4 +66,5 @@ module _ (processes : List Process) (guarded : IsGuarded processes) where
   pub walks_end : (from : ℕ) (walk : List ℕ) → IsWalk processes from walk → length walk ≤ length processes
   walks_end from walk w =
       subst (λ (n : ℕ). n ≤ length processes) (length-sources from walk)
-      (length-le_from_distinct_below (sources from walk) (length processes) (distinct_sources from walk w) (λ q h. source_below from walk q w (among_any q (sources from walk) h)))
+      (length-le_from_distinct_below (sources from walk) (length processes) (distinct_sources from walk w)
+      (λ q h. source_below from walk q w (among_any q (sources from walk) h)))

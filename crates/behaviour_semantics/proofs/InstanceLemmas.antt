@@ -34,42 +34,61 @@ every_at P [] k z h e = absurd (cc e)
 every_at P (x ∷ xs) zero z h e = subst P (some_value e) h.0
 every_at P (x ∷ xs) (suc k) z h e = every_at P xs k z h.1 e
 
-pub above_at : (processes : List Process) (k : ℕ) (process : Process) → slice_get processes k ≡ Some process → max (above_variables process.parameters) (above process.body) ≤ above_processes processes
+pub above_at : (processes : List Process) (k : ℕ) (process : Process) → slice_get processes k ≡ Some process
+    → max (above_variables process.parameters) (above process.body) ≤ above_processes processes
 above_at [] k process e = absurd (cc e)
 above_at (p ∷ processes) zero process e =
     subst (λ (q : Process). max (above_variables q.parameters) (above q.body) ≤ above_processes (p ∷ processes)) (some_value e)
-    (let le : max (above_variables p.parameters) (above p.body) ≤ max (max (above_variables p.parameters) (above p.body)) (above_processes processes) = omega arith in le)
+    (let le : max (above_variables p.parameters) (above p.body)
+    ≤ max (max (above_variables p.parameters) (above p.body)) (above_processes processes) = omega arith in le)
 above_at (p ∷ processes) (suc k) process e =
-    let below : max (above_variables process.parameters) (above process.body) ≤ above_processes processes = above_at processes k process e in
-    let le : max (above_variables process.parameters) (above process.body) ≤ max (max (above_variables p.parameters) (above p.body)) (above_processes processes) = omega arith in le
+    let below : max (above_variables process.parameters) (above process.body) ≤ above_processes processes =
+    above_at processes k process e in
+    let le : max (above_variables process.parameters) (above process.body)
+    ≤ max (max (above_variables p.parameters) (above p.body)) (above_processes processes) = omega arith in le
 
 module _ (data_ : Data) (base : ℕ) where
-  pub bodies_of : (x y : Side) (specification : Specification) → IsSpecification data_.signature specification → above_processes specification.processes ≤ base → (number : ℕ) (process : Process) → slice_get specification.processes number ≡ Some process → Binders data_ base process.parameters × Beside data_ base specification.processes x y (process.parameters ++ []) process.body process.body
+  pub bodies_of : (x y : Side) (specification : Specification) → IsSpecification data_.signature specification
+      → above_processes specification.processes ≤ base → (number : ℕ) (process : Process)
+      → slice_get specification.processes number ≡ Some process → Binders data_ base process.parameters
+      × Beside data_ base specification.processes x y (process.parameters ++ []) process.body process.body
   bodies_of x y specification fine le number process at =
-      let definition : _ = every_at (λ (p : Process). IsDefinition data_.signature _ specification.processes p.gates p.parameters p.exit p.body) specification.processes number process fine.each at in
-      let below : max (above_variables process.parameters) (above process.body) ≤ above_processes specification.processes = above_at specification.processes number process at in
+      let definition : _ = every_at (λ (p : Process). IsDefinition data_.signature _ specification.processes p.gates p.parameters p.exit
+      p.body) specification.processes number process fine.each at in
+      let below : max (above_variables process.parameters) (above process.body) ≤ above_processes specification.processes =
+      above_at specification.processes number process at in
       let binders : Binders data_ base process.parameters = binders_of data_ base process.parameters (omega arith) definition.binders.1 in
       let le_body : above process.body ≤ base = omega arith in
-      let inside : Low data_ base process.parameters = subst (Low data_ base) (append-nil process.parameters) (low_more data_ base process.parameters [] binders (low_nothing data_ base)) in (
+      let inside : Low data_ base process.parameters = subst (Low data_ base) (append-nil process.parameters)
+      (low_more data_ base process.parameters [] binders (low_nothing data_ base)) in (
         binders,
         subst (λ scope. Beside data_ base specification.processes x y scope process.body process.body) (sym (append-nil process.parameters))
             (same_beside data_ base x y _ specification.processes process.parameters process.body inside le_body definition.behaviour),
       )
 
   -- Turning moves.
-  pub turned_labels : {processes : List Process} {x y : Side} {label other : Label} → RelatedLabels data_ base processes x y label other → RelatedLabels data_ base processes y x other label
+  pub turned_labels : {processes : List Process} {x y : Side} {label other : Label} → RelatedLabels data_ base processes x y label other
+      → RelatedLabels data_ base processes y x other label
   turned_labels both_inner_events = both_inner_events
   turned_labels (both_gate_events sorts r) = both_gate_events sorts (turned_terms data_ base r)
   turned_labels (both_exit_events sorts r) = both_exit_events sorts (turned_terms data_ base r)
 
-  pub turned_asked : {processes : List Process} {x y : Side} {tests others : List Test} → RelatedAsked data_ base processes x y tests others → RelatedAsked data_ base processes y x others tests
+  pub turned_asked : {processes : List Process} {x y : Side} {tests others : List Test} → RelatedAsked data_ base processes x y tests others
+      → RelatedAsked data_ base processes y x others tests
   turned_asked none_asked = none_asked
   turned_asked (one_asked r rest) = one_asked (record { sort = r.sort; left = turned r.left; right = turned r.right }) (turned_asked rest)
 
-  pub turned_moves : (processes : List Process) (x y : Side) (m n : Move) → RelatedMoves data_ base processes x y m n → RelatedMoves data_ base processes y x n m
-  turned_moves processes x y m n r = record { label = turned_labels r.label; target = turned_beside data_ base r.target; asked = turned_asked r.asked; sorts = sym r.sorts }
+  pub turned_moves : (processes : List Process) (x y : Side) (m n : Move) → RelatedMoves data_ base processes x y m n
+      → RelatedMoves data_ base processes y x n m
+  turned_moves processes x y m n r = record {
+    label = turned_labels r.label;
+    target = turned_beside data_ base r.target;
+    asked = turned_asked r.asked;
+    sorts = sym r.sorts;
+  }
 
-  pub turned_leaves : (processes : List Process) (x y : Side) (next : ℕ) (sorts : List ℕ) → RelatedLeaves data_ base processes x y next sorts → RelatedLeaves data_ base processes y x next sorts
+  pub turned_leaves : (processes : List Process) (x y : Side) (next : ℕ) (sorts : List ℕ)
+      → RelatedLeaves data_ base processes x y next sorts → RelatedLeaves data_ base processes y x next sorts
   turned_leaves processes x y next [] h = tt
   turned_leaves processes x y next (s ∷ sorts) h = (turned h.0, turned_leaves processes x y (suc next) sorts h.1)
 
@@ -83,7 +102,8 @@ module _ (data_ : Data) (base : ℕ) where
         → Equal data_ (substituted x.values t) u
     closed_equal x grounded s t u r =
         let ground : IsGround u = plain_ground u r.right_free in
-        equal_then (equal_same data_ _ _ (substituted_agree x.values (with_leaves base x variable) t (λ n q o. sym (with_leaves-leaf base x variable n q (only_leaf data_ base x n q (r.left_free n q o)).0))))
+        equal_then (equal_same data_ _ _ (substituted_agree x.values (with_leaves base x variable) t
+        (λ n q o. sym (with_leaves-leaf base x variable n q (only_leaf data_ base x n q (r.left_free n q o)).0))))
         (equal_then (r.equal grounded (plain_grounded data_ represent leaves) variable (λ n q lt o. absurd (unbound n q lt o)))
         (equal_same data_ _ _ (substituted_ground (with_leaves base (plain represent leaves) variable) u ground)))
       where
@@ -109,15 +129,19 @@ module _ (data_ : Data) (base : ℕ) where
         → RelatedAsked data_ base processes x (plain represent leaves) tests others → AllHold data_ (map (test_with x.values) tests)
         → AllHold data_ others
     asked_over x grounded none_asked h = tt
-    asked_over x grounded (one_asked r rest) h =
-        (equal_then (equal_back (closed_equal x grounded r.sort _ _ r.left)) (equal_then h.0 (closed_equal x grounded r.sort _ _ r.right)), asked_over x grounded rest h.1)
+    asked_over x grounded (one_asked r rest) h = (
+      equal_then (equal_back (closed_equal x grounded r.sort _ _ r.left)) (equal_then h.0 (closed_equal x grounded r.sort _ _ r.right)),
+      asked_over x grounded rest h.1,
+    )
 
     pub asked_back : {processes : List Process} (x : Side) → Grounded data_ x → {tests others : List Test}
         → RelatedAsked data_ base processes x (plain represent leaves) tests others → AllHold data_ others
         → AllHold data_ (map (test_with x.values) tests)
     asked_back x grounded none_asked h = tt
-    asked_back x grounded (one_asked r rest) h =
-        (equal_then (closed_equal x grounded r.sort _ _ r.left) (equal_then h.0 (equal_back (closed_equal x grounded r.sort _ _ r.right))), asked_back x grounded rest h.1)
+    asked_back x grounded (one_asked r rest) h = (
+      equal_then (closed_equal x grounded r.sort _ _ r.left) (equal_then h.0 (equal_back (closed_equal x grounded r.sort _ _ r.right))),
+      asked_back x grounded rest h.1,
+    )
 
   -- Ground values are related to themselves.
   pub ground_related : (x y : Side) (s : ℕ) (v : Term) → IsGroundOf data_.signature s v → Related data_ base x y [] s v v
@@ -126,5 +150,6 @@ module _ (data_ : Data) (base : ℕ) where
     right_sorted = h.sorted;
     left_free = λ n r o. absurd (ground_no_variable v h.ground n r o);
     right_free = λ n r o. absurd (ground_no_variable v h.ground n r o);
-    equal = λ left right others grounds. equal_same data_ _ _ (substituted_ground (with_leaves base x others) v h.ground ∙ sym (substituted_ground (with_leaves base y others) v h.ground));
+    equal = λ left right others grounds. equal_same data_ _ _
+        (substituted_ground (with_leaves base x others) v h.ground ∙ sym (substituted_ground (with_leaves base y others) v h.ground));
   }

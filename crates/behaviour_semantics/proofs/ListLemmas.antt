@@ -36,11 +36,13 @@ module _ {X : Type 0} (P : X → Type 0) where
   Every-at (y ∷ xs) (suc k) x h at = Every-at xs k x h.1 at
 
 module _ {X Y : Type 0} (f : X → Option Y) where
-  pub Every-cons_option : (Q : Y → Type 0) (o : Option Y) (ys : List Y) → ((y : Y) → o ≡ Some y → Q y) → Every Q ys → Every Q (cons_option o ys)
+  pub Every-cons_option : (Q : Y → Type 0) (o : Option Y) (ys : List Y) → ((y : Y) → o ≡ Some y → Q y) → Every Q ys
+      → Every Q (cons_option o ys)
   Every-cons_option Q None ys h k = k
   Every-cons_option Q (Some y) ys h k = (h y refl, k)
 
-  pub Every-filter_map : (P : X → Type 0) (Q : Y → Type 0) → ((x : X) (y : Y) → P x → f x ≡ Some y → Q y) → (xs : List X) → Every P xs → Every Q (filter_map f xs)
+  pub Every-filter_map : (P : X → Type 0) (Q : Y → Type 0) → ((x : X) (y : Y) → P x → f x ≡ Some y → Q y) → (xs : List X) → Every P xs
+      → Every Q (filter_map f xs)
   Every-filter_map P Q h [] k = tt
   Every-filter_map P Q h (x ∷ xs) k = Every-cons_option Q (f x) (filter_map f xs) (λ y e. h x y k.0 e) (Every-filter_map P Q h xs k.1)
 
@@ -67,11 +69,13 @@ module _ {X : Type 0} where
   IsAmong-right x [] ys a = a
   IsAmong-right x (y ∷ xs) ys a = inr (IsAmong-right x xs ys a)
 
-  pub Within-filter_map : {Y : Type 0} (f : X → Option Y) (x : X) (y : Y) (o : Option (List X)) → f x ≡ Some y → Within x o → Within y (option_map (filter_map f) o)
+  pub Within-filter_map : {Y : Type 0} (f : X → Option Y) (x : X) (y : Y) (o : Option (List X)) → f x ≡ Some y → Within x o
+      → Within y (option_map (filter_map f) o)
   Within-filter_map f x y None e w = tt
   Within-filter_map f x y (Some xs) e w = IsAmong-filter_map f x y xs e w
 
-  pub EachOf-filter_map : {Y : Type 0} (f : X → Option Y) (P : X → Type 0) (Q : Y → Type 0) → ((x : X) (y : Y) → P x → f x ≡ Some y → Q y) → (o : Option (List X)) → EachOf P o → EachOf Q (option_map (filter_map f) o)
+  pub EachOf-filter_map : {Y : Type 0} (f : X → Option Y) (P : X → Type 0) (Q : Y → Type 0) → ((x : X) (y : Y) → P x → f x ≡ Some y → Q y)
+      → (o : Option (List X)) → EachOf P o → EachOf Q (option_map (filter_map f) o)
   EachOf-filter_map f P Q h None k = tt
   EachOf-filter_map f P Q h (Some xs) k = Every-filter_map f P Q h xs k
 

@@ -20,7 +20,8 @@ same_heads : (e f : Entry) (es fs : List Entry) → Rise (e ∷ es) → Rise (f 
 same_heads e f es fs rise rise' (zero, at) at' = sym (some_value at)
 same_heads e f es fs rise rise' (suc k, at) (zero, at') = some_value at'
 same_heads e f es fs rise rise' (suc k, at) (suc j, at') =
-    absurd (Before-irrefl e.shape (Before-trans e.shape f.shape e.shape (first_before e es f rise (j, at')) (first_before f fs e rise' (k, at))))
+    absurd (Before-irrefl e.shape (Before-trans e.shape f.shape e.shape (first_before e es f rise (j, at'))
+    (first_before f fs e rise' (k, at))))
 
 in_tail : (e f : Entry) (es fs : List Entry) (x : Entry) → e ≡ f → Rise (e ∷ es) → IsEntry es x → IsEntry (f ∷ fs) x → IsEntry fs x
 in_tail e f es fs x same rise inside (zero, at) =

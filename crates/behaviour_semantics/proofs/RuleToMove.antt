@@ -22,7 +22,8 @@ pub record Found (data_ : Data) (processes : List Process) (b : Behaviour) (labe
   pub leaves : List Term
   pub asked : List Test
   pub sorts : List ℕ
-  pub moves : (values : Substitution) (next : ℕ) → Supplies values next leaves → move_of (given data_ processes) values shape next b ≡ Some (record { label = label; target = target; asked = asked; sorts = sorts })
+  pub moves : (values : Substitution) (next : ℕ) → Supplies values next leaves
+      → move_of (given data_ processes) values shape next b ≡ Some (record { label = label; target = target; asked = asked; sorts = sorts })
   pub sorted : AreValues data_.signature sorts leaves
   pub holds : AllHold data_ asked
 
@@ -41,15 +42,19 @@ both_found data_ processes meet {b = b} {c = c} {left = left} {label = label} {o
   asked = f.asked ++ g.asked ++ pairwise (label_values label) (label_values other);
   sorts = f.sorts ++ g.sorts;
   moves = λ values next h.
-      let parts : Supplies values next f.leaves × Supplies values (next + length f.leaves) g.leaves = Supplies-append values next f.leaves g.leaves h in
+      let parts : Supplies values next f.leaves × Supplies values (next + length f.leaves) g.leaves =
+      Supplies-append values next f.leaves g.leaves h in
       let m : Move = record { label = label; target = left; asked = f.asked; sorts = f.sorts } in
       let behind : length f.leaves ≡ length f.sorts = length-values data_.signature f.sorts f.leaves f.sorted in
       let first : move_of (given data_ processes) values f.shape next b ≡ Some m = f.moves values next parts.0 in
-      ap (option_and_then (λ (n : Move). option_and_then (together data_.signature meet n) (move_of (given data_ processes) values g.shape (next + length n.sorts) c))) first
-      ∙ (ap (option_and_then (together data_.signature meet m)) (g.moves values (next + length f.sorts) (subst (λ n. Supplies values (next + n) g.leaves) behind parts.1))
+      ap (option_and_then (λ (n : Move). option_and_then (together data_.signature meet n)
+      (move_of (given data_ processes) values g.shape (next + length n.sorts) c))) first
+      ∙ (ap (option_and_then (together data_.signature meet m))
+      (g.moves values (next + length f.sorts) (subst (λ n. Supplies values (next + n) g.leaves) behind parts.1))
       ∙ rw meets refl);
   sorted = AreValues-append data_.signature f.sorts g.sorts f.leaves g.leaves f.sorted g.sorted;
-  holds = AllHold-append data_ (f.asked ++ g.asked) (pairwise (label_values label) (label_values other)) (AllHold-append data_ f.asked g.asked f.holds g.holds) holds;
+  holds = AllHold-append data_ (f.asked ++ g.asked) (pairwise (label_values label) (label_values other))
+      (AllHold-append data_ f.asked g.asked f.holds g.holds) holds;
 }
 
 module _ (data_ : Data) (processes : List Process) where
@@ -68,11 +73,20 @@ module _ (data_ : Data) (processes : List Process) where
     leaves = chosen;
     asked = tests_of (binding_of (asked_variables offers) chosen) test;
     sorts = sorts_of (asked_variables offers);
-    moves = λ values next h. rw (taken-supplied data_.signature values next (sorts_of (asked_variables offers)) chosen sorted h) (rw (map-as_given chosen) refl);
+    moves = λ values next h. rw (taken-supplied data_.signature values next (sorts_of (asked_variables offers)) chosen sorted h)
+        (rw (map-as_given chosen) refl);
     sorted = sorted;
     holds = holds;
   }
-  found (acts_inside b) = record { shape = inner_step; leaves = []; asked = []; sorts = []; moves = λ values next h. refl; sorted = tt; holds = tt }
+  found (acts_inside b) = record {
+    shape = inner_step;
+    leaves = [];
+    asked = [];
+    sorts = [];
+    moves = λ values next h. refl;
+    sorted = tt;
+    holds = tt;
+  }
   found (guard_holds {test = test} holds t) = let f = found t in record {
     shape = guarded f.shape;
     leaves = f.leaves;
@@ -82,8 +96,24 @@ module _ (data_ : Data) (processes : List Process) where
     sorted = f.sorted;
     holds = (holds, f.holds);
   }
-  found (chooses_left t) = let f = found t in record { shape = left_side f.shape; leaves = f.leaves; asked = f.asked; sorts = f.sorts; moves = f.moves; sorted = f.sorted; holds = f.holds }
-  found (chooses_right t) = let f = found t in record { shape = right_side f.shape; leaves = f.leaves; asked = f.asked; sorts = f.sorts; moves = f.moves; sorted = f.sorted; holds = f.holds }
+  found (chooses_left t) = let f = found t in record {
+    shape = left_side f.shape;
+    leaves = f.leaves;
+    asked = f.asked;
+    sorts = f.sorts;
+    moves = f.moves;
+    sorted = f.sorted;
+    holds = f.holds;
+  }
+  found (chooses_right t) = let f = found t in record {
+    shape = right_side f.shape;
+    leaves = f.leaves;
+    asked = f.asked;
+    sorts = f.sorts;
+    moves = f.moves;
+    sorted = f.sorted;
+    holds = f.holds;
+  }
   found (left_alone {meet = meet} {c = c} t outside) = let f = found t in record {
     shape = left_side f.shape;
     leaves = f.leaves;
@@ -155,7 +185,8 @@ module _ (data_ : Data) (processes : List Process) where
     leaves = f.leaves;
     asked = f.asked;
     sorts = f.sorts;
-    moves = λ values next h. ap (option_and_then (λ (m : Move). enabling data_.signature variables c m m.label)) (f.moves values next h) ∙ rw have refl;
+    moves = λ values next h. ap (option_and_then (λ (m : Move). enabling data_.signature variables c m m.label)) (f.moves values next h)
+        ∙ rw have refl;
     sorted = f.sorted;
     holds = f.holds;
   }
@@ -177,7 +208,15 @@ module _ (data_ : Data) (processes : List Process) where
     sorted = f.sorted;
     holds = f.holds;
   }
-  found (disables t) = let f = found t in record { shape = right_side f.shape; leaves = f.leaves; asked = f.asked; sorts = f.sorts; moves = f.moves; sorted = f.sorted; holds = f.holds }
+  found (disables t) = let f = found t in record {
+    shape = right_side f.shape;
+    leaves = f.leaves;
+    asked = f.asked;
+    sorts = f.sorts;
+    moves = f.moves;
+    sorted = f.sorted;
+    holds = f.holds;
+  }
   found (lets {bindings = bindings} {b = b} t) = let f = found t in record {
     shape = let_bound f.shape;
     leaves = f.leaves;
@@ -219,7 +258,8 @@ module _ (data_ : Data) (processes : List Process) where
     leaves = f.leaves;
     asked = f.asked;
     sorts = f.sorts;
-    moves = λ values next h. rw at (rw (map-as_given arguments) (ap (option_map (relabelling (zip process.gates gates))) (f.moves values next h)));
+    moves = λ values next h. rw at (rw (map-as_given arguments)
+        (ap (option_map (relabelling (zip process.gates gates))) (f.moves values next h)));
     sorted = f.sorted;
     holds = f.holds;
   }

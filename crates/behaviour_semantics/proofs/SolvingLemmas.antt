@@ -5,7 +5,8 @@ use Rattle.behaviour_semantics.specs.Draft.{Draft}
 use Rattle.behaviour_semantics.specs.Solving.{Entry, SolvesTo, unsolvable, settled, replacing, tidied, replaced}
 use Rattle.behaviour_semantics.proofs.OptionLemmas.{some_value}
 
-pub determined : {canon : Term → Term} {draft : Draft} {outcome other : Option Entry} → SolvesTo canon draft outcome → SolvesTo canon draft other → outcome ≡ other
+pub determined : {canon : Term → Term} {draft : Draft} {outcome other : Option Entry} → SolvesTo canon draft outcome
+    → SolvesTo canon draft other → outcome ≡ other
 determined (unsolvable draft closed) (unsolvable draft' closed') = refl
 determined (unsolvable draft closed) (settled draft' not_closed none) = absurd (cc (closed, not_closed))
 determined (unsolvable draft closed) (replacing draft' found outcome not_closed some rest) = absurd (cc (closed, not_closed))

@@ -10,7 +10,8 @@ use Rattle.behaviour_semantics.specs.Label.{Label, inner_event, gate_event, exit
 -- The terms are equal whatever ground terms of their sorts are put for the variables that occur in them, the same
 -- ones in both.
 abbrev pub AlikeTerms : Data → Term → Term → Type 0
-AlikeTerms data_ t u = (values : Substitution) → IsGrounding data_.signature t values → IsGrounding data_.signature u values → Equal data_ (substituted values t) (substituted values u)
+AlikeTerms data_ t u = (values : Substitution) → IsGrounding data_.signature t values → IsGrounding data_.signature u values
+    → Equal data_ (substituted values t) (substituted values u)
 
 abbrev pub AllAlike : Data → List Term → List Term → Type 0
 AllAlike data_ [] [] = Unit {0}
@@ -49,7 +50,8 @@ AlikeLabels data_ _ _ = ⊥
 abbrev pub Alike : Data → Behaviour → Behaviour → Type 0
 Alike data_ stop stop = Unit {0}
 Alike data_ (exit_with results) (exit_with others) = AlikeResults data_ results others
-Alike data_ (action g offers test b) (action h others test' c) = (g ≡ h) × AlikeOffers data_ offers others × AlikeOptions data_ test test' × Alike data_ b c
+Alike data_ (action g offers test b) (action h others test' c) = (g ≡ h) × AlikeOffers data_ offers others × AlikeOptions data_ test test'
+    × Alike data_ b c
 Alike data_ (inner_action b) (inner_action c) = Alike data_ b c
 Alike data_ (guard test b) (guard test' c) = AlikeTests data_ test test' × Alike data_ b c
 Alike data_ (choice b c) (choice b' c') = Alike data_ b b' × Alike data_ c c'
@@ -57,10 +59,12 @@ Alike data_ (parallel meet b c) (parallel meet' b' c') = (meet ≡ meet') × Ali
 Alike data_ (hide gates b) (hide gates' c) = (gates ≡ gates') × Alike data_ b c
 Alike data_ (enable b xs c) (enable b' xs' c') = Alike data_ b b' × (xs ≡ xs') × Alike data_ c c'
 Alike data_ (disable b c) (disable b' c') = Alike data_ b b' × Alike data_ c c'
-Alike data_ (let_be bindings b) (let_be others c) = (let_variables bindings ≡ let_variables others) × AllAlike data_ (let_terms bindings) (let_terms others) × Alike data_ b c
+Alike data_ (let_be bindings b) (let_be others c) = (let_variables bindings ≡ let_variables others)
+    × AllAlike data_ (let_terms bindings) (let_terms others) × Alike data_ b c
 Alike data_ (choose_value x b) (choose_value y c) = (x ≡ y) × Alike data_ b c
 Alike data_ (choose_gate g gates b) (choose_gate h gates' c) = (g ≡ h) × (gates ≡ gates') × Alike data_ b c
 Alike data_ (par_gate g gates meet b) (par_gate h gates' meet' c) = (g ≡ h) × (gates ≡ gates') × (meet ≡ meet') × Alike data_ b c
-Alike data_ (call number gates arguments) (call number' gates' arguments') = (number ≡ number') × (gates ≡ gates') × AllAlike data_ arguments arguments'
+Alike data_ (call number gates arguments) (call number' gates' arguments') = (number ≡ number') × (gates ≡ gates')
+    × AllAlike data_ arguments arguments'
 Alike data_ (relabel pairs b) (relabel pairs' c) = (pairs ≡ pairs') × Alike data_ b c
 Alike data_ _ _ = ⊥

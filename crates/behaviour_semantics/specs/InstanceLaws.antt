@@ -20,7 +20,8 @@ pub record Instance (data_ : Data) (processes : List Process) (b : Behaviour) (d
   pub labels : EqualLabels data_ (label_with (leaves_in values) draft.label) label
 
 -- The draft of a derivation's shape, which its leaves meet, and with whose label its label is equal.
-pub record DraftOf (data_ : Data) (canon : Term → Term) (processes : List Process) (b : Behaviour) (d : Derivation) (label : Label) : Type 0 where
+pub record DraftOf (data_ : Data) (canon : Term → Term) (processes : List Process) (b : Behaviour) (d : Derivation) (label : Label) : Type
+    0 where
   pub draft : Draft
   pub is_draft : draft_of data_ canon processes d.shape b ≡ Some draft
   pub meets : MeetsDraft data_ draft d.leaves
@@ -48,14 +49,16 @@ pub record DraftsAreDerivations : Type 0 where
       DraftOf data_ canon specification.processes b d label
 
 -- A derivation's move with canonical values, alike one with values as they are given.
-pub record CanonicalForDerived (data_ : Data) (canon : Term → Term) (processes : List Process) (b : Behaviour) (d : Derivation) (label : Label) (target : Behaviour) : Type 0 where
+pub record CanonicalForDerived (data_ : Data) (canon : Term → Term) (processes : List Process) (b : Behaviour) (d : Derivation)
+    (label : Label) (target : Behaviour) : Type 0 where
   pub kept_label : Label
   pub kept_target : Behaviour
   pub keeps : DerivesCanonically data_ canon processes b d kept_label kept_target
   pub labels : AlikeLabels data_ kept_label label
   pub targets : Alike data_ kept_target target
 
-pub record DerivedForCanonical (data_ : Data) (canon : Term → Term) (processes : List Process) (b : Behaviour) (d : Derivation) (label : Label) (target : Behaviour) : Type 0 where
+pub record DerivedForCanonical (data_ : Data) (canon : Term → Term) (processes : List Process) (b : Behaviour) (d : Derivation)
+    (label : Label) (target : Behaviour) : Type 0 where
   pub derived_label : Label
   pub derived_target : Behaviour
   pub derives : Derives data_ processes b d derived_label derived_target

@@ -60,7 +60,8 @@ pub record ListedDraftsAreTheDrafts : Type 0 where
 -- the drafts of a list, solved one by one, are the exact menu
 abbrev pub SolvedListsAreExact : Type 0
 SolvedListsAreExact =
-    (data_ : Data) (canon : Term → Term) (specification : Specification) (b : Behaviour) (depth : ℕ) (drafts : List Draft) (entries : List Entry) →
+    (data_ : Data) (canon : Term → Term) (specification : Specification) (b : Behaviour) (depth : ℕ) (drafts : List Draft)
+    (entries : List Entry) →
     AreOver data_ canon specification b →
     listed_drafts data_ canon specification.processes depth b ≡ Some drafts →
     AllSolveTo canon drafts entries →

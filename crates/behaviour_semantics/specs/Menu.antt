@@ -71,7 +71,8 @@ pub record Exact (data_ : Data) (canon : Term → Term) (processes : List Proces
       IsEntry entries entry →
       (values : List Term) →
       Meets data_ entry values →
-      (label : Label) × (target : Behaviour) × Derives data_ processes b (derivation_at entry values) label target × EqualLabels data_ (label_at entry values) label
+      (label : Label) × (target : Behaviour) × Derives data_ processes b (derivation_at entry values) label target
+      × EqualLabels data_ (label_at entry values) label
   -- each derivation has its entry
   pub complete :
       (d : Derivation) (label : Label) (target : Behaviour) →

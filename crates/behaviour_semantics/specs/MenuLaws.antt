@@ -15,7 +15,8 @@ use Rattle.behaviour_semantics.specs.WellFormed.{AreOver}
 
 -- The list is made as a menu is: its shapes rise and fit, and it has the solved form of each draft that has one, and
 -- nothing else.
-pub record IsSolvedMenu (data_ : Data) (canon : Term → Term) (processes : List Process) (b : Behaviour) (entries : List Entry) : Type 0 where
+pub record IsSolvedMenu (data_ : Data) (canon : Term → Term) (processes : List Process) (b : Behaviour) (entries : List Entry) : Type
+    0 where
   pub rising : Rise entries
   pub fitting : (entry : Entry) → IsEntry entries entry → Fits data_ canon processes b entry.shape
   pub solved :
@@ -64,7 +65,8 @@ pub record SolvingKeepsTheValues : Type 0 where
       SolvesTo canon draft (Some entry) →
       (values : List Term) →
       Meets data_ entry values →
-      MeetsDraft data_ draft (derivation_at entry values).leaves × EqualLabels data_ (label_at entry values) (label_with (leaves_in (derivation_at entry values).leaves) draft.label)
+      MeetsDraft data_ draft (derivation_at entry values).leaves
+      × EqualLabels data_ (label_at entry values) (label_with (leaves_in (derivation_at entry values).leaves) draft.label)
   -- leaves that meet the draft come from values that meet the entry, up to equality, with an equal label
   pub complete :
       (data_ : Data) (canon : Term → Term) (specification : Specification) (b : Behaviour) →
@@ -74,7 +76,8 @@ pub record SolvingKeepsTheValues : Type 0 where
       SolvesTo canon draft (Some entry) →
       (leaves : List Term) →
       MeetsDraft data_ draft leaves →
-      (values : List Term) × Meets data_ entry values × EqualTerms data_ (derivation_at entry values).leaves leaves × EqualLabels data_ (label_at entry values) (label_with (leaves_in leaves) draft.label)
+      (values : List Term) × Meets data_ entry values × EqualTerms data_ (derivation_at entry values).leaves leaves
+      × EqualLabels data_ (label_at entry values) (label_with (leaves_in leaves) draft.label)
 
 -- Each variable of the entry stands at a leaf of its own, in order, and its value is equal to the derivation's value at
 -- that leaf.

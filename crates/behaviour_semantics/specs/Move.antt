@@ -133,7 +133,8 @@ right_move moves _ = None
 -- The right side's leaves come after those of the left side.
 abbrev pub both_move : Setting → ℕ → (Behaviour → Option Move) → (ℕ → Behaviour → Option Move) → Behaviour → Option Move
 both_move setting next left_moves right_moves (parallel meet b c) =
-    option_and_then (λ (m : Move). option_and_then (together setting.signature meet m) (right_moves (next + length m.sorts) c)) (left_moves b)
+    option_and_then (λ (m : Move). option_and_then (together setting.signature meet m) (right_moves (next + length m.sorts) c))
+    (left_moves b)
 both_move setting next left_moves right_moves _ = None
 
 abbrev pub hidden_move : (Behaviour → Option Move) → Behaviour → Option Move

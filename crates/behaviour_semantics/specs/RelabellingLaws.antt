@@ -21,7 +21,8 @@ pub record ComposedRelabellingsAgree : Type 0 where
       label_under (then_relabelling first second) label ≡ label_under second (label_under first label)
   pub transitions :
       (data_ : Data) (processes : List Process) (first second : Relabelling) (b : Behaviour) (label : Label) →
-      HasLabel data_ processes (relabel second (relabel first b)) label ↔ HasLabel data_ processes (relabel (then_relabelling first second) b) label
+      HasLabel data_ processes (relabel second (relabel first b)) label
+      ↔ HasLabel data_ processes (relabel (then_relabelling first second) b) label
 
 -- The behaviour is a call.
 abbrev pub is_call : Behaviour → Bool
@@ -42,8 +43,11 @@ pub record UnderHasTheLabels : Type 0 where
       is_call b ≡ Bool.false →
       HasLabel data_ processes (relabel pairs b) label ↔ HasLabel data_ processes (under b pairs) label
   pub calls :
-      (data_ : Data) (processes : List Process) (pairs : Relabelling) (number : ℕ) (gates : List ℕ) (arguments : List Term) (process : Process) (label : Label) →
+      (data_ : Data) (processes : List Process) (pairs : Relabelling) (number : ℕ) (gates : List ℕ) (arguments : List Term)
+      (process : Process) (label : Label) →
       slice_get processes number ≡ Some process →
       length process.gates ≡ length gates →
-      ((inner : Label) → HasLabel data_ processes (with_values (binding_of process.parameters arguments) process.body) inner → HasGateIn process.gates inner) →
-      HasLabel data_ processes (relabel pairs (call number gates arguments)) label ↔ HasLabel data_ processes (under (call number gates arguments) pairs) label
+      ((inner : Label) → HasLabel data_ processes (with_values (binding_of process.parameters arguments) process.body) inner
+      → HasGateIn process.gates inner) →
+      HasLabel data_ processes (relabel pairs (call number gates arguments)) label
+      ↔ HasLabel data_ processes (under (call number gates arguments) pairs) label

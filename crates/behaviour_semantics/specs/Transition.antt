@@ -24,7 +24,8 @@ module _ (data_ : Data) (processes : List Process) where
         (g : ℕ) (offers : List Offer) (test : Option Test) (b : Behaviour) (chosen : List Term) →
         AreValues data_.signature (sorts_of (asked_variables offers)) chosen →
         AllHold data_ (tests_of (binding_of (asked_variables offers) chosen) test) →
-        Transition (action g offers test b) (gate_event g (offered as_given offers chosen)) (with_values (binding_of (asked_variables offers) chosen) b)
+        Transition (action g offers test b) (gate_event g (offered as_given offers chosen))
+        (with_values (binding_of (asked_variables offers) chosen) b)
     -- `i; B`
     acts_inside :
         (b : Behaviour) →

@@ -67,7 +67,8 @@ IsSynchronisationSet names all_gates = Unit {0}
 IsSynchronisationSet names (at_gates gates) = AreGates names gates
 
 -- The call's process exists and is given its number of gates and values of its parameters' sorts.
-pub record IsCall (signature : Signature) (processes : List Process) (scope : List Variable) (number : ℕ) (gates : List ℕ) (arguments : List Term) : Type 0 where
+pub record IsCall (signature : Signature) (processes : List Process) (scope : List Variable) (number : ℕ) (gates : List ℕ)
+    (arguments : List Term) : Type 0 where
   pub process : Process
   pub exists : slice_get processes number ≡ Some process
   pub gate_count : length gates ≡ length process.gates
@@ -84,23 +85,31 @@ IsBehaviour signature names processes scope stop = Unit {0}
 IsBehaviour signature names processes scope (exit_with results) = Every (IsExitValue signature scope) results
 IsBehaviour signature names processes scope (action g offers test b) =
     let inside : List Variable = asked_variables offers ++ scope in
-    (g < names) × Every (IsOffer signature scope) offers × AreBinders signature (asked_variables offers) × IsTestOption signature inside test × IsBehaviour signature names processes inside b
+    (g < names) × Every (IsOffer signature scope) offers × AreBinders signature (asked_variables offers)
+    × IsTestOption signature inside test × IsBehaviour signature names processes inside b
 IsBehaviour signature names processes scope (inner_action b) = IsBehaviour signature names processes scope b
 IsBehaviour signature names processes scope (guard test b) = IsTestIn signature scope test × IsBehaviour signature names processes scope b
-IsBehaviour signature names processes scope (choice b c) = IsBehaviour signature names processes scope b × IsBehaviour signature names processes scope c
+IsBehaviour signature names processes scope (choice b c) = IsBehaviour signature names processes scope b
+    × IsBehaviour signature names processes scope c
 IsBehaviour signature names processes scope (parallel meet b c) = IsSynchronisationSet names meet
     × IsBehaviour signature names processes scope b × IsBehaviour signature names processes scope c
 IsBehaviour signature names processes scope (hide gates b) = AreGates names gates × IsBehaviour signature names processes scope b
 IsBehaviour signature names processes scope (enable b variables c) =
-    IsBehaviour signature names processes scope b × AreBinders signature variables × IsBehaviour signature names processes (variables ++ scope) c
-IsBehaviour signature names processes scope (disable b c) = IsBehaviour signature names processes scope b × IsBehaviour signature names processes scope c
+    IsBehaviour signature names processes scope b × AreBinders signature variables
+    × IsBehaviour signature names processes (variables ++ scope) c
+IsBehaviour signature names processes scope (disable b c) = IsBehaviour signature names processes scope b
+    × IsBehaviour signature names processes scope c
 IsBehaviour signature names processes scope (let_be bindings b) =
-    AreBinders signature (let_variables bindings) × AreTermsIn signature scope (let_variables bindings) (let_terms bindings) × IsBehaviour signature names processes (let_variables bindings ++ scope) b
-IsBehaviour signature names processes scope (choose_value x b) = IsSort signature x.sort × IsBehaviour signature names processes (x ∷ scope) b
-IsBehaviour signature names processes scope (choose_gate g gates b) = (g < names) × AreGates names gates × IsBehaviour signature names processes scope b
+    AreBinders signature (let_variables bindings) × AreTermsIn signature scope (let_variables bindings) (let_terms bindings)
+    × IsBehaviour signature names processes (let_variables bindings ++ scope) b
+IsBehaviour signature names processes scope (choose_value x b) = IsSort signature x.sort
+    × IsBehaviour signature names processes (x ∷ scope) b
+IsBehaviour signature names processes scope (choose_gate g gates b) = (g < names) × AreGates names gates
+    × IsBehaviour signature names processes scope b
 IsBehaviour signature names processes scope (par_gate g gates meet b) = (g < names) × (gates ≢ []) × AreGates names gates
     × IsSynchronisationSet names meet × IsBehaviour signature names processes scope b
-IsBehaviour signature names processes scope (call number gates arguments) = AreGates names gates × IsCall signature processes scope number gates arguments
+IsBehaviour signature names processes scope (call number gates arguments) = AreGates names gates
+    × IsCall signature processes scope number gates arguments
 IsBehaviour signature names processes scope (relabel pairs b) = IsRelabelling names pairs × IsBehaviour signature names processes scope b
 
 -- The behaviour is closed and well formed over the specification: no variable is free in it.
@@ -114,7 +123,8 @@ IsFunctionality signature (Some sorts) = Every (IsSort signature) sorts
 
 -- A heading and its body are well formed: distinct formal gates with names, parameters with distinct numbers and
 -- sorts of the signature, which alone are free in the body.
-pub record IsDefinition (signature : Signature) (names : ℕ) (processes : List Process) (gates : List ℕ) (parameters : List Variable) (exit : Option (List ℕ)) (body : Behaviour) : Type 0 where
+pub record IsDefinition (signature : Signature) (names : ℕ) (processes : List Process) (gates : List ℕ) (parameters : List Variable)
+    (exit : Option (List ℕ)) (body : Behaviour) : Type 0 where
   pub distinct_gates : AreDistinct gates
   pub named_gates : AreGates names gates
   pub binders : AreBinders signature parameters
@@ -123,8 +133,10 @@ pub record IsDefinition (signature : Signature) (names : ℕ) (processes : List 
 
 -- The specification is well formed over the signature: its heading and body are, and those of each process.
 pub record IsSpecification (signature : Signature) (specification : Specification) : Type 0 where
-  pub whole : IsDefinition signature (length specification.gate_names) specification.processes specification.gates specification.parameters specification.exit specification.body
-  pub each : Every (λ (p : Process). IsDefinition signature (length specification.gate_names) specification.processes p.gates p.parameters p.exit p.body) specification.processes
+  pub whole : IsDefinition signature (length specification.gate_names) specification.processes specification.gates specification.parameters
+      specification.exit specification.body
+  pub each : Every (λ (p : Process). IsDefinition signature (length specification.gate_names) specification.processes p.gates p.parameters
+      p.exit p.body) specification.processes
 
 -- The label is closed and well formed over the specification: its gate has a name, and its values are ground terms of
 -- the signature.

@@ -1,4 +1,5 @@
-//! Terms, labels and behaviours that are alike. The function carries one law as its contract and does nothing.
+//! Terms, labels and behaviours that are alike. The function carries one law as its contract and
+//! does nothing.
 
 ghost use Rattle.behaviour_semantics.specs.AlikeLaws.{ClosedAlikeIsEqual};
 

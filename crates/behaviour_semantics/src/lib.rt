@@ -1,4 +1,5 @@
-//! The dynamic semantics of LOTOS behaviours (ISO 8807:1989): moves, drafts and exact menus, over plain values.
+//! The dynamic semantics of LOTOS behaviours (ISO 8807:1989): moves, drafts and exact menus, over
+//! plain values.
 #![tactic(auto)]
 
 pub mod alike;

@@ -1,4 +1,5 @@
-//! Lists of moves, of drafts and of entries. Each function carries one law as its contract and does nothing.
+//! Lists of moves, of drafts and of entries. Each function carries one law as its contract and does
+//! nothing.
 
 ghost use Rattle.behaviour_semantics.specs.ListingLaws.{ListedMovesAreTheMoves, ListedDraftsAreTheDrafts, SolvedListsAreExact, GuardedListsEnd, GuardedBehavioursHaveAMenu};
 

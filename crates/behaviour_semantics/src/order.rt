@@ -1,4 +1,5 @@
-//! The order of shapes and exact menus. Each function carries one law as its contract and does nothing.
+//! The order of shapes and exact menus. Each function carries one law as its contract and does
+//! nothing.
 
 ghost use Rattle.behaviour_semantics.specs.OrderLaws.{BeforeIsAStrictOrder, FittingShapesAreOrdered, AtMostOneMenuIsExact};
 

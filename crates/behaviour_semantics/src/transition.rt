@@ -1,4 +1,5 @@
-//! The table of moves and the rules of the standard. Each function carries one law as its contract and does nothing.
+//! The table of moves and the rules of the standard. Each function carries one law as its contract
+//! and does nothing.
 
 ghost use Rattle.behaviour_semantics.specs.TransitionLaws.{TransitionsAreDerived, MovesAreDetermined};
 

@@ -39,7 +39,8 @@ no_more_pairs variables i j rest e =
     ∙ sym (zip_nothing (map number_of (drop j variables)) (reverse rest) (ap reverse e))
 
 -- What is popped from a list is none where it is empty.
-none_popped : (popped : Option Sorted) (n : ℕ) (rest : List Sorted) → (IsSome popped ↔ (0 < n)) → n ≡ length rest → popped ≡ None → rest ≡ []
+none_popped : (popped : Option Sorted) (n : ℕ) (rest : List Sorted) → (IsSome popped ↔ (0 < n)) → n ≡ length rest → popped ≡ None
+    → rest ≡ []
 none_popped popped n [] some long none = refl
 none_popped popped n (v ∷ rest) some long none =
     let there : IsSome popped = some.1 (omega arith) in absurd (cc (there, none))

@@ -20,13 +20,31 @@ SECOND = [None, "i", "i", "outp !0", "i", "outp !" + NUMBERS[2], "outp !" + NUMB
 STEPS = [("1 0", "inp !0"), ("1 Succ(0)", "inp !Succ(0)"), ("2", "i"), ("2", "outp !0"), ("2", "i"),
          ("1 Succ(0)", "inp !Succ(0)"), ("2", "outp !" + NUMBERS[2]), ("2", "i"),
          ("2", "outp !" + NUMBERS[3]), ("1 0", "inp !0"), ("2", "i"), ("2", "outp !" + NUMBERS[3])]
-TRACE = ["lotos-trace 1"] + [f"{given} => {label}" for given, label in STEPS]
+
+# The two sides behind each step: what the queue of Front is, and what Back gives next, and with what number it goes on.
+QUEUES = ["app(nil, 0)", "app(cons(0, nil), Succ(0))", "rest(cons(0, cons(Succ(0), nil)))", "rest(cons(0, cons(Succ(0), nil)))",
+          "rest(cons(Succ(0), nil))", "app(nil, Succ(0))", "app(nil, Succ(0))", "rest(cons(Succ(0), nil))",
+          "rest(cons(Succ(0), nil))", "app(nil, 0)", "rest(cons(0, nil))", "rest(cons(0, nil))"]
+NUMBERS_BEHIND = NUMBERS + ["Succ(Succ(Succ(Succ(0))))"]
+GIVES = [None, None, "0 + 0", None, "Succ(0) + Succ(0)", "Succ(0) + Succ(0)", None, "Succ(0) + " + NUMBERS[2], None, None,
+         "0 + " + NUMBERS[3], None]
+COUNTS = [0, 0, 1, 1, 2, 2, 2, 3, 3, 3, 4, 4]
+
+
+def side(gives, number):
+    """The process Back with this number; or the value that it gives before, under the names of its gates."""
+    if gives is None:
+        return f"Back[mid, outp]({number})"
+    return f"(relabel mid for b, outp for c in c !{gives}; Back[b, c]({number}))"
+
+
+STATES = [f"hide mid in Front[inp, mid]({queue}) |[mid]| {side(gives, NUMBERS_BEHIND[count])}"
+          for queue, gives, count in zip(QUEUES, GIVES, COUNTS)]
+TRACE = ["lotos-trace 2 Buffer"] + [line for (given, label), state in zip(STEPS, STATES)
+                                    for line in (f"{given} => {label}", f"at {state}")]
 
 # The behaviour behind eleven steps and behind twelve.
-SHOWN = {11: "hide mid in Front[inp, mid](rest(cons(0, nil))) |[mid]| (relabel mid for b, outp for c in "
-             "c !0 + Succ(Succ(Succ(0))); Back[b, c](Succ(Succ(Succ(Succ(0))))))",
-         12: "hide mid in Front[inp, mid](rest(cons(0, nil))) |[mid]| "
-             "Back[mid, outp](Succ(Succ(Succ(Succ(0)))))"}
+SHOWN = {11: STATES[10], 12: STATES[11]}
 
 
 def menu(steps):
@@ -79,7 +97,7 @@ def case(name, says, lines, report, status, kept):
     """`says` are the lines that tell what fails; `kept` is the number of steps of the trace that is left."""
     print("\n".join([f"\ncase {name}", "words run buffer.lotos", *says, "input", *("|" + line for line in lines), "prints",
                      *text_lines(report), f"status {status}"]))
-    print("\n".join(["leaves t", *("|" + line for line in TRACE[:kept + 1])]) if kept else "leaves t nothing")
+    print("\n".join(["leaves t", *("|" + line for line in TRACE[:2 * kept + 1])]) if kept else "leaves t nothing")
 
 
 def written(answers):

@@ -144,6 +144,8 @@ def types():
             "type A is sorts X endtype type B is sorts X endtype type D is sorts Y, ¶Y endtype", "204 DoubleSort", "Y")
     of_type("a clash of the flattened data before 301", "type A is sorts X endtype type ¶B is sorts X endtype",
             "204 DoubleSort", "B")
+    of_type("214 of the flattened data before 301",
+            "type A is sorts {32767*q\\#,}q32767 endtype\ntype ¶B is sorts {32769*z\\# }endtype", "214 TooLarge", "B")
 
 
 def scopes():
@@ -173,9 +175,15 @@ def orders():
     case("101 of an order file before 102 of it", "check s o", [clash, ("o", "f ¶$ (*")], "101 BadByte")
     case("102 of an order file before 104 of it", "check s o", [clash, ("o", "f ¶(*")], "102 OpenComment")
     case("104 of an order file before 501", "check s o", [clash, ("o", "h; f¶")], "104 Syntax")
+    case("104 of an order file before 503", "check s o", [clash, ("o", "_+_ up; f¶")], "104 Syntax")
     case("501 before 502 of the next item", "check s o", [clash, ("o", "_+_; ¶h; _+_;")], "501 OrderOperation", "h")
     case("502 before 501 of the next item", "check s o", [clash, ("o", "_+_; _¶+_; h;")], "502 TwiceListed", "+")
+    case("501 before 503 of one item", "check s o", [clash, ("o", "¶h up;")], "501 OrderOperation", "h")
+    case("502 before 503 of one item", "check s o", [clash, ("o", "_+_ left; _¶+_ up;")], "502 TwiceListed", "+")
+    case("503 before 501 of the next item", "check s o", [clash, ("o", "_+_ ¶up; h;")], "503 BadStatus", "up")
+    case("503 before 502 of the next item", "check s o", [clash, ("o", "_+_ ¶up; _+_;")], "503 BadStatus", "up")
     case("502 before 601", "check s o", [clash, ("o", "_+_; _¶+_;")], "502 TwiceListed", "+")
+    case("503 before 601", "check s o", [clash, ("o", "_+_ ¶up;")], "503 BadStatus", "up")
     both = UNJOINED.replace("x : N", "x, y : N").replace("= c;", "= c; ¶f(x) = f(y);")
     case("601 before 602", "check s", [("s", spec("stop", both))], "601 Unorientable", "f(x) = f(y)")
     unjoined = spec("stop", UNJOINED.replace("f(a)", "¶f(a)"))
@@ -195,7 +203,13 @@ def start_values():
     case("701 before 211", "check s with u", [of_two], ("refused 701 StartValues wanted 2 given 1", 1))
     case("211 of a word before 205 of the next", 'check s with ¶u "0 of Z"', [of_two], "211 UnknownName")
     case("212 of a word before 211 of the next", "check s with ¶true u", [of_two], "212 NoReading")
+    case("205 of a word before 211 of the next", 'check s with "0 of ¶Z" u', [of_two], "205 UnknownSort")
     case("211 before 212 of one word", 'check s with 0 "true + ¶u"', [of_two], "211 UnknownName")
+    case("205 before 212 of one word", 'check s with 0 "true + (0 of ¶Z)"', [of_two], "205 UnknownSort")
+    of_readings = "s", of_two[1].replace("behaviour", "type T is NaturalNumber sorts A, B opns c : -> A c : -> B "
+                                         "f : A -> Nat f : B -> Nat endtype behaviour")
+    case("213 of a word before 211 of the next", "check s with ¶f(c) u", [of_readings], "213 TwoReadings")
+    case("211 before 213 of one word", 'check s with 0 "f(c) + ¶u"', [of_readings], "211 UnknownName")
 
 
 print("# Runs with two faults that are neighbours in the order of faults: the first is told. (An order file has no")

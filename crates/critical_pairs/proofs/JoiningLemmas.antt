@@ -101,7 +101,8 @@ peaks_of signature rules found listed over k pair is =
 
 -- where one is, they are not
 pub unjoined_rules : (signature : Signature) (rules : Rules) (found : List Pair) (answer : Unjoined)
-    → ListsAll (rules_in rules) (pairs_in found) → ArePairsOver signature found → AnswersFirst (plain_rules_in rules) (pairs_in found) answer
+    → ListsAll (rules_in rules) (pairs_in found) → ArePairsOver signature found
+    → AnswersFirst (plain_rules_in rules) (pairs_in found) answer
     → AreUnjoinedBy signature (rules_in rules) answer.first answer.second (term_in answer.peak) (term_in answer.left)
     (term_in answer.right)
 unjoined_rules signature rules found answer listed over first =

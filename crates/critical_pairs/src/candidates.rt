@@ -11,9 +11,9 @@ use crate::places::NodePlace;
 use path_order::Rules;
 use term_rewriter::first_index::FirstIndex;
 
-/// The number of the first rule from this number on whose left side may overlap what stands at one of
-/// the places, if there is one: it has the operation of the place at its head, and the first argument
-/// does not begin with another operation than that at the place.
+/// The number of the first rule from this number on whose left side may overlap what stands at one
+/// of the places, if there is one: it has the operation of the place at its head, and the first
+/// argument does not begin with another operation than that at the place.
 pub fn next_candidate(
     rules: &Rules,
     index: &FirstIndex,
@@ -52,8 +52,8 @@ fn least_at(
     }
 }
 
-// The least number from this one on of the list, whose numbers rise, and of the one known before, if
-// there is one.
+// The least number from this one on of the list, whose numbers rise, and of the one known before,
+// if there is one.
 fn least(numbers: &[usize], from: usize, known: Option<usize>) -> Option<usize>
     requires { IsNonDecreasing numbers.now }
     ensures { result ≡ least_from from known numbers.now }

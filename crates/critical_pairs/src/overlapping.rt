@@ -21,8 +21,8 @@ use term_match::{apart, by_appearance, renumbered, subterm, unify};
 /// The critical pair of the two rules at the path in the left side of the first one, its variables
 /// numbered by first appearance in the peak; or `None` exactly where they have none there, which is
 /// where the path leads to no operation, or the part there and the left side of the second rule
-/// have no common instance, variables apart. The rules are over one signature. Operations that clash
-/// are seen before any memory is taken.
+/// have no common instance, variables apart. The rules are over one signature. Operations that
+/// clash are seen before any memory is taken.
 pub fn overlap(
     alloc: Global,
     first: &Rule,

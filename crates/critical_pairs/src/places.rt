@@ -10,8 +10,8 @@ use sort_terms::Term;
 use std::alloc::Global;
 use term_rewriter::first_index::first_operation;
 
-/// A place with an operation: its path, the number of the operation, and that of the operation at the
-/// head of its first argument.
+/// A place with an operation: its path, the number of the operation, and that of the operation at
+/// the head of its first argument.
 #[derive(Debug, Drop)]
 pub struct NodePlace {
     /// The path: argument positions from 0.

@@ -1,2 +1,6 @@
 mod FollowLemmas
 mod NumberLemmas
+pub mod GateLemmas
+pub mod ScopeLemmas
+pub mod DeclaredLemmas
+mod EntryLemmas

@@ -1,1 +1,4 @@
 pub mod DeclarationOrder
+pub mod VisibleGates
+pub mod DeclaredGates
+pub mod EntryGates

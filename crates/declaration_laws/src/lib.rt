@@ -1,4 +1,6 @@
-//! Nothing executable: declarations of gates and of variables are numbered in the order of the text.
+//! Nothing executable: laws of declarations. Gates and variables are numbered in the order of the
+//! text, and the events of a specification are at gates that it declares.
 #![tactic(auto)]
 
-pub mod laws;
+pub mod gates;
+pub mod numbers;

@@ -60,7 +60,9 @@ two_steps = record { situation = no_entries; steps = first_step ∷ second_step 
 
 -- The first menu counts, each menu counts once, and the last label is that of the last step.
 pub record SummariesHaveTexts : Type 0 where
-  pub no_steps : summary_text small_basis 7 begun ≡ codes "demo 7\ndata: 2 sorts, 5 operations, 0 equations\nsteps 0\nentries 2\nlast none\n"
+  pub no_steps :
+      summary_text small_basis 7 begun
+      ≡ codes "demo 7\ndata: 2 sorts, 5 operations, 0 equations\nsteps 0\nentries 2\nlast none\n"
   pub some_steps :
       summary_text small_basis 64 two_steps
       ≡ codes "demo 64\ndata: 2 sorts, 5 operations, 0 equations\nsteps 2\nentries 3\nlast h !Succ(0)\n"

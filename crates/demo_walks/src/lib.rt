@@ -1,5 +1,5 @@
-//! The text of a specification that is made from a number of cells, the walk through its session, and
-//! its summary.
+//! The text of a specification that is made from a number of cells, the walk through its session,
+//! and its summary.
 #![tactic(auto)]
 
 pub mod cases;

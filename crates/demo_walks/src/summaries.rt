@@ -26,13 +26,13 @@ use std::alloc::Global;
 /// Walks through the session, which has taken no step, and appends the summary of the walk.
 ///
 /// The walk has four rounds. In a round each cell, from 0 on, takes the step by the entry whose
-/// number is its own and two, with one value: 0 for the first cell, and 1 for each other one. Behind
-/// the rounds comes one step by the first entry, without values. A step that the session refuses is
-/// left out.
+/// number is its own and two, with one value: 0 for the first cell, and 1 for each other one.
+/// Behind the rounds comes one step by the first entry, without values. A step that the session
+/// refuses is left out.
 ///
-/// The summary has five lines: `demo` and the number of cells, the sizes of the data, `steps` and how
-/// many were taken, `entries` and the sum of the lengths of the menus at the start and behind each
-/// step, `last` and the last label, or `none`.
+/// The summary has five lines: `demo` and the number of cells, the sizes of the data, `steps` and
+/// how many were taken, `entries` and the sum of the lengths of the menus at the start and behind
+/// each step, `last` and the last label, or `none`.
 ///
 /// Refused for want of memory alone, and then the text is as it was.
 pub fn write_summary<M: MenuMaker>(

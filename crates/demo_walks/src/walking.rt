@@ -24,8 +24,8 @@ use session_log::{MenuMaker, Session, StepRefusal};
 use sort_terms::{Deciding, Sorted};
 use std::alloc::Global;
 
-/// Walks through the session: four rounds in which each cell puts its value, and then the store tells
-/// the length of its list. A step that the session refuses is left out.
+/// Walks through the session: four rounds in which each cell puts its value, and then the store
+/// tells the length of its list. A step that the session refuses is left out.
 pub fn walk<M: MenuMaker, D: Deciding>(
     alloc: Global,
     values: &CellValues,
@@ -141,7 +141,8 @@ fn step<M: MenuMaker, D: Deciding>(
     requires given { AreGiven (D.known_data data.old).signature values.items }
     ensures goes { OnOk result (Goes
         (basis_over (D.known_data data.old) (D.canon data.old) session.old.spec)
-        (record { number = number; values = Some (terms_of values.items) }) (reached session.old) (reached session.new)) }
+        (record { number = number; values = Some (terms_of values.items) }) (reached session.old)
+        (reached session.new)) }
     ensures on_walk_after { OnOk result (IsOnWalk M.suits (D.known_data data.old)
         (D.canon data.old) session.new tally.new) }
     ensures same_spec { session.new.spec ≡ session.old.spec }

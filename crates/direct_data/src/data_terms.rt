@@ -287,8 +287,8 @@ fn by_rules(alloc: Global, types: &[u8], question: &str) -> Result<String, Fail>
 }
 
 /// Types, and behind each of them questions with their answers. The first of two rules for one term
-/// is used, and arguments come first; the variables of a pair are numbered by their first appearance
-/// in its peak, and those of the two rules are kept apart.
+/// is used, and arguments come first; the variables of a pair are numbered by their first
+/// appearance in its peak, and those of the two rules are kept apart.
 const RULES: &str = "type T is sorts N opns _+_ : N, N -> N eqns forall x : N ofsort N x = x endtype
 pairs => 
 

@@ -1,6 +1,6 @@
-//! What only a direct call shows of data: names, terms, rules and the outside, with arguments that no
-//! run gives. It holds tests alone; whole runs are the cases of `case_tables`. Every answer was worked
-//! out by hand.
+//! What only a direct call shows of data: names, terms, rules and the outside, with arguments that
+//! no run gives. It holds tests alone; whole runs are the cases of `case_tables`. Every answer was
+//! worked out by hand.
 #![tactic(auto)]
 
 #[cfg(test)]
@@ -17,3 +17,5 @@ mod showing;
 mod stores;
 #[cfg(test)]
 mod unifiers;
+#[cfg(test)]
+mod value_lists_of_types;

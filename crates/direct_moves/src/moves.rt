@@ -1,5 +1,5 @@
-//! The slow program that lists moves: behaviours with their moves, worked out by hand, and drawn ones
-//! with those that the menus of the program have in the cases of `case_tables`
+//! The slow program that lists moves: behaviours with their moves, worked out by hand, and drawn
+//! ones with those that the menus of the program have in the cases of `case_tables`
 //! (`drawn_behaviours_1.cases`, `drawn_behaviours_2.cases`, where the words name the case).
 //!
 //! A line of a table is a behaviour and the labels of its moves in their order, with `=>` between

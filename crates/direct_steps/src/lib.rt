@@ -1,6 +1,6 @@
-//! What only a direct call shows of behaviours and sessions: derivations that no menu has, steps with
-//! values of another sort, and menus of large states. It holds tests alone; whole runs are the cases
-//! of `case_tables`.
+//! What only a direct call shows of behaviours and sessions: derivations that no menu has, steps
+//! with values of another sort, and menus of large states. It holds tests alone; whole runs are the
+//! cases of `case_tables`.
 #![tactic(auto)]
 
 #[cfg(test)]

@@ -1,7 +1,8 @@
 //! Small grammars, with the answers worked out by hand.
 //!
-//! A grammar is written as words, one for each row: its part and then its right side, parts in capitals and tokens in
-//! small letters, each by its place in the alphabet. A text is its tokens in small letters.
+//! A grammar is written as words, one for each row: its part and then its right side, parts in
+//! capitals and tokens in small letters, each by its place in the alphabet. A text is its tokens in
+//! small letters.
 
 ghost use Rattle.std.specs.Prelude.{◌≡◌, ◌<◌, All, IfOk, IsTrue};
 
@@ -89,8 +90,8 @@ fn check_agrees(alloc: Global, line: &str) -> Result<bool, AllocError> {
     Ok(shown.as_str() == answer)
 }
 
-/// Grammars that can be checked: an empty right side, chains of such, lists, brackets, optional parts, and parts that
-/// nothing reaches.
+/// Grammars that can be checked: an empty right side, chains of such, lists, brackets, optional
+/// parts, and parts that nothing reaches.
 const CHECKED: &str = "1|0|0|A|checked
 1|1|0|Aa|checked
 1|1|0|AaA A|checked
@@ -102,7 +103,8 @@ const CHECKED: &str = "1|0|0|A|checked
 3|3|0|AB Bb Cc|checked
 2|2|1|AaA Ab BA|checked";
 
-/// Grammars with a fault. Two rows begin with one token; a part never ends; a part begins with itself.
+/// Grammars with a fault. Two rows begin with one token; a part never ends; a part begins with
+/// itself.
 const ONE_FAULT: &str = "1|1|0|AaA Aa|conflict 0 0
 1|1|0|AaA|barren 0
 1|1|0|AAa Aa|left cycle 0
@@ -122,7 +124,8 @@ const ONE_FAULT: &str = "1|1|0|AaA Aa|conflict 0 0
 1|0|0|A A|conflict 0 0
 3|4|0|AB AC B C|conflict 0 4";
 
-/// The least part comes first, and of it the least token; a barren part before a left cycle before a conflict.
+/// The least part comes first, and of it the least token; a barren part before a left cycle before
+/// a conflict.
 const FIRST_FAULT: &str = "2|3|0|AcB AcB Ba Ba|conflict 0 2
 1|2|0|Ab Ab Aa Aa|conflict 0 0
 2|2|0|ABb AB Ba Bb|conflict 0 0
@@ -209,7 +212,8 @@ fn parse_agrees(alloc: Global, grammar: &Grammar, line: &str) -> Result<bool, Al
     Ok(shown.as_str() == answer)
 }
 
-/// The first line that a parse does not agree with, if there is one; a first line in words if there is no grammar.
+/// The first line that a parse does not agree with, if there is one; a first line in words if there
+/// is no grammar.
 fn disagreement<'a>(
     alloc: Global,
     rows: &str,

@@ -2,14 +2,16 @@
 //! small grammars, with arguments that no run gives, and the order in which a session reads and
 //! writes them. It holds tests alone; whole runs are the cases of `case_tables`.
 //!
-//! A table of trees has its cases in pairs of lines: a text, and its tree. How trees are printed stands
-//! in the modules whose names end in `page`. Every answer was worked out by hand.
+//! A table of trees has its cases in pairs of lines: a text, and its tree. How trees are printed
+//! stands in the modules whose names end in `page`. Every answer was worked out by hand.
 #![tactic(auto)]
 
 #[cfg(test)]
 mod behaviour_page;
 #[cfg(test)]
 mod behaviour_trees;
+#[cfg(test)]
+mod certificates;
 #[cfg(test)]
 mod definition_page;
 #[cfg(test)]

@@ -61,7 +61,8 @@ pub fn operation(page: &mut Page, name: &Name, form: Form) {
     page.text(mark);
 }
 
-/// Prints an item of an order file: `f@1`, or `f@1(A B -> C)` with its profile.
+/// Prints an item of an order file: `f@1`, or `f@1(A B -> C)` with its profile; with a status
+/// `f@1/right@3`.
 fn order_item(page: &mut Page, item: &OrderItem) {
     operation(page, &item.name, item.form);
     page.place(item.place);
@@ -74,6 +75,10 @@ fn order_item(page: &mut Page, item: &OrderItem) {
         page.text("-> ");
         page.name(&profile.result);
         page.text(")");
+    }
+    if let Some(status) = &item.status {
+        page.text("/");
+        page.placed(status.0, &status.1);
     }
 }
 

@@ -83,7 +83,7 @@ x - y of S - z of T
 f(*(*)(x)
 (f@1 x@8)";
 
-/// Items with and without a profile, placed at their names.
+/// Items with and without a profile and a status, placed at their names.
 const ITEMS: &str = "
 
 f;
@@ -101,7 +101,15 @@ f@1(A B -> N) _g_@17(A A -> A) 0@28(-> N) h@38
 F : a -> Bool; f;
 F@1(a -> Bool) f@16
 (* first *) f (* of *) : (* A *) A -> (* B *) B (* last *) ;
-f@13(A -> B)";
+f@13(A -> B)
+f right;
+f@1/right@3
+_+_ LEFT; + Up; left right;
+_+_@2/LEFT@5 +@11/Up@13 left@17/right@22
+f : A, B -> N left; g : -> N; h : -> N rights;
+f@1(A B -> N)/left@15 g@21(-> N) h@31(-> N)/rights@40
+_f_(* a *)right(* b *);
+_f_@2/right@11";
 
 #[test]
 fn terms_and_items_read_as_their_trees(rt: HostRuntime) -> Result<(), Fail> {

@@ -58,7 +58,8 @@ module _ (data_ : Data) (canon : Term → Term) (specification : Specification) 
       → IsWellFormedBelow data_ canon specification (let_variables bindings ++ scope)
       (binder_pairs canon (let_variables bindings) (let_terms bindings) pairs ++ pairs) base next b
   let_below bindings b h =
-      let whole : max (above_processes specification.processes) (max (above_variables (let_variables bindings)) (above b)) ≤ base = h.apart in
+      let whole : max (above_processes specification.processes) (max (above_variables (let_variables bindings)) (above b)) ≤ base =
+      h.apart in
       let bound : above_variables (let_variables bindings) ≤ base = omega (arith, whole) in
       let apart : max (above_processes specification.processes) (above b) ≤ base = omega (arith, whole) in
       record {
@@ -95,7 +96,8 @@ module _ (data_ : Data) (canon : Term → Term) (specification : Specification) 
 
   call_below : (number : ℕ) (gates : List ℕ) (arguments : List Term) (process : Process) → Below (call number gates arguments)
       → slice_get specification.processes number ≡ Some process
-      → IsWellFormedBelow data_ canon specification process.parameters (binder_pairs canon process.parameters arguments pairs) base next process.body
+      → IsWellFormedBelow data_ canon specification process.parameters (binder_pairs canon process.parameters arguments pairs) base next
+      process.body
   call_below number gates arguments process h is =
       let defined : Defined process = Every-at Defined specification.processes number process h.well_formed.each is in
       let fits : AreTermsIn data_.signature scope process.parameters arguments =
@@ -122,7 +124,8 @@ module _ (data_ : Data) (canon : Term → Term) (specification : Specification) 
       }
 
   -- ---- What a binder puts in under an environment.
-  put_below : (variables : List Variable) (terms : List Term) (b c : Behaviour) → Below c → above b ≤ base → above_variables variables ≤ base
+  put_below : (variables : List Variable) (terms : List Term) (b c : Behaviour) → Below c → above b ≤ base
+      → above_variables variables ≤ base
       → length terms ≡ length variables
       → with_values (binding_of variables terms) (with_values (without (numbers_of variables) (binding pairs)) b)
       ≡ with_values (binding (zip (numbers_of variables) terms ++ pairs)) b
@@ -136,7 +139,8 @@ module _ (data_ : Data) (canon : Term → Term) (specification : Specification) 
       → HasDrafts (setting_over data_ canon specification) base next (with_values (binding pairs) (let_be bindings b))
       (all_within let_bound drafts)
   let_drafts bindings b drafts h has =
-      let whole : max (above_processes specification.processes) (max (above_variables (let_variables bindings)) (above b)) ≤ base = h.apart in
+      let whole : max (above_processes specification.processes) (max (above_variables (let_variables bindings)) (above b)) ≤ base =
+      h.apart in
       let bound : above_variables (let_variables bindings) ≤ base = omega (arith, whole) in
       let low : above b ≤ base = omega (arith, whole) in
       let values : List Term = map canon (map (substituted (binding pairs)) (let_terms bindings)) in

@@ -102,7 +102,8 @@ module _ (setting : Setting) (base : ℕ) where
 
   body_below : (next : ℕ) (parts : Parts) (gates : List ℕ) (arguments : List Term) (o : Option Process) (process : Process)
       (drafts : List Draft) → o ≡ Some process
-      → AreDraftsOf base next (parts next (with_values (binding_of process.parameters (map setting.represent arguments)) process.body)) drafts
+      → AreDraftsOf base next (parts next (with_values (binding_of process.parameters (map setting.represent arguments)) process.body))
+      drafts
       → AreDraftsOf base next (called_below setting next parts gates arguments o) (all_relabelled called (zip process.gates gates) drafts)
   body_below next parts gates arguments None process drafts is h = absurd (cc is)
   body_below next parts gates arguments (Some found) process drafts is h =

@@ -67,7 +67,8 @@ module _ (setting : Setting) (leaves : Substitution) (depth next : ℕ) (b : Beh
 
   sound : (x : ShapedMove) → IsAmong x moves → move_of setting leaves x.shape next b ≡ Some x.move
   sound x a = Every-among (λ (y : ShapedMove). move_of setting leaves y.shape next b ≡ Some y.move) moves x
-      (subst (EachOf (λ (y : ShapedMove). move_of setting leaves y.shape next b ≡ Some y.move)) is (are_moves setting leaves depth next b)) a
+      (subst (EachOf (λ (y : ShapedMove). move_of setting leaves y.shape next b ≡ Some y.move)) is (are_moves setting leaves depth next b))
+      a
 
   complete : (x : ShapedMove) → move_of setting leaves x.shape next b ≡ Some x.move → IsAmong x moves
   complete x e = subst (Within x) is (listed setting leaves depth x.shape next b x.move e)
@@ -104,7 +105,8 @@ module _ (setting : Setting) (leaves : Substitution) (depth other next shift fir
       (raised_rise first shift moves (rise setting leaves depth next b moves is)) from_higher from_lower
 
 pub higher_raised : HigherListsAreRaised
-higher_raised data_ canon specification variables terms b is_canon well_formed binders inside base next shift depth other le le_variables over
+higher_raised data_ canon specification variables terms b is_canon well_formed binders inside base next shift depth other le le_variables
+    over
     moves others is higher =
     raised_list (record { signature = data_.signature; represent = canon; processes = specification.processes }) (leaves_from base) depth
     other next shift (base + next) (with_values (binding_of variables terms) b) moves others is higher

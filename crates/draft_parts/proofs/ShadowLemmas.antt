@@ -243,7 +243,8 @@ module _ (data_ : Data) (canon : Term → Term) (specification : Specification) 
   kept_inside : IsBehaviour data_.signature (length specification.gate_names) specification.processes scope b
       → IsBehaviour data_.signature (length specification.gate_names) specification.processes (let_variables kept) b
   kept_inside inside =
-      subst (λ (c : Behaviour). IsBehaviour data_.signature (length specification.gate_names) specification.processes (let_variables kept) c)
+      subst (λ (c : Behaviour). IsBehaviour data_.signature (length specification.gate_names) specification.processes (let_variables kept)
+      c)
       (unchanged b)
       (put_behaviour data_.signature (length specification.gate_names) specification.processes scope (let_variables kept) variable
       (λ n s at. inl (refl, kept_sorts n ∙ at)) b inside)

@@ -25,11 +25,13 @@ pub record PartsAreBelow (data_ : Data) (canon : Term → Term) (specification :
   pub of_choice :
       (b c : Behaviour) →
       IsWellFormedBelow data_ canon specification scope pairs base next (choice b c) →
-      IsWellFormedBelow data_ canon specification scope pairs base next b × IsWellFormedBelow data_ canon specification scope pairs base next c
+      IsWellFormedBelow data_ canon specification scope pairs base next b
+      × IsWellFormedBelow data_ canon specification scope pairs base next c
   pub of_parallel :
       (meet : SynchronisationSet) (b c : Behaviour) →
       IsWellFormedBelow data_ canon specification scope pairs base next (parallel meet b c) →
-      IsWellFormedBelow data_ canon specification scope pairs base next b × IsWellFormedBelow data_ canon specification scope pairs base next c
+      IsWellFormedBelow data_ canon specification scope pairs base next b
+      × IsWellFormedBelow data_ canon specification scope pairs base next c
   pub of_hide :
       (gates : List ℕ) (b : Behaviour) →
       IsWellFormedBelow data_ canon specification scope pairs base next (hide gates b) →
@@ -41,7 +43,8 @@ pub record PartsAreBelow (data_ : Data) (canon : Term → Term) (specification :
   pub of_disable :
       (b c : Behaviour) →
       IsWellFormedBelow data_ canon specification scope pairs base next (disable b c) →
-      IsWellFormedBelow data_ canon specification scope pairs base next b × IsWellFormedBelow data_ canon specification scope pairs base next c
+      IsWellFormedBelow data_ canon specification scope pairs base next b
+      × IsWellFormedBelow data_ canon specification scope pairs base next c
   pub of_gates :
       (g : ℕ) (gates : List ℕ) (b : Behaviour) →
       IsWellFormedBelow data_ canon specification scope pairs base next (choose_gate g gates b) →
@@ -67,7 +70,8 @@ pub record PartsAreBelow (data_ : Data) (canon : Term → Term) (specification :
       (number : ℕ) (gates : List ℕ) (arguments : List Term) (process : Process) →
       IsWellFormedBelow data_ canon specification scope pairs base next (call number gates arguments) →
       slice_get specification.processes number ≡ Some process →
-      IsWellFormedBelow data_ canon specification process.parameters (binder_pairs canon process.parameters arguments pairs) base next process.body
+      IsWellFormedBelow data_ canon specification process.parameters (binder_pairs canon process.parameters arguments pairs) base next
+      process.body
 
 -- the drafts of a binder below an environment are made of those of its part below the environment that it makes
 pub record BindersHaveTheirDrafts (data_ : Data) (canon : Term → Term) (specification : Specification) (scope : List Variable)

@@ -2,7 +2,8 @@
 
 ghost use Rattle.draft_parts.specs.ListLaws.{BothListsAreTheDrafts, RuleListsAreTheDrafts};
 
-/// What a rule makes of the drafts of the moves of a part are the drafts of the moves that it makes.
+/// What a rule makes of the drafts of the moves of a part are the drafts of the moves that it
+/// makes.
 pub fn rule_lists_are_the_drafts()
     ensures { RuleListsAreTheDrafts }
 {}

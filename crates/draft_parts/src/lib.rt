@@ -1,5 +1,5 @@
-//! Drafts of the moves of a behaviour: what each rule of the dynamic semantics makes of the drafts of
-//! its parts, and their lists (ISO 8807:1989, behaviour expressions).
+//! Drafts of the moves of a behaviour: what each rule of the dynamic semantics makes of the drafts
+//! of its parts, and their lists (ISO 8807:1989, behaviour expressions).
 #![tactic(auto)]
 
 pub mod action_laws;

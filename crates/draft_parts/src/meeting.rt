@@ -98,7 +98,8 @@ fn ended(draft: Draft) -> Result<Draft, NoMemory>
     })
 }
 
-/// Whether the values have the sorts of the variables, one by one, told by the profiles that they carry.
+/// Whether the values have the sorts of the variables, one by one, told by the profiles that they
+/// carry.
 pub fn have_sorts(values: &Vec<Sorted>, variables: &Vec<Variable>) -> bool
     ensures { result ≡ sorts_told (profiles_of values.now.items)
         (sorts_of (variables_of variables.now.items)) }

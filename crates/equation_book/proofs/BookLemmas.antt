@@ -38,15 +38,17 @@ use Rattle.termination_theory.specs.Orientation.{NumberedRule, IsOrientation}
 use Rattle.lotos_base.specs.WrittenTerm.{ListedOperation}
 use Rattle.path_order.specs.OrderFaultView.{IsOrderFault}
 use Rattle.path_order.specs.declared.order_fault.OrderFault.{OrderFault}
-use Rattle.path_order.specs.declared.order_fault.OrderFault.TheVariants.{UnknownOperation as OrderUnknown, TwiceListed as OrderTwice, NoMemory as OrderNoMemory}
+use Rattle.path_order.specs.declared.order_fault.OrderFault.TheVariants.{UnknownOperation as OrderUnknown, TwiceListed as OrderTwice, BadStatus as OrderStatus, NoMemory as OrderNoMemory}
 use Rattle.path_order.specs.OrderedBy.{IsPrecedenceBy}
 use Rattle.path_order.specs.PrecedenceView.{precedence_of}
 use Rattle.path_order.specs.declared.precedence.Precedence.{Precedence as CodePrecedence}
-use Rattle.equation_book.specs.Refusal.{SaysOfData, IsBookPrecedence, IsBookFault, IsBookFaultOver, IsOpenedBy, book_fault_of_order, book_fault_of_orientation, book_fault_of_pair}
+use Rattle.equation_book.specs.Refusal.{SaysOfData, IsBookFault, IsBookFaultOver, IsOpenedBy, book_fault_of_order, book_fault_of_orientation, book_fault_of_pair}
 use Rattle.equation_book.specs.declared.book_fault.BookFault.{BookFault}
-use Rattle.equation_book.specs.declared.book_fault.BookFault.TheVariants.{UnknownOperation as BookUnknown, TwiceListed as BookTwice, Unorientable as BookUnorientable, Unjoined as BookUnjoined, NoMemory as BookNoMemory}
-use Rattle.equation_book.specs.BookCanon.{book_canon, book_chooses, book_oriented}
-use Rattle.equation_book.specs.SortedSides.{AreSortedSides, sorted_sides}
+use Rattle.equation_book.specs.declared.book_fault.BookFault.TheVariants.{UnknownOperation as BookUnknown, TwiceListed as BookTwice, BadStatus as BookStatus, Unorientable as BookUnorientable, Unjoined as BookUnjoined, NoMemory as BookNoMemory}
+use Rattle.equation_book.specs.BookCanon.{book_canon}
+use Rattle.equation_book.specs.BookCanonFacts.{book_chooses, book_oriented}
+use Rattle.equation_book.specs.SortedSides.{AreSortedSides}
+use Rattle.equation_book.specs.SortedSidesFacts.{sorted_sides}
 use Rattle.equation_book.specs.declared.book.Book.{Book}
 
 -- a term of the data is of the signature of the rules, and the other way round
@@ -161,27 +163,24 @@ pub order_says : (items : List ListedOperation) (data_ : Data) (fault : OrderFau
     → IsBookFault items data_ (book_fault_of_order fault)
 order_says items data_ (OrderUnknown place name) is = is
 order_says items data_ (OrderTwice place name) is = is
+order_says items data_ (OrderStatus place name) is = is
 order_says items data_ OrderNoMemory is = tt
-
--- the precedence of the code is one of a book
-pub book_precedence : (items : List ListedOperation) (data_ : Data) (p : CodePrecedence)
-    → IsPrecedenceBy data_.signature items (precedence_of p) → IsBookPrecedence data_.signature items (precedence_of p)
-book_precedence items data_ p by = record { by_items = by; statuses = λ f. refl }
 
 -- what a fault of the data says
 pub data_says : (items : List ListedOperation) (data_ : Data) (p : CodePrecedence) (fault : BookFault)
     → IsPrecedenceBy data_.signature items (precedence_of p) → SaysOfData (precedence_of p) data_ fault → IsBookFault items data_ fault
 data_says items data_ p (BookUnknown place name) by is = absurd is
 data_says items data_ p (BookTwice place name) by is = absurd is
-data_says items data_ p (BookUnorientable equation) by is = (precedence_of p, book_precedence items data_ p by, is)
-data_says items data_ p (BookUnjoined first second peak left right) by is =
-    (precedence_of p, book_precedence items data_ p by, is)
+data_says items data_ p (BookStatus place name) by is = absurd is
+data_says items data_ p (BookUnorientable equation) by is = (precedence_of p, by, is)
+data_says items data_ p (BookUnjoined first second peak left right) by is = (precedence_of p, by, is)
 data_says items data_ p BookNoMemory by is = tt
 
 -- the terms of a fault are of the signature
 pub order_over : (signature : Signature) (fault : OrderFault) → IsBookFaultOver signature (book_fault_of_order fault)
 order_over signature (OrderUnknown place name) = tt
 order_over signature (OrderTwice place name) = tt
+order_over signature (OrderStatus place name) = tt
 order_over signature OrderNoMemory = tt
 
 pub orientation_over : (signature : Signature) (fault : OrientFault) → IsBookFaultOver signature (book_fault_of_orientation fault)

@@ -1,6 +1,7 @@
 //! Data with the confluent rules of their equations.
 
-ghost use Rattle.equation_book.specs.SortedSides.{AreSortedSides, AreSortedSides-prop};
+ghost use Rattle.equation_book.specs.SortedSides.{AreSortedSides};
+ghost use Rattle.equation_book.specs.SortedSidesFacts.{AreSortedSides-prop};
 ghost use Rattle.path_order.specs.RuleTest.{gives_rules};
 ghost use Rattle.path_order.specs.RulesView.{
   plain_rules_in,

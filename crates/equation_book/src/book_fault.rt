@@ -33,6 +33,13 @@ pub enum BookFault {
         /// The name in it.
         name: Name,
     },
+    /// An item of the order writes another name than `left` or `right` as its status.
+    BadStatus {
+        /// The place of that name.
+        place: Place,
+        /// That name.
+        name: Name,
+    },
     /// The sides of the equation differ, and neither is greater. It is the first such equation.
     Unorientable {
         /// The number of the equation, from 0.
@@ -66,6 +73,7 @@ impl From<OrderFault> for BookFault {
                 BookFault::UnknownOperation { place, name }
             }
             OrderFault::TwiceListed { place, name } => BookFault::TwiceListed { place, name },
+            OrderFault::BadStatus { place, name } => BookFault::BadStatus { place, name },
             OrderFault::NoMemory => BookFault::NoMemory,
         }
     }

@@ -1,6 +1,7 @@
 //! The equality of a book's data.
 
-ghost use Rattle.equation_book.specs.BookCanon.{book_canon, book_is_canon};
+ghost use Rattle.equation_book.specs.BookCanon.{book_canon};
+ghost use Rattle.equation_book.specs.BookCanonFacts.{book_is_canon};
 ghost use Rattle.sort_terms.specs.EquationView.{data_of};
 ghost use Rattle.sort_terms.specs.ProfiledTerm.{IsOf};
 ghost use Rattle.sort_terms.specs.SignatureView.{signature_of};

@@ -46,7 +46,8 @@ impl Book {
     }
 }
 
-// The confluent rules of the data, whose operations are ordered by the items, and a store over them.
+// The confluent rules of the data, whose operations are ordered by the items, and a store over
+// them.
 fn by_order(flat: &Flat, order: &[OrderItem]) -> Result<(Joined, Store), BookFault>
     requires { IsSortedFlat flat.now }
     ensures signature { IfOk result

@@ -8,5 +8,4 @@ pub mod Changing
 pub mod Finding
 pub mod Variables
 pub mod Instances
-pub mod Lacking
 pub mod HandedOn

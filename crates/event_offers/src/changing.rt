@@ -30,11 +30,11 @@ ghost use Rattle.lotos_base.specs.Signature.{Signature};
 ghost use Rattle.lotos_base.specs.Substitution.{substituted};
 
 use crate::drafts::Draft;
-use crate::occurrences::lacks;
 use crate::valued::Values;
 use behaviour_tree::Label;
 use lotos_base::NoMemory;
 use sort_terms::{Deciding, Sorted};
+use term_match::occurrence::occurs;
 
 /// The canonical form of the term, with another put for a variable before, if one is given. A term
 /// into which something is put is in canonical form already, so that one without the variable
@@ -71,11 +71,11 @@ fn settled<D: Deciding>(
         (λ t. IsOf (D.known_data decider.old).signature (profiled_in t)) }
     ensures same_known { KeepsData D.known_data D.canon decider.old decider.new }
 {
-    if lacks(term.term(), found.0) {
-        return term.copy();
+    if occurs(found.0, term.term()) {
+        let made = put_one(term, found)?;
+        return decider.normal(&made);
     }
-    let made = put_one(term, found)?;
-    decider.normal(&made)
+    term.copy()
 }
 
 // The term with another put for a variable.

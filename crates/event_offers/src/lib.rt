@@ -10,7 +10,6 @@ pub mod joining;
 pub mod labels;
 pub mod lists;
 pub mod menus;
-pub mod occurrences;
 pub mod renaming;
 pub mod replacements;
 pub mod shapes;

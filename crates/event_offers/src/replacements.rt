@@ -17,9 +17,8 @@ ghost use Rattle.std.specs.Prelude.{◌≡◌, ◌&&◌, IfOk, IfSome, nat_lt, N
 ghost use Rattle.lotos_base.specs.Signature.{Signature};
 ghost use Rattle.lotos_base.specs.Tests.{is_ground};
 
-use crate::occurrences::has_variable;
 use lotos_base::NoMemory;
-use sort_terms::{Sorted, Term};
+use sort_terms::{Sorted, Term, has_variable};
 
 /// Whether a condition has no variable.
 pub fn has_closed(conditions: &Vec<(Sorted, Sorted)>) -> bool

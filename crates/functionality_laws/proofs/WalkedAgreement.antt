@@ -356,5 +356,8 @@ no_disagreement sorted signs definitions = record {
     λ has. (without_any sorted signs signature names processes b has.0 over.terms has.1).0,
   );
   found = λ signature names processes scope b f over has. (without_any sorted signs signature names processes b f over.terms has).1;
-  whole = λ signature spec over. (whole_from sorted signs definitions signature spec over, whole_to sorted signs definitions signature spec over);
+  whole = λ signature spec over. (
+    whole_from sorted signs definitions signature spec over,
+    whole_to sorted signs definitions signature spec over,
+  );
 }

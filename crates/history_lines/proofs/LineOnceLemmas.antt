@@ -149,7 +149,7 @@ module _ (exact : ReplayIsExact) (standing : Standing) (told : Texts) (name : Li
   replay_once _ _ (is_refused text refusal stands short is) (is_long text' stands' long) f g =
       absurd (length_once text' text stands' stands long short)
   replay_once _ _ (is_refused text refusal stands short is) (is_refused text' refusal' stands' short' is') f g =
-      ap (λ (it : ReplayRefusal). says standing (refusal_in standing (no_replay it)))
+      ap (λ (it : ReplayRefusal). says standing (refusal_in standing (no_replay standing.basis.specification.name it)))
       (same_stop refusal refusal' (come_once text text' (stops refusal) (stops refusal') stands stands' is is'))
   replay_once _ _ (is_refused text refusal stands short is) (is_replayed text' new stands' short' is') f g =
       absurd (no_stop new refusal (come_once text' text (goes_on new) (stops refusal) stands' stands is' is))

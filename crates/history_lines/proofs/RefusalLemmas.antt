@@ -16,11 +16,11 @@ five_pieces before a b c d e =
     ∙ (ap (λ (it : List ℕ). it ++ e) (append_assoc before (a ++ b ++ c) d) ∙ append_assoc before (a ++ b ++ c ++ d) e)
 
 -- the line of a step that is refused, by its number
-pub step_added : (line : ℕ) (refusal : Option plain.StepRefusal) (code before after : List ℕ) → number_for refusal ≡ Some code
+pub step_added : (name : List ℕ) (line : ℕ) (refusal : Option plain.StepRefusal) (code before after : List ℕ) → number_for refusal ≡ Some code
     → after ≡ before ++ codes "refused 812 Step line " ++ decimal line ++ codes " " ++ code ++ codes "\n"
-    → IsSomeAnd (at_line line refusal) (λ (why : ReplayRefusal). after ≡ before ++ replay_refusal_text why.line why.why)
-step_added line None code before after e h = absurd (cc e)
-step_added line (Some refusal) code before after e h =
+    → IsSomeAnd (at_line line refusal) (λ (why : ReplayRefusal). after ≡ before ++ replay_refusal_text name why)
+step_added name line None code before after e h = absurd (cc e)
+step_added name line (Some refusal) code before after e h =
     h
     ∙ (five_pieces before (codes "refused 812 Step line ") (decimal line) (codes " ") code (codes "\n")
     ∙ ap (λ (it : List ℕ). before ++ (codes "refused 812 Step line " ++ decimal line ++ codes " " ++ it ++ codes "\n"))

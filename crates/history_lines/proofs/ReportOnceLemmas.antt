@@ -89,7 +89,8 @@ goes_and_quits e = cc e
 
 module _ (laws : LinesComeToOneThing) (begun : Beginning) (can : CanBegin begun) where
   same_answer : (standing : Standing) (line : List ℕ) (one other : Befallen) → IsReached begun standing → Tells standing.texts
-      → RequestComesTo standing (request_of line) one → RequestComesTo standing (request_of line) other → one.faulty ≡ false → other.faulty ≡ false
+      → RequestComesTo standing (request_of line) one → RequestComesTo standing (request_of line) other → one.faulty ≡ false
+      → other.faulty ≡ false
       → one ≡ other
   same_answer standing line one other reached tells h k f g =
       laws.once standing tells.told (request_of line) one other (reached_lawful begun standing can reached) tells.is h k f g

@@ -115,7 +115,8 @@ gives_undo before after faults text false is same kept printed =
 pub carried : (n : ℕ) (asked real : Request) → real ≡ asked → Carries n real → Carries n asked
 carried n asked real same h = subst (Carries n) same h
 
-pub for_request : {T E : Type 0} (result : Result T E) (before after : SessionMoment) (items : T → List ℕ) (asked real : Request) → real ≡ asked
+pub for_request : {T E : Type 0} (result : Result T E) (before after : SessionMoment) (items : T → List ℕ) (asked real : Request)
+    → real ≡ asked
     → MatchResult result (λ (line : T). GivesAnswer before asked (items line) after) (λ _. IsBeforeOrBehind before asked after)
     → MatchResult result (λ (line : T). GivesAnswer before real (items line) after) (λ _. IsBeforeOrBehind before real after)
 for_request {T} {E} result before after items asked real same h =
@@ -149,7 +150,8 @@ left_alone {T} {E} result before faults items is =
 
 -- a question of which the answer was added
 pub said_normal : (before after : Standing) (faults : ℕ) (terms start text : List ℕ) → start ≡ [] → after ≡ before
-    → AddsOutcome (IsNormalAnswer before.basis.data_.signature before.basis.canon terms) (normal_text before.basis.data_.signature) start text
+    → AddsOutcome (IsNormalAnswer before.basis.data_.signature before.basis.canon terms) (normal_text before.basis.data_.signature) start
+    text
     → GivesAnswer (moment_of before faults) (show_normal terms) text (moment_of after faults)
 said_normal before after faults terms start text none same adds =
     gives_said before after before faults faults (show_normal terms) text (normal_text before.basis.data_.signature adds.0)

@@ -6,7 +6,7 @@ use Rattle.lotos_base.specs.Outside.{Texts, Gets}
 use Rattle.line_server.specs.Request.{save, replay}
 use Rattle.session_histories.specs.Session.{SessionBasis, first_situation}
 use Rattle.session_histories.specs.Refusal as plain
-use Rattle.session_histories.specs.Replay.{ReplayRefusal, ReplayIs, goes_on, stops, bad_line, label_differs, step_refused}
+use Rattle.session_histories.specs.Replay.{ReplayRefusal, ReplayIs, goes_on, stops, bad_line, label_differs, state_differs, step_refused, in_line, other_specification}
 use Rattle.session_log.specs.RefusalView.{step_refusal_of, TellsReplay, TellsStepOf, At}
 use Rattle.session_log.specs.declared.refusals.StepRefusal.{StepRefusal}
 use Rattle.session_log.specs.declared.refusals.ReplayFault.{ReplayFault}
@@ -131,29 +131,30 @@ gives_replayed before after faults name got text count stands short comes same k
 pub gives_refused : (before after : Standing) (faults : ℕ) (name got text : List ℕ) (fault : ReplayFault)
     → StandsUnder before.texts name got → length got ≤ trace_limit
     → TellsReplay (λ why. ReplayIs before.basis (first_situation before.progress) got (stops why)) fault → after ≡ before
-    → AddsFault fault [] text → GivesAnswer (moment_of before faults) (replay name) text (moment_of after faults)
+    → AddsFault before.basis.specification.name fault [] text → GivesAnswer (moment_of before faults) (replay name) text (moment_of after faults)
 gives_refused before after faults name got text fault stands short told same adds = by fault told adds
   where
     here : (why : ReplayRefusal) → ReplayIs before.basis (first_situation before.progress) got (stops why)
-        → text ≡ replay_refusal_text why.line why.why → GivesAnswer (moment_of before faults) (replay name) text (moment_of after faults)
+        → text ≡ replay_refusal_text before.basis.specification.name why → GivesAnswer (moment_of before faults) (replay name) text (moment_of after faults)
     here why comes printed =
-        gives_said before after before faults faults (replay name) text (refusal_in before (no_replay why))
+        gives_said before after before faults faults (replay name) text (refusal_in before (no_replay before.basis.specification.name why))
         (is_refused got why stands short comes) refl printed same refl
 
     stepped : (line : ℕ) (refusal : StepRefusal)
         → TellsStepOf (At (λ why. ReplayIs before.basis (first_situation before.progress) got (stops why)) line) refusal
-        → IsSomeAnd (at_line line (step_refusal_of refusal)) (λ why. text ≡ [] ++ replay_refusal_text why.line why.why)
+        → IsSomeAnd (at_line line (step_refusal_of refusal)) (λ why. text ≡ [] ++ replay_refusal_text before.basis.specification.name why)
         → GivesAnswer (moment_of before faults) (replay name) text (moment_of after faults)
     stepped line refusal h added =
-        here (record { line = line; why = step_refused h.0 }) h.2
+        here (in_line line (step_refused h.0)) h.2
         (subst (λ (it : Option plain.StepRefusal). IsSomeAnd (at_line line it)
-        (λ (why : ReplayRefusal). text ≡ [] ++ replay_refusal_text why.line why.why)) h.1 added)
+        (λ (why : ReplayRefusal). text ≡ [] ++ replay_refusal_text before.basis.specification.name why)) h.1 added)
 
     by : (it : ReplayFault) → TellsReplay (λ why. ReplayIs before.basis (first_situation before.progress) got (stops why)) it
-        → AddsFault it [] text → GivesAnswer (moment_of before faults) (replay name) text (moment_of after faults)
-    by (replay_fault.BadLine line) h added = here (record { line = line; why = bad_line }) h added
-    by (replay_fault.LabelDiffers line kept found) h added =
-        here (record { line = line; why = label_differs kept.items found.items }) h added
+        → AddsFault before.basis.specification.name it [] text → GivesAnswer (moment_of before faults) (replay name) text (moment_of after faults)
+    by (replay_fault.BadLine line) h added = here (in_line line bad_line) h added
+    by (replay_fault.OtherSpecification kept) h added = here (other_specification kept.items) h added
+    by (replay_fault.LabelDiffers line kept found) h added = here (in_line line (label_differs kept.items found.items)) h added
+    by (replay_fault.StateDiffers line kept found) h added = here (in_line line (state_differs kept.items found.items)) h added
     by (replay_fault.Step line refusal) h added = stepped line refusal h added
     by replay_fault.NoMemory h added = absurd added
 

@@ -50,7 +50,8 @@ read_at signature scope term sort value none is_of read =
     }
 
 -- a term that is not read is told by its number
-told_misread : (Is : reading.ReadingRefusal → Type 0) (fault : SortFault) → UnlessNoMemory fault Is → TellsMisread Is (refused_for_term fault)
+told_misread : (Is : reading.ReadingRefusal → Type 0) (fault : SortFault) → UnlessNoMemory fault Is
+    → TellsMisread Is (refused_for_term fault)
 told_misread Is (sort_fault.UnknownSort place) is = (reading.unknown_sort _, is, refl)
 told_misread Is (sort_fault.UnknownName place) is = (reading.unknown_name _, is, refl)
 told_misread Is (sort_fault.NoReading place) is = (reading.no_reading _, is, refl)

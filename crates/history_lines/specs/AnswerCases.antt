@@ -4,7 +4,7 @@ use Rattle.lotos_base.specs.Outside.{Texts}
 use Rattle.behaviour_semantics.specs.Behaviour.{stop}
 use Rattle.session_histories.specs.Session.{opened}
 use Rattle.session_histories.specs.Refusal.{no_entry, value_count, unmet}
-use Rattle.session_histories.specs.Replay.{LineRefusal, bad_line, step_refused, label_differs}
+use Rattle.session_histories.specs.Replay.{LineRefusal, bad_line, step_refused, label_differs, state_differs, in_line, other_specification}
 use Rattle.session_histories.specs.RefusalCases.{small_basis, small_signature, small_menu, falsehood, truth}
 use Rattle.session_lines.specs.Refusal.{bad_command, bad_term}
 use Rattle.history_lines.specs.CommandRefusal.{CommandRefusal, ill_formed, no_step, unread, unwritten, trace_too_long, no_replay, command_refusal_text}
@@ -17,7 +17,7 @@ abbrev pub PrintsRefusal : CommandRefusal → List ℕ → Type 0
 PrintsRefusal refusal line = command_refusal_text small_signature refusal ≡ line
 
 abbrev pub replay_stopped : ℕ → LineRefusal → CommandRefusal
-replay_stopped line why = no_replay (record { line = line; why = why })
+replay_stopped line why = no_replay (codes "S") (in_line line why)
 
 -- The line of each refusal.
 pub record RefusalsHaveLines : Type 0 where
@@ -33,6 +33,12 @@ pub record RefusalsHaveLines : Type 0 where
   pub label :
       PrintsRefusal (replay_stopped 2 (label_differs (codes "g !0") (codes "g !Succ(0)")))
       (codes "refused 811 LabelDiffers line 2 kept g !0 found g !Succ(0)\n")
+  pub other :
+      PrintsRefusal (no_replay (codes "S") (other_specification (codes "Other")))
+      (codes "refused 813 OtherSpecification kept Other found S\n")
+  pub state :
+      PrintsRefusal (replay_stopped 3 (state_differs (codes "stop") (codes "h !0; stop")))
+      (codes "refused 814 StateDiffers line 3 kept stop found h !0; stop\n")
   pub step : PrintsRefusal (replay_stopped 2 (step_refused (no_entry 5 1))) (codes "refused 812 Step line 2 802\n")
   pub step_count : PrintsRefusal (replay_stopped 3 (step_refused (value_count 1 0))) (codes "refused 812 Step line 3 803\n")
   pub step_condition : PrintsRefusal (replay_stopped 4 (step_refused (unmet falsehood truth))) (codes "refused 812 Step line 4 806\n")
@@ -62,7 +68,7 @@ pub record CommandsComeTo : Type 0 where
   pub nothing : IsPrintedAnswer (codes " \t") (says small_start [])
   pub menu : IsPrintedAnswer (codes "menu") (says small_start small_menu_text)
   pub show : IsPrintedAnswer (codes "show\r") (says small_start (codes "stop\n"))
-  pub trace : IsPrintedAnswer (codes "trace") (says small_start (codes "lotos-trace 1\n"))
+  pub trace : IsPrintedAnswer (codes "trace") (says small_start (codes "lotos-trace 2 S\n"))
   pub undo_ : IsPrintedAnswer (codes "undo") (says small_start (codes "nothing to undo\n"))
   pub quit : IsPrintedAnswer (codes "quit") (leaves small_start)
   pub other : IsPrintedAnswer (codes "jump") (says small_start (codes "refused 801 BadCommand\n"))

@@ -3,7 +3,7 @@ use Rattle.std.specs.Prelude.{◌≡◌, ℕ, List, ◌++◌, Option, None, Some
 use Rattle.lotos_base.specs.Signature.{Signature}
 use Rattle.sentence_trees.specs.declared.fault.ReadFault.{ReadFault}
 use Rattle.session_histories.specs.Refusal as plain
-use Rattle.session_histories.specs.Replay.{ReplayRefusal, bad_line, step_refused, label_differs}
+use Rattle.session_histories.specs.Replay.{ReplayRefusal, in_line, other_specification, bad_line, step_refused, label_differs, state_differs}
 use Rattle.session_lines.specs.Refusal as questions
 use Rattle.session_lines.specs.View.{refused_for_text, refusal_of}
 use Rattle.session_log.specs.RefusalView.{step_refusal_of}
@@ -49,16 +49,18 @@ AddsStep signature refusal before after =
 -- why a trace is refused
 abbrev pub at_line : ℕ → Option plain.StepRefusal → Option ReplayRefusal
 at_line line None = None
-at_line line (Some refusal) = Some (record { line = line; why = step_refused refusal })
+at_line line (Some refusal) = Some (in_line line (step_refused refusal))
 
 abbrev pub fault_of : ReplayFault → Option ReplayRefusal
-fault_of (replay.BadLine line) = Some (record { line = line; why = bad_line })
-fault_of (replay.LabelDiffers line kept found) = Some (record { line = line; why = label_differs kept.items found.items })
+fault_of (replay.BadLine line) = Some (in_line line bad_line)
+fault_of (replay.OtherSpecification kept) = Some (other_specification kept.items)
+fault_of (replay.LabelDiffers line kept found) = Some (in_line line (label_differs kept.items found.items))
+fault_of (replay.StateDiffers line kept found) = Some (in_line line (state_differs kept.items found.items))
 fault_of (replay.Step line refusal) = at_line line (step_refusal_of refusal)
 fault_of replay.NoMemory = None
 
-abbrev pub AddsFault : ReplayFault → List ℕ → List ℕ → Type 0
-AddsFault fault before after = IsSomeAnd (fault_of fault) (λ refusal. after ≡ before ++ replay_refusal_text refusal.line refusal.why)
+abbrev pub AddsFault : (name : List ℕ) → ReplayFault → List ℕ → List ℕ → Type 0
+AddsFault name fault before after = IsSomeAnd (fault_of fault) (λ refusal. after ≡ before ++ replay_refusal_text name refusal)
 
 -- the number of the refusal of a step
 abbrev pub number_for : Option plain.StepRefusal → Option (List ℕ)

@@ -78,7 +78,7 @@ pub data ReplayComesTo (standing : Standing) (name : List ℕ) : Befallen → Ty
       StandsUnder standing.texts name text →
       length text ≤ trace_limit →
       ReplayIs standing.basis (first_situation standing.progress) text (stops refusal) →
-      ReplayComesTo standing name (says standing (refusal_in standing (no_replay refusal)))
+      ReplayComesTo standing name (says standing (refusal_in standing (no_replay standing.basis.specification.name refusal)))
   is_replayed :
       (text : List ℕ) (new : Progress) →
       StandsUnder standing.texts name text →

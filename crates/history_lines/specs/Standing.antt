@@ -2,8 +2,8 @@
 use Rattle.std.specs.Prelude.{ℕ, List, ◌++◌, Option, codes}
 use Rattle.lotos_base.specs.Outside.{Texts}
 use Rattle.printed_texts.specs.MenuText.{menu_text}
-use Rattle.printed_texts.specs.BehaviourText.{state_text}
-use Rattle.session_histories.specs.Session.{SessionBasis, Progress, items_of}
+use Rattle.session_histories.specs.Session.{SessionBasis, Progress}
+pub use Rattle.session_histories.specs.Replay.{shown_state}
 use Rattle.session_histories.specs.TraceText.{trace_text}
 
 -- the texts of the shelf by name stand here where the shelf tells them
@@ -16,14 +16,9 @@ pub record Standing : Type 0 where
 abbrev pub shown_menu : SessionBasis → Progress → List ℕ
 shown_menu basis progress = menu_text basis.data_.signature basis.specification.gate_names progress.situation.menu
 
--- the state itself
-abbrev pub shown_state : SessionBasis → Progress → List ℕ
-shown_state basis progress = state_text basis.data_.signature basis.specification progress.situation.state
-
 -- the trace of the steps that led there
 abbrev pub shown_trace : SessionBasis → Progress → List ℕ
-shown_trace basis progress =
-    trace_text basis.data_.signature basis.specification.gate_names (items_of progress.steps)
+shown_trace basis progress = trace_text basis.data_.signature basis.specification progress
 
 -- the texts with their line feeds
 abbrev pub state_line : SessionBasis → Progress → List ℕ

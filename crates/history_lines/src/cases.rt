@@ -1,5 +1,5 @@
-//! Worked cases. Each function carries what the definitions say of some lines as its contract and does
-//! nothing.
+//! Worked cases. Each function carries what the definitions say of some lines as its contract and
+//! does nothing.
 
 ghost use Rattle.history_lines.specs.AnswerCases.{
   CommandsComeTo,

@@ -135,12 +135,17 @@ fn push_unmet(
     push_text(into, b"\n")
 }
 
-/// Appends the line of a trace that is refused. Want of memory has none.
-pub fn push_fault(fault: &ReplayFault, into: &mut Vec<u8>) -> Result<(), NoMemory>
-    ensures { OnOk result (AddsFault fault.now into.old.items into.new.items) }
+/// Appends the line of a trace that is refused in a session of the specification with this name.
+/// Want of memory has none.
+pub fn push_fault(name: &[u8], fault: &ReplayFault, into: &mut Vec<u8>) -> Result<(), NoMemory>
+    ensures { OnOk result (AddsFault name.now fault.now into.old.items into.new.items) }
 {
     match fault {
         ReplayFault::BadLine { line } => push_bad_line(*line, into),
+        ReplayFault::OtherSpecification { kept } => push_other(kept.as_slice(), name, into),
+        ReplayFault::StateDiffers { line, kept, found } => {
+            push_state_differs(*line, kept.as_slice(), found.as_slice(), into)
+        }
         ReplayFault::LabelDiffers { line, kept, found } => {
             push_label_differs(*line, kept.as_slice(), found.as_slice(), into)
         }
@@ -194,6 +199,40 @@ fn push_label_differs(
     push_text(into, kept)?;
     push_text(into, b" found ")?;
     push_text(into, found)?;
+    push_text(into, b"\n")
+}
+
+// Appends the line for another state.
+fn push_state_differs(
+    line: u32,
+    kept: &[u8],
+    found: &[u8],
+    into: &mut Vec<u8>,
+) -> Result<(), NoMemory>
+    ensures { OnOk result (into.new.items ≡ into.old.items
+        ++ codes "refused 814 StateDiffers line " ++ decimal line ++ codes " kept " ++ kept.now
+        ++ codes " found " ++ found.now ++ codes "\n") }
+{
+    push_text(into, b"refused 814 StateDiffers line ")?;
+    push_number(into, line as u128)?;
+    push_text(into, b" kept ")?;
+    push_text(into, kept)?;
+    push_text(into, b" found ")?;
+    push_text(into, found)?;
+    push_text(into, b"\n")
+}
+
+// Appends the line for a trace of another specification.
+#[tactic(auto, using(crate::proofs::TextPieces::in_five))]
+fn push_other(kept: &[u8], name: &[u8], into: &mut Vec<u8>) -> Result<(), NoMemory>
+    ensures { OnOk result (into.new.items ≡ into.old.items
+        ++ codes "refused 813 OtherSpecification kept " ++ kept.now ++ codes " found "
+        ++ name.now ++ codes "\n") }
+{
+    push_text(into, b"refused 813 OtherSpecification kept ")?;
+    push_text(into, kept)?;
+    push_text(into, b" found ")?;
+    push_text(into, name)?;
     push_text(into, b"\n")
 }
 

@@ -81,7 +81,8 @@ impl<M: MenuMaker> HistoryLines<'_, M> {
         ensures answered { (texts : Option Texts) (faults : ℕ)
             → IfSome texts (λ told. Gets told name.now (trace_limit + 1) got.now)
             → MatchResult result
-            (λ line. GivesAnswer (moment_of (standing_of self.old texts) faults) (replay_text name.now)
+            (λ line. GivesAnswer (moment_of (standing_of self.old texts) faults)
+            (replay_text name.now)
             line.items (moment_of (standing_of self.new texts) faults))
             (λ _. IsBeforeOrBehind (moment_of (standing_of self.old texts) faults)
             (replay_text name.now) (moment_of (standing_of self.new texts) faults)) }
@@ -108,7 +109,7 @@ impl<M: MenuMaker> HistoryLines<'_, M> {
     {
         match self.take_all(text) {
             Ok(count) => self.replayed(alloc, count),
-            Err(fault) => fault_line(alloc, &fault),
+            Err(fault) => fault_line(alloc, self.session.spec().name.spelled(), &fault),
         }
     }
 

@@ -7,12 +7,14 @@ ghost use Rattle.line_server.specs.Request.{save as save_trace};
 ghost use Rattle.lotos_base.specs.Counts.{next_count};
 ghost use Rattle.history_lines.specs.ShelfAnswer.{trace_limit};
 ghost use Rattle.history_lines.specs.Standing.{shown_trace};
+ghost use Rattle.session_log.specs.RefusalView.{TellsLength};
 ghost use Rattle.std.specs.Prelude.{◌≡◌, ◌≤◌, IfOk, MatchResult, length};
 
 use crate::lines::HistoryLines;
 use crate::texts::name_line;
 use lotos_base::{NoMemory, PutFault, Shelf};
 use menu_builder::MenuMaker;
+use session_log::TraceFault;
 use std::alloc::Global;
 
 /// A trace has so many bytes at most.
@@ -55,11 +57,24 @@ impl<M: MenuMaker> HistoryLines<'_, M> {
             (F.calls shelf.old) (F.calls shelf.new))
             (λ _. MayCallShelf (save_trace name.now) (F.calls shelf.old) (F.calls shelf.new)) }
     {
-        let trace = self.trace_lines(alloc)?;
-        if trace.len() > TRACE_LIMIT {
-            return name_line(alloc, b"refused 809 TraceTooLong ", name);
+        match self.short_trace(alloc) {
+            Ok(trace) => self.put_trace(alloc, name, trace.as_slice(), shelf),
+            Err(TraceFault::TooLong) => name_line(alloc, b"refused 809 TraceTooLong ", name),
+            Err(TraceFault::NoMemory) => Err(NoMemory),
         }
-        self.put_trace(alloc, name, trace.as_slice(), shelf)
+    }
+
+    // The trace, where it is not too long.
+    fn short_trace(&self, alloc: Global) -> Result<Vec<u8>, TraceFault>
+        requires serving { IsServing M.suits self.now }
+        ensures { MatchResult result
+            (λ text. (text.items ≡ shown_trace (basis_of self.now) (reached self.now))
+            × (length text.items ≤ trace_limit))
+            (TellsLength trace_limit
+            (length (shown_trace (basis_of self.now) (reached self.now)))) }
+    {
+        self.session
+            .trace_within(alloc, self.signature, TRACE_LIMIT)
     }
 
     // Puts the trace, which is not too long, on the shelf.

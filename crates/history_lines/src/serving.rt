@@ -80,7 +80,8 @@ impl<M: MenuMaker> HistoryLines<'_, M> {
         requires serving { IsServing M.suits self.old }
         requires short { length terms.now + 1 < 2 ^ 32 }
         ensures answered { (texts : Option Texts) (faults : ℕ) → MatchResult result
-            (λ line. GivesAnswer (moment_of (standing_of self.old texts) faults) (show_normal terms.now)
+            (λ line. GivesAnswer (moment_of (standing_of self.old texts) faults)
+            (show_normal terms.now)
             line.items (moment_of (standing_of self.new texts) faults))
             (λ _. IsBeforeOrBehind (moment_of (standing_of self.old texts) faults)
             (show_normal terms.now) (moment_of (standing_of self.new texts) faults)) }

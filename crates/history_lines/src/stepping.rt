@@ -117,7 +117,8 @@ impl<M: MenuMaker> HistoryLines<'_, M> {
         requires serving { IsServing M.suits self.now }
         ensures { (text : List ℕ) → AreTerms text (map written_term_of terms.now.items)
             → MatchResult result
-            (λ values. ChoosesValues (basis_of self.now) (reached self.now) number text values.items)
+            (λ values. ChoosesValues (basis_of self.now) (reached self.now) number text
+            values.items)
             (Declines (StepComesTo (basis_of self.now) (reached self.now) number text)) }
     {
         let entry = counted_entry(self.session.menu(), number, terms.len())?;

@@ -122,11 +122,12 @@ pub fn decline_line(
     Ok(text)
 }
 
-/// The line of a trace that is refused. Want of memory has none.
-pub fn fault_line(alloc: Global, fault: &ReplayFault) -> Result<Vec<u8>, NoMemory>
-    ensures { IfOk result (λ text. AddsFault fault.now [] text.items) }
+/// The line of a trace that is refused in a session of the specification with this name. Want of
+/// memory has none.
+pub fn fault_line(alloc: Global, name: &[u8], fault: &ReplayFault) -> Result<Vec<u8>, NoMemory>
+    ensures { IfOk result (λ text. AddsFault name.now fault.now [] text.items) }
 {
     let mut text = Vec::new(alloc);
-    push_fault(fault, &mut text)?;
+    push_fault(name, fault, &mut text)?;
     Ok(text)
 }

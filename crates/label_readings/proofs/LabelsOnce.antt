@@ -18,7 +18,7 @@ use Rattle.sort_terms.specs.ReadingOutcome.{ReadingOutcome, SortedTerm, answered
 use Rattle.behaviour_semantics.specs.Behaviour.{Specification}
 use Rattle.behaviour_semantics.specs.Label.{Label, inner_event, gate_event, exit_event}
 use Rattle.behaviour_semantics.specs.WellFormed.{Every}
-use Rattle.visible_gates.specs.DeclaredGates.{HasDistinctGates}
+use Rattle.declaration_laws.specs.DeclaredGates.{HasDistinctGates}
 use Rattle.label_readings.specs.LabelReading.{WrittenLabel, written_inner, written_event, written_exit, IsWrittenLabel, an_inner, an_event, an_exit, AreReadAs, IsLabelOf}
 use Rattle.label_readings.specs.LabelLaws.{LabelTextsAreReadOnce}
 

@@ -26,8 +26,8 @@ use Rattle.behaviour_semantics.specs.Transition.{Transition}
 use Rattle.behaviour_semantics.specs.TransitionLaws.{TransitionsAreDerived}
 use Rattle.behaviour_semantics.specs.WellFormed.{Every, AreGates}
 use Rattle.behaviour_semantics.proofs.DraftFineness.{fine_draft}
-use Rattle.visible_gates.specs.EntryGates.{EntriesStayAtGates}
-use Rattle.visible_gates.specs.VisibleGates.{IsOneOf, IsAt, MovesStayAtGates}
+use Rattle.declaration_laws.specs.EntryGates.{EntriesStayAtGates}
+use Rattle.declaration_laws.specs.VisibleGates.{IsOneOf, IsAt, MovesStayAtGates}
 use Rattle.label_readings.specs.LabelLaws.{IsPlainLabel, LabelTextsAreReadBack}
 use Rattle.label_readings.specs.MenuReadings.{IsShownMenu, HasPlainLabel, IsLabelReadBack, ArePrintedAlike, MenusAreReadBack}
 use Rattle.label_readings.proofs.LabelStands.{IsValue}

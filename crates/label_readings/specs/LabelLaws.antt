@@ -6,8 +6,8 @@ use Rattle.behaviour_semantics.specs.Label.{Label}
 use Rattle.behaviour_semantics.specs.WellFormed.{Every, IsClosedLabel}
 use Rattle.printed_texts.specs.MenuText.{label_text}
 use Rattle.texts_read_back.specs.TextNames.{IsWordSpelling, HasTextNames}
-use Rattle.visible_gates.specs.VisibleGates.{IsOneOf, IsAt}
-use Rattle.visible_gates.specs.DeclaredGates.{HasDistinctGates}
+use Rattle.declaration_laws.specs.VisibleGates.{IsOneOf, IsAt}
+use Rattle.declaration_laws.specs.DeclaredGates.{HasDistinctGates}
 use Rattle.label_readings.specs.LabelReading.{IsLabelReading}
 
 -- The names have the form that texts have, infix operations have two arguments, and no two gates that the specification declares

@@ -16,7 +16,7 @@ use Rattle.lotos_rows.specs.Terms.{IsTerm, AreArguments}
 use Rattle.sort_terms.specs.ReadingOutcome.{ReadingIs, answered}
 use Rattle.behaviour_semantics.specs.Behaviour.{Specification}
 use Rattle.behaviour_semantics.specs.Label.{Label, inner_event, gate_event, exit_event}
-use Rattle.visible_gates.specs.VisibleGates.{IsOneOf}
+use Rattle.declaration_laws.specs.VisibleGates.{IsOneOf}
 
 -- a label as it is written: the inner event; a gate with values; `exit` with values
 pub data WrittenLabel : Type 0 where

@@ -11,7 +11,7 @@ use Rattle.behaviour_semantics.specs.Solving.{Entry}
 use Rattle.behaviour_semantics.specs.Transition.{Transition}
 use Rattle.behaviour_semantics.specs.WellFormed.{Every, AreOver}
 use Rattle.printed_texts.specs.MenuText.{label_text}
-use Rattle.visible_gates.specs.VisibleGates.{IsOneOf, UsesOnly, UsesFormals}
+use Rattle.declaration_laws.specs.VisibleGates.{IsOneOf, UsesOnly, UsesFormals}
 use Rattle.label_readings.specs.LabelReading.{IsLabelReading}
 use Rattle.label_readings.specs.LabelLaws.{HasReadableNames}
 

@@ -1,5 +1,5 @@
-//! Worked cases. Each function carries what the definitions say of some lines as its contract and does
-//! nothing.
+//! Worked cases. Each function carries what the definitions say of some lines as its contract and
+//! does nothing.
 
 ghost use Rattle.line_server.specs.RequestCases.{LinesAsk, LinesAskNothing};
 

@@ -1,6 +1,6 @@
 //! The lines of an input, served one after another: what each line of a session asks for, and the
-//! loop that reads the input in pieces, has each complete line answered by a machine, and writes each
-//! answer before it reads on. What is written does not depend on how the input is cut.
+//! loop that reads the input in pieces, has each complete line answered by a machine, and writes
+//! each answer before it reads on. What is written does not depend on how the input is cut.
 #![tactic(auto)]
 
 pub mod cases;

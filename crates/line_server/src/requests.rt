@@ -63,11 +63,12 @@ pub enum Request<'a> {
     },
 }
 
-/// What the line asks for. Blanks at both ends, a carriage return among them, are no part of it. Its
-/// first word, up to the first space, is the command word, in lower case. Behind `menu`, `show`,
+/// What the line asks for. Blanks at both ends, a carriage return among them, are no part of it.
+/// Its first word, up to the first space, is the command word, in lower case. Behind `menu`,
+/// `show`,
 /// `trace`, `undo` and `quit` nothing may stand; behind `step` stands a number of one to ten digits
-/// without a leading zero, or `0`, and behind it the terms; behind `save` and `replay` a name, which
-/// is UTF-8 and goes to the end of the line; behind `normal` and `equal` terms.
+/// without a leading zero, or `0`, and behind it the terms; behind `save` and `replay` a name,
+/// which is UTF-8 and goes to the end of the line; behind `normal` and `equal` terms.
 pub fn read_request(line: &[u8]) -> Request<'_>
     ensures { wants result ≡ request_of line.now }
 {

@@ -1,1 +1,4 @@
 pub mod OutcomeLemmas
+pub mod TextLemmas
+pub mod SettledLemmas
+pub mod AnswerLemmas

@@ -1,2 +1,5 @@
 pub mod ListOutcome
+pub mod ListText
+pub mod ListView
+pub mod ListCases
 pub mod ListLaws

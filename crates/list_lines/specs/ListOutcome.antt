@@ -10,7 +10,7 @@ use Rattle.sort_terms.specs.Reading.{IsSortNamed}
 use Rattle.session_histories.specs.Refusal.{entry_numbered}
 use Rattle.session_histories.specs.Session.{SessionBasis}
 use Rattle.value_lists.specs.Tuples.{IsTuple, TupleBefore, tuple_count}
-use Rattle.value_lists.specs.ValueList.{IsValueList, HasMoreValues, HasUpToValues}
+use Rattle.value_lists.specs.ValueList.{IsValueList, AreValueLists, HasMoreValues, HasUpToValues}
 use Rattle.value_lists.specs.declared.limits.TheConstants.{MAX_VALUES, MAX_INSTANCES}
 
 -- Why there is no list: no sort has the name; the menu, which has so many entries, has none with this number; there are too
@@ -64,10 +64,7 @@ pub data ValuesComeTo (basis : SessionBasis) (name : List ℕ) (size : ℕ) : Li
 
 -- There is a list for each sort, of its values with at most so many operations.
 abbrev pub AreListsOf : SessionBasis → (size : ℕ) → List ℕ → List (List Term) → Type 0
-AreListsOf basis size [] [] = Unit {0}
-AreListsOf basis size [] (choice ∷ choices) = ⊥
-AreListsOf basis size (sort ∷ sorts) [] = ⊥
-AreListsOf basis size (sort ∷ sorts) (choice ∷ choices) = IsListOf basis size sort choice × AreListsOf basis size sorts choices
+AreListsOf basis size sorts choices = AreValueLists basis.data_.signature (IsSettled basis) size sorts choices
 
 -- An instance of an entry: values for its variables, from these lists, that meet its conditions.
 abbrev pub IsInstance : SessionBasis → Entry → List (List Term) → List Term → Type 0

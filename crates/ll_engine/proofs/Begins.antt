@@ -41,30 +41,38 @@ BeginsAt-begins nullable first tokens column (Part p ∷ symbols) h =
           }
     ]
 
-pub begins-at : (nullable : ℕ → Bool) (first : ℕ → ℕ → Bool) (tokens column : ℕ) (front : List Symbol) (symbol : Symbol) (back : List Symbol) →
-    all_marked nullable false front ≡ true → starts_symbol first tokens column symbol ≡ true → begins nullable first tokens column (front ++ symbol ∷ back) ≡ true
+pub begins-at : (nullable : ℕ → Bool) (first : ℕ → ℕ → Bool) (tokens column : ℕ) (front : List Symbol) (symbol : Symbol)
+    (back : List Symbol) →
+    all_marked nullable false front ≡ true → starts_symbol first tokens column symbol ≡ true
+    → begins nullable first tokens column (front ++ symbol ∷ back) ≡ true
 begins-at nullable first tokens column [] (Token t) back front_null starts = starts
 begins-at nullable first tokens column [] (Part p) back front_null starts =
     or_left ((part_column tokens p == column) || first p column) (nullable p && begins nullable first tokens column back) starts
 begins-at nullable first tokens column (Token t ∷ front) symbol back front_null starts = absurd (false≢true front_null)
 begins-at nullable first tokens column (Part p ∷ front) symbol back front_null starts =
     let parts = and_parts (nullable p) (all_marked nullable false front) front_null in
-    or_right ((part_column tokens p == column) || first p column) (nullable p && begins nullable first tokens column (front ++ symbol ∷ back))
-    (and_from (nullable p) (begins nullable first tokens column (front ++ symbol ∷ back)) parts.0 (begins-at nullable first tokens column front symbol back parts.1 starts))
+    or_right ((part_column tokens p == column) || first p column)
+    (nullable p && begins nullable first tokens column (front ++ symbol ∷ back))
+    (and_from (nullable p) (begins nullable first tokens column (front ++ symbol ∷ back)) parts.0
+    (begins-at nullable first tokens column front symbol back parts.1 starts))
 
 -- over joined lists
 pub begins-cases : (nullable : ℕ → Bool) (first : ℕ → ℕ → Bool) (tokens column : ℕ) (front back : List Symbol) →
     begins nullable first tokens column (front ++ back) ≡ true →
-    (begins nullable first tokens column front ≡ true) ⊎ ((all_marked nullable false front ≡ true) × (begins nullable first tokens column back ≡ true))
+    (begins nullable first tokens column front ≡ true) ⊎ ((all_marked nullable false front ≡ true)
+    × (begins nullable first tokens column back ≡ true))
 begins-cases nullable first tokens column [] back h = inr (refl, h)
 begins-cases nullable first tokens column (Token t ∷ front) back h = inl h
 begins-cases nullable first tokens column (Part p ∷ front) back h =
-    elim (or_cases ((part_column tokens p == column) || first p column) (nullable p && begins nullable first tokens column (front ++ back)) h) [
-      | inl here ↦ inl (or_left ((part_column tokens p == column) || first p column) (nullable p && begins nullable first tokens column front) here)
+    elim (or_cases ((part_column tokens p == column) || first p column) (nullable p && begins nullable first tokens column (front ++ back))
+    h) [
+      | inl here ↦ inl (or_left ((part_column tokens p == column) || first p column)
+          (nullable p && begins nullable first tokens column front) here)
       | inr later ↦
           let parts = and_parts (nullable p) (begins nullable first tokens column (front ++ back)) later in
           elim (begins-cases nullable first tokens column front back parts.1) [
-            | inl within ↦ inl (or_right ((part_column tokens p == column) || first p column) (nullable p && begins nullable first tokens column front)
+            | inl within ↦ inl (or_right ((part_column tokens p == column) || first p column)
+                (nullable p && begins nullable first tokens column front)
                 (and_from (nullable p) (begins nullable first tokens column front) parts.0 within))
             | inr behind ↦ inr (and_from (nullable p) (all_marked nullable false front) parts.0 behind.0, behind.1)
           ]
@@ -76,18 +84,22 @@ begins-front nullable first tokens column [] back h = absurd (false≢true h)
 begins-front nullable first tokens column (Token t ∷ front) back h = h
 begins-front nullable first tokens column (Part p ∷ front) back h =
     elim (or_cases ((part_column tokens p == column) || first p column) (nullable p && begins nullable first tokens column front) h) [
-      | inl here ↦ or_left ((part_column tokens p == column) || first p column) (nullable p && begins nullable first tokens column (front ++ back)) here
+      | inl here ↦ or_left ((part_column tokens p == column) || first p column)
+          (nullable p && begins nullable first tokens column (front ++ back)) here
       | inr later ↦
           let parts = and_parts (nullable p) (begins nullable first tokens column front) later in
           or_right ((part_column tokens p == column) || first p column) (nullable p && begins nullable first tokens column (front ++ back))
-          (and_from (nullable p) (begins nullable first tokens column (front ++ back)) parts.0 (begins-front nullable first tokens column front back parts.1))
+          (and_from (nullable p) (begins nullable first tokens column (front ++ back)) parts.0
+          (begins-front nullable first tokens column front back parts.1))
     ]
 
 pub begins-behind : (nullable : ℕ → Bool) (first : ℕ → ℕ → Bool) (tokens column : ℕ) (front back : List Symbol) →
-    all_marked nullable false front ≡ true → begins nullable first tokens column back ≡ true → begins nullable first tokens column (front ++ back) ≡ true
+    all_marked nullable false front ≡ true → begins nullable first tokens column back ≡ true
+    → begins nullable first tokens column (front ++ back) ≡ true
 begins-behind nullable first tokens column [] back front_null h = h
 begins-behind nullable first tokens column (Token t ∷ front) back front_null h = absurd (false≢true front_null)
 begins-behind nullable first tokens column (Part p ∷ front) back front_null h =
     let parts = and_parts (nullable p) (all_marked nullable false front) front_null in
     or_right ((part_column tokens p == column) || first p column) (nullable p && begins nullable first tokens column (front ++ back))
-    (and_from (nullable p) (begins nullable first tokens column (front ++ back)) parts.0 (begins-behind nullable first tokens column front back parts.1 h))
+    (and_from (nullable p) (begins nullable first tokens column (front ++ back)) parts.0
+    (begins-behind nullable first tokens column front back parts.1 h))

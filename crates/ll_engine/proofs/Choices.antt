@@ -73,7 +73,8 @@ module _ (test : Row → Bool) (rows : List Row) (n : ℕ) (row : Row) (is : sli
     second_passes = passes;
   }
 
-  pub FoundBelow-next : (found : Option ℕ) → is_some found ≡ false → FoundBelow test rows n found → test row ≡ true → FoundBelow test rows (n + 1) (Some n)
+  pub FoundBelow-next : (found : Option ℕ) → is_some found ≡ false → FoundBelow test rows n found → test row ≡ true
+      → FoundBelow test rows (n + 1) (Some n)
   FoundBelow-next None missing below passes = FoundBelow-first below passes
   FoundBelow-next (Some r) missing below passes = absurd (true≢false missing)
 

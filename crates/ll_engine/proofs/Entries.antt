@@ -11,11 +11,13 @@ use Rattle.ll_engine.specs.Computed.{IsTableEntry}
 use Rattle.ll_engine.specs.Table.{width_of, AreEntries, IsConflictEntry, IsTableFault}
 
 pub AreEntries-more : (test : ℕ → ℕ → Row → Bool) (rows : List Row) (tokens : ℕ) (table : List ℕ) (n entry : ℕ) → length table ≡ n →
-    AreEntries test rows tokens table n → IsTableEntry (test (n / width_of tokens) (n % width_of tokens)) rows entry → AreEntries test rows tokens (table ++ entry ∷ []) (n + 1)
+    AreEntries test rows tokens table n → IsTableEntry (test (n / width_of tokens) (n % width_of tokens)) rows entry
+    → AreEntries test rows tokens (table ++ entry ∷ []) (n + 1)
 AreEntries-more test rows tokens table n entry len before here cell lt =
     elim (cases_lt cell n) [
       | inl below ↦
-          subst (IsTableEntry (test (cell / width_of tokens) (cell % width_of tokens)) rows) (sym (get_or_append_left table (entry ∷ []) 0 cell (omega arith))) (before cell below)
+          subst (IsTableEntry (test (cell / width_of tokens) (cell % width_of tokens)) rows)
+          (sym (get_or_append_left table (entry ∷ []) 0 cell (omega arith))) (before cell below)
       | inr ge ↦
           let same : n ≡ cell = omega arith in
           let at : get_or (table ++ entry ∷ []) n 0 ≡ entry = get_or_push table entry 0 n len in
@@ -23,9 +25,11 @@ AreEntries-more test rows tokens table n entry len before here cell lt =
           (subst (IsTableEntry (test (n / width_of tokens) (n % width_of tokens)) rows) (sym at) here)
     ]
 
-pub IsTableFault-at : (test : ℕ → ℕ → Row → Bool) (rows : List Row) (parts tokens cell : ℕ) (table : List ℕ) (fault : TableFault) → cell < parts * width_of tokens →
+pub IsTableFault-at : (test : ℕ → ℕ → Row → Bool) (rows : List Row) (parts tokens cell : ℕ) (table : List ℕ) (fault : TableFault)
+    → cell < parts * width_of tokens →
     AreEntries test rows tokens table cell →
-    IsConflictEntry (test (cell / width_of tokens) (cell % width_of tokens)) rows (cell / width_of tokens) (cell % width_of tokens) fault → IsTableFault test rows parts tokens fault
+    IsConflictEntry (test (cell / width_of tokens) (cell % width_of tokens)) rows (cell / width_of tokens) (cell % width_of tokens) fault
+    → IsTableFault test rows parts tokens fault
 IsTableFault-at test rows parts tokens cell table fault lt before conflict =
     let w : 0 < width_of tokens = omega arith in
     let rest = mod-lt cell w in
@@ -35,6 +39,7 @@ IsTableFault-at test rows parts tokens cell table fault lt before conflict =
       several = conflict.1;
       table = table;
       entries_before =
-          let place : cell / width_of tokens * width_of tokens + cell % width_of tokens ≡ cell = let e = mod-add-div' cell (width_of tokens) in omega arith in
+          let place : cell / width_of tokens * width_of tokens + cell % width_of tokens ≡ cell = let e =
+          mod-add-div' cell (width_of tokens) in omega arith in
           subst (AreEntries test rows tokens table) (sym place) before;
     })

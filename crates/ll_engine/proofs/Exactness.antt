@@ -50,39 +50,54 @@ module _ (g : ContextFree) where
   cyclic-not_conflict : (p q t : ℕ) → IsFirstLeftCyclic g p → IsFirstConflict g q t → ⊥
   cyclic-not_conflict p q t cyclic conflict = conflict.1 (p, cyclic.1, cyclic.2.here)
 
-  pub exact_barren-ok : (h : ContextFree) → IsPredictive g → (part : ℕ) → ExactlyWhere {A = Answer} (IsFirstBarren g part) (Ok h) (Err (Barren part)) (Err NoMemory)
-  exact_barren-ok h predictive part = Excluded (IsFirstBarren g part) (Ok h) (Err (Barren part)) (λ e. cc) (predictive-not_barren predictive part)
+  pub exact_barren-ok : (h : ContextFree) → IsPredictive g → (part : ℕ)
+      → ExactlyWhere {A = Answer} (IsFirstBarren g part) (Ok h) (Err (Barren part)) (Err NoMemory)
+  exact_barren-ok h predictive part = Excluded (IsFirstBarren g part) (Ok h) (Err (Barren part)) (λ e. cc)
+      (predictive-not_barren predictive part)
 
-  pub exact_ok-fault : (fault : TableFault) → IsTableFaultOf g fault → ExactlyWhere {A = Answer} (IsPredictive g) (Err fault) (Ok g) (Err NoMemory)
-  exact_ok-fault (Barren p) is = Excluded (IsPredictive g) (Err (Barren p)) (Ok g) (λ e. cc) (λ predictive. predictive-not_barren predictive p is)
-  exact_ok-fault (LeftCycle p) is = Excluded (IsPredictive g) (Err (LeftCycle p)) (Ok g) (λ e. cc) (λ predictive. predictive-not_cyclic predictive p is)
-  exact_ok-fault (Conflict p t) is = Excluded (IsPredictive g) (Err (Conflict p t)) (Ok g) (λ e. cc) (λ predictive. predictive-not_conflict predictive p t is)
+  pub exact_ok-fault : (fault : TableFault) → IsTableFaultOf g fault
+      → ExactlyWhere {A = Answer} (IsPredictive g) (Err fault) (Ok g) (Err NoMemory)
+  exact_ok-fault (Barren p) is = Excluded (IsPredictive g) (Err (Barren p)) (Ok g) (λ e. cc)
+      (λ predictive. predictive-not_barren predictive p is)
+  exact_ok-fault (LeftCycle p) is = Excluded (IsPredictive g) (Err (LeftCycle p)) (Ok g) (λ e. cc)
+      (λ predictive. predictive-not_cyclic predictive p is)
+  exact_ok-fault (Conflict p t) is = Excluded (IsPredictive g) (Err (Conflict p t)) (Ok g) (λ e. cc)
+      (λ predictive. predictive-not_conflict predictive p t is)
   exact_ok-fault NoMemory is = Wanting (IsPredictive g) (Ok g) (λ e. cc)
 
-  pub exact_barren-fault : (fault : TableFault) → IsTableFaultOf g fault → (part : ℕ) → ExactlyWhere {A = Answer} (IsFirstBarren g part) (Err fault) (Err (Barren part)) (Err NoMemory)
+  pub exact_barren-fault : (fault : TableFault) → IsTableFaultOf g fault → (part : ℕ)
+      → ExactlyWhere {A = Answer} (IsFirstBarren g part) (Err fault) (Err (Barren part)) (Err NoMemory)
   exact_barren-fault (Barren p) is part = record {
     only = λ e. let same : p ≡ part = cc in subst (IsFirstBarren g) same is;
     always = λ h. let same : p ≡ part = IsLeast-same (IsBarren g.rows) p part is.1 h.1 in inl (ap (λ (q : ℕ). Err (Barren q)) same);
   }
-  exact_barren-fault (LeftCycle p) is part = Excluded (IsFirstBarren g part) (Err (LeftCycle p)) (Err (Barren part)) (λ e. cc) (λ h. barren-not_cyclic part p h is)
-  exact_barren-fault (Conflict p t) is part = Excluded (IsFirstBarren g part) (Err (Conflict p t)) (Err (Barren part)) (λ e. cc) (λ h. barren-not_conflict part p t h is)
+  exact_barren-fault (LeftCycle p) is part = Excluded (IsFirstBarren g part) (Err (LeftCycle p)) (Err (Barren part)) (λ e. cc)
+      (λ h. barren-not_cyclic part p h is)
+  exact_barren-fault (Conflict p t) is part = Excluded (IsFirstBarren g part) (Err (Conflict p t)) (Err (Barren part)) (λ e. cc)
+      (λ h. barren-not_conflict part p t h is)
   exact_barren-fault NoMemory is part = Wanting (IsFirstBarren g part) (Err (Barren part)) (λ e. cc)
 
-  pub exact_left_cycle-fault : (fault : TableFault) → IsTableFaultOf g fault → (part : ℕ) → ExactlyWhere {A = Answer} (IsFirstLeftCyclic g part) (Err fault) (Err (LeftCycle part)) (Err NoMemory)
-  exact_left_cycle-fault (Barren p) is part = Excluded (IsFirstLeftCyclic g part) (Err (Barren p)) (Err (LeftCycle part)) (λ e. cc) (λ h. barren-not_cyclic p part is h)
+  pub exact_left_cycle-fault : (fault : TableFault) → IsTableFaultOf g fault → (part : ℕ)
+      → ExactlyWhere {A = Answer} (IsFirstLeftCyclic g part) (Err fault) (Err (LeftCycle part)) (Err NoMemory)
+  exact_left_cycle-fault (Barren p) is part = Excluded (IsFirstLeftCyclic g part) (Err (Barren p)) (Err (LeftCycle part)) (λ e. cc)
+      (λ h. barren-not_cyclic p part is h)
   exact_left_cycle-fault (LeftCycle p) is part = record {
     only = λ e. let same : p ≡ part = cc in subst (IsFirstLeftCyclic g) same is;
     always = λ h. let same : p ≡ part = IsLeast-same (IsLeftCyclic g.rows) p part is.2 h.2 in inl (ap (λ (q : ℕ). Err (LeftCycle q)) same);
   }
-  exact_left_cycle-fault (Conflict p t) is part = Excluded (IsFirstLeftCyclic g part) (Err (Conflict p t)) (Err (LeftCycle part)) (λ e. cc) (λ h. cyclic-not_conflict part p t h is)
+  exact_left_cycle-fault (Conflict p t) is part = Excluded (IsFirstLeftCyclic g part) (Err (Conflict p t)) (Err (LeftCycle part)) (λ e. cc)
+      (λ h. cyclic-not_conflict part p t h is)
   exact_left_cycle-fault NoMemory is part = Wanting (IsFirstLeftCyclic g part) (Err (LeftCycle part)) (λ e. cc)
 
   pub exact_conflict-fault : (fault : TableFault) → IsTableFaultOf g fault → (part token : ℕ) →
       ExactlyWhere {A = Answer} (IsFirstConflict g part token) (Err fault) (Err (Conflict part token)) (Err NoMemory)
-  exact_conflict-fault (Barren p) is part token = Excluded (IsFirstConflict g part token) (Err (Barren p)) (Err (Conflict part token)) (λ e. cc) (λ h. barren-not_conflict p part token is h)
-  exact_conflict-fault (LeftCycle p) is part token = Excluded (IsFirstConflict g part token) (Err (LeftCycle p)) (Err (Conflict part token)) (λ e. cc) (λ h. cyclic-not_conflict p part token is h)
+  exact_conflict-fault (Barren p) is part token = Excluded (IsFirstConflict g part token) (Err (Barren p)) (Err (Conflict part token))
+      (λ e. cc) (λ h. barren-not_conflict p part token is h)
+  exact_conflict-fault (LeftCycle p) is part token = Excluded (IsFirstConflict g part token) (Err (LeftCycle p)) (Err (Conflict part token))
+      (λ e. cc) (λ h. cyclic-not_conflict p part token is h)
   exact_conflict-fault (Conflict p t) is part token = record {
-    only = λ e. let p_same : p ≡ part = cc in let t_same : t ≡ token = cc in subst (λ (u : ℕ). IsFirstConflict g part u) t_same (subst (λ (q : ℕ). IsFirstConflict g q t) p_same is);
+    only = λ e. let p_same : p ≡ part = cc in let t_same : t ≡ token =
+        cc in subst (λ (u : ℕ). IsFirstConflict g part u) t_same (subst (λ (q : ℕ). IsFirstConflict g q t) p_same is);
     always = λ h.
         let p_same : p ≡ part = IsLeast-same (λ q. (u : ℕ) × IsConflict g q u) p part is.3 h.3 in
         let t_least : IsLeast (IsConflict g part) t = subst (λ (q : ℕ). IsLeast (IsConflict g q) t) p_same is.4 in
@@ -107,7 +122,8 @@ exact_unexpected g list (Err (parse.Unexpected place)) is at = record {
 }
 exact_unexpected g list (Err parse.NoMemory) is at = record { only = λ e. absurd (cc); always = λ h. inr refl }
 
-pub sentence_is_ok : (g : ContextFree) (list : List ℕ) (result : Parsed) → IsAnswer g list result → IsSentence g list → IsOk result ⊎ (result ≡ Err parse.NoMemory)
+pub sentence_is_ok : (g : ContextFree) (list : List ℕ) (result : Parsed) → IsAnswer g list result → IsSentence g list
+    → IsOk result ⊎ (result ≡ Err parse.NoMemory)
 sentence_is_ok g list (Ok tree) is sentence = inl refl
 sentence_is_ok g list (Err (parse.Unexpected place)) is sentence = absurd (is.no_sentence sentence)
 sentence_is_ok g list (Err parse.NoMemory) is sentence = inr refl

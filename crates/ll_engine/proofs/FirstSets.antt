@@ -52,7 +52,8 @@ module _ (rows : List Row) (parts tokens : ℕ) (nullable : ℕ → Bool) (none 
   base_tokens : base.tokens ≡ tokens
   base_tokens = made.base_is.same_tokens
 
-  related-base : (part column : ℕ) → part < parts → column < part_column tokens parts → related base part column ≡ has_corner rows nullable none tokens part column
+  related-base : (part column : ℕ) → part < parts → column < part_column tokens parts
+      → related base part column ≡ has_corner rows nullable none tokens part column
   related-base part column p c = related-HasCells base (has_corner rows nullable none tokens) parts tokens part column made.base_is p c
 
   base-from_row : (r : ℕ) (row : Production) (column : ℕ) → slice_get (productions rows) r ≡ Some row → column < part_column tokens parts →
@@ -63,10 +64,12 @@ module _ (rows : List Row) (parts tokens : ℕ) (nullable : ℕ → Bool) (none 
       let right : at.0.right.items ≡ row.right = ap (λ (x : Production). x.right) at.2 in
       related-base row.left column (left-below made.ranges r row is) c
       ∙ any_passes_from_place (λ (x : Row). (x.left == row.left) && begins nullable none tokens column x.right.items) rows r at.0 at.1
-      (and_from (at.0.left == row.left) (begins nullable none tokens column at.0.right.items) (eq-eqb at.0.left row.left left) (ap (begins nullable none tokens column) right ∙ h))
+      (and_from (at.0.left == row.left) (begins nullable none tokens column at.0.right.items) (eq-eqb at.0.left row.left left)
+      (ap (begins nullable none tokens column) right ∙ h))
 
   base-row : (part column : ℕ) → related base part column ≡ true →
-      (r : ℕ) × (row : Production) × (slice_get (productions rows) r ≡ Some row) × (row.left ≡ part) × (begins nullable none tokens column row.right ≡ true)
+      (r : ℕ) × (row : Production) × (slice_get (productions rows) r ≡ Some row) × (row.left ≡ part)
+      × (begins nullable none tokens column row.right ≡ true)
   base-row part column h =
       let b = related-bounds base part column h in
       let p : part < parts = let e = made.base_is.same_parts in omega arith in
@@ -83,39 +86,48 @@ module _ (rows : List Row) (parts tokens : ℕ) (nullable : ℕ → Bool) (none 
       let at = BeginsAt-begins nullable (related first) tokens column row.right h in
       by_symbol at.front at.symbol at.back at.split at.nullable_front at.starts
     where
-      in_range : (front : List Symbol) (symbol : Symbol) (back : List Symbol) → row.right ≡ front ++ symbol ∷ back → is_in_range parts tokens symbol ≡ true
+      in_range : (front : List Symbol) (symbol : Symbol) (back : List Symbol) → row.right ≡ front ++ symbol ∷ back
+          → is_in_range parts tokens symbol ≡ true
       in_range front symbol back e =
           let all = right-InRange made.ranges r row is in
           let behind = (list_all-split (is_in_range parts tokens) front (symbol ∷ back) (rw e at all)).1 in
           (and_parts (is_in_range parts tokens symbol) (list_all (is_in_range parts tokens) back) behind).0
 
-      from_base : (front : List Symbol) (symbol : Symbol) (back : List Symbol) (c : ℕ) → c < part_column tokens parts → row.right ≡ front ++ symbol ∷ back → all_marked nullable false front ≡ true →
+      from_base : (front : List Symbol) (symbol : Symbol) (back : List Symbol) (c : ℕ) → c < part_column tokens parts
+          → row.right ≡ front ++ symbol ∷ back → all_marked nullable false front ≡ true →
           starts_symbol none tokens c symbol ≡ true → related base row.left c ≡ true
       from_base front symbol back c lt e front_null starts =
-          base-from_row r row c is lt (ap (begins nullable none tokens c) e ∙ begins-at nullable none tokens c front symbol back front_null starts)
+          base-from_row r row c is lt (ap (begins nullable none tokens c) e
+          ∙ begins-at nullable none tokens c front symbol back front_null starts)
 
-      by_symbol : (front : List Symbol) (symbol : Symbol) (back : List Symbol) → row.right ≡ front ++ symbol ∷ back → all_marked nullable false front ≡ true →
+      by_symbol : (front : List Symbol) (symbol : Symbol) (back : List Symbol) → row.right ≡ front ++ symbol ∷ back
+          → all_marked nullable false front ≡ true →
           starts_symbol (related first) tokens column symbol ≡ true → related first row.left column ≡ true
       by_symbol front (Token t) back e front_null starts =
           let lt = ltb-true t tokens (in_range front (Token t) back e) in
           let same = eqb-true t column starts in
-          made.closed.complete row.left column (here row.left column (from_base front (Token t) back column (omega arith) e front_null starts))
+          made.closed.complete row.left column (here row.left column
+          (from_base front (Token t) back column (omega arith) e front_null starts))
       by_symbol front (Part p) back e front_null starts =
           let lt = ltb-true p parts (in_range front (Part p) back e) in
           elim (or_cases (part_column tokens p == column) (related first p column) starts) [
             | inl is_column ↦
                 let same = eqb-true (part_column tokens p) column is_column in
                 made.closed.complete row.left column (here row.left column
-                (from_base front (Part p) back column (omega arith) e front_null (or_left (part_column tokens p == column) (none p column) is_column)))
+                (from_base front (Part p) back column (omega arith) e front_null
+                (or_left (part_column tokens p == column) (none p column) is_column)))
             | inr led ↦
                 let step = from_base front (Part p) back (part_column tokens p) (omega arith) e front_null
-                (or_left (part_column tokens p == part_column tokens p) (none p (part_column tokens p)) (eq-eqb (part_column tokens p) (part_column tokens p) refl)) in
+                (or_left (part_column tokens p == part_column tokens p) (none p (part_column tokens p))
+                (eq-eqb (part_column tokens p) (part_column tokens p) refl)) in
                 made.closed.complete row.left column
-                (through row.left p column (subst (λ (k : ℕ). related base row.left (part_column k p) ≡ true) (sym base_tokens) step) (made.closed.sound p column led))
+                (through row.left p column (subst (λ (k : ℕ). related base row.left (part_column k p) ≡ true) (sym base_tokens) step)
+                (made.closed.sound p column led))
           ]
 
   -- what a list of symbols derives: the test says with what that begins
-  pub begins-leaves : (f : Forest) (symbols : List Symbol) (token : ℕ) (rest : List ℕ) → DerivesSymbols (productions rows) f symbols → leaves f ≡ token ∷ rest →
+  pub begins-leaves : (f : Forest) (symbols : List Symbol) (token : ℕ) (rest : List ℕ) → DerivesSymbols (productions rows) f symbols
+      → leaves f ≡ token ∷ rest →
       begins nullable (related first) tokens token symbols ≡ true
   begins-leaves empty symbols token rest d e = absurd (cc)
   begins-leaves (leaf t after) [] token rest d e = absurd d
@@ -128,16 +140,19 @@ module _ (rows : List Row) (parts tokens : ℕ) (nullable : ℕ → Bool) (none 
         | inl behind ↦
             let later = begins-leaves after symbols token rest d.4 behind.1 in
             let lower = made.decides.complete p (node r below empty, (d.0, d.1, d.2, d.3, tt), ap (λ (xs : List ℕ). xs ++ []) behind.0) in
-            or_right ((part_column tokens p == token) || related first p token) (nullable p && begins nullable (related first) tokens token symbols)
+            or_right ((part_column tokens p == token) || related first p token)
+            (nullable p && begins nullable (related first) tokens token symbols)
             (and_from (nullable p) (begins nullable (related first) tokens token symbols) lower later)
         | inr within ↦
             let row = begins-leaves below d.0.right token within.0 d.3 within.1 in
             let led = first-row r d.0 token d.1 row in
-            or_left ((part_column tokens p == token) || related first p token) (nullable p && begins nullable (related first) tokens token symbols)
+            or_left ((part_column tokens p == token) || related first p token)
+            (nullable p && begins nullable (related first) tokens token symbols)
             (or_right (part_column tokens p == token) (related first p token) (ap (λ (q : ℕ). related first q token) (sym d.2) ∙ led))
       ]
 
-  pub begins-Begins : (symbols : List Symbol) (token : ℕ) → CanBeginWith (productions rows) symbols token → begins nullable (related first) tokens token symbols ≡ true
+  pub begins-Begins : (symbols : List Symbol) (token : ℕ) → CanBeginWith (productions rows) symbols token
+      → begins nullable (related first) tokens token symbols ≡ true
   begins-Begins symbols token b = begins-leaves b.0 symbols token b.1 b.2 b.3
 
   -- the corners that the relation was made of
@@ -166,12 +181,14 @@ module _ (rows : List Row) (parts tokens : ℕ) (nullable : ℕ → Bool) (none 
       let behind = (list_all-split (is_in_range parts tokens) corner.front (symbol ∷ corner.back) (rw corner.split at all)).1 in
       (and_parts (is_in_range parts tokens symbol) (list_all (is_in_range parts tokens) corner.back) behind).0
 
-  pub corner-part : (part middle : ℕ) → related base part (part_column base.tokens middle) ≡ true → IsCorner (productions rows) nullable part (Part middle)
+  pub corner-part : (part middle : ℕ) → related base part (part_column base.tokens middle) ≡ true
+      → IsCorner (productions rows) nullable part (Part middle)
   corner-part part middle h =
       let corner = corner-base part (part_column base.tokens middle) h in
       by_symbol corner.0 corner.1 corner.2
     where
-      by_symbol : (symbol : Symbol) → IsCorner (productions rows) nullable part symbol → starts_symbol none tokens (part_column base.tokens middle) symbol ≡ true →
+      by_symbol : (symbol : Symbol) → IsCorner (productions rows) nullable part symbol
+          → starts_symbol none tokens (part_column base.tokens middle) symbol ≡ true →
           IsCorner (productions rows) nullable part (Part middle)
       by_symbol (Token t) corner starts =
           let lt = ltb-true t tokens (corner_in_range part (Token t) corner) in
@@ -185,14 +202,16 @@ module _ (rows : List Row) (parts tokens : ℕ) (nullable : ℕ → Bool) (none 
                 let e = base_tokens in
                 let equal : p ≡ middle = omega arith in
                 subst (λ (q : ℕ). IsCorner (productions rows) nullable part (Part q)) equal corner
-            | inr empty_relation ↦ absurd (both_ways (none p (part_column base.tokens middle)) (made.none_is p (part_column base.tokens middle)) empty_relation)
+            | inr empty_relation ↦ absurd (both_ways (none p (part_column base.tokens middle))
+                (made.none_is p (part_column base.tokens middle)) empty_relation)
           ]
 
   -- the other way, where every part derives something
   module _ (productive : AllProductive (productions rows) parts) where
     -- what a corner's symbol begins with, the list does
     Begins-at : (front : List Symbol) (symbol : Symbol) (back symbols : List Symbol) (token : ℕ) → symbols ≡ front ++ symbol ∷ back →
-        InRange parts tokens symbols → all_marked nullable false front ≡ true → CanBeginWith (productions rows) (symbol ∷ []) token → CanBeginWith (productions rows) symbols token
+        InRange parts tokens symbols → all_marked nullable false front ≡ true → CanBeginWith (productions rows) (symbol ∷ []) token
+        → CanBeginWith (productions rows) symbols token
     Begins-at front symbol back symbols token e in_range front_null b =
         let empties = IsNullable-all_marked (productions rows) nullable made.decides front front_null in
         let ranges = (list_all-split (is_in_range parts tokens) (front ++ symbol ∷ []) back (rw append_assoc (rw e at in_range))).1 in
@@ -208,16 +227,25 @@ module _ (rows : List Row) (parts tokens : ℕ) (nullable : ℕ → Bool) (none 
               ∙ ap (λ (xs : List ℕ). xs ++ leaves after.0) b.3,
         )
 
-    Begins-row : (r : ℕ) (row : Production) (token : ℕ) → slice_get (productions rows) r ≡ Some row → CanBeginWith (productions rows) row.right token → CanBeginWith (productions rows) (Part row.left ∷ []) token
-    Begins-row r row token is b = (node r b.0 empty, b.1, (row, is, refl, b.2, tt), ap (λ (xs : List ℕ). xs ++ []) b.3 ∙ append-nil (token ∷ b.1))
+    Begins-row : (r : ℕ) (row : Production) (token : ℕ) → slice_get (productions rows) r ≡ Some row
+        → CanBeginWith (productions rows) row.right token → CanBeginWith (productions rows) (Part row.left ∷ []) token
+    Begins-row r row token is b = (
+      node r b.0 empty,
+      b.1,
+      (row, is, refl, b.2, tt),
+      ap (λ (xs : List ℕ). xs ++ []) b.3 ∙ append-nil (token ∷ b.1),
+    )
 
     Begins-corner : (part : ℕ) (symbol : Symbol) (token : ℕ) → IsCorner (productions rows) nullable part symbol →
         CanBeginWith (productions rows) (symbol ∷ []) token → CanBeginWith (productions rows) (Part part ∷ []) token
     Begins-corner part symbol token corner b =
-        let right = Begins-at corner.front symbol corner.back corner.row.right token corner.split (right-InRange made.ranges corner.number corner.row corner.is_row) corner.nullable_front b in
-        subst (λ (p : ℕ). CanBeginWith (productions rows) (Part p ∷ []) token) corner.left_is (Begins-row corner.number corner.row token corner.is_row right)
+        let right = Begins-at corner.front symbol corner.back corner.row.right token corner.split
+        (right-InRange made.ranges corner.number corner.row corner.is_row) corner.nullable_front b in
+        subst (λ (p : ℕ). CanBeginWith (productions rows) (Part p ∷ []) token) corner.left_is
+        (Begins-row corner.number corner.row token corner.is_row right)
 
-    Begins-symbol : (column : ℕ) (symbol : Symbol) → column ≤ tokens → starts_symbol none tokens column symbol ≡ true → CanBeginWith (productions rows) (symbol ∷ []) column
+    Begins-symbol : (column : ℕ) (symbol : Symbol) → column ≤ tokens → starts_symbol none tokens column symbol ≡ true
+        → CanBeginWith (productions rows) (symbol ∷ []) column
     Begins-symbol column (Token t) le starts = (leaf t empty, [], (refl, tt), ap (λ (x : ℕ). x ∷ []) (eqb-true t column starts))
     Begins-symbol column (Part p) le starts =
         elim (or_cases (part_column tokens p == column) (none p column) starts) [
@@ -226,7 +254,8 @@ module _ (rows : List Row) (parts tokens : ℕ) (nullable : ℕ → Bool) (none 
         ]
 
     -- the column of a token, or of the end
-    Begins-Leads : (part token : ℕ) → RelationLeads base part token → token ≤ tokens → CanBeginWith (productions rows) (Part part ∷ []) token
+    Begins-Leads : (part token : ℕ) → RelationLeads base part token → token ≤ tokens
+        → CanBeginWith (productions rows) (Part part ∷ []) token
     Begins-Leads part token (here p c h) le =
         let corner = corner-base p c h in
         Begins-corner p corner.0 c corner.1 (Begins-symbol c corner.0 le corner.2)
@@ -240,7 +269,8 @@ module _ (rows : List Row) (parts tokens : ℕ) (nullable : ℕ → Bool) (none 
         let at = BeginsAt-begins nullable (related first) tokens token symbols h in
         Begins-at at.front at.symbol at.back symbols token at.split in_range at.nullable_front (by_symbol at.symbol at.starts)
       where
-        by_symbol : (symbol : Symbol) → starts_symbol (related first) tokens token symbol ≡ true → CanBeginWith (productions rows) (symbol ∷ []) token
+        by_symbol : (symbol : Symbol) → starts_symbol (related first) tokens token symbol ≡ true
+            → CanBeginWith (productions rows) (symbol ∷ []) token
         by_symbol (Token t) starts = (leaf t empty, [], (refl, tt), ap (λ (x : ℕ). x ∷ []) (eqb-true t token starts))
         by_symbol (Part p) starts =
             elim (or_cases (part_column tokens p == token) (related first p token) starts) [

@@ -34,22 +34,30 @@ FollowsAt-follows_in nullable first tokens left part column (Token t ∷ symbols
     let at = FollowsAt-follows_in nullable first tokens left part column symbols h in
     record { front = Token t ∷ at.front; back = at.back; split = ap (λ (xs : List Symbol). Token t ∷ xs) at.split; goes_on = at.goes_on }
 FollowsAt-follows_in nullable first tokens left part column (Part p ∷ symbols) h =
-    elim (or_cases ((p == part) && continues nullable first tokens left column symbols) (follows_in nullable first tokens left part column symbols) h) [
+    elim (or_cases ((p == part) && continues nullable first tokens left column symbols)
+    (follows_in nullable first tokens left part column symbols) h) [
       | inl at ↦
           let both = and_parts (p == part) (continues nullable first tokens left column symbols) at in
           record { front = []; back = symbols; split = ap (λ (q : ℕ). Part q ∷ symbols) (eqb-true p part both.0); goes_on = both.1 }
       | inr later ↦
           let at = FollowsAt-follows_in nullable first tokens left part column symbols later in
-          record { front = Part p ∷ at.front; back = at.back; split = ap (λ (xs : List Symbol). Part p ∷ xs) at.split; goes_on = at.goes_on }
+          record {
+            front = Part p ∷ at.front;
+            back = at.back;
+            split = ap (λ (xs : List Symbol). Part p ∷ xs) at.split;
+            goes_on = at.goes_on;
+          }
     ]
 
 pub follows_in-at : (nullable : ℕ → Bool) (first : ℕ → ℕ → Bool) (tokens left part column : ℕ) (front back : List Symbol) →
-    continues nullable first tokens left column back ≡ true → follows_in nullable first tokens left part column (front ++ Part part ∷ back) ≡ true
+    continues nullable first tokens left column back ≡ true
+    → follows_in nullable first tokens left part column (front ++ Part part ∷ back) ≡ true
 follows_in-at nullable first tokens left part column [] back h =
     or_left ((part == part) && continues nullable first tokens left column back) (follows_in nullable first tokens left part column back)
     (and_from (part == part) (continues nullable first tokens left column back) (eq-eqb part part refl) h)
 follows_in-at nullable first tokens left part column (symbol ∷ front) back h =
-    or_right (is_part part symbol && continues nullable first tokens left column (front ++ Part part ∷ back)) (follows_in nullable first tokens left part column (front ++ Part part ∷ back))
+    or_right (is_part part symbol && continues nullable first tokens left column (front ++ Part part ∷ back))
+    (follows_in nullable first tokens left part column (front ++ Part part ∷ back))
     (follows_in-at nullable first tokens left part column front back h)
 
 -- what the relation was made of
@@ -59,14 +67,19 @@ pub record IsFollowOf (rows : List Row) (parts tokens start : ℕ) (nullable : �
   pub closed : IsClosureOf base follow
 
 module _ (rows : List Row) (parts tokens start : ℕ) (nullable : ℕ → Bool) (none : ℕ → ℕ → Bool) (corners first base follow : Relation)
-    (made : IsFirstOf rows parts tokens nullable none corners first) (follows : IsFollowOf rows parts tokens start nullable first base follow)
+    (made : IsFirstOf rows parts tokens nullable none corners first)
+    (follows : IsFollowOf rows parts tokens start nullable first base follow)
     (productive : AllProductive (productions rows) parts) where
-  related-base : (part column : ℕ) → part < parts → column < part_column tokens parts → related base part column ≡ has_follower rows nullable (related first) tokens start part column
-  related-base part column p c = related-HasCells base (has_follower rows nullable (related first) tokens start) parts tokens part column follows.base_is p c
+  related-base : (part column : ℕ) → part < parts → column < part_column tokens parts
+      → related base part column ≡ has_follower rows nullable (related first) tokens start part column
+  related-base part column p c = related-HasCells base (has_follower rows nullable (related first) tokens start) parts tokens part column
+      follows.base_is p c
 
   -- a place of a part in a row whose rest goes on with the column
-  from_row : (r : ℕ) (row : Production) (front back : List Symbol) (part column : ℕ) → slice_get (productions rows) r ≡ Some row → row.right ≡ front ++ Part part ∷ back →
-      column < part_column tokens parts → continues nullable (related first) tokens row.left column back ≡ true → related base part column ≡ true
+  from_row : (r : ℕ) (row : Production) (front back : List Symbol) (part column : ℕ) → slice_get (productions rows) r ≡ Some row
+      → row.right ≡ front ++ Part part ∷ back →
+      column < part_column tokens parts → continues nullable (related first) tokens row.left column back ≡ true
+      → related base part column ≡ true
   from_row r row front back part column is e c h =
       let all = right-InRange made.ranges r row is in
       let from_part = (list_all-split (is_in_range parts tokens) front (Part part ∷ back) (rw e at all)).1 in
@@ -79,32 +92,39 @@ module _ (rows : List Row) (parts tokens start : ℕ) (nullable : ℕ → Bool) 
       ∙ ap (follows_in nullable (related first) tokens row.left part column) e
       ∙ follows_in-at nullable (related first) tokens row.left part column front back h in
       related-base part column p c
-      ∙ or_right ((part == start) && (column == tokens)) (list_any (λ (x : Row). follows_in nullable (related first) tokens x.left part column x.right.items) rows)
+      ∙ or_right ((part == start) && (column == tokens)) (list_any
+      (λ (x : Row). follows_in nullable (related first) tokens x.left part column x.right.items) rows)
       (any_passes_from_place
       (λ (x : Row). follows_in nullable (related first) tokens x.left part column x.right.items) rows r at.0 at.1 found)
 
   -- what the base holds, and why
   pub data Reason (part column : ℕ) : Type 0 where
     at_end : part ≡ start → column ≡ tokens → Reason part column
-    in_row : (r : ℕ) (row : Production) (front back : List Symbol) → slice_get (productions rows) r ≡ Some row → row.right ≡ front ++ Part part ∷ back →
+    in_row : (r : ℕ) (row : Production) (front back : List Symbol) → slice_get (productions rows) r ≡ Some row
+        → row.right ≡ front ++ Part part ∷ back →
         continues nullable (related first) tokens row.left column back ≡ true → Reason part column
 
   reason : (part column : ℕ) → related base part column ≡ true → Reason part column
   reason part column h =
       let b = related-bounds base part column h in
       let p : part < parts = let e = follows.base_is.same_parts in omega arith in
-      let c : column < part_column tokens parts = let e = follows.base_is.same_parts in let t = follows.base_is.same_tokens in omega arith in
-      elim (or_cases ((part == start) && (column == tokens)) (list_any (λ (x : Row). follows_in nullable (related first) tokens x.left part column x.right.items) rows) (sym (related-base part column p c) ∙ h)) [
+      let c : column < part_column tokens parts = let e = follows.base_is.same_parts in let t =
+      follows.base_is.same_tokens in omega arith in
+      elim (or_cases ((part == start) && (column == tokens))
+      (list_any (λ (x : Row). follows_in nullable (related first) tokens x.left part column x.right.items) rows)
+      (sym (related-base part column p c) ∙ h)) [
         | inl last ↦
             let both = and_parts (part == start) (column == tokens) last in
             at_end (eqb-true part start both.0) (eqb-true column tokens both.1)
         | inr in_some ↦
-            let found = list_any-at (λ (x : Row). follows_in nullable (related first) tokens x.left part column x.right.items) rows in_some in
+            let found = list_any-at (λ (x : Row). follows_in nullable (related first) tokens x.left part column x.right.items) rows
+            in_some in
             let at = FollowsAt-follows_in nullable (related first) tokens found.1.left part column found.1.right.items found.3 in
             in_row found.0 (production_of found.1) at.front at.back (at_map production_of rows found.0 found.1 found.2) at.split at.goes_on
       ]
 
-  back_in_range : (r : ℕ) (row : Production) (front back : List Symbol) (part : ℕ) → slice_get (productions rows) r ≡ Some row → row.right ≡ front ++ Part part ∷ back → InRange parts tokens back
+  back_in_range : (r : ℕ) (row : Production) (front back : List Symbol) (part : ℕ) → slice_get (productions rows) r ≡ Some row
+      → row.right ≡ front ++ Part part ∷ back → InRange parts tokens back
   back_in_range r row front back part is e =
       let all = right-InRange made.ranges r row is in
       let from_part = (list_all-split (is_in_range parts tokens) front (Part part ∷ back) (rw e at all)).1 in
@@ -115,13 +135,16 @@ module _ (rows : List Row) (parts tokens start : ℕ) (nullable : ℕ → Bool) 
       subst (λ (p : ℕ). MayFollow (grammar_of rows parts tokens start) p column) (sym is_start)
       (subst (λ (c : ℕ). MayFollow (grammar_of rows parts tokens start) start c) (sym is_end) ends)
   MayFollow-reason part column le (in_row r row front back is e h) =
-      elim (or_cases (nat_lt column tokens && begins nullable (related first) tokens column back) ((part_column tokens row.left == column) && all_marked nullable false back) h) [
+      elim (or_cases (nat_lt column tokens && begins nullable (related first) tokens column back)
+      ((part_column tokens row.left == column) && all_marked nullable false back) h) [
         | inl goes_on ↦
             let both = and_parts (nat_lt column tokens) (begins nullable (related first) tokens column back) goes_on in
             before r row front back part column is e
-            (Begins-begins rows parts tokens nullable none corners first made productive back column (back_in_range r row front back part is e) le both.1)
+            (Begins-begins rows parts tokens nullable none corners first made productive back column
+            (back_in_range r row front back part is e) le both.1)
         | inr led ↦
-            let same = eqb-true (part_column tokens row.left) column (and_parts (part_column tokens row.left == column) (all_marked nullable false back) led).0 in
+            let same = eqb-true (part_column tokens row.left) column
+            (and_parts (part_column tokens row.left == column) (all_marked nullable false back) led).0 in
             absurd (omega arith)
       ]
 
@@ -131,9 +154,13 @@ module _ (rows : List Row) (parts tokens start : ℕ) (nullable : ℕ → Bool) 
   MayFollow-through part middle column (at_end is_start is_end) m = let t = follows.base_is.same_tokens in absurd (omega arith)
   MayFollow-through part middle column (in_row r row front back is e h) m =
       let t = follows.base_is.same_tokens in
-      elim (or_cases (nat_lt (part_column base.tokens middle) tokens && begins nullable (related first) tokens (part_column base.tokens middle) back) ((part_column tokens row.left == part_column base.tokens middle) && all_marked nullable false back) h) [
+      elim (or_cases (nat_lt (part_column base.tokens middle) tokens
+      && begins nullable (related first) tokens (part_column base.tokens middle) back)
+      ((part_column tokens row.left == part_column base.tokens middle) && all_marked nullable false back) h) [
         | inl goes_on ↦
-            let lt = ltb-true (part_column base.tokens middle) tokens (and_parts (nat_lt (part_column base.tokens middle) tokens) (begins nullable (related first) tokens (part_column base.tokens middle) back) goes_on).0 in
+            let lt = ltb-true (part_column base.tokens middle) tokens
+            (and_parts (nat_lt (part_column base.tokens middle) tokens)
+            (begins nullable (related first) tokens (part_column base.tokens middle) back) goes_on).0 in
             absurd (omega arith)
         | inr led ↦
             let both = and_parts (part_column tokens row.left == part_column base.tokens middle) (all_marked nullable false back) led in
@@ -143,15 +170,19 @@ module _ (rows : List Row) (parts tokens start : ℕ) (nullable : ℕ → Bool) 
             (subst (λ (p : ℕ). MayFollow (grammar_of rows parts tokens start) p column) same m)
       ]
 
-  MayFollow-Leads : (part column : ℕ) → RelationLeads base part column → column ≤ tokens → MayFollow (grammar_of rows parts tokens start) part column
+  MayFollow-Leads : (part column : ℕ) → RelationLeads base part column → column ≤ tokens
+      → MayFollow (grammar_of rows parts tokens start) part column
   MayFollow-Leads part column (here p c h) le = MayFollow-reason p c le (reason p c h)
-  MayFollow-Leads part column (through p m c h rest) le = MayFollow-through p m c (reason p (part_column base.tokens m) h) (MayFollow-Leads m c rest le)
+  MayFollow-Leads part column (through p m c h rest) le =
+      MayFollow-through p m c (reason p (part_column base.tokens m) h) (MayFollow-Leads m c rest le)
 
-  pub MayFollow-related : (part column : ℕ) → column ≤ tokens → related follow part column ≡ true → MayFollow (grammar_of rows parts tokens start) part column
+  pub MayFollow-related : (part column : ℕ) → column ≤ tokens → related follow part column ≡ true
+      → MayFollow (grammar_of rows parts tokens start) part column
   MayFollow-related part column le h = MayFollow-Leads part column (follows.closed.sound part column h) le
 
   -- what begins a list in range is a token in range
-  token_below : (symbols : List Symbol) (token : ℕ) → InRange parts tokens symbols → CanBeginWith (productions rows) symbols token → token < tokens
+  token_below : (symbols : List Symbol) (token : ℕ) → InRange parts tokens symbols → CanBeginWith (productions rows) symbols token
+      → token < tokens
   token_below symbols token in_range b =
       let all = AreTokens-leaves made.ranges b.0 symbols b.2 in_range in
       let own = ap (list_all (λ (t : ℕ). nat_lt t tokens)) (sym b.3) ∙ all in
@@ -160,12 +191,14 @@ module _ (rows : List Row) (parts tokens start : ℕ) (nullable : ℕ → Bool) 
   pub Leads-MayFollow : (part column : ℕ) → MayFollow (grammar_of rows parts tokens start) part column → RelationLeads base part column
   Leads-MayFollow part column ends =
       here start tokens (related-base start tokens follows.start_below (omega arith)
-      ∙ or_left ((start == start) && (tokens == tokens)) (list_any (λ (x : Row). follows_in nullable (related first) tokens x.left start tokens x.right.items) rows)
+      ∙ or_left ((start == start) && (tokens == tokens)) (list_any
+      (λ (x : Row). follows_in nullable (related first) tokens x.left start tokens x.right.items) rows)
       (and_from (start == start) (tokens == tokens) (eq-eqb start start refl) (eq-eqb tokens tokens refl)))
   Leads-MayFollow part column (before r row front back p t is e b) =
       let lt = token_below back t (back_in_range r row front back p is e) b in
       here p t (from_row r row front back p t is e (omega arith)
-      (or_left (nat_lt t tokens && begins nullable (related first) tokens t back) ((part_column tokens row.left == t) && all_marked nullable false back)
+      (or_left (nat_lt t tokens && begins nullable (related first) tokens t back)
+      ((part_column tokens row.left == t) && all_marked nullable false back)
       (and_from (nat_lt t tokens) (begins nullable (related first) tokens t back) (lt-ltb t tokens lt)
       (begins-Begins rows parts tokens nullable none corners first made back t b))))
   Leads-MayFollow part column (behind r row front back p t is e nothing m) =
@@ -174,8 +207,10 @@ module _ (rows : List Row) (parts tokens start : ℕ) (nullable : ℕ → Bool) 
       (or_right (nat_lt (part_column tokens row.left) tokens && begins nullable (related first) tokens (part_column tokens row.left) back)
       ((part_column tokens row.left == part_column tokens row.left) && all_marked nullable false back)
       (and_from (part_column tokens row.left == part_column tokens row.left) (all_marked nullable false back)
-      (eq-eqb (part_column tokens row.left) (part_column tokens row.left) refl) (all_marked-IsNullable (productions rows) nullable made.decides back nothing))) in
-      through p row.left t (subst (λ (k : ℕ). related base p (part_column k row.left) ≡ true) (sym follows.base_is.same_tokens) step) (Leads-MayFollow row.left t m)
+      (eq-eqb (part_column tokens row.left) (part_column tokens row.left) refl)
+      (all_marked-IsNullable (productions rows) nullable made.decides back nothing))) in
+      through p row.left t (subst (λ (k : ℕ). related base p (part_column k row.left) ≡ true) (sym follows.base_is.same_tokens) step)
+      (Leads-MayFollow row.left t m)
 
   pub related-MayFollow : (part column : ℕ) → MayFollow (grammar_of rows parts tokens start) part column → related follow part column ≡ true
   related-MayFollow part column m = follows.closed.complete part column (Leads-MayFollow part column m)

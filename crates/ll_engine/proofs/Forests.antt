@@ -20,9 +20,11 @@ pub leftmost-beside : (f g : Forest) → leftmost (beside f g) ≡ leftmost f ++
 leftmost-beside empty g = refl
 leftmost-beside (leaf t rest) g = leftmost-beside rest g
 leftmost-beside (node r below rest) g =
-    ap (λ xs. r ∷ (leftmost below ++ xs)) (leftmost-beside rest g) ∙ ap (λ xs. r ∷ xs) (sym (append_assoc (leftmost below) (leftmost rest) (leftmost g)))
+    ap (λ xs. r ∷ (leftmost below ++ xs)) (leftmost-beside rest g)
+    ∙ ap (λ xs. r ∷ xs) (sym (append_assoc (leftmost below) (leftmost rest) (leftmost g)))
 
-pub Derives-beside : (rows : List Production) (f g : Forest) (a b : List Symbol) → DerivesSymbols rows f a → DerivesSymbols rows g b → DerivesSymbols rows (beside f g) (a ++ b)
+pub Derives-beside : (rows : List Production) (f g : Forest) (a b : List Symbol) → DerivesSymbols rows f a → DerivesSymbols rows g b
+    → DerivesSymbols rows (beside f g) (a ++ b)
 Derives-beside rows empty g [] b df dg = dg
 Derives-beside rows empty g (x ∷ a) b df dg = absurd df
 Derives-beside rows (leaf t rest) g [] b df dg = absurd df
@@ -46,12 +48,25 @@ Splits-from_append rows f [] b d = record { left = empty; right = f; left_derive
 Splits-from_append rows empty (x ∷ a) b d = absurd d
 Splits-from_append rows (leaf t rest) (Token u ∷ a) b d =
     let s = Splits-from_append rows rest a b d.1 in
-    record { left = leaf t s.left; right = s.right; left_derives = (d.0, s.left_derives); right_derives = s.right_derives; both = ap (leaf t) s.both }
+    record {
+      left = leaf t s.left;
+      right = s.right;
+      left_derives = (d.0, s.left_derives);
+      right_derives = s.right_derives;
+      both = ap (leaf t) s.both;
+    }
 Splits-from_append rows (leaf t rest) (Part p ∷ a) b d = absurd d
 Splits-from_append rows (node r below rest) (Token u ∷ a) b d = absurd d
 Splits-from_append rows (node r below rest) (Part p ∷ a) b d =
     let s = Splits-from_append rows rest a b d.4 in
-    record { left = node r below s.left; right = s.right; left_derives = (d.0, d.1, d.2, d.3, s.left_derives); right_derives = s.right_derives; both = ap (node r below) s.both }
+    record {
+      left = node r below s.left;
+      right = s.right;
+      left_derives = (d.0, d.1, d.2, d.3, s.left_derives);
+      right_derives = s.right_derives;
+      both = ap (node r below) s.both;
+    }
 
-pub leaves-Splits : {rows : List Production} {f : Forest} {a b : List Symbol} (s : Splits rows f a b) → leaves f ≡ leaves s.left ++ leaves s.right
+pub leaves-Splits : {rows : List Production} {f : Forest} {a b : List Symbol} (s : Splits rows f a b)
+    → leaves f ≡ leaves s.left ++ leaves s.right
 leaves-Splits s = ap leaves s.both ∙ leaves-beside s.left s.right

@@ -62,7 +62,8 @@ row_found : (found : Option Production) (p : ℕ) → has_left found p ≡ true 
 row_found None p h = absurd (cc)
 row_found (Some row) p h = (row, refl, eqb-true row.left p h)
 
-derives_from : (rows : List Production) (trees : Forest) (symbols : List Symbol) → derives_by rows trees symbols ≡ true → DerivesSymbols rows trees symbols
+derives_from : (rows : List Production) (trees : Forest) (symbols : List Symbol) → derives_by rows trees symbols ≡ true
+    → DerivesSymbols rows trees symbols
 derives_from rows empty [] h = tt
 derives_from rows empty (symbol ∷ symbols) h = absurd (cc)
 derives_from rows (leaf t rest) [] h = absurd (cc)
@@ -76,8 +77,13 @@ derives_from rows (node r below rest) (Part p ∷ symbols) h =
     let found = slice_get rows r in
     let parts = and_parts (has_left found p && derives_by rows below (right_of found)) (derives_by rows rest symbols) h in
     let here = and_parts (has_left found p) (derives_by rows below (right_of found)) parts.0 in
-    let row = row_found found p here.0 in
-    (row.0, row.1, row.2, subst (DerivesSymbols rows below) (ap right_of row.1) (derives_from rows below (right_of found) here.1), derives_from rows rest symbols parts.1)
+    let row = row_found found p here.0 in (
+      row.0,
+      row.1,
+      row.2,
+      subst (DerivesSymbols rows below) (ap right_of row.1) (derives_from rows below (right_of found) here.1),
+      derives_from rows rest symbols parts.1,
+    )
 
 record RowKeeps (sets : Sets) (row : Production) : Type 0 where
   when_nullable : all_nullable sets row.right ≡ true → sets.nullable row.left ≡ true
@@ -85,10 +91,12 @@ record RowKeeps (sets : Sets) (row : Production) : Type 0 where
   follow_kept : keeps_follow sets row.left row.right ≡ true
   falling : falls sets (sets.rank row.left) row.right ≡ true
 
-row_keeps : (rows : List Production) (sets : Sets) → list_all (keeps sets) rows ≡ true → (r : ℕ) (row : Production) → slice_get rows r ≡ Some row → RowKeeps sets row
+row_keeps : (rows : List Production) (sets : Sets) → list_all (keeps sets) rows ≡ true → (r : ℕ) (row : Production)
+    → slice_get rows r ≡ Some row → RowKeeps sets row
 row_keeps rows sets all r row is =
     let kept = list_all-at (keeps sets) rows r row all is in
-    let halves = and_parts (keeps_nullable sets row && keeps_first sets row) (keeps_follow sets row.left row.right && falls sets (sets.rank row.left) row.right) kept in
+    let halves = and_parts (keeps_nullable sets row && keeps_first sets row)
+    (keeps_follow sets row.left row.right && falls sets (sets.rank row.left) row.right) kept in
     let sets_kept = and_parts (keeps_nullable sets row) (keeps_first sets row) halves.0 in
     let rest = and_parts (keeps_follow sets row.left row.right) (falls sets (sets.rank row.left) row.right) halves.1 in
     record {
@@ -117,7 +125,8 @@ cases_list : {G : Type 0} (list : List ℕ) → (list ≡ [] → G) → ((n : �
 cases_list [] none some = none refl
 cases_list (n ∷ ns) none some = some n ns refl
 
-first_sound : (rows : List Production) (sets : Sets) → list_all (keeps sets) rows ≡ true → (trees : Forest) (symbols : List Symbol) (t : ℕ) (others : List ℕ) →
+first_sound : (rows : List Production) (sets : Sets) → list_all (keeps sets) rows ≡ true
+    → (trees : Forest) (symbols : List Symbol) (t : ℕ) (others : List ℕ) →
     DerivesSymbols rows trees symbols → leaves trees ≡ t ∷ others → has (first_of sets symbols) t ≡ true
 first_sound rows sets all empty symbols t others d e = absurd (cc)
 first_sound rows sets all (leaf k rest) [] t others d e = absurd d
@@ -131,7 +140,8 @@ first_sound rows sets all (node r below rest) (Part p ∷ symbols) t others d e 
     let row = row_keeps rows sets all r d.0 d.1 in
     cases_list (leaves below)
     (λ none.
-    let passes : sets.nullable p ≡ true = ap sets.nullable (sym d.2) ∙ row.when_nullable (nullable_sound rows sets all below d.0.right d.3 none) in
+    let passes : sets.nullable p ≡ true = ap sets.nullable (sym d.2)
+    ∙ row.when_nullable (nullable_sound rows sets all below d.0.right d.3 none) in
     let behind = first_sound rows sets all rest symbols t others d.4 (sym (ap (λ (ks : List ℕ). ks ++ leaves rest) none) ∙ e) in
     has-right (sets.first p) (cond (sets.nullable p) (first_of sets symbols) []) t
     (ap (λ (test : Bool). has (cond test (first_of sets symbols) []) t) passes ∙ behind))
@@ -146,26 +156,32 @@ first_sound rows sets all (node r below rest) (Part p ∷ symbols) t others d e 
 follow_at : (sets : Sets) (left p : ℕ) (front back : List Symbol) → keeps_follow sets left (front ++ Part p ∷ back) ≡ true →
     (within (first_of sets back) (sets.follow p) && (not (all_nullable sets back) || within (sets.follow left) (sets.follow p))) ≡ true
 follow_at sets left p [] back kept =
-    (and_parts (within (first_of sets back) (sets.follow p) && (not (all_nullable sets back) || within (sets.follow left) (sets.follow p))) (keeps_follow sets left back) kept).0
+    (and_parts (within (first_of sets back) (sets.follow p) && (not (all_nullable sets back) || within (sets.follow left) (sets.follow p)))
+    (keeps_follow sets left back) kept).0
 follow_at sets left p (Token t ∷ front) back kept = follow_at sets left p front back kept
 follow_at sets left p (Part q ∷ front) back kept =
     let symbols = front ++ Part p ∷ back in
     follow_at sets left p front back
-    (and_parts (within (first_of sets symbols) (sets.follow q) && (not (all_nullable sets symbols) || within (sets.follow left) (sets.follow q))) (keeps_follow sets left symbols) kept).1
+    (and_parts (within (first_of sets symbols) (sets.follow q)
+    && (not (all_nullable sets symbols) || within (sets.follow left) (sets.follow q))) (keeps_follow sets left symbols) kept).1
 
-follow_here : (rows : List Production) (sets : Sets) → list_all (keeps sets) rows ≡ true → (number : ℕ) (row : Production) (front back : List Symbol) (p : ℕ) →
+follow_here : (rows : List Production) (sets : Sets) → list_all (keeps sets) rows ≡ true
+    → (number : ℕ) (row : Production) (front back : List Symbol) (p : ℕ) →
     slice_get rows number ≡ Some row → row.right ≡ front ++ Part p ∷ back →
-    (within (first_of sets back) (sets.follow p) ≡ true) × ((not (all_nullable sets back) || within (sets.follow row.left) (sets.follow p)) ≡ true)
+    (within (first_of sets back) (sets.follow p) ≡ true) × ((not (all_nullable sets back) || within (sets.follow row.left) (sets.follow p))
+    ≡ true)
 follow_here rows sets all number row front back p is split =
     and_parts (within (first_of sets back) (sets.follow p)) (not (all_nullable sets back) || within (sets.follow row.left) (sets.follow p))
-    (follow_at sets row.left p front back (ap (keeps_follow sets row.left) (sym split) ∙ (row_keeps rows sets all number row is).follow_kept))
+    (follow_at sets row.left p front back (ap (keeps_follow sets row.left) (sym split)
+    ∙ (row_keeps rows sets all number row is).follow_kept))
 
 follow_sound : (g : ContextFree) (sets : Sets) → list_all (keeps sets) g.rows ≡ true → has (sets.follow g.start) g.tokens ≡ true →
     {part token : ℕ} → MayFollow g part token → has (sets.follow part) token ≡ true
 follow_sound g sets all end ends = end
 follow_sound g sets all end (before number row front back part token is split begins) =
     let kept = follow_here g.rows sets all number row front back part is split in
-    all_has (has (sets.follow part)) (first_of sets back) token kept.0 (first_sound g.rows sets all begins.0 back token begins.1 begins.2 begins.3)
+    all_has (has (sets.follow part)) (first_of sets back) token kept.0
+    (first_sound g.rows sets all begins.0 back token begins.1 begins.2 begins.3)
 follow_sound g sets all end (behind number row front back part token is split empties follows) =
     let kept = follow_here g.rows sets all number row front back part is split in
     let passes = nullable_sound g.rows sets all empties.0 back empties.1 empties.2 in
@@ -189,7 +205,8 @@ two_apart : (sets : Sets) (row other : Production) (t : ℕ) → is_apart_from s
     has (predicting sets row) t ≡ true → has (predicting sets other) t ≡ true → ⊥
 two_apart sets row other t are same in_row in_other =
     apart_sound (predicting sets row) (predicting sets other) t
-    (implied (row.left == other.left) (apart (predicting sets row) (predicting sets other)) are (eq-eqb row.left other.left same)) in_row in_other
+    (implied (row.left == other.left) (apart (predicting sets row) (predicting sets other)) are (eq-eqb row.left other.left same)) in_row
+    in_other
 
 rows_apart_sound : (sets : Sets) (rows : List Production) (i j : ℕ) (row other : Production) (t : ℕ) → all_apart sets rows ≡ true →
     slice_get rows i ≡ Some row → slice_get rows j ≡ Some other → i ≢ j → row.left ≡ other.left →
@@ -218,7 +235,8 @@ falls-append sets small limit (Token t ∷ symbols) back le falling behind_it = 
 falls-append sets small limit (Part p ∷ symbols) back le falling behind_it =
     let parts = and_parts (nat_lt (sets.rank p) small) (not (sets.nullable p) || falls sets small symbols) falling in
     let lower : sets.rank p < small = ltb-true (sets.rank p) small parts.0 in
-    and_from (nat_lt (sets.rank p) limit) (not (sets.nullable p) || falls sets limit (symbols ++ back)) (lt-ltb (sets.rank p) limit (omega arith))
+    and_from (nat_lt (sets.rank p) limit) (not (sets.nullable p) || falls sets limit (symbols ++ back))
+    (lt-ltb (sets.rank p) limit (omega arith))
     (implies (sets.nullable p) (falls sets limit (symbols ++ back)) (λ passes.
     falls-append sets small limit symbols back le (implied (sets.nullable p) (falls sets small symbols) parts.1 passes)
     (λ rest. behind_it (and_from (sets.nullable p) (all_nullable sets symbols) passes rest))))
@@ -242,36 +260,45 @@ no_part_left : (front back : List Symbol) (part left : ℕ) (x : Symbol) → Par
 no_part_left [] back part left x e = cc
 no_part_left (y ∷ front) back part left x e = cc
 
-first_falls : (rows : List Production) (sets : Sets) → list_all (keeps sets) rows ≡ true → (part number : ℕ) (row : Production) (front back new : List Symbol) →
-    slice_get rows number ≡ Some row → Part part ∷ [] ≡ front ++ Part row.left ∷ back → new ≡ (front ++ row.right) ++ back → falls sets (sets.rank part) new ≡ true
+first_falls : (rows : List Production) (sets : Sets) → list_all (keeps sets) rows ≡ true
+    → (part number : ℕ) (row : Production) (front back new : List Symbol) →
+    slice_get rows number ≡ Some row → Part part ∷ [] ≡ front ++ Part row.left ∷ back → new ≡ (front ++ row.right) ++ back
+    → falls sets (sets.rank part) new ≡ true
 first_falls rows sets all part number row [] back new is old_is new_is =
     let here : part ≡ row.left = cc in
     let nothing : back ≡ [] = cc in
     ap (falls sets (sets.rank part)) new_is
-    ∙ falls-append sets (sets.rank row.left) (sets.rank part) row.right back (let ranks : sets.rank part ≡ sets.rank row.left = ap sets.rank here in omega arith)
+    ∙ falls-append sets (sets.rank row.left) (sets.rank part) row.right back
+    (let ranks : sets.rank part ≡ sets.rank row.left = ap sets.rank here in omega arith)
     (row_keeps rows sets all number row is).falling (λ passes. ap (falls sets (sets.rank part)) nothing)
 first_falls rows sets all part number row (x ∷ front) back new is old_is new_is = absurd (no_part_left front back part row.left x old_is)
 
-next_falls : (rows : List Production) (sets : Sets) → list_all (keeps sets) rows ≡ true → (limit : ℕ) {old new : List Symbol} → RewritesSymbols rows old new →
+next_falls : (rows : List Production) (sets : Sets) → list_all (keeps sets) rows ≡ true → (limit : ℕ) {old new : List Symbol}
+    → RewritesSymbols rows old new →
     falls sets limit old ≡ true → falls sets limit new ≡ true
 next_falls rows sets all limit step falling =
     ap (falls sets limit) step.new_is
     ∙ falls-rewritten sets limit step.row step.front step.back (row_keeps rows sets all step.number step.row step.is_row)
     (ap (falls sets limit) (sym step.old_is) ∙ falling)
 
-steps_fall : (rows : List Production) (sets : Sets) → list_all (keeps sets) rows ≡ true → (limit : ℕ) {old new : List Symbol} → RewritesInSteps rows old new →
+steps_fall : (rows : List Production) (sets : Sets) → list_all (keeps sets) rows ≡ true → (limit : ℕ) {old new : List Symbol}
+    → RewritesInSteps rows old new →
     falls sets limit old ≡ true → falls sets limit new ≡ true
 steps_fall rows sets all limit (one step) falling = next_falls rows sets all limit step falling
-steps_fall rows sets all limit (more step steps) falling = steps_fall rows sets all limit steps (next_falls rows sets all limit step falling)
+steps_fall rows sets all limit (more step steps) falling =
+    steps_fall rows sets all limit steps (next_falls rows sets all limit step falling)
 
-from_part_falls : (rows : List Production) (sets : Sets) → list_all (keeps sets) rows ≡ true → (part : ℕ) {new : List Symbol} → RewritesInSteps rows (Part part ∷ []) new →
+from_part_falls : (rows : List Production) (sets : Sets) → list_all (keeps sets) rows ≡ true → (part : ℕ) {new : List Symbol}
+    → RewritesInSteps rows (Part part ∷ []) new →
     falls sets (sets.rank part) new ≡ true
 from_part_falls rows sets all part (one {new = new} step) =
     first_falls rows sets all part step.number step.row step.front step.back new step.is_row step.old_is step.new_is
 from_part_falls rows sets all part (more {next = next} step steps) =
-    steps_fall rows sets all (sets.rank part) steps (first_falls rows sets all part step.number step.row step.front step.back next step.is_row step.old_is step.new_is)
+    steps_fall rows sets all (sets.rank part) steps (first_falls rows sets all part step.number step.row step.front step.back next
+    step.is_row step.old_is step.new_is)
 
-no_cycle : (rows : List Production) (sets : Sets) → list_all (keeps sets) rows ≡ true → (part : ℕ) (back : List Symbol) → RewritesInSteps rows (Part part ∷ []) (Part part ∷ back) → ⊥
+no_cycle : (rows : List Production) (sets : Sets) → list_all (keeps sets) rows ≡ true → (part : ℕ) (back : List Symbol)
+    → RewritesInSteps rows (Part part ∷ []) (Part part ∷ back) → ⊥
 no_cycle rows sets all part back steps =
     let falling = from_part_falls rows sets all part steps in
     let lower : sets.rank part < sets.rank part = ltb-true (sets.rank part) (sets.rank part)
@@ -280,13 +307,17 @@ no_cycle rows sets all part back steps =
 
 pub predictive : (g : ContextFree) (sets : Sets) (tree : ℕ → Forest) → Kept g sets tree → IsPredictive g
 predictive g sets tree kept = record {
-  productive = λ part below.
-      (tree part, derives_from g.rows (tree part) (Part part ∷ []) (below-at (λ (p : ℕ). derives_by g.rows (tree p) (Part p ∷ [])) g.parts part kept.derived below));
+  productive = λ part below. (
+    tree part,
+    derives_from g.rows (tree part) (Part part ∷ [])
+        (below-at (λ (p : ℕ). derives_by g.rows (tree p) (Part p ∷ [])) g.parts part kept.derived below),
+  );
   not_left_cyclic = λ has_cycle. no_cycle g.rows sets kept.rows_keep has_cycle.0 has_cycle.2.0 has_cycle.2.1;
   no_conflict = λ has_conflict.
       let it = has_conflict.2.1 in
       let token = has_conflict.2.0 in
-      rows_apart_sound sets g.rows it.first it.second it.first_row it.second_row token kept.rows_apart it.is_first it.is_second it.apart (it.first_left ∙ sym it.second_left)
+      rows_apart_sound sets g.rows it.first it.second it.first_row it.second_row token kept.rows_apart it.is_first it.is_second it.apart
+      (it.first_left ∙ sym it.second_left)
       (predicted_sound g sets kept.rows_keep kept.end_follows it.first_row token it.first_predicted)
       (predicted_sound g sets kept.rows_keep kept.end_follows it.second_row token it.second_predicted);
 }
@@ -294,7 +325,8 @@ predictive g sets tree kept = record {
 pub kept_of : (g : ContextFree) (table : List PartSets) → are_kept g table ≡ true → Kept g (sets_of table) (tree_of table)
 kept_of g table all =
     let derived = all_below (λ (part : ℕ). derives_by g.rows (tree_of table part) (Part part ∷ [])) g.parts in
-    let halves = and_parts (list_all (keeps (sets_of table)) g.rows && has ((sets_of table).follow g.start) g.tokens) (all_apart (sets_of table) g.rows && derived) all in
+    let halves = and_parts (list_all (keeps (sets_of table)) g.rows && has ((sets_of table).follow g.start) g.tokens)
+    (all_apart (sets_of table) g.rows && derived) all in
     let rows = and_parts (list_all (keeps (sets_of table)) g.rows) (has ((sets_of table).follow g.start) g.tokens) halves.0 in
     let rest = and_parts (all_apart (sets_of table) g.rows) derived halves.1 in
     record { rows_keep = rows.0; end_follows = rows.1; rows_apart = rest.0; derived = rest.1 }

@@ -49,21 +49,25 @@ DerivesPassing-row rows passing r row is d =
     (node r d.0 empty, (row, is, refl, d.1, tt), λ none. ap (λ xs. xs ++ []) (d.2 none))
 
 -- a test of rows that some row passes
-pub Row-has_marked_row : (rows : List Row) (marked : ℕ → Bool) (passing : Bool) (part : ℕ) → has_marked_row rows marked passing part ≡ true →
-    (r : ℕ) × (row : Production) × (slice_get (productions rows) r ≡ Some row) × (row.left ≡ part) × (all_marked marked passing row.right ≡ true)
+pub Row-has_marked_row : (rows : List Row) (marked : ℕ → Bool) (passing : Bool) (part : ℕ)
+    → has_marked_row rows marked passing part ≡ true →
+    (r : ℕ) × (row : Production) × (slice_get (productions rows) r ≡ Some row) × (row.left ≡ part)
+    × (all_marked marked passing row.right ≡ true)
 Row-has_marked_row rows marked passing part h =
     let at = list_any-at (λ (row : Row). (row.left == part) && all_marked marked passing row.right.items) rows h in
     let parts = and_parts (at.1.left == part) (all_marked marked passing at.1.right.items) at.3 in
     (at.0, production_of at.1, at_map production_of rows at.0 at.1 at.2, eqb-true at.1.left part parts.0, parts.1)
 
 pub has_marked_row-from_row : (rows : List Row) (marked : ℕ → Bool) (passing : Bool) (r : ℕ) (row : Production) →
-    slice_get (productions rows) r ≡ Some row → all_marked marked passing row.right ≡ true → has_marked_row rows marked passing row.left ≡ true
+    slice_get (productions rows) r ≡ Some row → all_marked marked passing row.right ≡ true
+    → has_marked_row rows marked passing row.left ≡ true
 has_marked_row-from_row rows marked passing r row is h =
     let at = from_map production_of rows r row is in
     let left : at.0.left ≡ row.left = ap (λ (x : Production). x.left) at.2 in
     let right : at.0.right.items ≡ row.right = ap (λ (x : Production). x.right) at.2 in
     any_passes_from_place (λ (x : Row). (x.left == row.left) && all_marked marked passing x.right.items) rows r at.0 at.1
-    (and_from (at.0.left == row.left) (all_marked marked passing at.0.right.items) (eq-eqb at.0.left row.left left) (ap (all_marked marked passing) right ∙ h))
+    (and_from (at.0.left == row.left) (all_marked marked passing at.0.right.items) (eq-eqb at.0.left row.left left)
+    (ap (all_marked marked passing) right ∙ h))
 
 -- one round keeps the marks sound
 pub DerivesPassing-next_mark : (rows : List Row) (marks : List Bool) (passing : Bool) →
@@ -82,7 +86,8 @@ DerivesPassing-next_mark rows marks passing sound part h =
 -- where each row that passes has its part marked, all that derives passes
 pub all_marked-DerivesPassing : (rows : List Production) (passing : Bool) (marked : ℕ → Bool) →
     ((r : ℕ) (row : Production) → slice_get rows r ≡ Some row → all_marked marked passing row.right ≡ true → marked row.left ≡ true) →
-    (trees : Forest) (symbols : List Symbol) → DerivesSymbols rows trees symbols → (passing ≡ false → leaves trees ≡ []) → all_marked marked passing symbols ≡ true
+    (trees : Forest) (symbols : List Symbol) → DerivesSymbols rows trees symbols → (passing ≡ false → leaves trees ≡ [])
+    → all_marked marked passing symbols ≡ true
 all_marked-DerivesPassing rows passing marked closed empty [] d none = refl
 all_marked-DerivesPassing rows passing marked closed empty (x ∷ symbols) d none = absurd d
 all_marked-DerivesPassing rows passing marked closed (leaf t rest) [] d none = absurd d
@@ -94,7 +99,8 @@ all_marked-DerivesPassing rows passing marked closed (leaf t rest) (Part p ∷ s
 all_marked-DerivesPassing rows passing marked closed (node r below rest) [] d none = absurd d
 all_marked-DerivesPassing rows passing marked closed (node r below rest) (Token u ∷ symbols) d none = absurd d
 all_marked-DerivesPassing rows passing marked closed (node r below rest) (Part p ∷ symbols) d none =
-    let lower = all_marked-DerivesPassing rows passing marked closed below d.0.right d.3 (λ e. (append_nil (leaves below) (leaves rest) (none e)).0) in
+    let lower = all_marked-DerivesPassing rows passing marked closed below d.0.right d.3
+    (λ e. (append_nil (leaves below) (leaves rest) (none e)).0) in
     and_from (marked p) (all_marked marked passing symbols)
     (ap marked (sym d.2) ∙ closed r d.0 d.1 lower)
     (all_marked-DerivesPassing rows passing marked closed rest symbols d.4 (λ e. (append_nil (leaves below) (leaves rest) (none e)).1))
@@ -119,15 +125,19 @@ is_marked-within marks part h =
       | inr ge ↦ absurd (both_ways (is_marked marks part) (get_or_past marks part false ge) h)
     ]
 
-pub next_round-length : (rows : List Row) (parts : ℕ) (passing : Bool) (marks : List Bool) → length (next_round rows parts passing marks) ≡ parts
+pub next_round-length : (rows : List Row) (parts : ℕ) (passing : Bool) (marks : List Bool)
+    → length (next_round rows parts passing marks) ≡ parts
 next_round-length rows parts passing marks = length-map-range_with_len (next_mark rows marks passing) 0 parts
 
-pub IsWithin-next_round : (rows : List Row) (parts : ℕ) (passing : Bool) (marks : List Bool) → length marks ≡ parts → IsWithin marks (next_round rows parts passing marks)
+pub IsWithin-next_round : (rows : List Row) (parts : ℕ) (passing : Bool) (marks : List Bool) → length marks ≡ parts
+    → IsWithin marks (next_round rows parts passing marks)
 IsWithin-next_round rows parts passing marks len part h =
     let lt = is_marked-within marks part h in
-    is_marked-next_round rows parts passing marks part (omega arith) ∙ or_left (is_marked marks part) (has_marked_row rows (is_marked marks) passing part) h
+    is_marked-next_round rows parts passing marks part (omega arith)
+    ∙ or_left (is_marked marks part) (has_marked_row rows (is_marked marks) passing part) h
 
-pub AreSound-next_round : (rows : List Row) (parts : ℕ) (passing : Bool) (marks : List Bool) → AreSound rows parts passing marks → AreSound rows parts passing (next_round rows parts passing marks)
+pub AreSound-next_round : (rows : List Row) (parts : ℕ) (passing : Bool) (marks : List Bool) → AreSound rows parts passing marks
+    → AreSound rows parts passing (next_round rows parts passing marks)
 AreSound-next_round rows parts passing marks s = record {
   one_each = next_round-length rows parts passing marks;
   sound = λ part h.
@@ -140,23 +150,28 @@ AreSound-next_round rows parts passing marks s = record {
 pub set_count-next_round : (rows : List Row) (parts : ℕ) (passing : Bool) (marks : List Bool) → length marks ≡ parts →
     set_count marks ≤ set_count (next_round rows parts passing marks)
 set_count-next_round rows parts passing marks len =
-    set_count-le marks (next_round rows parts passing marks) (len ∙ sym (next_round-length rows parts passing marks)) (IsWithin-next_round rows parts passing marks len)
+    set_count-le marks (next_round rows parts passing marks) (len ∙ sym (next_round-length rows parts passing marks))
+    (IsWithin-next_round rows parts passing marks len)
 
 -- where a round adds no mark, all that derives is marked
-pub AreDeriving-from_same_count : (rows : List Row) (parts : ℕ) (passing : Bool) (marks : List Bool) → HasPartsBelow rows parts → AreSound rows parts passing marks →
+pub AreDeriving-from_same_count : (rows : List Row) (parts : ℕ) (passing : Bool) (marks : List Bool) → HasPartsBelow rows parts
+    → AreSound rows parts passing marks →
     set_count marks ≡ set_count (next_round rows parts passing marks) → AreDeriving rows parts passing marks
 AreDeriving-from_same_count rows parts passing marks below s e =
     let same : marks ≡ next_round rows parts passing marks = same_from_set_count marks (next_round rows parts passing marks)
     (s.one_each ∙ sym (next_round-length rows parts passing marks)) (IsWithin-next_round rows parts passing marks s.one_each) e in
-    let closed = λ (r : ℕ) (row : Production) (is : slice_get (productions rows) r ≡ Some row) (h : all_marked (is_marked marks) passing row.right ≡ true).
+    let closed = λ (r : ℕ) (row : Production) (is : slice_get (productions rows) r
+    ≡ Some row) (h : all_marked (is_marked marks) passing row.right ≡ true).
     ap (λ (m : List Bool). is_marked m row.left) same
     ∙ is_marked-next_round rows parts passing marks row.left (below r row is)
-    ∙ or_right (is_marked marks row.left) (has_marked_row rows (is_marked marks) passing row.left) (has_marked_row-from_row rows (is_marked marks) passing r row is h) in
+    ∙ or_right (is_marked marks row.left) (has_marked_row rows (is_marked marks) passing row.left)
+    (has_marked_row-from_row rows (is_marked marks) passing r row is h) in
     record {
       one_each = s.one_each;
       sound = s.sound;
       complete = λ part lt d.
-          (and_parts (is_marked marks part) true (all_marked-DerivesPassing (productions rows) passing (is_marked marks) closed d.0 (Part part ∷ []) d.1 d.2)).0;
+          (and_parts (is_marked marks part) true (all_marked-DerivesPassing (productions rows) passing (is_marked marks) closed d.0
+          (Part part ∷ []) d.1 d.2)).0;
     }
 
 -- before the first round nothing is marked

@@ -11,14 +11,16 @@ use Rattle.ll_engine.specs.Language.{ContextFree}
 use Rattle.ll_engine.specs.View.{is_in_range, is_row_in_range, is_well_formed}
 use Rattle.ll_engine.proofs.Forests.{beside, Derives-beside}
 
-pub list_all-split : {X : Type 0} (p : X → Bool) (xs ys : List X) → list_all p (xs ++ ys) ≡ true → (list_all p xs ≡ true) × (list_all p ys ≡ true)
+pub list_all-split : {X : Type 0} (p : X → Bool) (xs ys : List X) → list_all p (xs ++ ys) ≡ true → (list_all p xs ≡ true)
+    × (list_all p ys ≡ true)
 list_all-split p [] ys h = (refl, h)
 list_all-split p (x ∷ xs) ys h =
     let parts = and_parts (p x) (list_all p (xs ++ ys)) h in
     let rest = list_all-split p xs ys parts.1 in
     (and_from (p x) (list_all p xs) parts.0 rest.0, rest.1)
 
-pub list_all-join : {X : Type 0} (p : X → Bool) (xs ys : List X) → list_all p xs ≡ true → list_all p ys ≡ true → list_all p (xs ++ ys) ≡ true
+pub list_all-join : {X : Type 0} (p : X → Bool) (xs ys : List X) → list_all p xs ≡ true → list_all p ys ≡ true
+    → list_all p (xs ++ ys) ≡ true
 list_all-join p [] ys h g = g
 list_all-join p (x ∷ xs) ys h g =
     let parts = and_parts (p x) (list_all p xs) h in
@@ -31,11 +33,13 @@ pub record RowsInRange (rows : List Production) (parts tokens : ℕ) : Type 0 wh
 abbrev pub InRange : ℕ → ℕ → List Symbol → Type 0
 InRange parts tokens symbols = list_all (is_in_range parts tokens) symbols ≡ true
 
-pub left-below : {rows : List Production} {parts tokens : ℕ} → RowsInRange rows parts tokens → (r : ℕ) (row : Production) → slice_get rows r ≡ Some row → row.left < parts
+pub left-below : {rows : List Production} {parts tokens : ℕ} → RowsInRange rows parts tokens → (r : ℕ) (row : Production)
+    → slice_get rows r ≡ Some row → row.left < parts
 left-below {rows} {parts} {tokens} ranges r row is =
     ltb-true row.left parts (and_parts (nat_lt row.left parts) (list_all (is_in_range parts tokens) row.right) (ranges.each r row is)).0
 
-pub right-InRange : {rows : List Production} {parts tokens : ℕ} → RowsInRange rows parts tokens → (r : ℕ) (row : Production) → slice_get rows r ≡ Some row → InRange parts tokens row.right
+pub right-InRange : {rows : List Production} {parts tokens : ℕ} → RowsInRange rows parts tokens → (r : ℕ) (row : Production)
+    → slice_get rows r ≡ Some row → InRange parts tokens row.right
 right-InRange {rows} {parts} {tokens} ranges r row is =
     (and_parts (nat_lt row.left parts) (list_all (is_in_range parts tokens) row.right) (ranges.each r row is)).1
 
@@ -66,7 +70,8 @@ AreTokens-leaves ranges empty symbols d h = refl
 AreTokens-leaves ranges (leaf t rest) [] d h = absurd d
 AreTokens-leaves {rows} {parts} {tokens} ranges (leaf t rest) (Token u ∷ symbols) d h =
     let own = and_parts (nat_lt u tokens) (list_all (is_in_range parts tokens) symbols) h in
-    and_from (nat_lt t tokens) (list_all (λ (x : ℕ). nat_lt x tokens) (leaves rest)) (ap (λ (x : ℕ). nat_lt x tokens) d.0 ∙ own.0) (AreTokens-leaves ranges rest symbols d.1 own.1)
+    and_from (nat_lt t tokens) (list_all (λ (x : ℕ). nat_lt x tokens) (leaves rest)) (ap (λ (x : ℕ). nat_lt x tokens) d.0 ∙ own.0)
+    (AreTokens-leaves ranges rest symbols d.1 own.1)
 AreTokens-leaves ranges (leaf t rest) (Part p ∷ symbols) d h = absurd d
 AreTokens-leaves ranges (node r below rest) [] d h = absurd d
 AreTokens-leaves ranges (node r below rest) (Token u ∷ symbols) d h = absurd d
@@ -80,7 +85,8 @@ AreTokens-leaves {rows} {parts} {tokens} ranges (node r below rest) (Part p ∷ 
 abbrev pub AllProductive : List Production → ℕ → Type 0
 AllProductive rows parts = (part : ℕ) → part < parts → (tree : Forest) × DerivesSymbols rows tree (Part part ∷ [])
 
-pub trees_of : (rows : List Production) (parts tokens : ℕ) → AllProductive rows parts → (symbols : List Symbol) → InRange parts tokens symbols → (f : Forest) × DerivesSymbols rows f symbols
+pub trees_of : (rows : List Production) (parts tokens : ℕ) → AllProductive rows parts → (symbols : List Symbol)
+    → InRange parts tokens symbols → (f : Forest) × DerivesSymbols rows f symbols
 trees_of rows parts tokens productive [] h = (empty, tt)
 trees_of rows parts tokens productive (Token t ∷ symbols) h =
     let own = and_parts (nat_lt t tokens) (list_all (is_in_range parts tokens) symbols) h in

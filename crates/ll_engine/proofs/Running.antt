@@ -216,7 +216,8 @@ module _ {T A : Type 0} (value_of : ℕ → Option T → List A → Option A) (k
         ap (λ (l : List T). runs (reverse (leftmost rest)) (work below (reverse l ++ ahead))) (kept_none kind keeps token mine not_kept)
         ∙ rest_runs mine others parts.1 below ahead
 
-    pub trees_run : (trees : Forest) (symbols : List Symbol) (own : List T) → DerivesSymbols rows trees symbols → leaves trees ≡ map kind own
+    pub trees_run : (trees : Forest) (symbols : List Symbol) (own : List T) → DerivesSymbols rows trees symbols
+        → leaves trees ≡ map kind own
         → AllDropped symbols → Runs trees own
     trees_run empty [] own d e dropped = λ below ahead. ap (λ (l : List T). runs [] (work below (reverse (kept l) ++ ahead)))
         (no_tokens kind own e)

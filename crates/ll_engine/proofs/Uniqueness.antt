@@ -17,13 +17,15 @@ use Rattle.ll_engine.proofs.Ranges.{RowsInRange-well_formed, left-below, right-I
 use Rattle.ll_engine.proofs.Walks.{IsPredictedBy-node, MayFollow-row, one_row, IsUnexpectedAt-same}
 
 -- trees in front of a leftmost derivation
-leftmost_before : (rows : List Production) (f : Forest) (a b : List Symbol) (numbers list : List ℕ) → DerivesSymbols rows f a → DerivesLeftmost rows b numbers list →
+leftmost_before : (rows : List Production) (f : Forest) (a b : List Symbol) (numbers list : List ℕ) → DerivesSymbols rows f a
+    → DerivesLeftmost rows b numbers list →
     DerivesLeftmost rows (a ++ b) (leftmost f ++ numbers) (leaves f ++ list)
 leftmost_before rows empty [] b numbers list d after = after
 leftmost_before rows empty (x ∷ a) b numbers list d after = absurd d
 leftmost_before rows (leaf t rest) [] b numbers list d after = absurd d
 leftmost_before rows (leaf t rest) (Token u ∷ a) b numbers list d after =
-    subst (λ (x : ℕ). DerivesLeftmost rows (Token x ∷ (a ++ b)) (leftmost rest ++ numbers) (t ∷ (leaves rest ++ list))) d.0 (token (leftmost_before rows rest a b numbers list d.1 after))
+    subst (λ (x : ℕ). DerivesLeftmost rows (Token x ∷ (a ++ b)) (leftmost rest ++ numbers) (t ∷ (leaves rest ++ list))) d.0
+    (token (leftmost_before rows rest a b numbers list d.1 after))
 leftmost_before rows (leaf t rest) (Part p ∷ a) b numbers list d after = absurd d
 leftmost_before rows (node r below rest) [] b numbers list d after = absurd d
 leftmost_before rows (node r below rest) (Token u ∷ a) b numbers list d after = absurd d
@@ -31,8 +33,10 @@ leftmost_before rows (node r below rest) (Part p ∷ a) b numbers list d after =
     let behind = leftmost_before rows rest a b numbers list d.4 after in
     let lower = leftmost_before rows below d.0.right (a ++ b) (leftmost rest ++ numbers) (leaves rest ++ list) d.3 behind in
     replace d.0 d.1 d.2
-    (subst (λ (ns : List ℕ). DerivesLeftmost rows (d.0.right ++ (a ++ b)) ns ((leaves below ++ leaves rest) ++ list)) (sym (append_assoc (leftmost below) (leftmost rest) numbers))
-    (subst (DerivesLeftmost rows (d.0.right ++ (a ++ b)) (leftmost below ++ (leftmost rest ++ numbers))) (sym (append_assoc (leaves below) (leaves rest) list)) lower))
+    (subst (λ (ns : List ℕ). DerivesLeftmost rows (d.0.right ++ (a ++ b)) ns ((leaves below ++ leaves rest) ++ list))
+    (sym (append_assoc (leftmost below) (leftmost rest) numbers))
+    (subst (DerivesLeftmost rows (d.0.right ++ (a ++ b)) (leftmost below ++ (leftmost rest ++ numbers)))
+    (sym (append_assoc (leaves below) (leaves rest) list)) lower))
 
 pub trees_are_leftmost : TreesAreLeftmost
 trees_are_leftmost = λ rows trees symbols d.
@@ -72,9 +76,11 @@ module _ (g : ContextFree) (well_formed : is_well_formed g ≡ true) (predictive
   FollowedBy [] after = Unit {0}
   FollowedBy (Token t ∷ symbols) after = FollowedBy symbols after
   FollowedBy (Part p ∷ symbols) after =
-      ((trees : Forest) → DerivesSymbols g.rows trees symbols → MayFollow g p (next_token g (leaves trees ++ after))) × FollowedBy symbols after
+      ((trees : Forest) → DerivesSymbols g.rows trees symbols → MayFollow g p (next_token g (leaves trees ++ after)))
+      × FollowedBy symbols after
 
-  FollowedBy-right : (r : ℕ) (row : Production) → slice_get g.rows r ≡ Some row → (after : List ℕ) → MayFollow g row.left (next_token g after) →
+  FollowedBy-right : (r : ℕ) (row : Production) → slice_get g.rows r ≡ Some row → (after : List ℕ)
+      → MayFollow g row.left (next_token g after) →
       (front right : List Symbol) → row.right ≡ front ++ right → FollowedBy right after
   FollowedBy-right r row is after follow front [] e = tt
   FollowedBy-right r row is after follow front (Token t ∷ right) e =
@@ -85,7 +91,8 @@ module _ (g : ContextFree) (well_formed : is_well_formed g ≡ true) (predictive
   )
 
   -- trees of the same symbols and with the same leaves, each in front of a list, are the same, and so are the lists
-  same_trees : (f : Forest) (symbols : List Symbol) (other : Forest) (v w : List ℕ) → DerivesSymbols g.rows f symbols → DerivesSymbols g.rows other symbols → InRange g.parts g.tokens symbols →
+  same_trees : (f : Forest) (symbols : List Symbol) (other : Forest) (v w : List ℕ) → DerivesSymbols g.rows f symbols
+      → DerivesSymbols g.rows other symbols → InRange g.parts g.tokens symbols →
       AreTokens g.tokens v → leaves f ++ v ≡ leaves other ++ w → FollowedBy symbols v → FollowedBy symbols w → (f ≡ other) × (v ≡ w)
   same_trees empty [] empty v w d o in_range tokens e follow follow_other = (refl, e)
   same_trees empty [] (leaf x rest) v w d o in_range tokens e follow follow_other = absurd o
@@ -114,15 +121,20 @@ module _ (g : ContextFree) (well_formed : is_well_formed g ≡ true) (predictive
       let next_predicts = IsPredictedBy-node g r d.0 p below (leaves rest ++ v) d.1 d.2 d.3 (follow.0 rest d.4) in
       let other_predicts = subst (λ (list : List ℕ). IsPredictedBy g o.0 (next_token g list)) (sym split)
       (IsPredictedBy-node g i o.0 p under (leaves after ++ w) o.1 o.2 o.3 (follow_other.0 after o.4)) in
-      let rest_tokens = list_all-join (λ (x : ℕ). nat_lt x g.tokens) (leaves rest) v (AreTokens-leaves ranges rest symbols d.4 own.1) tokens in
-      let all_tokens = list_all-join (λ (x : ℕ). nat_lt x g.tokens) (leaves below) (leaves rest ++ v) (AreTokens-leaves ranges below d.0.right d.3 (right-InRange ranges r d.0 d.1)) rest_tokens in
+      let rest_tokens = list_all-join (λ (x : ℕ). nat_lt x g.tokens) (leaves rest) v (AreTokens-leaves ranges rest symbols d.4 own.1)
+      tokens in
+      let all_tokens = list_all-join (λ (x : ℕ). nat_lt x g.tokens) (leaves below) (leaves rest ++ v)
+      (AreTokens-leaves ranges below d.0.right d.3 (right-InRange ranges r d.0 d.1)) rest_tokens in
       let number : r ≡ i = one_row g predictive p (next_token g (leaves below ++ (leaves rest ++ v))) r i d.0 o.0 (ltb-true p g.parts own.0)
       (next_token-le g (leaves below ++ (leaves rest ++ v)) all_tokens) d.1 o.1 d.2 o.2 next_predicts other_predicts in
       let row : o.0 ≡ d.0 = let a : slice_get g.rows i ≡ Some d.0 = ap (slice_get g.rows) (sym number) ∙ d.1 in let b = o.1 in cc in
-      let lower = same_trees below d.0.right under (leaves rest ++ v) (leaves after ++ w) d.3 (subst (λ (x : Production). DerivesSymbols g.rows under x.right) row o.3)
+      let lower = same_trees below d.0.right under (leaves rest ++ v) (leaves after ++ w) d.3
+      (subst (λ (x : Production). DerivesSymbols g.rows under x.right) row o.3)
       (right-InRange ranges r d.0 d.1) rest_tokens split
-      (FollowedBy-right r d.0 d.1 (leaves rest ++ v) (subst (λ (q : ℕ). MayFollow g q (next_token g (leaves rest ++ v))) (sym d.2) (follow.0 rest d.4)) [] d.0.right refl)
-      (FollowedBy-right r d.0 d.1 (leaves after ++ w) (subst (λ (q : ℕ). MayFollow g q (next_token g (leaves after ++ w))) (sym d.2) (follow_other.0 after o.4)) [] d.0.right refl) in
+      (FollowedBy-right r d.0 d.1 (leaves rest ++ v) (subst (λ (q : ℕ). MayFollow g q (next_token g (leaves rest ++ v))) (sym d.2)
+      (follow.0 rest d.4)) [] d.0.right refl)
+      (FollowedBy-right r d.0 d.1 (leaves after ++ w) (subst (λ (q : ℕ). MayFollow g q (next_token g (leaves after ++ w))) (sym d.2)
+      (follow_other.0 after o.4)) [] d.0.right refl) in
       let rests = same_trees rest symbols after v w d.4 o.4 own.1 tokens lower.1 follow.1 follow_other.1 in
       let trees : below ≡ under = lower.0 in
       let afters : rest ≡ after = rests.0 in
@@ -137,10 +149,12 @@ module _ (g : ContextFree) (well_formed : is_well_formed g ≡ true) (predictive
       nothing (leaf t rest) d = absurd d
       nothing (node r below rest) d = absurd d
 
-  one_tree_of : (tree other : Forest) → DerivesSymbols g.rows tree (Part g.start ∷ []) → DerivesSymbols g.rows other (Part g.start ∷ []) → leaves tree ≡ leaves other → tree ≡ other
+  one_tree_of : (tree other : Forest) → DerivesSymbols g.rows tree (Part g.start ∷ []) → DerivesSymbols g.rows other (Part g.start ∷ [])
+      → leaves tree ≡ leaves other → tree ≡ other
   one_tree_of tree other d o e =
       (same_trees tree (Part g.start ∷ []) other [] [] d o
-      (and_from (nat_lt g.start g.parts) true (lt-ltb g.start g.parts (start-below g well_formed)) refl) refl (ap (λ (xs : List ℕ). xs ++ []) e) follow_start follow_start).0
+      (and_from (nat_lt g.start g.parts) true (lt-ltb g.start g.parts (start-below g well_formed)) refl) refl
+      (ap (λ (xs : List ℕ). xs ++ []) e) follow_start follow_start).0
 
 pub one_tree : OneTree
 one_tree = λ g well_formed predictive tree other d o e. one_tree_of g well_formed predictive tree other d o e
@@ -152,7 +166,8 @@ one_derivation = λ g well_formed predictive rows others list a b.
 
 pub one_row_of : OneRow
 one_row_of = λ g well_formed predictive token i j row other le is_row is_other same row_predicted other_predicted.
-    one_row g predictive row.left token i j row other (left-below (RowsInRange-well_formed g well_formed) i row is_row) le is_row is_other refl (sym same) row_predicted other_predicted
+    one_row g predictive row.left token i j row other (left-below (RowsInRange-well_formed g well_formed) i row is_row) le is_row is_other
+    refl (sym same) row_predicted other_predicted
 
 pub one_unexpected : OneUnexpected
 one_unexpected = λ g list at other a b. IsUnexpectedAt-same g list at other a b

@@ -35,7 +35,8 @@ module _ (rows : List Row) (parts tokens start : ℕ) (well_formed : is_well_for
     marked-productive : (part : ℕ) → is_marked marks part ≡ true → (tree : Forest) × DerivesSymbols (productions rows) tree (Part part ∷ [])
     marked-productive part h = let d = deriving_marks.sound part h in (d.0, d.1)
 
-    pub IsFirstBarren-least : (part : ℕ) → IsLeastBelow (λ p. not (is_marked marks p)) parts (Some part) → IsFirstBarren (grammar_of rows parts tokens start) part
+    pub IsFirstBarren-least : (part : ℕ) → IsLeastBelow (λ p. not (is_marked marks p)) parts (Some part)
+        → IsFirstBarren (grammar_of rows parts tokens start) part
     IsFirstBarren-least part least = (
       least.0,
       record {
@@ -85,7 +86,8 @@ module _ (rows : List Row) (parts tokens start : ℕ) (well_formed : is_well_for
       },
     )
 
-    pub not_left_cyclic-none : IsLeastBelow (λ p. related first p (part_column first.tokens p)) parts None → ¬ HasLeftCycle (grammar_of rows parts tokens start)
+    pub not_left_cyclic-none : IsLeastBelow (λ p. related first p (part_column first.tokens p)) parts None
+        → ¬ HasLeftCycle (grammar_of rows parts tokens start)
     not_left_cyclic-none none has = both_ways (related first has.0 (part_column first.tokens has.0)) (none has.0 has.1) (cyclic has.0 has.2)
 
     module _ (not_left_cyclic : ¬ HasLeftCycle (grammar_of rows parts tokens start)) (follow : Relation)
@@ -107,27 +109,35 @@ module _ (rows : List Row) (parts tokens start : ℕ) (well_formed : is_well_for
           productive = productive;
           not_left_cyclic = not_left_cyclic;
           no_conflict = λ has.
-              let e = entry_at test rows parts tokens table (parts * width_of tokens) has.0 has.2.0 is.entries (cell-below has.0 (width_of tokens) has.2.0 parts has.1 (let le = has.2.1.in_range in omega arith)) has.2.1.in_range in
-              no_conflict-IsEntry rows parts tokens start (is_marked nullable) sets.none sets.corners first follows.followers follow made of_follow productive has.0 has.2.0
+              let e = entry_at test rows parts tokens table (parts * width_of tokens) has.0 has.2.0 is.entries
+              (cell-below has.0 (width_of tokens) has.2.0 parts has.1 (let le = has.2.1.in_range in omega arith)) has.2.1.in_range in
+              no_conflict-IsEntry rows parts tokens start (is_marked nullable) sets.none sets.corners first follows.followers follow made
+              of_follow productive has.0 has.2.0
               (slice_index table (has.0 * width_of tokens + has.2.0)) e has.2.1;
         };
         one_each = is.one_each;
         entries = λ part token lt le.
-            IsPrediction-IsEntry rows parts tokens start (is_marked nullable) sets.none sets.corners first follows.followers follow made of_follow productive part token
+            IsPrediction-IsEntry rows parts tokens start (is_marked nullable) sets.none sets.corners first follows.followers follow made
+            of_follow productive part token
             (slice_index table (part * width_of tokens + token)) le
-            (entry_at test rows parts tokens table (parts * width_of tokens) part token is.entries (cell-below part (width_of tokens) token parts lt (omega arith)) le);
+            (entry_at test rows parts tokens table (parts * width_of tokens) part token is.entries
+            (cell-below part (width_of tokens) token parts lt (omega arith)) le);
       }
 
-      before : (part token q t : ℕ) (several : IsFirstSeveral test rows parts tokens part token) → q * width_of tokens + t < part * width_of tokens + token → t ≤ tokens →
+      before : (part token q t : ℕ) (several : IsFirstSeveral test rows parts tokens part token)
+          → q * width_of tokens + t < part * width_of tokens + token → t ≤ tokens →
           ¬ IsConflict (grammar_of rows parts tokens start) q t
       before part token q t several lt le =
-          no_conflict-IsEntry rows parts tokens start (is_marked nullable) sets.none sets.corners first follows.followers follow made of_follow productive q t
+          no_conflict-IsEntry rows parts tokens start (is_marked nullable) sets.none sets.corners first follows.followers follow made
+          of_follow productive q t
           (slice_index several.table (q * width_of tokens + t))
           (entry_at test rows parts tokens several.table (part * width_of tokens + token) q t several.entries_before lt le)
 
-      IsFirstConflict-several : (part token : ℕ) → IsFirstSeveral test rows parts tokens part token → IsFirstConflict (grammar_of rows parts tokens start) part token
+      IsFirstConflict-several : (part token : ℕ) → IsFirstSeveral test rows parts tokens part token
+          → IsFirstConflict (grammar_of rows parts tokens start) part token
       IsFirstConflict-several part token several =
-          let conflict = IsConflict-AreSeveral rows parts tokens start (is_marked nullable) sets.none sets.corners first follows.followers follow made of_follow productive part token several.token_in_range several.several in (
+          let conflict = IsConflict-AreSeveral rows parts tokens start (is_marked nullable) sets.none sets.corners first follows.followers
+          follow made of_follow productive part token several.token_in_range several.several in (
             not_barren,
             not_left_cyclic,
             several.part_in_range,
@@ -144,7 +154,8 @@ module _ (rows : List Row) (parts tokens start : ℕ) (well_formed : is_well_for
             },
           )
 
-      pub IsFaultOf-table : (fault : TableFault) → IsTableFault test rows parts tokens fault → IsTableFaultOf (grammar_of rows parts tokens start) fault
+      pub IsFaultOf-table : (fault : TableFault) → IsTableFault test rows parts tokens fault
+          → IsTableFaultOf (grammar_of rows parts tokens start) fault
       IsFaultOf-table (Barren part) is = absurd is
       IsFaultOf-table (LeftCycle part) is = absurd is
       IsFaultOf-table (Conflict part token) is = IsFirstConflict-several part token is

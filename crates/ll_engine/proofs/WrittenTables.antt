@@ -24,16 +24,20 @@ named_at : (table : WrittenTable) (sets : Sets) (rows : List Production) (first 
 named_at table sets [] first number row token names is predicted = absurd (cc)
 named_at table sets (other ∷ rows) first zero row token names is predicted =
     let same : other ≡ row = cc in
-    let test = λ (r : Production) (t : ℕ). is_number first (row_among (drop (first_row table r.left) table.rows.now) (first_row table r.left) r.left t) in
+    let test = λ (r : Production) (t : ℕ). is_number first
+    (row_among (drop (first_row table r.left) table.rows.now) (first_row table r.left) r.left t) in
     let here = (and_parts (list_all (test other) (predicting sets other)) (names_rows table sets (first + 1) rows) names).0 in
-    let passes = all_has (test row) (predicting sets row) token (subst (λ (r : Production). list_all (test r) (predicting sets r) ≡ true) same here) predicted in
+    let passes = all_has (test row) (predicting sets row) token
+    (subst (λ (r : Production). list_all (test r) (predicting sets r) ≡ true) same here) predicted in
     number_is first (row_at table row.left token) passes ∙ ap Some (omega arith)
 named_at table sets (other ∷ rows) first (suc number) row token names is predicted =
-    let test = λ (r : Production) (t : ℕ). is_number first (row_among (drop (first_row table r.left) table.rows.now) (first_row table r.left) r.left t) in
+    let test = λ (r : Production) (t : ℕ). is_number first
+    (row_among (drop (first_row table r.left) table.rows.now) (first_row table r.left) r.left t) in
     let rest = (and_parts (list_all (test other) (predicting sets other)) (names_rows table sets (first + 1) rows) names).1 in
     named_at table sets rows (first + 1) number row token rest is predicted ∙ ap Some (omega arith)
 
-written_by : (table : WrittenTable) (g : ContextFree) (known : List PartSets) → g.parts ≡ length table.first_rows.now → g.tokens ≡ table.tokens →
+written_by : (table : WrittenTable) (g : ContextFree) (known : List PartSets) → g.parts ≡ length table.first_rows.now
+    → g.tokens ≡ table.tokens →
     is_well_formed g ≡ true → is_sized table ≡ true → is_kept_and_named table g known ≡ true → IsTableWritten g table
 written_by table g known parts_are tokens_are well_formed sized kept_and_named =
     let few_rows = nat_lt (length table.rows.now) 2147483648 in
@@ -55,14 +59,16 @@ written_by table g known parts_are tokens_are well_formed sized kept_and_named =
       first_rows = λ part below.
           let within : part < length table.first_rows.now = omega (arith, below, parts_are) in
           leb-true (first_row table part) (length table.rows.now)
-          (list_all-at (λ first. nat_le first (length table.rows.now)) table.first_rows.now part (first_row table part) sizes.1 (slice_get-get_or table.first_rows.now part 0 within));
+          (list_all-at (λ first. nat_le first (length table.rows.now)) table.first_rows.now part (first_row table part) sizes.1
+          (slice_get-get_or table.first_rows.now part 0 within));
       named_rows = λ token number row le is predicted.
           named_at table (sets_of known) g.rows 0 number row token both.1 is
           (predicted_sound g (sets_of known) kept.rows_keep kept.end_follows row token predicted)
           ∙ ap Some (omega arith);
     }
 
-pub written_after : (n : ℕ) (table : WrittenTable) (start : ℕ) → is_written_after n table start ≡ true → IsTableWritten (written_grammar table start) table
+pub written_after : (n : ℕ) (table : WrittenTable) (start : ℕ) → is_written_after n table start ≡ true
+    → IsTableWritten (written_grammar table start) table
 written_after n table start passes =
     let g = written_grammar table start in
     let both = and_parts (is_well_formed g && is_sized table) (is_kept_and_named table g (known_after n g)) passes in

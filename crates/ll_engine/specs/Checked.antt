@@ -19,7 +19,8 @@ pub record IsChecked (g : ContextFree) (table : List ℕ) : Type 0 where
   pub well_formed : is_well_formed g ≡ true
   pub predictive : IsPredictive g
   pub one_each : length table ≡ g.parts * width_of g.tokens
-  pub entries : (part token : ℕ) → part < g.parts → token ≤ g.tokens → IsPrediction g part token (slice_index table (part * width_of g.tokens + token))
+  pub entries : (part token : ℕ) → part < g.parts → token ≤ g.tokens
+      → IsPrediction g part token (slice_index table (part * width_of g.tokens + token))
 
 -- The answer comes exactly where its cause holds; only the other answer, want of memory, may come in its place.
 pub record ExactlyWhere {A : Type 0} (cause : Type 0) (result answer otherwise : A) : Type 0 where

@@ -79,7 +79,8 @@ is_part part (Part p) = p == part
 abbrev pub follows_in : (ℕ → Bool) → (ℕ → ℕ → Bool) → ℕ → ℕ → ℕ → ℕ → List Symbol → Bool
 follows_in nullable first tokens left part column [] = false
 follows_in nullable first tokens left part column (symbol ∷ symbols) =
-    (is_part part symbol && continues nullable first tokens left column symbols) || follows_in nullable first tokens left part column symbols
+    (is_part part symbol && continues nullable first tokens left column symbols)
+    || follows_in nullable first tokens left part column symbols
 
 abbrev pub has_follower : List Row → (ℕ → Bool) → (ℕ → ℕ → Bool) → ℕ → ℕ → ℕ → ℕ → Bool
 has_follower rows nullable first tokens start part column =

@@ -20,7 +20,8 @@ abbrev pub DerivesSymbols : List Production → Forest → List Symbol → Type 
 DerivesSymbols rows empty [] = Unit {0}
 DerivesSymbols rows (leaf t rest) (Token u ∷ symbols) = (t ≡ u) × DerivesSymbols rows rest symbols
 DerivesSymbols rows (node r below rest) (Part p ∷ symbols) =
-    (row : Production) × (slice_get rows r ≡ Some row) × (row.left ≡ p) × DerivesSymbols rows below row.right × DerivesSymbols rows rest symbols
+    (row : Production) × (slice_get rows r ≡ Some row) × (row.left ≡ p) × DerivesSymbols rows below row.right
+    × DerivesSymbols rows rest symbols
 DerivesSymbols rows _ _ = ⊥
 
 -- the tokens at the leaves, from left to right: the list that is derived

@@ -11,14 +11,17 @@ use Rattle.ll_engine.specs.View.{is_well_formed}
 -- side of the row that comes next.
 pub data DerivesLeftmost (rows : List Production) : List Symbol → List ℕ → List ℕ → Type 0 where
   done : DerivesLeftmost rows [] [] []
-  token : {t : ℕ} {symbols : List Symbol} {numbers list : List ℕ} → DerivesLeftmost rows symbols numbers list → DerivesLeftmost rows (Token t ∷ symbols) numbers (t ∷ list)
-  replace : {part r : ℕ} {symbols : List Symbol} {numbers list : List ℕ} (row : Production) → slice_get rows r ≡ Some row → row.left ≡ part →
+  token : {t : ℕ} {symbols : List Symbol} {numbers list : List ℕ} → DerivesLeftmost rows symbols numbers list
+      → DerivesLeftmost rows (Token t ∷ symbols) numbers (t ∷ list)
+  replace : {part r : ℕ} {symbols : List Symbol} {numbers list : List ℕ} (row : Production) → slice_get rows r ≡ Some row
+      → row.left ≡ part →
       DerivesLeftmost rows (row.right ++ symbols) numbers list → DerivesLeftmost rows (Part part ∷ symbols) (r ∷ numbers) list
 
 -- the rows of derivation trees, each before those below it, are a leftmost derivation of their leaves
 abbrev pub TreesAreLeftmost : Type 0
 TreesAreLeftmost =
-    (rows : List Production) (trees : Forest) (symbols : List Symbol) → DerivesSymbols rows trees symbols → DerivesLeftmost rows symbols (leftmost trees) (leaves trees)
+    (rows : List Production) (trees : Forest) (symbols : List Symbol) → DerivesSymbols rows trees symbols
+    → DerivesLeftmost rows symbols (leftmost trees) (leaves trees)
 
 -- and each leftmost derivation is that of trees
 abbrev pub LeftmostHasTrees : Type 0
@@ -29,17 +32,20 @@ LeftmostHasTrees =
 -- a sentence of a grammar that one token ahead decides has one derivation tree, and so one leftmost derivation
 abbrev pub OneTree : Type 0
 OneTree =
-    (g : ContextFree) → is_well_formed g ≡ true → IsPredictive g → (tree other : Forest) → DerivesSymbols g.rows tree (Part g.start ∷ []) → DerivesSymbols g.rows other (Part g.start ∷ []) →
+    (g : ContextFree) → is_well_formed g ≡ true → IsPredictive g → (tree other : Forest) → DerivesSymbols g.rows tree (Part g.start ∷ [])
+    → DerivesSymbols g.rows other (Part g.start ∷ []) →
     leaves tree ≡ leaves other → tree ≡ other
 
 abbrev pub OneDerivation : Type 0
 OneDerivation =
-    (g : ContextFree) → is_well_formed g ≡ true → IsPredictive g → (rows others list : List ℕ) → IsLeftmostDerivation g rows list → IsLeftmostDerivation g others list → rows ≡ others
+    (g : ContextFree) → is_well_formed g ≡ true → IsPredictive g → (rows others list : List ℕ) → IsLeftmostDerivation g rows list
+    → IsLeftmostDerivation g others list → rows ≡ others
 
 -- a token, or the end, predicts at most one row of a part
 abbrev pub OneRow : Type 0
 OneRow =
-    (g : ContextFree) → is_well_formed g ≡ true → IsPredictive g → (token i j : ℕ) (row other : Production) → token ≤ g.tokens → slice_get g.rows i ≡ Some row → slice_get g.rows j ≡ Some other →
+    (g : ContextFree) → is_well_formed g ≡ true → IsPredictive g → (token i j : ℕ) (row other : Production) → token ≤ g.tokens
+    → slice_get g.rows i ≡ Some row → slice_get g.rows j ≡ Some other →
     row.left ≡ other.left → IsPredictedBy g row token → IsPredictedBy g other token → i ≡ j
 
 -- a list goes wrong at one place

@@ -99,4 +99,5 @@ IsFirstLeftCyclic g part = (¬ HasBarren g) × (part < g.parts) × IsLeast (IsLe
 
 abbrev pub IsFirstConflict : ContextFree → ℕ → ℕ → Type 0
 IsFirstConflict g part token =
-    (¬ HasBarren g) × (¬ HasLeftCycle g) × (part < g.parts) × IsLeast (λ p. (t : ℕ) × IsConflict g p t) part × IsLeast (IsConflict g part) token
+    (¬ HasBarren g) × (¬ HasLeftCycle g) × (part < g.parts) × IsLeast (λ p. (t : ℕ) × IsConflict g p t) part
+    × IsLeast (IsConflict g part) token

@@ -174,7 +174,10 @@ changed change part table = slice_set table part (change (known_of table part))
 -- the part with what may stand behind it in a row of `left`, where these symbols do
 abbrev pub followed_by : List PartSets → ℕ → List Symbol → PartSets → PartSets
 followed_by table left symbols known =
-    record known { follow = joined (joined known.follow (first_of (sets_of table) symbols)) (cond (all_nullable (sets_of table) symbols) (known_of table left).follow []) }
+    record known {
+      follow = joined (joined known.follow (first_of (sets_of table) symbols))
+          (cond (all_nullable (sets_of table) symbols) (known_of table left).follow []);
+    }
 
 abbrev pub learn_follow : ℕ → List Symbol → List PartSets → List PartSets
 learn_follow left [] table = table

@@ -30,7 +30,8 @@ next_related relation part column =
 -- the relation holds, or it takes the part to the column of another that leads to the column
 pub data RelationLeads (relation : Relation) : ℕ → ℕ → Type 0 where
   here : (part column : ℕ) → related relation part column ≡ true → RelationLeads relation part column
-  through : (part middle column : ℕ) → related relation part (part_column relation.tokens middle) ≡ true → RelationLeads relation middle column → RelationLeads relation part column
+  through : (part middle column : ℕ) → related relation part (part_column relation.tokens middle) ≡ true
+      → RelationLeads relation middle column → RelationLeads relation part column
 
 -- the new relation holds exactly what the old one leads to
 pub record IsClosureOf (old new : Relation) : Type 0 where

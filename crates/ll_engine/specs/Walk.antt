@@ -20,7 +20,8 @@ pub record IsOnlyRow (g : ContextFree) (part token r : ℕ) : Type 0 where
   pub row : Production
   pub is_row : slice_get g.rows r ≡ Some row
   pub left_is : row.left ≡ part
-  pub only : (number : ℕ) (other : Production) → slice_get g.rows number ≡ Some other → other.left ≡ part → IsPredictedBy g other token → number ≡ r
+  pub only : (number : ℕ) (other : Production) → slice_get g.rows number ≡ Some other → other.left ≡ part → IsPredictedBy g other token
+      → number ≡ r
 
 -- each part of the stack may be followed by what the symbols behind it begin with
 abbrev pub AreFollowed : ContextFree → List Symbol → Type 0
@@ -36,7 +37,8 @@ pub record IsReachedByRows (g : ContextFree) (list : List ℕ) (at : ℕ) (rows 
   pub symbols_in_range : list_all (is_in_range g.parts g.tokens) stack ≡ true
   pub followed : AreFollowed g stack
   pub sound : (trees : Forest) → DerivesSymbols g.rows trees stack →
-      (tree : Forest) × DerivesSymbols g.rows tree (Part g.start ∷ []) × (leaves tree ≡ take at list ++ leaves trees) × (leftmost tree ≡ rows ++ leftmost trees)
+      (tree : Forest) × DerivesSymbols g.rows tree (Part g.start ∷ []) × (leaves tree ≡ take at list ++ leaves trees)
+      × (leftmost tree ≡ rows ++ leftmost trees)
   pub complete : (tree : Forest) (rest : List ℕ) → DerivesSymbols g.rows tree (Part g.start ∷ []) → leaves tree ≡ take at list ++ rest →
       slice_get rest 0 ≡ slice_get list at → (trees : Forest) × DerivesSymbols g.rows trees stack × (leaves trees ≡ rest)
 

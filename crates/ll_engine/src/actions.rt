@@ -20,7 +20,8 @@ pub trait Actions {
     ghost kind: { Self.Token → ℕ };
     /// Whether the tokens with the number are kept, because a row needs them.
     ghost keeps: { ℕ → Bool };
-    /// The value of a row, by its number, from its first token, if that is kept, and from the values of its parts.
+    /// The value of a row, by its number, from its first token, if that is kept, and from the
+    /// values of its parts.
     ghost value_of: { Self → ℕ → Option Self.Token → List Meaning → Option Meaning };
 
     /// The number of the token.
@@ -31,8 +32,8 @@ pub trait Actions {
     fn keeps(&self, number: u16) -> bool
         ensures { result ≡ keeps number };
 
-    /// Builds the value of a row. The last of `parts` is the value of the leftmost part. `None` stands where the row has no
-    /// value.
+    /// Builds the value of a row. The last of `parts` is the value of the leftmost part. `None`
+    /// stands where the row has no value.
     fn build(
         &self,
         alloc: Global,
@@ -40,5 +41,6 @@ pub trait Actions {
         token: Option<Self::Token>,
         parts: Vec<Self::Value>,
     ) -> Result<Option<Self::Value>, AllocError>
-        ensures { IfOk result (λ built. option_map meaning built ≡ value_of self.now row token (from_last meaning parts.items)) };
+        ensures { IfOk result (λ built. option_map meaning built
+            ≡ value_of self.now row token (from_last meaning parts.items)) };
 }

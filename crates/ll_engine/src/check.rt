@@ -1,4 +1,5 @@
-//! The check of a grammar: what its parts derive, begin with and are followed by, and what is wrong with it.
+//! The check of a grammar: what its parts derive, begin with and are followed by, and what is wrong
+//! with it.
 
 ghost use Rattle.std.specs.Prelude.{◌≡◌, ◌+◌, not, true, IfOk, MatchResult};
 ghost use Rattle.ll_engine.specs.Computed.{is_marked, part_column, IsLeastBelow};
@@ -28,7 +29,8 @@ fn least_unmarked(marks: &[bool], parts: u16) -> Option<u16>
 
 /// The least part that begins with itself.
 fn least_left_cycle(first: &Relation, parts: u16) -> Option<u16>
-    ensures { IsLeastBelow (λ part. related first.now part (part_column first.now.tokens part)) parts result }
+    ensures { IsLeastBelow (λ part. related first.now part (part_column first.now.tokens part))
+        parts result }
 {
     for part in 0..parts {
         if first.has(part, part_column(first.tokens, part)) {
@@ -62,7 +64,8 @@ fn follow_sets(
     start: u16,
     parts: u16,
 ) -> Result<Relation, AllocError>
-    ensures { IfOk result (IsFollowSets rows.now parts first.now.tokens start (is_marked nullable.now) first.now) }
+    ensures { IfOk result (IsFollowSets rows.now parts first.now.tokens start
+        (is_marked nullable.now) first.now) }
 {
     let followers = followers(alloc, nullable, first, rows, start, parts)?;
     followers.closed(alloc)

@@ -4,8 +4,8 @@ ghost use Rattle.std.specs.Prelude.{◌≡◌};
 
 use std::alloc::{AllocError, AllocFailed};
 
-/// Why a grammar has no table. `Barren` comes before `LeftCycle`, and that before `Conflict`; the least part comes
-/// first, and for a conflict then the least token.
+/// Why a grammar has no table. `Barren` comes before `LeftCycle`, and that before `Conflict`; the
+/// least part comes first, and for a conflict then the least token.
 #[derive(Clone, Copy, PartialEq, Eq, Debug)]
 pub enum TableFault {
     /// The part derives no list of tokens.
@@ -54,7 +54,8 @@ impl<T: Drop> From<AllocFailed<T>> for TableFault {
 pub enum ParseFault {
     /// The list is no sentence.
     Unexpected {
-        /// The first token with which the list stops being viable, or the number of tokens where all of it is viable.
+        /// The first token with which the list stops being viable, or the number of tokens where
+        /// all of it is viable.
         at: usize,
     },
     /// Memory ran out.

@@ -62,7 +62,8 @@ fn take_token<T: Copy>(takes: bool, ahead: &mut Vec<T>) -> Option<T>
 
 /// Takes the last values off the list, as many as are asked for, or all.
 fn take_values<V: Drop>(values: &mut Vec<V>, count: usize) -> Result<Vec<V>, AllocError>
-    ensures taken { IfOk result (λ parts. reverse parts.items ≡ take count (reverse values.old.items)) }
+    ensures taken { IfOk result (λ parts. reverse parts.items
+        ≡ take count (reverse values.old.items)) }
     ensures left { OnOk result (reverse values.new.items ≡ drop count (reverse values.old.items)) }
 {
     let at = values.len().saturating_sub(count);
@@ -78,15 +79,19 @@ fn build_row<A: Actions>(
     ahead: &mut Vec<A::Token>,
     values: &mut Vec<A::Value>,
 ) -> Result<Option<A::Value>, AllocError>
-    ensures { IfOk result (λ built. option_map (λ value. work (A.meaning value ∷ from_last A.meaning values.new.items) (reverse ahead.new.items)) built
-        ≡ step (A.value_of actions.now) A.keeps row right.now (work (from_last A.meaning values.old.items) (reverse ahead.old.items))) }
+    ensures { IfOk result (λ built. option_map
+        (λ value. work (A.meaning value ∷ from_last A.meaning values.new.items)
+        (reverse ahead.new.items)) built
+        ≡ step (A.value_of actions.now) A.keeps row right.now
+        (work (from_last A.meaning values.old.items) (reverse ahead.old.items))) }
 {
     let token = take_token(begins_kept(actions, right), ahead);
     let parts = take_values(values, count_parts(right))?;
     actions.build(alloc, row, token, parts)
 }
 
-/// Builds the values of the rows, from the last to the first: the value of the first, which is that of the whole.
+/// Builds the values of the rows, from the last to the first: the value of the first, which is that
+/// of the whole.
 fn build_rows<A: Actions>(
     alloc: Global,
     actions: &A,
@@ -94,8 +99,10 @@ fn build_rows<A: Actions>(
     ahead: Vec<A::Token>,
     rows: Vec<u32>,
 ) -> Result<Option<A::Value>, AllocError>
-    ensures { IfOk result (λ built. option_map A.meaning built ≡ option_and_then (λ after. first_value after.values)
-        (run (A.value_of actions.now) A.keeps grammar.now.rows (reverse rows.items) (work [] (reverse ahead.items)))) }
+    ensures { IfOk result (λ built. option_map A.meaning built
+        ≡ option_and_then (λ after. first_value after.values)
+        (run (A.value_of actions.now) A.keeps grammar.now.rows (reverse rows.items)
+        (work [] (reverse ahead.items)))) }
 {
     let mut rows = rows;
     let mut ahead = ahead;
@@ -112,8 +119,8 @@ fn build_rows<A: Actions>(
     Ok(values.pop())
 }
 
-/// Builds the value of a text from the leftmost derivation of its tokens: `rows` are the numbers of its rows. Each row is
-/// visited once; nothing recurses.
+/// Builds the value of a text from the leftmost derivation of its tokens: `rows` are the numbers of
+/// its rows. Each row is visited once; nothing recurses.
 pub fn fold_derivation<A: Actions>(
     alloc: Global,
     actions: &A,
@@ -122,8 +129,11 @@ pub fn fold_derivation<A: Actions>(
     rows: Vec<u32>,
 ) -> Result<Option<A::Value>, AllocError>
     requires { list_all (λ row. kept_in_front A.keeps row.right) grammar.now.rows ≡ true }
-    ensures { IfOk result (λ built. (tree : Forest) → DerivesSymbols grammar.now.rows tree (Part grammar.now.start ∷ []) → leaves tree ≡ map A.kind tokens.now
-        → leftmost tree ≡ rows.items → option_map A.meaning built ≡ value_of_tree (A.value_of actions.now) A.keeps tree tokens.now) }
+    ensures { IfOk result (λ built. (tree : Forest)
+        → DerivesSymbols grammar.now.rows tree (Part grammar.now.start ∷ [])
+        → leaves tree ≡ map A.kind tokens.now
+        → leftmost tree ≡ rows.items → option_map A.meaning built
+        ≡ value_of_tree (A.value_of actions.now) A.keeps tree tokens.now) }
 {
     let ahead = kept_tokens(alloc, actions, tokens)?;
     build_rows(alloc, actions, grammar, ahead, rows)

@@ -6,7 +6,9 @@ ghost use Rattle.ll_engine.specs.Derivation.{Production};
 
 use crate::actions::Actions;
 
-/// The rows keep what it is to have a value: where a row gives a value from the values of its parts, its own part has it.
+/// The rows keep what it is to have a value: where a row gives a value from the values of its
+/// parts, its own part has it.
 pub fn values_are_kept<A: Actions>(actions: &A)
-    ensures { (rows : List Production) → IsKept (A.value_of actions.now) A.keeps A.kind rows (HasValue (A.value_of actions.now) A.keeps A.kind rows) }
+    ensures { (rows : List Production) → IsKept (A.value_of actions.now) A.keeps A.kind rows
+        (HasValue (A.value_of actions.now) A.keeps A.kind rows) }
 {}

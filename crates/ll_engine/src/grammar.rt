@@ -19,8 +19,9 @@ enum Rows {
     Written(&'static WrittenTable),
 }
 
-/// A grammar that one token ahead decides: no part is barren, none has a left cycle, and no token predicts two rows of
-/// one part. [`Grammar::checked`] makes one of any rows, [`Grammar::written`] one of a table that stands written.
+/// A grammar that one token ahead decides: no part is barren, none has a left cycle, and no token
+/// predicts two rows of one part. [`Grammar::checked`] makes one of any rows, [`Grammar::written`]
+/// one of a table that stands written.
 #[derive(Drop)]
 pub struct Grammar {
     rows: Rows,
@@ -43,13 +44,19 @@ impl Model for Grammar {
 impl Grammar {
     ghost use Rattle.ll_engine.specs.Derivation.{Production};
     ghost use Rattle.ll_engine.specs.View.{grammar_of, is_well_formed};
-    ghost use Rattle.ll_engine.specs.Prediction.{IsPredictive, IsPredictedBy, IsFirstBarren, IsFirstLeftCyclic, IsFirstConflict};
+    ghost use Rattle.ll_engine.specs.Prediction.{
+      IsPredictive,
+      IsPredictedBy,
+      IsFirstBarren,
+      IsFirstLeftCyclic,
+      IsFirstConflict,
+    };
     ghost use Rattle.ll_engine.specs.Checked.{ExactlyWhere};
     ghost use Rattle.ll_engine.specs.Walk.{IsOnlyRow};
     ghost use Rattle.ll_engine.specs.WrittenTable.{written_grammar, IsTableWritten};
 
-    /// Checks a grammar and makes its table. Parts are the numbers below `parts`, tokens those below `tokens`, and the
-    /// number `tokens` stands for the end; `start` derives the sentences.
+    /// Checks a grammar and makes its table. Parts are the numbers below `parts`, tokens those
+    /// below `tokens`, and the number `tokens` stands for the end; `start` derives the sentences.
     ///
     /// Source: Aho, Lam, Sethi and Ullman, "Compilers", on the construction of a predictive parsing table.
     pub fn checked(
@@ -60,15 +67,19 @@ impl Grammar {
         start: u16,
     ) -> Result<Grammar, TableFault>
         requires { IsTrue (is_well_formed (grammar_of rows.items parts tokens start)) }
-        ensures grammar { IfOk result (λ grammar. grammar ≡ grammar_of rows.items parts tokens start) }
+        ensures grammar { IfOk result (λ grammar. grammar
+            ≡ grammar_of rows.items parts tokens start) }
         ensures ok { let g = grammar_of rows.items parts tokens start in
             ExactlyWhere (IsPredictive g) result (Ok g) (Err TableFault.NoMemory) }
         ensures barren { let g = grammar_of rows.items parts tokens start in
-            (part : ℕ) → ExactlyWhere (IsFirstBarren g part) result (Err (TableFault.Barren part)) (Err TableFault.NoMemory) }
+            (part : ℕ) → ExactlyWhere (IsFirstBarren g part) result (Err (TableFault.Barren part))
+            (Err TableFault.NoMemory) }
         ensures left_cycle { let g = grammar_of rows.items parts tokens start in
-            (part : ℕ) → ExactlyWhere (IsFirstLeftCyclic g part) result (Err (TableFault.LeftCycle part)) (Err TableFault.NoMemory) }
+            (part : ℕ) → ExactlyWhere (IsFirstLeftCyclic g part) result
+            (Err (TableFault.LeftCycle part)) (Err TableFault.NoMemory) }
         ensures conflict { let g = grammar_of rows.items parts tokens start in
-            (part token : ℕ) → ExactlyWhere (IsFirstConflict g part token) result (Err (TableFault.Conflict part token)) (Err TableFault.NoMemory) }
+            (part token : ℕ) → ExactlyWhere (IsFirstConflict g part token) result
+            (Err (TableFault.Conflict part token)) (Err TableFault.NoMemory) }
     {
         match checked_table(alloc, &rows, parts, tokens, start) {
             Ok(entries) => Ok(Grammar {
@@ -81,7 +92,8 @@ impl Grammar {
         }
     }
 
-    /// The grammar of a table that stands written, with a start part. Nothing is copied and nothing is made.
+    /// The grammar of a table that stands written, with a start part. Nothing is copied and nothing
+    /// is made.
     pub fn written(table: &'static WrittenTable, start: u16) -> Grammar
         requires { IsTableWritten (written_grammar table.now start) table.now }
         ensures { result ≡ written_grammar table.now start }
@@ -121,7 +133,8 @@ impl Grammar {
     pub(crate) fn predicted(&self, part: u16, token: u16) -> Option<u32>
         requires part { part < self.now.parts }
         requires token { token ≤ self.now.tokens }
-        ensures none { IfNone result ((r : ℕ) (row : Production) → slice_get self.now.rows r ≡ Some row → row.left ≡ part
+        ensures none { IfNone result ((r : ℕ) (row : Production)
+            → slice_get self.now.rows r ≡ Some row → row.left ≡ part
             → ¬ IsPredictedBy self.now row token) }
         ensures some { IfSome result (IsOnlyRow self.now part token) }
     {
@@ -133,7 +146,8 @@ impl Grammar {
 
     /// The right side of the row with this number, if there is one.
     pub fn right_of(&self, row: u32) -> Option<&[Symbol]>
-        ensures { option_map (λ right. right.now) result ≡ option_map (λ row. row.right) (slice_get self.now.rows row) }
+        ensures { option_map (λ right. right.now) result
+            ≡ option_map (λ row. row.right) (slice_get self.now.rows row) }
     {
         match &self.rows {
             Rows::Checked { rows, .. } => match rows.get(row as usize) {
@@ -149,7 +163,8 @@ impl Grammar {
 
     /// Puts the row's right side on the stack, so that its first symbol is on top.
     pub(crate) fn push_right(&self, row: u32, stack: &mut Vec<Symbol>) -> Result<(), AllocError>
-        ensures { OnOk result ((production : Production) → slice_get self.now.rows row ≡ Some production
+        ensures { OnOk result ((production : Production)
+            → slice_get self.now.rows row ≡ Some production
             → reverse stack.new.items ≡ production.right ++ reverse stack.old.items) }
     {
         let Some(right) = self.right_of(row) else {

@@ -10,7 +10,8 @@ pub fn trees_are_leftmost_derivations()
     ensures derivations { LeftmostHasTrees }
 {}
 
-/// A sentence of a grammar that one token ahead decides has one derivation tree and one leftmost derivation.
+/// A sentence of a grammar that one token ahead decides has one derivation tree and one leftmost
+/// derivation.
 ///
 /// Source: Aho, Lam, Sethi and Ullman, "Compilers": no grammar for predictive parsing is ambiguous.
 pub fn sentences_have_one_derivation()
@@ -18,7 +19,8 @@ pub fn sentences_have_one_derivation()
     ensures derivation { OneDerivation }
 {}
 
-/// One token ahead decides: it predicts at most one row of a part, so a parser never has to look back.
+/// One token ahead decides: it predicts at most one row of a part, so a parser never has to look
+/// back.
 pub fn one_token_decides()
     ensures { OneRow }
 {}
@@ -28,8 +30,8 @@ pub fn one_place_is_unexpected()
     ensures { OneUnexpected }
 {}
 
-/// A grammar whose rows keep to some sets is one that one token ahead decides; so is one whose rows keep to the sets that
-/// are computed from them.
+/// A grammar whose rows keep to some sets is one that one token ahead decides; so is one whose rows
+/// keep to the sets that are computed from them.
 ///
 /// Source: Aho, Lam, Sethi and Ullman, "Compilers", on FIRST and FOLLOW and the grammars that they decide.
 pub fn kept_sets_decide()
@@ -37,8 +39,8 @@ pub fn kept_sets_decide()
     ensures computed { ComputedSetsDecide }
 {}
 
-/// A written table that passes the test names the row of each part that a token predicts, and its grammar is one that one
-/// token ahead decides.
+/// A written table that passes the test names the row of each part that a token predicts, and its
+/// grammar is one that one token ahead decides.
 pub fn tested_tables_are_written()
     ensures { TestedTablesAreWritten }
 {}

@@ -1,4 +1,5 @@
-//! Parts that are marked by their rows: those that derive some list of tokens, and those that derive the empty list.
+//! Parts that are marked by their rows: those that derive some list of tokens, and those that
+//! derive the empty list.
 
 ghost use Rattle.std.specs.Prelude.{◌≡◌, ℕ, ◌<◌, ◌↔◌, IfOk, map, true, count_by, length, vec_len};
 ghost use Rattle.std.specs.List.{range_with_len};
@@ -59,7 +60,8 @@ fn next_marks(
     parts: u16,
 ) -> Result<Vec<bool>, AllocError>
     ensures { IfOk result
-        (λ next. next.items ≡ map (next_mark rows.now marks.now tokens_pass) (range_with_len 0 parts)) }
+        (λ next. next.items ≡ map (next_mark rows.now marks.now tokens_pass)
+        (range_with_len 0 parts)) }
 {
     let mut next = Vec::new(alloc);
     for part in 0..parts {

@@ -43,16 +43,18 @@ fn derivation(alloc: Global, grammar: &Grammar, tokens: &[u16]) -> Result<Tree, 
     Ok(Tree { rows })
 }
 
-/// Parses the tokens as a sentence of the grammar: the numbers of the rows of their leftmost derivation, or the first
-/// token with which no sentence can go on. The parser's work is that of the derivation: each turn of its loop takes a
-/// token or adds a row.
+/// Parses the tokens as a sentence of the grammar: the numbers of the rows of their leftmost
+/// derivation, or the first token with which no sentence can go on. The parser's work is that of
+/// the derivation: each turn of its loop takes a token or adds a row.
 ///
 /// Source: Aho, Lam, Sethi and Ullman, "Compilers", on table-driven predictive parsing and viable prefixes.
 pub fn parse(alloc: Global, grammar: &Grammar, tokens: &[u16]) -> Result<Tree, ParseFault>
     requires { All (λ token. token < grammar.now.tokens) tokens.now }
     ensures ok { IfOk result (λ tree. IsLeftmostDerivation grammar.now tree.rows.items tokens.now) }
-    ensures sentence { IsSentence grammar.now tokens.now → IsOk result ⊎ (result ≡ Err ParseFault.NoMemory) }
-    ensures unexpected { (at : ℕ) → ExactlyWhere (IsUnexpectedAt grammar.now tokens.now at) result (Err (ParseFault.Unexpected at)) (Err ParseFault.NoMemory) }
+    ensures sentence { IsSentence grammar.now tokens.now
+        → IsOk result ⊎ (result ≡ Err ParseFault.NoMemory) }
+    ensures unexpected { (at : ℕ) → ExactlyWhere (IsUnexpectedAt grammar.now tokens.now at) result
+        (Err (ParseFault.Unexpected at)) (Err ParseFault.NoMemory) }
 {
     derivation(alloc, grammar, tokens)
 }

@@ -11,7 +11,8 @@ use std::alloc::{AllocError, Global};
 
 /// Whether the column is that of the symbol, or of a symbol with which a list from the part begins.
 fn starts(first: &Relation, part: u16, column: usize) -> bool
-    ensures { result ≡ ((part_column first.now.tokens part == column) || related first.now part column) }
+    ensures { result ≡ ((part_column first.now.tokens part == column)
+        || related first.now part column) }
 {
     part_column(first.tokens, part) == column || first.has(part, column)
 }
@@ -40,7 +41,8 @@ pub fn begins(nullable: &[bool], first: &Relation, column: usize, symbols: &[Sym
 /// Whether some row of the part begins with the column's symbol.
 fn has_corner(nullable: &[bool], first: &Relation, rows: &[Row], part: u16, column: usize) -> bool
     ensures { result
-        ≡ has_corner rows.now (is_marked nullable.now) (related first.now) first.now.tokens part column }
+        ≡ has_corner rows.now (is_marked nullable.now) (related first.now) first.now.tokens part
+        column }
 {
     for row in rows {
         if row.left == part && begins(nullable, first, column, &row.right) {
@@ -59,7 +61,8 @@ pub fn corners(
     parts: u16,
 ) -> Result<Relation, AllocError>
     ensures { IfOk result (λ corners. HasCells corners
-        (has_corner rows.now (is_marked nullable.now) (related first.now) first.now.tokens) parts first.now.tokens) }
+        (has_corner rows.now (is_marked nullable.now) (related first.now) first.now.tokens) parts
+        first.now.tokens) }
 {
     let tokens = first.tokens;
     let width = part_column(tokens, parts);
@@ -74,8 +77,8 @@ pub fn corners(
     })
 }
 
-/// Whether what stands behind a part in a row of `left` may begin with the column's token, or may be empty where the
-/// column is that of `left`.
+/// Whether what stands behind a part in a row of `left` may begin with the column's token, or may
+/// be empty where the column is that of `left`.
 fn continues(
     nullable: &[bool],
     first: &Relation,
@@ -84,7 +87,8 @@ fn continues(
     symbols: &[Symbol],
 ) -> bool
     ensures { result
-        ≡ continues (is_marked nullable.now) (related first.now) first.now.tokens left column symbols.now }
+        ≡ continues (is_marked nullable.now) (related first.now) first.now.tokens left column
+        symbols.now }
 {
     (column < usize::from(first.tokens) && begins(nullable, first, column, symbols))
         || (part_column(first.tokens, left) == column && all_marked(nullable, false, symbols))
@@ -103,7 +107,8 @@ fn is_part(part: u16, symbol: Symbol) -> bool
 /// Whether what stands behind some place of the part in the row has the column.
 fn follows_in(nullable: &[bool], first: &Relation, row: &Row, part: u16, column: usize) -> bool
     ensures { result
-        ≡ follows_in (is_marked nullable.now) (related first.now) first.now.tokens row.now.left part column row.now.right.items }
+        ≡ follows_in (is_marked nullable.now) (related first.now) first.now.tokens row.now.left part
+        column row.now.right.items }
 {
     let symbols = row.right.as_slice();
     for (place, symbol) in symbols.iter().enumerate() {
@@ -116,7 +121,8 @@ fn follows_in(nullable: &[bool], first: &Relation, row: &Row, part: u16, column:
     false
 }
 
-/// Whether the column follows the part: the end behind the start part, or what stands behind the part in some row.
+/// Whether the column follows the part: the end behind the start part, or what stands behind the
+/// part in some row.
 fn has_follower(
     nullable: &[bool],
     first: &Relation,
@@ -126,7 +132,8 @@ fn has_follower(
     column: usize,
 ) -> bool
     ensures { result
-        ≡ has_follower rows.now (is_marked nullable.now) (related first.now) first.now.tokens start part column }
+        ≡ has_follower rows.now (is_marked nullable.now) (related first.now) first.now.tokens start
+        part column }
 {
     if part == start && column == usize::from(first.tokens) {
         return true;
@@ -139,7 +146,8 @@ fn has_follower(
     false
 }
 
-/// The relation of the parts to the tokens that stand behind them, and to the parts whose followers are theirs too.
+/// The relation of the parts to the tokens that stand behind them, and to the parts whose followers
+/// are theirs too.
 pub fn followers(
     alloc: Global,
     nullable: &[bool],
@@ -149,7 +157,8 @@ pub fn followers(
     parts: u16,
 ) -> Result<Relation, AllocError>
     ensures { IfOk result (λ followers. HasCells followers
-        (has_follower rows.now (is_marked nullable.now) (related first.now) first.now.tokens start) parts first.now.tokens) }
+        (has_follower rows.now (is_marked nullable.now) (related first.now) first.now.tokens start)
+        parts first.now.tokens) }
 {
     let tokens = first.tokens;
     let width = part_column(tokens, parts);
@@ -168,7 +177,8 @@ pub fn followers(
 /// Whether the token, or the end, predicts the row.
 fn predicts(nullable: &[bool], first: &Relation, follow: &Relation, token: usize, row: &Row) -> bool
     ensures { result
-        ≡ predicts (is_marked nullable.now) (related first.now) (related follow.now) first.now.tokens token row.now }
+        ≡ predicts (is_marked nullable.now) (related first.now) (related follow.now)
+        first.now.tokens token row.now }
 {
     begins(nullable, first, token, &row.right)
         || (all_marked(nullable, false, &row.right) && follow.has(row.left, token))
@@ -184,7 +194,8 @@ pub fn is_candidate(
     row: &Row,
 ) -> bool
     ensures { result
-        ≡ is_candidate (is_marked nullable.now) (related first.now) (related follow.now) first.now.tokens part token row.now }
+        ≡ is_candidate (is_marked nullable.now) (related first.now) (related follow.now)
+        first.now.tokens part token row.now }
 {
     row.left == part && predicts(nullable, first, follow, token, row)
 }

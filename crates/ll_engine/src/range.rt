@@ -31,8 +31,8 @@ fn is_row_in_range(parts: u16, tokens: u16, row: &Row) -> bool
     true
 }
 
-/// Whether [`crate::Grammar::checked`] may be called: each part number of the rows is below `parts`, each token number
-/// below `tokens`, `start` below `parts`, and `tokens` below 65,535.
+/// Whether [`crate::Grammar::checked`] may be called: each part number of the rows is below
+/// `parts`, each token number below `tokens`, `start` below `parts`, and `tokens` below 65,535.
 pub fn is_well_formed(rows: &[Row], parts: u16, tokens: u16, start: u16) -> bool
     ensures { result ≡ is_well_formed (grammar_of rows.now parts tokens start) }
 {

@@ -33,7 +33,14 @@ pub fn cell_count(parts: u16, tokens: u16) -> usize
 }
 
 impl Relation {
-    ghost use Rattle.ll_engine.specs.Related.{related, next_related, width_of, cells, HasCells, IsClosureOf};
+    ghost use Rattle.ll_engine.specs.Related.{
+      related,
+      next_related,
+      width_of,
+      cells,
+      HasCells,
+      IsClosureOf,
+    };
 
     /// The relation of no part.
     pub fn empty(alloc: Global, tokens: u16) -> Self
@@ -95,7 +102,8 @@ impl Relation {
 
     /// The relation one round later.
     fn next(&self, alloc: Global) -> Result<Relation, AllocError>
-        ensures { IfOk result (λ next. HasCells next (next_related self.now) self.now.parts self.now.tokens) }
+        ensures { IfOk result (λ next. HasCells next (next_related self.now) self.now.parts
+            self.now.tokens) }
     {
         let parts = self.parts;
         let tokens = self.tokens;

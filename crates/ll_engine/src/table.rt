@@ -25,7 +25,8 @@ fn choice(
     token: usize,
 ) -> Choice
     requires { length rows.now < NO_ROW }
-    ensures { IsChoice (is_candidate (is_marked nullable.now) (related first.now) (related follow.now) first.now.tokens part token) rows.now result }
+    ensures { IsChoice (is_candidate (is_marked nullable.now) (related first.now)
+        (related follow.now) first.now.tokens part token) rows.now result }
 {
     let mut found = None;
     for (number, row) in rows.iter().enumerate() {
@@ -53,8 +54,10 @@ fn entry(
 ) -> Result<u32, TableFault>
     requires { length rows.now < NO_ROW }
     ensures { MatchResult result
-        (IsTableEntry (is_candidate (is_marked nullable.now) (related first.now) (related follow.now) first.now.tokens part token) rows.now)
-        (IsConflictEntry (is_candidate (is_marked nullable.now) (related first.now) (related follow.now) first.now.tokens part token) rows.now part token) }
+        (IsTableEntry (is_candidate (is_marked nullable.now) (related first.now)
+        (related follow.now) first.now.tokens part token) rows.now)
+        (IsConflictEntry (is_candidate (is_marked nullable.now) (related first.now)
+        (related follow.now) first.now.tokens part token) rows.now part token) }
 {
     match choice(nullable, first, follow, rows, part, usize::from(token)) {
         Choice::Nothing => Ok(NO_ROW),
@@ -75,8 +78,10 @@ pub fn table(
     requires few_rows { length rows.now < NO_ROW }
     requires room_for_end { first.now.tokens < 65535 }
     ensures { MatchResult result
-        (λ table. IsTable (is_candidate (is_marked nullable.now) (related first.now) (related follow.now) first.now.tokens) rows.now parts first.now.tokens table.items)
-        (IsTableFault (is_candidate (is_marked nullable.now) (related first.now) (related follow.now) first.now.tokens) rows.now parts first.now.tokens) }
+        (λ table. IsTable (is_candidate (is_marked nullable.now) (related first.now)
+        (related follow.now) first.now.tokens) rows.now parts first.now.tokens table.items)
+        (IsTableFault (is_candidate (is_marked nullable.now) (related first.now)
+        (related follow.now) first.now.tokens) rows.now parts first.now.tokens) }
 {
     let width = usize::from(first.tokens) + 1;
     let mut table = Vec::new(alloc);

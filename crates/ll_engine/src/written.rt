@@ -5,15 +5,17 @@ ghost use Rattle.ll_engine.specs.WrittenTable.{is_named, row_among, row_at, firs
 
 use crate::symbol::Symbol;
 
-/// A row of a written table: the part `left` may be replaced by the symbols of `right`, and these tokens predict it.
+/// A row of a written table: the part `left` may be replaced by the symbols of `right`, and these
+/// tokens predict it.
 #[derive(Clone, Copy, Debug)]
 pub struct WrittenRow {
     /// The part that the row replaces.
     pub left: u16,
     /// The symbols that replace it, in order. No symbols derive the empty list of tokens.
     pub right: &'static [Symbol],
-    /// The tokens that predict the row, each by its bit. The bit behind those of the tokens is that of the end: it is set where
-    /// the end predicts the row under some start part, so that one table serves several.
+    /// The tokens that predict the row, each by its bit. The bit behind those of the tokens is that
+    /// of the end: it is set where the end predicts the row under some start part, so that one
+    /// table serves several.
     pub predicted_by: u64,
 }
 
@@ -36,7 +38,8 @@ fn is_predicted(row: &WrittenRow, token: u16) -> bool
     (row.predicted_by >> token) % 2 == 1
 }
 
-/// The row of the part that the token predicts, among these rows; the first of them has the number `first`.
+/// The row of the part that the token predicts, among these rows; the first of them has the number
+/// `first`.
 fn row_among(rows: &[WrittenRow], first: u32, part: u16, token: u16) -> Option<u32>
     requires token { token < 64 }
     requires few_rows { first + length rows.now < 2 ^ 32 }

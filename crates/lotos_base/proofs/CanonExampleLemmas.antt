@@ -39,7 +39,8 @@ canon_met : (values : Substitution) (f : ℕ) (ts : Terms)
     → meet_canon (substituted values (met f ts)) ≡ meet_canon (substituted values (node f ts))
 canon_met values (suc (suc zero)) (term_then t (term_then u no_terms)) =
     met_cases (λ (v : Term). meet_canon (substituted values v) ≡ meet_canon (substituted values (meet t u))) t u
-    (λ same. sym (met_same (meet_canon (substituted values t)) (meet_canon (substituted values u)) (ap (λ (v : Term). meet_canon (substituted values v)) same)))
+    (λ same. sym (met_same (meet_canon (substituted values t)) (meet_canon (substituted values u))
+    (ap (λ (v : Term). meet_canon (substituted values v)) same)))
     (λ other. refl)
 canon_met values _ _ = refl
 
@@ -92,7 +93,8 @@ renamed_met : (number : ℕ → ℕ → ℕ) (f : ℕ) (ts : Terms)
     → ((n m s : ℕ) → OccursAmong n s ts → OccursAmong m s ts → number n s ≡ number m s → n ≡ m)
     → met f (all_substituted (renaming number) ts) ≡ substituted (renaming number) (met f ts)
 renamed_met number (suc (suc zero)) (term_then t (term_then u no_terms)) apart =
-    met_cases (λ (v : Term). met 2 (all_substituted (renaming number) (term_then t (term_then u no_terms))) ≡ substituted (renaming number) v) t u
+    met_cases (λ (v : Term). met 2 (all_substituted (renaming number) (term_then t (term_then u no_terms)))
+    ≡ substituted (renaming number) v) t u
     (λ same. met_same (substituted (renaming number) t) (substituted (renaming number) u) (ap (substituted (renaming number)) same))
     (λ other. met_other (substituted (renaming number) t) (substituted (renaming number) u)
     (λ e. other (renamed_same number t u (λ n m s o p. apart n m s (inl o) (inr (inl p))) e)))
@@ -128,7 +130,8 @@ meet_arguments ts s h =
 sorted_met : (f : ℕ) (ts : Terms) (s : ℕ) → HasSort meet_signature (node f ts) s → HasSort meet_signature (met f ts) s
 sorted_met (suc (suc zero)) (term_then t (term_then u no_terms)) s h =
     let below = meet_arguments (term_then t (term_then u no_terms)) s h in
-    met_cases (λ (v : Term). HasSort meet_signature v s) t u (λ same. subst (λ (r : ℕ). HasSort meet_signature t r) below.1 below.0.0) (λ other. h)
+    met_cases (λ (v : Term). HasSort meet_signature v s) t u (λ same. subst (λ (r : ℕ). HasSort meet_signature t r) below.1 below.0.0)
+    (λ other. h)
 sorted_met _ _ s h = h
 
 mutual
@@ -155,9 +158,11 @@ instance_met : (values : Substitution) (f : ℕ) (ts : Terms) (s : ℕ) → HasS
     → Equal meet_data (substituted values (met f ts)) (substituted values (node f ts))
 instance_met values (suc (suc zero)) (term_then t (term_then u no_terms)) s h g =
     met_cases (λ (v : Term). Equal meet_data (substituted values v) (substituted values (meet t u))) t u
-    (λ same. subst (λ (v : Term). Equal meet_data (substituted values t) (substituted values (meet t v))) same (equal_back (meet_link (substituted values t) (record {
+    (λ same. subst (λ (v : Term). Equal meet_data (substituted values t) (substituted values (meet t v))) same
+    (equal_back (meet_link (substituted values t) (record {
       ground = instance_ground values t (λ n r o. (g n r (inl o)).ground);
-      sorted = substituted_sort meet_signature values t 0 (meet_arguments (term_then t (term_then u no_terms)) s h).0.0 (λ n r o. (g n r (inl o)).sorted);
+      sorted = substituted_sort meet_signature values t 0 (meet_arguments (term_then t (term_then u no_terms)) s h).0.0
+          (λ n r o. (g n r (inl o)).sorted);
     }))))
     (λ other. same_term (substituted values (meet t u)))
 instance_met values f ts s h g = same_term (substituted values (node f ts))
@@ -170,7 +175,8 @@ mutual
   instances values (node f ts) s h g =
       equal_then
       (instance_met values f (meet_canons ts) s (h.0, h.1, h.2, all_sorted ts h.0.arguments h.3) (λ n s o. g n s (all_occurring n s ts o)))
-      (equal_under meet_data f (all_substituted values (meet_canons ts)) (all_substituted values ts) (all_instances values ts h.0.arguments h.3 g))
+      (equal_under meet_data f (all_substituted values (meet_canons ts)) (all_substituted values ts)
+      (all_instances values ts h.0.arguments h.3 g))
 
   all_instances : (values : Substitution) (ts : Terms) (ss : List ℕ) → HaveSorts meet_signature ts ss
       → ((n s : ℕ) → OccursAmong n s ts → IsGroundOf meet_signature s (values n s))
@@ -207,7 +213,8 @@ canon_equation : (equation : Equation) (values : Substitution) → IsEquation me
     → IsGroundInstance meet_signature equation values
     → meet_canon (substituted values equation.left) ≡ meet_canon (substituted values equation.right)
 canon_equation equation values is instance =
-    each_member (λ (e : Equation). meet_canon (substituted values e.left) ≡ meet_canon (substituted values e.right)) meet_data.equations is.0 equation
+    each_member (λ (e : Equation). meet_canon (substituted values e.left) ≡ meet_canon (substituted values e.right)) meet_data.equations
+    is.0 equation
     (met_same (meet_canon (values 0 0)) (meet_canon (values 0 0)) refl, tt) is.1
 
 one_canon : (t u : Term) → Equal meet_data t u → meet_canon t ≡ meet_canon u

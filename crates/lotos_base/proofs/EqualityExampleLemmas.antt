@@ -37,7 +37,8 @@ two_links = equal_then
       left = grounding natural_signature values successor_law.left ((nought_ground, tt), (one_ground, tt));
       right = grounding natural_signature values successor_law.right ((nought_ground, (one_ground, tt)), tt);
     }))
-    (equal_inside (0 ∷ []) (successor (plus nought (successor nought))) (successor (plus nought (successor nought))) (successor (successor nought)) one_link refl refl)
+    (equal_inside (0 ∷ []) (successor (plus nought (successor nought))) (successor (plus nought (successor nought)))
+    (successor (successor nought)) one_link refl refl)
   where
     values : Substitution
     values = binding ((0, nought) ∷ (1, successor nought) ∷ [])
@@ -62,7 +63,8 @@ head_operate _ _ = 0
 
 head_holds : MeetsEquations idle_data head_operate
 head_holds equation values is instance =
-    each_member (λ (e : Equation). meaning head_operate (substituted values e.left) ≡ meaning head_operate (substituted values e.right)) idle_data.equations is.0 equation (refl, tt) is.1
+    each_member (λ (e : Equation). meaning head_operate (substituted values e.left) ≡ meaning head_operate (substituted values e.right))
+    idle_data.equations is.0 equation (refl, tt) is.1
 
 -- one more than before, and 0 at 0
 abbrev grown : ℕ → ℕ
@@ -102,8 +104,11 @@ nothing_empty (node f ts) h g =
 
 height_holds : MeetsEquations idle_data height_operate
 height_holds equation values is instance =
-    each_member (λ (e : Equation). IsGroundInstance idle_signature e values → meaning height_operate (substituted values e.left) ≡ meaning height_operate (substituted values e.right)) idle_data.equations is.0 equation
-    ((λ instance. let ground = instance.right 0 0 (inl (refl, refl)) in rw (no_height (values 0 0) ground.sorted ground.ground) refl), tt) is.1 instance
+    each_member (λ (e : Equation). IsGroundInstance idle_signature e values
+    → meaning height_operate (substituted values e.left) ≡ meaning height_operate (substituted values e.right)) idle_data.equations is.0
+    equation
+    ((λ instance. let ground = instance.right 0 0 (inl (refl, refl)) in rw (no_height (values 0 0) ground.sorted ground.ground) refl), tt)
+    is.1 instance
 
 pub equality_examples : EqualityExamples
 equality_examples = record {
@@ -111,7 +116,8 @@ equality_examples = record {
   two_links = two_links;
   backward_link = equal_back one_link;
   not_equal = λ e. let same : 0 ≡ 1 = equal_meaning natural_operate natural_equations_are_met e in cc;
-  idle_twice = equal_then (idle_link (f_term a_term) (record { ground = (tt, tt); sorted = (_, refl, refl, (a_ground.sorted, tt)) })) (idle_link a_term a_ground);
+  idle_twice = equal_then (idle_link (f_term a_term) (record { ground = (tt, tt); sorted = (_, refl, refl, (a_ground.sorted, tt)) }))
+      (idle_link a_term a_ground);
   not_idle = λ e. let same : 0 ≡ 1 = equal_meaning head_operate head_holds e in cc;
   wrong_sort = λ e. let same : 3 ≡ 2 = equal_meaning height_operate height_holds e in cc;
   idle_variable = idle_instance a_term a_ground;

@@ -36,7 +36,8 @@ link_back data_ t u l =
       old = subterm-put_at l.path (substituted l.values (new_side l.direction l.equation)) t u l.new
           ∙ ap (λ (side : Term). Some (substituted l.values side)) (sym (old_side-reversed l.direction l.equation));
       new = ap (λ (side : Term). put_at l.path (substituted l.values side) u) (new_side-reversed l.direction l.equation)
-          ∙ put_at_twice l.path (substituted l.values (new_side l.direction l.equation)) (substituted l.values (old_side l.direction l.equation)) t u l.new
+          ∙ put_at_twice l.path (substituted l.values (new_side l.direction l.equation))
+          (substituted l.values (old_side l.direction l.equation)) t u l.new
           ∙ put_at-subterm l.path (substituted l.values (old_side l.direction l.equation)) t l.old;
     }
 
@@ -66,7 +67,8 @@ link_inside data_ path t u whole before after l e h =
       is_instance = l.is_instance;
       direction = l.direction;
       old = subterm-append path l.path before t here ∙ l.old;
-      new = put_at-append path l.path (substituted l.values (new_side l.direction l.equation)) t u before after here l.new (put_at_twice path t u whole before e ∙ h);
+      new = put_at-append path l.path (substituted l.values (new_side l.direction l.equation)) t u before after here l.new
+          (put_at_twice path t u whole before e ∙ h);
     }
 
 -- a congruence at each path
@@ -110,7 +112,8 @@ equal_onto data_ f rs no_terms (term_then u us) h = absurd h
 equal_onto data_ f rs (term_then t ts) no_terms h = absurd h
 equal_onto data_ f rs (term_then t ts) (term_then u us) h =
     equal_then
-    (equal_inside (shifted rs 0 ∷ []) (node f (onto rs (term_then t ts))) (node f (onto rs (term_then t ts))) (node f (onto rs (term_then u ts))) h.0 (put_onto f rs t t ts) (put_onto f rs t u ts))
+    (equal_inside (shifted rs 0 ∷ []) (node f (onto rs (term_then t ts))) (node f (onto rs (term_then t ts)))
+    (node f (onto rs (term_then u ts))) h.0 (put_onto f rs t t ts) (put_onto f rs t u ts))
     (equal_onto data_ f (term_then u rs) ts us h.1)
 
 -- a congruence under each operation

@@ -83,7 +83,8 @@ one_named name (z ∷ zs) zero (suc j) x y apart e d same =
     ((bytes_eq-Decides (folded (name z)) (folded (name y))).1 (subst (λ w. AreOneName (name w) (name y)) (sym (same_Some z x e)) same)))
 one_named name (z ∷ zs) (suc i) zero x y apart e d same =
     absurd (passes_none (λ w. bytes_eq (folded (name z)) (folded (name w))) zs i x (first_apart name z zs apart).0 e
-    ((bytes_eq-Decides (folded (name z)) (folded (name x))).1 (sym (subst (λ w. AreOneName (name x) (name w)) (sym (same_Some z y d)) same))))
+    ((bytes_eq-Decides (folded (name z)) (folded (name x))).1
+    (sym (subst (λ w. AreOneName (name x) (name w)) (sym (same_Some z y d)) same))))
 one_named name (z ∷ zs) (suc i) (suc j) x y apart e d same =
     ap (λ (k : ℕ). suc k) (one_named name zs i j x y (first_apart name z zs apart).1 e d same)
 

@@ -13,16 +13,19 @@ use Rattle.lotos_base.proofs.TestLemmas.{Decides-occurs}
 
 natural_fine : IsWellFormedSignature natural_signature
 natural_fine = record {
-  results = λ f o e. each_member (λ (o : Operation). IsSort natural_signature o.result) natural_signature.operations f o (omega arith, (omega arith, (omega arith, tt))) e;
-  arguments = λ f i s o e d. each_member (λ (o : Operation). (i s : ℕ) → slice_get o.arguments i ≡ Some s → IsSort natural_signature s) natural_signature.operations f o (
-    (λ i s d. cc),
-    (
-      (λ i s d. each_member (IsSort natural_signature) (0 ∷ []) i s (omega arith, tt) d),
-      ((λ i s d. each_member (IsSort natural_signature) (0 ∷ 0 ∷ []) i s (omega arith, (omega arith, tt)) d), tt),
-    ),
-  ) e i s d;
+  results = λ f o e. each_member (λ (o : Operation). IsSort natural_signature o.result) natural_signature.operations f o
+      (omega arith, (omega arith, (omega arith, tt))) e;
+  arguments = λ f i s o e d. each_member (λ (o : Operation). (i s : ℕ) → slice_get o.arguments i ≡ Some s → IsSort natural_signature s)
+      natural_signature.operations f o (
+        (λ i s d. cc),
+        (
+          (λ i s d. each_member (IsSort natural_signature) (0 ∷ []) i s (omega arith, tt) d),
+          ((λ i s d. each_member (IsSort natural_signature) (0 ∷ 0 ∷ []) i s (omega arith, (omega arith, tt)) d), tt),
+        ),
+      ) e i s d;
   sort_names = λ i j s t e d a. one_named (λ (s : Sort). s.name) natural_signature.sorts i j s t refl e d a;
-  profiles = λ f g o p e d name form arguments result. one_named (λ (o : Operation). o.name) natural_signature.operations f g o p refl e d name;
+  profiles = λ f g o p e d name form arguments result. one_named (λ (o : Operation). o.name) natural_signature.operations f g o p refl e d
+      name;
 }
 
 natural_variable : (v : Variable) (n s : ℕ) → v.number ≡ n → v.sort ≡ s → v.sort ≡ 0 → IsSort natural_signature s
@@ -33,8 +36,10 @@ nought_law_fine = record {
   sort = 0;
   left_sort = (_, refl, refl, ((_, refl, refl, tt), ((refl, omega arith), tt)));
   right_sort = (refl, omega arith);
-  variable_sorts = λ n s d. natural_variable d.1 n s d.3 d.4 (each_member (λ (v : Variable). v.sort ≡ 0) natural_variables d.0 d.1 (refl, (refl, tt)) d.2);
-  numbers = λ i j v w e d a. one_position (λ (v w : Variable). v.number ≡ w.number) natural_variables i j v w ((((λ e. cc), (λ e. cc)), tt), (tt, tt)) e d a;
+  variable_sorts = λ n s d. natural_variable d.1 n s d.3 d.4
+      (each_member (λ (v : Variable). v.sort ≡ 0) natural_variables d.0 d.1 (refl, (refl, tt)) d.2);
+  numbers = λ i j v w e d a. one_position (λ (v w : Variable). v.number ≡ w.number) natural_variables i j v w
+      ((((λ e. cc), (λ e. cc)), tt), (tt, tt)) e d a;
   left_declared = λ n s. elim [ inl o ↦ absurd o | inr o ↦ elim o [ inl x ↦ (0, _, refl, x.0, x.1) | inr o ↦ absurd o ] ];
   right_declared = λ n s x. (0, _, refl, x.0, x.1);
 }
@@ -44,8 +49,10 @@ successor_law_fine = record {
   sort = 0;
   left_sort = (_, refl, refl, ((_, refl, refl, ((refl, omega arith), tt)), ((refl, omega arith), tt)));
   right_sort = (_, refl, refl, ((_, refl, refl, ((refl, omega arith), ((refl, omega arith), tt))), tt));
-  variable_sorts = λ n s d. natural_variable d.1 n s d.3 d.4 (each_member (λ (v : Variable). v.sort ≡ 0) natural_variables d.0 d.1 (refl, (refl, tt)) d.2);
-  numbers = λ i j v w e d a. one_position (λ (v w : Variable). v.number ≡ w.number) natural_variables i j v w ((((λ e. cc), (λ e. cc)), tt), (tt, tt)) e d a;
+  variable_sorts = λ n s d. natural_variable d.1 n s d.3 d.4
+      (each_member (λ (v : Variable). v.sort ≡ 0) natural_variables d.0 d.1 (refl, (refl, tt)) d.2);
+  numbers = λ i j v w e d a. one_position (λ (v w : Variable). v.number ≡ w.number) natural_variables i j v w
+      ((((λ e. cc), (λ e. cc)), tt), (tt, tt)) e d a;
   left_declared = λ n s. elim [
     | inl o ↦ elim o [ inl x ↦ (0, _, refl, x.0, x.1) | inr o ↦ absurd o ]
     | inr o ↦ elim o [ inl y ↦ (1, _, refl, y.0, y.1) | inr o ↦ absurd o ]
@@ -59,16 +66,20 @@ successor_law_fine = record {
 natural_data_fine : IsWellFormedData natural_data
 natural_data_fine = record {
   signature = natural_fine;
-  equations = λ e is. each_member (IsEquationOver natural_signature) natural_data.equations is.0 e (nought_law_fine, (successor_law_fine, tt)) is.1;
+  equations = λ e is. each_member (IsEquationOver natural_signature) natural_data.equations is.0 e
+      (nought_law_fine, (successor_law_fine, tt)) is.1;
 }
 
 idle_fine : IsWellFormedSignature idle_signature
 idle_fine = record {
-  results = λ f o e. each_member (λ (o : Operation). IsSort idle_signature o.result) idle_signature.operations f o (omega arith, (omega arith, (omega arith, tt))) e;
-  arguments = λ f i s o e d. each_member (λ (o : Operation). (i s : ℕ) → slice_get o.arguments i ≡ Some s → IsSort idle_signature s) idle_signature.operations f o
+  results = λ f o e. each_member (λ (o : Operation). IsSort idle_signature o.result) idle_signature.operations f o
+      (omega arith, (omega arith, (omega arith, tt))) e;
+  arguments = λ f i s o e d. each_member (λ (o : Operation). (i s : ℕ) → slice_get o.arguments i ≡ Some s → IsSort idle_signature s)
+      idle_signature.operations f o
       ((λ i s d. cc), ((λ i s d. cc), ((λ i s d. each_member (IsSort idle_signature) (0 ∷ []) i s (omega arith, tt) d), tt))) e i s d;
   sort_names = λ i j s t e d a. one_named (λ (s : Sort). s.name) idle_signature.sorts i j s t refl e d a;
-  profiles = λ f g o p e d name form arguments result. one_named (λ (o : Operation). o.name) idle_signature.operations f g o p refl e d name;
+  profiles = λ f g o p e d name form arguments result. one_named (λ (o : Operation). o.name) idle_signature.operations f g o p refl e d
+      name;
 }
 
 idle_law_fine : IsEquationOver idle_signature idle_law
@@ -76,8 +87,10 @@ idle_law_fine = record {
   sort = 0;
   left_sort = (_, refl, refl, ((_, refl, refl, ((refl, omega arith), tt)), tt));
   right_sort = (_, refl, refl, ((refl, omega arith), tt));
-  variable_sorts = λ n s d. subst (IsSort idle_signature) d.4 (each_member (λ (v : Variable). IsSort idle_signature v.sort) idle_law.variables d.0 d.1 (omega arith, (omega arith, tt)) d.2);
-  numbers = λ i j v w e d a. one_position (λ (v w : Variable). v.number ≡ w.number) idle_law.variables i j v w ((((λ e. cc), (λ e. cc)), tt), (tt, tt)) e d a;
+  variable_sorts = λ n s d. subst (IsSort idle_signature) d.4
+      (each_member (λ (v : Variable). IsSort idle_signature v.sort) idle_law.variables d.0 d.1 (omega arith, (omega arith, tt)) d.2);
+  numbers = λ i j v w e d a. one_position (λ (v w : Variable). v.number ≡ w.number) idle_law.variables i j v w
+      ((((λ e. cc), (λ e. cc)), tt), (tt, tt)) e d a;
   left_declared = λ n s. elim [ inl o ↦ elim o [ inl x ↦ (0, _, refl, x.0, x.1) | inr o ↦ absurd o ] | inr o ↦ absurd o ];
   right_declared = λ n s. elim [ inl x ↦ (0, _, refl, x.0, x.1) | inr o ↦ absurd o ];
 }
@@ -93,7 +106,8 @@ sorting_examples = record {
   sorted = (_, refl, refl, ((_, refl, refl, tt), ((_, refl, refl, ((refl, omega arith), tt)), tt)));
   too_many = unfit natural_signature 1 (term_then nought (term_then nought no_terms)) _ refl (λ h. h.1);
   too_few = unfit natural_signature 1 no_terms _ refl (λ h. h);
-  wrong_sort = unfit idle_signature 2 (term_then b_term no_terms) _ refl (λ h. let e : 0 ≡ 1 = one_sort idle_signature b_term 0 1 h.0 (_, refl, refl, tt) in cc);
+  wrong_sort = unfit idle_signature 2 (term_then b_term no_terms) _ refl
+      (λ h. let e : 0 ≡ 1 = one_sort idle_signature b_term 0 1 h.0 (_, refl, refl, tt) in cc);
   no_operation = λ h. none-some h.1.0 h.1.1;
   no_sort = λ h. absurd (omega arith);
   head = refl;

@@ -3,7 +3,8 @@ use Rattle.std.proofs.Common.{◌≡◌, ℕ, List}
 use Rattle.lotos_base.specs.Term.{Term}
 use Rattle.lotos_base.specs.Equation.{Data}
 use Rattle.lotos_base.specs.Equality.{Equal}
-use Rattle.lotos_base.specs.Meaning.{meaning, MeetsEquations, meaning_is_congruence}
+use Rattle.lotos_base.specs.Meaning.{meaning, MeetsEquations}
+use Rattle.lotos_base.specs.MeaningFacts.{meaning_is_congruence}
 use Rattle.lotos_base.proofs.EqualityLemmas.{equal_related}
 
 -- equal terms mean the same number

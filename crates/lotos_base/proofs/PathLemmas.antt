@@ -155,7 +155,8 @@ put_at-append (k ∷ path) rest part old new (node f ts) whole e h w =
     let below = put_below k path f new ts whole w in
     let under = subterm_below k path f ts old e in
     let same : under.argument ≡ below.argument = same_Some _ _ (sym (under.found) ∙ below.found) in
-    let deeper = put_at-append path rest part old new below.argument below.after (subst (λ (a : Term). subterm path a ≡ Some old) same under.inside) h below.inside in
+    let deeper = put_at-append path rest part old new below.argument below.after
+    (subst (λ (a : Term). subterm path a ≡ Some old) same under.inside) h below.inside in
     put_under k (path ++ rest) f part ts below.argument below.after below.found deeper ∙ ap (λ (u : Term). Some u) below.is_whole
 
 -- a replacement leaves what stands at parallel paths
@@ -175,6 +176,7 @@ subterm_parallel (j ∷ path) (k ∷ other) part (node f ts) whole apart e =
     go below (inl ne) deeper = rw (argument_at_other k j below.after ts (λ e. ne (sym e))) refl
     go below (inr both) deeper =
         let here = argument_at-with_argument j below.argument below.after ts below.found in
-        let after : subterm (k ∷ other) (node f (with_argument j below.after ts)) ≡ subterm other below.after = rw (← both.0) (rw here refl) in
+        let after : subterm (k ∷ other) (node f (with_argument j below.after ts)) ≡ subterm other below.after =
+        rw (← both.0) (rw here refl) in
         let before : subterm (k ∷ other) (node f ts) ≡ subterm other below.argument = rw (← both.0) (rw (below.found) refl) in
         after ∙ deeper both.1 ∙ sym before

@@ -44,7 +44,8 @@ pub none_more : (n s : ℕ) (xs : List PlainTerm) (i : ℕ) (x : PlainTerm) → 
     → ¬ OccursAmong n s (arguments_of (take i xs)) → ¬ Occurs n s (term_of x)
     → ¬ OccursAmong n s (arguments_of (take (i + 1) xs))
 none_more n s xs i x h e none not o =
-    let o' : OccursAmong n s (arguments_of (take i xs ++ x ∷ [])) = subst (λ ys. OccursAmong n s (arguments_of ys)) (take_item xs i x h e) o in
+    let o' : OccursAmong n s (arguments_of (take i xs ++ x ∷ [])) =
+    subst (λ ys. OccursAmong n s (arguments_of ys)) (take_item xs i x h e) o in
     elim (OccursAmong-append n s (take i xs) x o') [ inl p ↦ none p | inr p ↦ not p ]
 
 pub occurs_at : (n s : ℕ) (xs : List PlainTerm) (i : ℕ) (x : PlainTerm) → i < length xs → x ≡ get_or xs i x
@@ -114,9 +115,11 @@ pub subterm_found : (f : ℕ) (ts : Vec PlainTerm Global) (i : ℕ) (r : Option 
     → is_some r ≡ ltb i (length ts.items) → IfSome r (λ x. x.now ≡ get_or ts.items i x.now)
     → option_map (λ t. term_of t.now) r ≡ subterm (i ∷ []) (term_of (Node f ts))
 subterm_found f ts i None some is =
-    rw (term_of-Node f ts) (sym (some_or_none (argument_at i (arguments_of ts.items)) ∙ argument_at_past ts.items i (ltb-false i (length ts.items) (sym some))))
+    rw (term_of-Node f ts) (sym (some_or_none (argument_at i (arguments_of ts.items))
+    ∙ argument_at_past ts.items i (ltb-false i (length ts.items) (sym some))))
 subterm_found f ts i (Some x) some is =
-    rw (term_of-Node f ts) (sym (some_or_none (argument_at i (arguments_of ts.items)) ∙ argument_at_within ts.items i x.now (ltb-true i (length ts.items) (sym some)) is))
+    rw (term_of-Node f ts) (sym (some_or_none (argument_at i (arguments_of ts.items))
+    ∙ argument_at_within ts.items i x.now (ltb-true i (length ts.items) (sym some)) is))
 
 -- a list that one more copy was added to
 pub copied_more : (xs made new : List PlainTerm) (i : ℕ) (x y : PlainTerm) → i < length xs → x ≡ get_or xs i x
@@ -140,8 +143,10 @@ pub instances_more : (values : Substitution) (xs made new : List PlainTerm) (i :
     → arguments_of new ≡ all_substituted values (arguments_of (take (i + 1) xs))
 instances_more values xs made new i x y h e is so_far instance =
     ap arguments_of is ∙ arguments_of-append made y
-    ∙ ap (λ (ts : Terms). with_last ts (term_of y)) so_far ∙ ap (λ (t : Term). with_last (all_substituted values (arguments_of (take i xs))) t) instance
-    ∙ sym (ap (all_substituted values) (ap arguments_of (take_item xs i x h e) ∙ arguments_of-append (take i xs) x) ∙ all_substituted-with_last values (arguments_of (take i xs)) (term_of x))
+    ∙ ap (λ (ts : Terms). with_last ts (term_of y)) so_far
+    ∙ ap (λ (t : Term). with_last (all_substituted values (arguments_of (take i xs))) t) instance
+    ∙ sym (ap (all_substituted values) (ap arguments_of (take_item xs i x h e) ∙ arguments_of-append (take i xs) x)
+    ∙ all_substituted-with_last values (arguments_of (take i xs)) (term_of x))
 
 -- a member of the list replaced is an argument replaced
 pub arguments_of-set : (xs : List PlainTerm) (i : ℕ) (y : PlainTerm)
@@ -171,13 +176,18 @@ pub no_put_past : (path : List ℕ) (part : Term) (f : ℕ) (ts : Vec PlainTerm 
     → length ts.items ≤ get_or path 0 0 → None ≡ put_at path part (term_of (Node f ts))
 no_put_past path part f ts h past =
     rw (term_of-Node f ts) (subst (λ (p : List ℕ). None ≡ put_at p part (node f (arguments_of ts.items))) (sym (path_parts path h))
-    (no_put (get_or path 0 0) (take (length path - 1) (drop 1 path)) part f (arguments_of ts.items) (argument_at_past ts.items (get_or path 0 0) past)))
+    (no_put (get_or path 0 0) (take (length path - 1) (drop 1 path)) part f (arguments_of ts.items)
+    (argument_at_past ts.items (get_or path 0 0) past)))
 
 -- what is put into the argument at the first position
 pub put_into_argument : (path : List ℕ) (part : Term) (f : ℕ) (ts : Vec PlainTerm Global) (x : PlainTerm) (o : Option Term)
     → 1 ≤ length path → get_or path 0 0 < length ts.items → x ≡ get_or ts.items (get_or path 0 0) x
     → o ≡ put_at (take (length path - 1) (drop 1 path)) part (term_of x)
-    → option_map (λ (t : Term). node f (with_argument (get_or path 0 0) t (arguments_of ts.items))) o ≡ put_at path part (term_of (Node f ts))
+    → option_map (λ (t : Term). node f (with_argument (get_or path 0 0) t (arguments_of ts.items))) o
+    ≡ put_at path part (term_of (Node f ts))
 put_into_argument path part f ts x o h within is found =
-    rw (term_of-Node f ts) (subst (λ (p : List ℕ). option_map (λ (t : Term). node f (with_argument (get_or path 0 0) t (arguments_of ts.items))) o ≡ put_at p part (node f (arguments_of ts.items))) (sym (path_parts path h))
-    (put_found (get_or path 0 0) (take (length path - 1) (drop 1 path)) part f (arguments_of ts.items) (term_of x) o (argument_at_within ts.items (get_or path 0 0) x within is) found))
+    rw (term_of-Node f ts) (subst (λ (p : List ℕ). option_map
+    (λ (t : Term). node f (with_argument (get_or path 0 0) t (arguments_of ts.items))) o
+    ≡ put_at p part (node f (arguments_of ts.items))) (sym (path_parts path h))
+    (put_found (get_or path 0 0) (take (length path - 1) (drop 1 path)) part f (arguments_of ts.items) (term_of x) o
+    (argument_at_within ts.items (get_or path 0 0) x within is) found))

@@ -16,17 +16,19 @@ Alike o p = (o.form ≡ p.form) × (o.arguments ≡ p.arguments) × (o.result �
 
 overloaded_fine : IsWellFormedSignature overloaded_signature
 overloaded_fine = record {
-  results = λ f o e. each_member (λ (o : Operation). IsSort overloaded_signature o.result) overloaded_signature.operations f o (omega arith, (omega arith, (omega arith, (omega arith, tt)))) e;
-  arguments = λ f i s o e d. each_member (λ (o : Operation). (i s : ℕ) → slice_get o.arguments i ≡ Some s → IsSort overloaded_signature s) overloaded_signature.operations f o (
-    (λ i s d. cc),
-    (
-      (λ i s d. cc),
-      (
-        (λ i s d. each_member (IsSort overloaded_signature) (0 ∷ 0 ∷ []) i s (omega arith, (omega arith, tt)) d),
-        ((λ i s d. each_member (IsSort overloaded_signature) (0 ∷ 0 ∷ []) i s (omega arith, (omega arith, tt)) d), tt),
-      ),
-    ),
-  ) e i s d;
+  results = λ f o e. each_member (λ (o : Operation). IsSort overloaded_signature o.result) overloaded_signature.operations f o
+      (omega arith, (omega arith, (omega arith, (omega arith, tt)))) e;
+  arguments = λ f i s o e d. each_member (λ (o : Operation). (i s : ℕ) → slice_get o.arguments i ≡ Some s → IsSort overloaded_signature s)
+      overloaded_signature.operations f o (
+        (λ i s d. cc),
+        (
+          (λ i s d. cc),
+          (
+            (λ i s d. each_member (IsSort overloaded_signature) (0 ∷ 0 ∷ []) i s (omega arith, (omega arith, tt)) d),
+            ((λ i s d. each_member (IsSort overloaded_signature) (0 ∷ 0 ∷ []) i s (omega arith, (omega arith, tt)) d), tt),
+          ),
+        ),
+      ) e i s d;
   sort_names = λ i j s t e d a. one_named (λ (s : Sort). s.name) overloaded_signature.sorts i j s t refl e d a;
   profiles = λ f g o p e d name form arguments result. one_position Alike overloaded_signature.operations f g o p (
     (

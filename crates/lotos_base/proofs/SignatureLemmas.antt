@@ -34,9 +34,13 @@ Decides-are_twins one other = Decides-like (are_twins one other) joined parted i
 
     in_pairs : Decides (are_twins one other) (InPairs one other)
     in_pairs =
-        Decides-and (bytes_eq (folded one.name) (folded other.name) && form_eq one.form other.form) (bytes_eq one.arguments other.arguments && not (nat_eq one.result other.result))
-        (Decides-and (bytes_eq (folded one.name) (folded other.name)) (form_eq one.form other.form) (bytes_eq-Decides (folded one.name) (folded other.name)) (Decides-form_eq one.form other.form))
-        (Decides-and (bytes_eq one.arguments other.arguments) (not (nat_eq one.result other.result)) (bytes_eq-Decides one.arguments other.arguments) (Decides-not (nat_eq one.result other.result) (Decides-eqb one.result other.result)))
+        Decides-and (bytes_eq (folded one.name) (folded other.name) && form_eq one.form other.form)
+        (bytes_eq one.arguments other.arguments && not (nat_eq one.result other.result))
+        (Decides-and (bytes_eq (folded one.name) (folded other.name)) (form_eq one.form other.form)
+        (bytes_eq-Decides (folded one.name) (folded other.name)) (Decides-form_eq one.form other.form))
+        (Decides-and (bytes_eq one.arguments other.arguments) (not (nat_eq one.result other.result))
+        (bytes_eq-Decides one.arguments other.arguments) (Decides-not (nat_eq one.result other.result)
+        (Decides-eqb one.result other.result)))
 
 -- a member of the list is a twin
 abbrev TwinIn : Operation → List Operation → Type 0
@@ -57,7 +61,8 @@ Decides-twin_in operation (o ∷ os) =
     looked (zero, other, at, twins) = inl (subst (AreTwins operation) (sym (same_Some o other at)) twins)
     looked (suc number, other, at, twins) = inr (number, other, at, twins)
 
-pub Decides-has_twin : (signature : Signature) (operation : Operation) → Decides (has_twin signature operation) (HasTwin signature operation)
+pub Decides-has_twin : (signature : Signature) (operation : Operation)
+    → Decides (has_twin signature operation) (HasTwin signature operation)
 Decides-has_twin signature operation = Decides-twin_in operation signature.operations
 
 pub twins_mutual : (one other : Operation) → AreTwins one other → AreTwins other one
@@ -72,4 +77,14 @@ profiles_tell signature f g one other well at_f at_g alone name form arguments =
     by_result : (same : Bool) → nat_eq one.result other.result ≡ same → f ≡ g
     by_result true same = well.profiles f g one other at_f at_g name form arguments ((Decides-eqb one.result other.result).0 same)
     by_result false differ =
-        absurd (alone (g, other, at_g, record { name = name; form = form; arguments = arguments; results = not_from_Decides (nat_eq one.result other.result) (Decides-eqb one.result other.result) differ }))
+        absurd (alone (
+          g,
+          other,
+          at_g,
+          record {
+            name = name;
+            form = form;
+            arguments = arguments;
+            results = not_from_Decides (nat_eq one.result other.result) (Decides-eqb one.result other.result) differ;
+          },
+        ))

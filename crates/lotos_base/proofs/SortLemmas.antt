@@ -50,7 +50,8 @@ new_side_ground signature equation values backward h = instance_ground values eq
 
 pub link_ground : (data_ : Data) (t u : Term) → Link data_ t u → IsGround t → IsGround u
 link_ground data_ t u l h =
-    put_at_ground l.path (substituted l.values (new_side l.direction l.equation)) t u h (new_side_ground data_.signature l.equation l.values l.direction l.is_instance) l.new
+    put_at_ground l.path (substituted l.values (new_side l.direction l.equation)) t u h
+    (new_side_ground data_.signature l.equation l.values l.direction l.is_instance) l.new
 
 pub equal_ground : {data_ : Data} {t u : Term} → Equal data_ t u → IsGround t → IsGround u
 equal_ground (same_term t) h = h
@@ -110,14 +111,16 @@ subterm_sort signature (k ∷ path) (node f ts) part s h e =
       others = λ other whole g w.
           let put = put_below k path f other ts whole w in
           let same : put.argument ≡ below.argument = same_Some _ _ (sym put.found ∙ below.found) in
-          let inside : put_at path other below.argument ≡ Some put.after = subst (λ (u : Term). put_at path other u ≡ Some put.after) same put.inside in
+          let inside : put_at path other below.argument ≡ Some put.after =
+          subst (λ (u : Term). put_at path other u ≡ Some put.after) same put.inside in
           subst (λ (u : Term). HasSort signature u s) put.is_whole
           (h.0, h.1, h.2, argument.others put.after (deeper.others other put.after g inside));
     }
 
 -- in well-formed data the two sides of each equation have one sort
 pub well_formed_sides : (data_ : Data) → IsWellFormedData data_ → HasSortedSides data_
-well_formed_sides data_ fine equation is = let over = fine.equations equation is in record { sort = over.sort; left = over.left_sort; right = over.right_sort }
+well_formed_sides data_ fine equation is = let over = fine.equations equation is in record
+    { sort = over.sort; left = over.left_sort; right = over.right_sort }
 
 -- and a variable number has one sort in an equation, since it is declared once
 pub well_formed_sorted : (data_ : Data) → IsWellFormedData data_ → AreSortedData data_
@@ -137,13 +140,19 @@ well_formed_sorted data_ fine = record { sides = well_formed_sides data_ fine; n
         sym one.4 ∙ (ap (λ (v : Variable). v.sort) v ∙ other.4)
 
 -- both sides of a ground instance have the equation's sort
-pub side_sorts : (signature : Signature) (equation : Equation) (values : Substitution) (direction : Direction) (one : HasOneSort signature equation)
+pub side_sorts : (signature : Signature) (equation : Equation) (values : Substitution) (direction : Direction)
+    (one : HasOneSort signature equation)
     → IsGroundInstance signature equation values
-    → HasSort signature (substituted values (old_side direction equation)) one.sort × HasSort signature (substituted values (new_side direction equation)) one.sort
-side_sorts signature equation values forward one h =
-    (substituted_sort signature values equation.left one.sort one.left (λ n s o. (h.left n s o).sorted), substituted_sort signature values equation.right one.sort one.right (λ n s o. (h.right n s o).sorted))
-side_sorts signature equation values backward one h =
-    (substituted_sort signature values equation.right one.sort one.right (λ n s o. (h.right n s o).sorted), substituted_sort signature values equation.left one.sort one.left (λ n s o. (h.left n s o).sorted))
+    → HasSort signature (substituted values (old_side direction equation)) one.sort
+    × HasSort signature (substituted values (new_side direction equation)) one.sort
+side_sorts signature equation values forward one h = (
+  substituted_sort signature values equation.left one.sort one.left (λ n s o. (h.left n s o).sorted),
+  substituted_sort signature values equation.right one.sort one.right (λ n s o. (h.right n s o).sorted),
+)
+side_sorts signature equation values backward one h = (
+  substituted_sort signature values equation.right one.sort one.right (λ n s o. (h.right n s o).sorted),
+  substituted_sort signature values equation.left one.sort one.left (λ n s o. (h.left n s o).sorted),
+)
 
 pub link_sort : (data_ : Data) (t u : Term) (s : ℕ) → HasSortedSides data_ → Link data_ t u
     → HasSort data_.signature t s → HasSort data_.signature u s
@@ -151,8 +160,10 @@ link_sort data_ t u s sorted l h =
     let one = sorted l.equation l.is_equation in
     let sides = side_sorts data_.signature l.equation l.values l.direction one l.is_instance in
     let part = subterm_sort data_.signature l.path t (substituted l.values (old_side l.direction l.equation)) s h l.old in
-    let same : one.sort ≡ part.sort = one_sort data_.signature (substituted l.values (old_side l.direction l.equation)) one.sort part.sort sides.0 part.sorted in
-    part.others (substituted l.values (new_side l.direction l.equation)) u (subst (λ (r : ℕ). HasSort data_.signature (substituted l.values (new_side l.direction l.equation)) r) same sides.1) l.new
+    let same : one.sort ≡ part.sort = one_sort data_.signature (substituted l.values (old_side l.direction l.equation)) one.sort part.sort
+    sides.0 part.sorted in
+    part.others (substituted l.values (new_side l.direction l.equation)) u
+    (subst (λ (r : ℕ). HasSort data_.signature (substituted l.values (new_side l.direction l.equation)) r) same sides.1) l.new
 
 pub equal_sort : {data_ : Data} {t u : Term} (s : ℕ) → HasSortedSides data_ → Equal data_ t u
     → HasSort data_.signature t s → HasSort data_.signature u s

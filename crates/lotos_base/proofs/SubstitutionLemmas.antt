@@ -83,7 +83,8 @@ mutual
   pub substituted_sort : (signature : Signature) (values : Substitution) (t : Term) (sort : ℕ)
       → HasSort signature t sort → KeepsSorts signature t values
       → HasSort signature (substituted values t) sort
-  substituted_sort signature values (variable n s) sort h keeps = subst (λ (r : ℕ). HasSort signature (values n s) r) h.0 (keeps n s (refl, refl))
+  substituted_sort signature values (variable n s) sort h keeps =
+      subst (λ (r : ℕ). HasSort signature (values n s) r) h.0 (keeps n s (refl, refl))
   substituted_sort signature values (node f ts) sort h keeps =
       (h.0, h.1, h.2, all_substituted_sorts signature values ts h.0.arguments h.3 keeps)
 
@@ -93,8 +94,10 @@ mutual
   all_substituted_sorts signature values no_terms [] h keeps = tt
   all_substituted_sorts signature values no_terms (s ∷ ss) h keeps = h
   all_substituted_sorts signature values (term_then t ts) [] h keeps = h
-  all_substituted_sorts signature values (term_then t ts) (s ∷ ss) h keeps =
-      (substituted_sort signature values t s h.0 (λ m r o. keeps m r (inl o)), all_substituted_sorts signature values ts ss h.1 (λ m r o. keeps m r (inr o)))
+  all_substituted_sorts signature values (term_then t ts) (s ∷ ss) h keeps = (
+    substituted_sort signature values t s h.0 (λ m r o. keeps m r (inl o)),
+    all_substituted_sorts signature values ts ss h.1 (λ m r o. keeps m r (inr o)),
+  )
 
 mutual
   -- an instance is ground where each variable that occurs is given a ground term
@@ -165,7 +168,8 @@ pub all_substituted-with_argument : (k : ℕ) (values : Substitution) (part : Te
     → all_substituted values (with_argument k part ts) ≡ with_argument k (substituted values part) (all_substituted values ts)
 all_substituted-with_argument k values part no_terms = refl
 all_substituted-with_argument zero values part (term_then t ts) = refl
-all_substituted-with_argument (suc k) values part (term_then t ts) = ap (λ us. term_then (substituted values t) us) (all_substituted-with_argument k values part ts)
+all_substituted-with_argument (suc k) values part (term_then t ts) =
+    ap (λ us. term_then (substituted values t) us) (all_substituted-with_argument k values part ts)
 
 -- the subterm of an instance is the instance of the subterm
 pub subterm-substituted : (path : List ℕ) (values : Substitution) (t part : Term) → subterm path t ≡ Some part
@@ -186,7 +190,8 @@ put_at-substituted [] values part t whole e = ap (λ o. option_map (substituted 
 put_at-substituted (k ∷ path) values part (variable n s) whole e = cc
 put_at-substituted (k ∷ path) values part (node f ts) whole e =
     let below = put_below k path f part ts whole e in
-    put_under k path f (substituted values part) (all_substituted values ts) (substituted values below.argument) (substituted values below.after)
+    put_under k path f (substituted values part) (all_substituted values ts) (substituted values below.argument)
+    (substituted values below.after)
     (argument_at-all_substituted k values ts ∙ ap (λ o. option_map (substituted values) o) below.found)
     (put_at-substituted path values part below.argument below.after below.inside)
     ∙ ap (λ us. Some (node f us)) (sym (all_substituted-with_argument k values below.after ts))

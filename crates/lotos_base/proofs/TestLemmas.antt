@@ -15,7 +15,8 @@ mutual
 
   pub Decides-occurs_among : (n s : ℕ) (ts : Terms) → Decides (occurs_among n s ts) (OccursAmong n s ts)
   Decides-occurs_among n s no_terms = ((λ h. cc), (λ h. absurd h))
-  Decides-occurs_among n s (term_then t ts) = Decides-or (occurs n s t) (occurs_among n s ts) (Decides-occurs n s t) (Decides-occurs_among n s ts)
+  Decides-occurs_among n s (term_then t ts) = Decides-or (occurs n s t) (occurs_among n s ts) (Decides-occurs n s t)
+      (Decides-occurs_among n s ts)
 
 mutual
   pub Decides-is_ground : (t : Term) → Decides (is_ground t) (IsGround t)
@@ -39,18 +40,21 @@ lists_same t u ts us h = λ i. term_then (h.0 i) (h.1 i)
 mutual
   pub Decides-term_eq : (t u : Term) → Decides (term_eq t u) (t ≡ u)
   Decides-term_eq (variable n s) (variable m r) =
-      Decides-like (nat_eq n m && nat_eq s r) (variables_same n s m r) (λ e. (cc, cc)) (Decides-and (nat_eq n m) (nat_eq s r) (Decides-eqb n m) (Decides-eqb s r))
+      Decides-like (nat_eq n m && nat_eq s r) (variables_same n s m r) (λ e. (cc, cc))
+      (Decides-and (nat_eq n m) (nat_eq s r) (Decides-eqb n m) (Decides-eqb s r))
   Decides-term_eq (variable n s) (node g us) = ((λ h. cc), (λ h. cc))
   Decides-term_eq (node f ts) (variable m r) = ((λ h. cc), (λ h. cc))
   Decides-term_eq (node f ts) (node g us) =
-      Decides-like (nat_eq f g && terms_eq ts us) (nodes_same f g ts us) (λ e. (cc, cc)) (Decides-and (nat_eq f g) (terms_eq ts us) (Decides-eqb f g) (Decides-terms_eq ts us))
+      Decides-like (nat_eq f g && terms_eq ts us) (nodes_same f g ts us) (λ e. (cc, cc))
+      (Decides-and (nat_eq f g) (terms_eq ts us) (Decides-eqb f g) (Decides-terms_eq ts us))
 
   pub Decides-terms_eq : (ts us : Terms) → Decides (terms_eq ts us) (ts ≡ us)
   Decides-terms_eq no_terms no_terms = ((λ h. refl), (λ h. refl))
   Decides-terms_eq no_terms (term_then u us) = ((λ h. cc), (λ h. cc))
   Decides-terms_eq (term_then t ts) no_terms = ((λ h. cc), (λ h. cc))
   Decides-terms_eq (term_then t ts) (term_then u us) =
-      Decides-like (term_eq t u && terms_eq ts us) (lists_same t u ts us) (λ e. (cc, cc)) (Decides-and (term_eq t u) (terms_eq ts us) (Decides-term_eq t u) (Decides-terms_eq ts us))
+      Decides-like (term_eq t u && terms_eq ts us) (lists_same t u ts us) (λ e. (cc, cc))
+      (Decides-and (term_eq t u) (terms_eq ts us) (Decides-term_eq t u) (Decides-terms_eq ts us))
 
 -- identity of terms is decided, so a path between two terms is a proposition
 pub Term-discrete : Discrete Term

@@ -12,7 +12,8 @@ written_list-written_terms (term ∷ terms) = ap (λ (rest : List WrittenTerm). 
 
 pub written_terms-written_list : (terms : WrittenTerms) → written_terms (written_list terms) ≡ terms
 written_terms-written_list no_written = refl
-written_terms-written_list (written_then term terms) = ap (λ (rest : WrittenTerms). written_then term rest) (written_terms-written_list terms)
+written_terms-written_list (written_then term terms) = ap (λ (rest : WrittenTerms). written_then term rest)
+    (written_terms-written_list terms)
 
 -- a written term is seen by its parts
 pub heads_seen : HeadsAreSeen

@@ -11,7 +11,8 @@ use Rattle.lotos_base.specs.Substitution.{Substitution, substituted, followed_by
 use Rattle.lotos_base.specs.Equation.{Equation, Data, HasSortedSides, AreSortedData, IsEquationOver, IsWellFormedData, IsGroundInstance}
 use Rattle.lotos_base.specs.Equality.{Equal}
 use Rattle.lotos_base.specs.EqualityLaws.{IsCongruence}
-use Rattle.lotos_base.specs.Meaning.{MeetsEquations, meaning_is_congruence}
+use Rattle.lotos_base.specs.Meaning.{MeetsEquations}
+use Rattle.lotos_base.specs.MeaningFacts.{meaning_is_congruence}
 use Rattle.lotos_base.specs.Canon.{KeepsApart, IsCanon}
 use Rattle.lotos_base.specs.SmallData.{
   sort_named,

@@ -22,6 +22,7 @@ pub mod Equality
 pub mod Canon
 pub mod EqualityLaws
 pub mod Meaning
+pub mod MeaningFacts
 pub mod SmallData
 pub mod Examples
 pub mod PlainView

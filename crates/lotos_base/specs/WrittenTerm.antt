@@ -51,9 +51,10 @@ pub record WrittenProfile : Type 0 where
   pub result : List ℕ
 
 -- an operation as an order file lists it: the place and the spelling of its name, whether it was listed as `f`
--- or as `_f_`, and its profile where one was given
+-- or as `_f_`, its profile where one was given, and the name of its status where one was written
 pub record ListedOperation : Type 0 where
   pub place : Place
   pub name : List ℕ
   pub form : Form
   pub profile : Option WrittenProfile
+  pub status : Option PlacedName

@@ -57,4 +57,5 @@ listed_operation_of item = record {
   name = spelling item.name;
   form = form_of item.form;
   profile = option_map written_profile_of item.profile;
+  status = option_map placed_name_of item.status;
 }

@@ -28,7 +28,8 @@ pub fn without_equations_equality_is_identity()
     ensures canon { WithoutEquationsIdentityIsCanon }
 {}
 
-/// A canon of data is one of any data with the same signature and the same equality, whatever its equations.
+/// A canon of data is one of any data with the same signature and the same equality, whatever its
+/// equations.
 pub fn canons_hang_on_equality_alone()
     ensures { CanonsHangOnEqualityAlone }
 {}

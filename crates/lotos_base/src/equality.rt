@@ -26,7 +26,8 @@ pub fn equality_is_an_equivalence()
     ensures transitive { EqualityIsTransitive }
 {}
 
-/// Equality is a congruence, at each path and under each operation, so that equal values give equal instances.
+/// Equality is a congruence, at each path and under each operation, so that equal values give equal
+/// instances.
 pub fn equality_is_a_congruence()
     ensures inside { EqualityHoldsInside }
     ensures under_operations { EqualityHoldsUnderOperations }
@@ -43,15 +44,15 @@ pub fn equations_hold()
     ensures { EquationsHold }
 {}
 
-/// What is equal to a ground term is ground. Where the two sides of each equation have one sort, what is equal to a
-/// term of some sort has that sort.
+/// What is equal to a ground term is ground. Where the two sides of each equation have one sort,
+/// what is equal to a term of some sort has that sort.
 pub fn equality_keeps_terms()
     ensures ground { EqualityKeepsGround }
     ensures sorts { EqualityKeepsSorts }
 {}
 
-/// A relation that is a congruence on the terms of a domain, which no link leaves, and holds every ground instance
-/// of every equation of its data.
+/// A relation that is a congruence on the terms of a domain, which no link leaves, and holds every
+/// ground instance of every equation of its data.
 pub trait Congruence {
     ghost equational_data: { Data };
 

@@ -54,7 +54,8 @@ pub fn equality_examples()
     ensures { EqualityExamples }
 {}
 
-/// Leaving out each meet of a term with itself is a canon of meet(x, x) = x, and the identity function is none.
+/// Leaving out each meet of a term with itself is a canon of meet(x, x) = x, and the identity
+/// function is none.
 pub fn canon_examples()
     ensures { CanonExamples }
 {}

@@ -53,7 +53,8 @@ impl Shelf for MemShelf {
         ensures counts { GetCounts result (faults_of self.old) (faults_of self.new) }
 
         // The calls fail whose number is listed, and no others.
-        ensures fails { (result ≡ Err GetFault.Failed) ↔ IsListedCall (failing_of self.old) (calls_of self.old) }
+        ensures fails { (result ≡ Err GetFault.Failed)
+            ↔ IsListedCall (failing_of self.old) (calls_of self.old) }
         ensures failing { failing_of self.new ≡ failing_of self.old }
     {
         into.clear();
@@ -77,7 +78,8 @@ impl Shelf for MemShelf {
         ensures counts { PutCounts result (faults_of self.old) (faults_of self.new) }
 
         // The calls fail whose number is listed, and no others.
-        ensures fails { (result ≡ Err PutFault.Failed) ↔ IsListedCall (failing_of self.old) (calls_of self.old) }
+        ensures fails { (result ≡ Err PutFault.Failed)
+            ↔ IsListedCall (failing_of self.old) (calls_of self.old) }
         ensures failing { failing_of self.new ≡ failing_of self.old }
     {
         if self.schedule.begin() {
@@ -101,7 +103,8 @@ fn text_named<'a>(files: &'a [(String, Vec<u8>)], name: &str) -> Option<&'a [u8]
 
 /// The index of the first file with this name.
 fn index_named(files: &[(String, Vec<u8>)], name: &str) -> Option<usize>
-    ensures { MatchOption result (text_under files.now name.now ≡ None) (IsFirstNamed files.now name.now) }
+    ensures { MatchOption result (text_under files.now name.now ≡ None)
+        (IsFirstNamed files.now name.now) }
 {
     for (index, file) in files.iter().enumerate() {
         if file.0.as_str() == name {
@@ -113,7 +116,8 @@ fn index_named(files: &[(String, Vec<u8>)], name: &str) -> Option<usize>
 
 /// Makes `bytes` the text under `name`: in the first file of that name, or in a new one.
 fn store(files: &mut Vec<(String, Vec<u8>)>, name: &str, bytes: &[u8]) -> Result<(), AllocError>
-    ensures stored { OnOk result (Puts (text_under files.old.items) (text_under files.new.items) name.now bytes.now) }
+    ensures stored { OnOk result (Puts (text_under files.old.items) (text_under files.new.items)
+        name.now bytes.now) }
     ensures unchanged { OnErr result (files.new.items ≡ files.old.items) }
 {
     let alloc = *files.allocator();

@@ -18,7 +18,13 @@ pub struct MemSink {
 }
 
 impl MemSink {
-    ghost use Rattle.lotos_base.specs.MemSink.{written_of, room_of, faults_of, calls_of, failing_of};
+    ghost use Rattle.lotos_base.specs.MemSink.{
+      written_of,
+      room_of,
+      faults_of,
+      calls_of,
+      failing_of,
+    };
 
     /// A sink that takes `room` bytes, with nothing written and no fault counted. A write fails
     /// exactly where it finds no room or where its number, from 1, is in `failing`.
@@ -49,7 +55,13 @@ impl MemSink {
 }
 
 impl Sink for MemSink {
-    ghost use Rattle.lotos_base.specs.MemSink.{written_of, room_of, faults_of, calls_of, failing_of};
+    ghost use Rattle.lotos_base.specs.MemSink.{
+      written_of,
+      room_of,
+      faults_of,
+      calls_of,
+      failing_of,
+    };
 
     ghost written = { λ sink. Some (written_of sink) };
 
@@ -59,13 +71,17 @@ impl Sink for MemSink {
         requires { 0 < length piece.now }
         ensures moves { IfOk result (λ count. 0 < count) }
         ensures within { IfOk result (λ count. count ≤ length piece.now) }
-        ensures appended { IfOk result (λ count. written_of self.new ≡ written_of self.old ++ take count piece.now) }
+        ensures appended { IfOk result (λ count. written_of self.new ≡ written_of self.old
+            ++ take count piece.now) }
         ensures kept { OnErr result (written_of self.new ≡ written_of self.old) }
-        ensures counts { MatchResult result (λ _. faults_of self.new ≡ faults_of self.old) (λ _. Rises (faults_of self.old) (faults_of self.new)) }
+        ensures counts { MatchResult result (λ _. faults_of self.new ≡ faults_of self.old)
+            (λ _. Rises (faults_of self.old) (faults_of self.new)) }
 
         // It takes what fits, and fails exactly where nothing does or where the call is listed.
-        ensures fits { IfOk result (λ count. count ≡ min (length piece.now) (room_of self.old - length (written_of self.old))) }
-        ensures fails { IsErr result ↔ (IsListedCall (failing_of self.old) (calls_of self.old) ⊎ (room_of self.old ≤ length (written_of self.old))) }
+        ensures fits { IfOk result (λ count. count
+            ≡ min (length piece.now) (room_of self.old - length (written_of self.old))) }
+        ensures fails { IsErr result ↔ (IsListedCall (failing_of self.old) (calls_of self.old) ⊎
+            (room_of self.old ≤ length (written_of self.old))) }
         ensures calls { calls_of self.new ≡ next_count (calls_of self.old) }
         ensures room { room_of self.new ≡ room_of self.old }
         ensures failing { failing_of self.new ≡ failing_of self.old }

@@ -45,12 +45,15 @@ impl Source for MemSource {
     fn read(&mut self, buf: &mut [u8]) -> Result<usize, Failed>
         requires { 0 < length buf.old }
         ensures within { IfOk result (λ count. count ≤ length buf.old) }
-        ensures moved { IfOk result (λ count. MovesInto (left_of self.old) (Some (left_of self.new)) buf.new count) }
+        ensures moved { IfOk result (λ count.
+            MovesInto (left_of self.old) (Some (left_of self.new)) buf.new count) }
         ensures kept { OnErr result (left_of self.new ≡ left_of self.old) }
-        ensures counts { MatchResult result (λ _. faults_of self.new ≡ faults_of self.old) (λ _. Rises (faults_of self.old) (faults_of self.new)) }
+        ensures counts { MatchResult result (λ _. faults_of self.new ≡ faults_of self.old)
+            (λ _. Rises (faults_of self.old) (faults_of self.new)) }
 
         // It takes as much as fits, and leaves the rest of the buffer, all of it after a fault.
-        ensures fits { IfOk result (λ count. count ≡ min (length buf.old) (length (left_of self.old))) }
+        ensures fits { IfOk result (λ count. count
+            ≡ min (length buf.old) (length (left_of self.old))) }
         ensures behind { IfOk result (λ count. drop count buf.new ≡ drop count buf.old) }
         ensures untouched { OnErr result (buf.new ≡ buf.old) }
 

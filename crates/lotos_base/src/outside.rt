@@ -23,9 +23,11 @@ pub trait Source {
     fn read(&mut self, buf: &mut [u8]) -> Result<usize, Failed>
         requires { 0 < length buf.old }
         ensures within { IfOk result (λ count. count ≤ length buf.old) }
-        ensures moved { IfOk result (λ count. IfSome (left self.old) (λ bytes. MovesInto bytes (left self.new) buf.new count)) }
+        ensures moved { IfOk result (λ count.
+            IfSome (left self.old) (λ bytes. MovesInto bytes (left self.new) buf.new count)) }
         ensures kept { OnErr result (IfSome (left self.old) (λ bytes. left self.new ≡ Some bytes)) }
-        ensures counts { MatchResult result (λ _. faults self.new ≡ faults self.old) (λ _. Rises (faults self.old) (faults self.new)) };
+        ensures counts { MatchResult result (λ _. faults self.new ≡ faults self.old)
+            (λ _. Rises (faults self.old) (faults self.new)) };
 }
 
 /// Where bytes go.
@@ -41,9 +43,13 @@ pub trait Sink {
         requires { 0 < length piece.now }
         ensures moves { IfOk result (λ count. 0 < count) }
         ensures within { IfOk result (λ count. count ≤ length piece.now) }
-        ensures appended { IfOk result (λ count. IfSome (written self.old) (λ bytes. written self.new ≡ Some (bytes ++ take count piece.now))) }
-        ensures kept { OnErr result (IfSome (written self.old) (λ bytes. written self.new ≡ Some bytes)) }
-        ensures counts { MatchResult result (λ _. faults self.new ≡ faults self.old) (λ _. Rises (faults self.old) (faults self.new)) };
+        ensures appended { IfOk result (λ count.
+            IfSome (written self.old) (λ bytes. written self.new
+            ≡ Some (bytes ++ take count piece.now))) }
+        ensures kept { OnErr result (IfSome (written self.old)
+            (λ bytes. written self.new ≡ Some bytes)) }
+        ensures counts { MatchResult result (λ _. faults self.new ≡ faults self.old)
+            (λ _. Rises (faults self.old) (faults self.new)) };
 }
 
 /// Texts by name.
@@ -74,7 +80,9 @@ pub trait Shelf {
     /// After `Failed` the name may have any bytes or none, and after `NoMemory` the shelf is as
     /// before.
     fn put(&mut self, name: &str, bytes: &[u8]) -> Result<(), PutFault>
-        ensures leaves { IfSome (texts self.old) (λ told. IsSomeAnd (texts self.new) (λ told_after. PutLeaves result told told_after name.now bytes.now)) }
+        ensures leaves { IfSome (texts self.old)
+            (λ told. IsSomeAnd (texts self.new)
+            (λ told_after. PutLeaves result told told_after name.now bytes.now)) }
         ensures calls { calls self.new ≡ next_count (calls self.old) }
         ensures counts { PutCounts result (faults self.old) (faults self.new) };
 }

@@ -94,7 +94,8 @@ impl PlainTerm {
         part: &PlainTerm,
     ) -> Result<Option<PlainTerm>, AllocError>
         ensures { IfOk result
-            (λ o. option_map (λ t. term_of t) o ≡ put_at path.now (term_of part.now) (term_of self.now)) }
+            (λ o. option_map (λ t. term_of t) o
+            ≡ put_at path.now (term_of part.now) (term_of self.now)) }
     {
         let [position, rest @ ..] = path else {
             return Ok(Some(part.copy()?));
@@ -118,8 +119,8 @@ impl PlainTerm {
         }))
     }
 
-    /// The term with the values put for the variables whose numbers stand beside them. The first value of a number
-    /// counts, and a variable without one stays.
+    /// The term with the values put for the variables whose numbers stand beside them. The first
+    /// value of a number counts, and a variable without one stays.
     #[cycle(instance)]
     pub fn instance(&self, values: &[(u64, PlainTerm)]) -> Result<PlainTerm, AllocError>
         ensures { IfOk result
@@ -159,7 +160,8 @@ impl PlainTerm {
 
     // The argument at the position, if there is one.
     fn argument(&self, position: usize) -> Option<&PlainTerm>
-        ensures { option_map (λ t. term_of t.now) result ≡ subterm_at (position ∷ []) (term_of self.now) }
+        ensures { option_map (λ t. term_of t.now) result
+            ≡ subterm_at (position ∷ []) (term_of self.now) }
     {
         match self {
             PlainTerm::Variable { .. } => None,

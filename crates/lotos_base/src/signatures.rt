@@ -14,7 +14,8 @@ pub fn twins_are_decided()
     ensures mutual { TwinsAreMutual }
 {}
 
-/// An operation without a twin is known by what an application of it shows: name, form and sorts of arguments.
+/// An operation without a twin is known by what an application of it shows: name, form and sorts of
+/// arguments.
 pub fn profiles_tell_operations()
     ensures { ProfilesTellOperations }
 {}

@@ -25,7 +25,8 @@ pub fn only_occurring_variables_count()
     ensures ground { GroundTermsStay }
 {}
 
-/// An instance has the sort of its term, is ground where its values are, and has the variables of its values.
+/// An instance has the sort of its term, is ground where its values are, and has the variables of
+/// its values.
 pub fn instances_keep_sorts()
     ensures sorts { InstancesKeepSorts }
     ensures ground { GroundInstancesAreGround }

@@ -36,7 +36,8 @@ pub struct Profile {
     pub result: Name,
 }
 
-/// One item of an order file: an operation's name, with a profile where it was given.
+/// One item of an order file: an operation's name, with a profile and a status where they were
+/// given.
 #[derive(Debug, Drop)]
 pub struct OrderItem {
     /// The place of the name.
@@ -47,4 +48,6 @@ pub struct OrderItem {
     pub form: Form,
     /// The profile, or none where the item stands for every operation of the name and form.
     pub profile: Option<Profile>,
+    /// The name of the status and its place, or none where no status was written.
+    pub status: Option<(Place, Name)>,
 }

@@ -36,11 +36,13 @@ use Rattle.lotos_grammar.specs.ShelfUse.{ShelfState, Gives, GivesAndLacks, Gives
 use Rattle.lotos_grammar.specs.Progress.{GatheringLeads, Ends, IsDone, AsksFrom, GatheringEndsBy, IsMentionReplaced, AsksAt, StopsBy, IsGathered, AsksInAll, FailsBy}
 use Rattle.lotos_grammar.proofs.ShelfLemmas.{gives_nothing, gives_then, gives_then_lacks, gives_then_some, gives_some, some_within}
 
-leads_then : (a b c : Gathered) (v w : List Waiting) (f g : List GotFile) → GatheringLeads a v f b → GatheringLeads b w g c → GatheringLeads a (v ++ w) (f ++ g) c
+leads_then : (a b c : Gathered) (v w : List Waiting) (f g : List GotFile) → GatheringLeads a v f b → GatheringLeads b w g c
+    → GatheringLeads a (v ++ w) (f ++ g) c
 leads_then a b c v w f g first second = λ rest later outcome after.
     rw (append_assoc v w rest, append_assoc f g later) (first (w ++ rest) (g ++ later) outcome (second rest later outcome after))
 
-leads_then_ends : (a b : Gathered) (v w : List Waiting) (f g : List GotFile) (o : GatheringOutcome) → GatheringLeads a v f b → Ends b w g o →
+leads_then_ends : (a b : Gathered) (v w : List Waiting) (f g : List GotFile) (o : GatheringOutcome) → GatheringLeads a v f b
+    → Ends b w g o →
     Ends a (v ++ w) (f ++ g) o
 leads_then_ends a b v w f g o first second = λ rest. rw (append_assoc v w rest) (first (w ++ rest) g o (second rest))
 
@@ -103,7 +105,8 @@ wants_nothing s start now v =
 
 -- a mention, and what its items come to
 replaced_leads : (start middle now : Gathered) (at : PlacedName) (items : List WrittenItem) (f g : List GotFile) →
-    MentionComesTo start at f (goes_on middle items) → GatheringLeads middle (map item items) g now → GatheringLeads start (mention at ∷ []) (f ++ g) now
+    MentionComesTo start at f (goes_on middle items) → GatheringLeads middle (map item items) g now
+    → GatheringLeads start (mention at ∷ []) (f ++ g) now
 replaced_leads start middle now at items f g mentioned leads = λ rest later outcome after.
     rw (append_assoc f g later) (then mentioned (leads rest later outcome after))
 
@@ -121,7 +124,8 @@ replaced_then a b c start middle now at items first second = record {
 
 replaced_then_ends : (a b c : ShelfState) (start middle now : Gathered) (at : PlacedName) (items : List WrittenItem) (fault : LibraryFault)
     →
-    IsMentionReplaced a b start at middle items → GatheringEndsBy b c middle (map item items) now fault → GatheringEndsBy a c start (mention at ∷ []) now fault
+    IsMentionReplaced a b start at middle items → GatheringEndsBy b c middle (map item items) now fault
+    → GatheringEndsBy a c start (mention at ∷ []) now fault
 replaced_then_ends a b c start middle now at items (TooMany place name) first (files, given, ends_) = (
   first.files ++ files,
   gives_then a b c first.files files first.given given,
@@ -168,7 +172,8 @@ stopped a b start now at NoMemory (files, given, mentioned) = (
 )
 
 -- the whole of a text
-whole_leads : (now : Gathered) (v : List Waiting) (f : List GotFile) → GatheringLeads nothing_yet v f now → Becomes nothing_yet v f (all_gathered
+whole_leads : (now : Gathered) (v : List Waiting) (f : List GotFile) → GatheringLeads nothing_yet v f now
+    → Becomes nothing_yet v f (all_gathered
     now)
 whole_leads now v f leads = rw (sym (append-nil v), sym (append-nil f)) (leads [] [] (all_gathered now) (nothing_waits now))
 
@@ -192,7 +197,9 @@ fails a b now v NoMemory (files, given, ends_) = (
 
 pub whole_answer : {T : Type 0} (a b : ShelfState) (start now : Gathered) (v : List Waiting) (answer : Result T LibraryFault) → start ≡
     nothing_yet →
-    MatchResult answer (λ x. IsDone a b start v now) (GatheringEndsBy a b start v now) → MatchResult answer (λ x. IsGathered a b v now) (FailsBy a b
+    MatchResult answer (λ x. IsDone a b start v now) (GatheringEndsBy a b start v now)
+    → MatchResult answer (λ x. IsGathered a b v now) (FailsBy a b
     v now)
 whole_answer a b start now v (Ok x) is done = gathered a b now v (subst (λ (s : Gathered). IsDone a b s v now) is done)
-whole_answer a b start now v (Err fault) is ends_ = fails a b now v fault (subst (λ (s : Gathered). GatheringEndsBy a b s v now fault) is ends_)
+whole_answer a b start now v (Err fault) is ends_ = fails a b now v fault
+    (subst (λ (s : Gathered). GatheringEndsBy a b s v now fault) is ends_)

@@ -95,7 +95,8 @@ one_done g f a b c start middle now ys x first second =
 
 pub one_ends : {X Y : Type 0} (g : Y → Waiting) (f : X → Y) (a b c : ShelfState) (start middle now : Gathered) (ys : List X) (x : X)
     (zs whole : List X) (fault : LibraryFault) → whole ≡ ys ++ x ∷ zs →
-    IsDone a b start (map g (map f ys)) middle → GatheringEndsBy b c middle (g (f x) ∷ []) now fault → GatheringEndsBy a c start (map g (map f whole)) now
+    IsDone a b start (map g (map f ys)) middle → GatheringEndsBy b c middle (g (f x) ∷ []) now fault
+    → GatheringEndsBy a c start (map g (map f whole)) now
     fault
 one_ends g f a b c start middle now ys x zs whole fault is first second =
     subst (λ (xs : List _). GatheringEndsBy a c start (map g (map f xs)) now fault) (sym is)
@@ -119,12 +120,14 @@ library_is : (text : ItemText) (names : Vec (Place × Name) Global) → text.bod
     item_of text ≡ libraries (text_place_of text.place) (placed_names_of names.items)
 library_is text names is = rw is refl
 
-mentions_lead : (start now : Gathered) (place : _) (names : List PlacedName) (files : List GotFile) → GatheringLeads start (map mention names) files
+mentions_lead : (start now : Gathered) (place : _) (names : List PlacedName) (files : List GotFile)
+    → GatheringLeads start (map mention names) files
     now →
     GatheringLeads start (item (libraries place names) ∷ []) files now
 mentions_lead start now place names files leads = λ rest later outcome after. mentions (leads rest later outcome after)
 
-mentions_end : (start : Gathered) (place : _) (names : List PlacedName) (files : List GotFile) (outcome : GatheringOutcome) → Ends start (map mention
+mentions_end : (start : Gathered) (place : _) (names : List PlacedName) (files : List GotFile) (outcome : GatheringOutcome)
+    → Ends start (map mention
     names) files outcome →
     Ends start (item (libraries place names) ∷ []) files outcome
 mentions_end start place names files outcome ends_ = λ rest. mentions (ends_ rest)
@@ -138,7 +141,8 @@ libraries_done a b start now place names done = record {
   leads = mentions_lead start now place names done.files done.leads;
 }
 
-libraries_end : (a b : ShelfState) (start now : Gathered) (place : _) (names : List PlacedName) (fault : LibraryFault) → GatheringEndsBy a b start
+libraries_end : (a b : ShelfState) (start now : Gathered) (place : _) (names : List PlacedName) (fault : LibraryFault)
+    → GatheringEndsBy a b start
     (map mention names) now fault →
     GatheringEndsBy a b start (item (libraries place names) ∷ []) now fault
 libraries_end a b start now place names (TooMany other name) (files, given, ends_) = (
@@ -163,7 +167,8 @@ libraries_end a b start now place names NoMemory (files, given, ends_) = (
 at_libraries : {T : Type 0} (a b : ShelfState) (start now : Gathered) (place : _) (names : List PlacedName) (answer : Result T LibraryFault)
     →
     MatchResult answer (λ x. IsDone a b start (map mention names) now) (GatheringEndsBy a b start (map mention names) now) →
-    MatchResult answer (λ x. IsDone a b start (item (libraries place names) ∷ []) now) (GatheringEndsBy a b start (item (libraries place names) ∷ [])
+    MatchResult answer (λ x. IsDone a b start (item (libraries place names) ∷ []) now)
+    (GatheringEndsBy a b start (item (libraries place names) ∷ [])
     now)
 at_libraries a b start now place names (Ok x) done = libraries_done a b start now place names done
 at_libraries a b start now place names (Err fault) ends_ = libraries_end a b start now place names fault ends_
@@ -221,7 +226,8 @@ read_already s so_far at known = record {
 }
 
 pub too_many_ends : (s : ShelfState) (so_far : Gathered) (place : Place) (name : Name) → is_read so_far.read (spelling name) ≡ false →
-    library_limit ≤ length so_far.read → GatheringEndsBy s s so_far (mention (placed_name_of (place, name)) ∷ []) so_far (TooMany place name)
+    library_limit ≤ length so_far.read → GatheringEndsBy s s so_far (mention (placed_name_of (place, name)) ∷ []) so_far
+    (TooMany place name)
 too_many_ends s so_far place name unknown full = ([], gives_nothing s, λ rest. ends (one_too_many unknown full))
 
 -- as many names as libraries

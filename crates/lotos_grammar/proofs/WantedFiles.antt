@@ -42,7 +42,8 @@ wanted_first : (got : Files) {so_far : Gathered} {waiting : List Waiting} {files
 wanted_first got {others = others} (memory_ends so_far waiting) all also both lacks = (others, refl)
 wanted_first got (a_type is) all (a_type also) both lacks = wanted_first got is all also both lacks
 wanted_first got (mentions is) all (mentions also) both lacks = wanted_first got is all also both lacks
-wanted_first got (then {rest = rest} {files = f} {later = l} m is) all (then {files = g} {later = k} {outcome = outcome} n also) both lacks =
+wanted_first got (then {rest = rest} {files = f} {later = l} m is) all (then {files = g} {later = k} {outcome = outcome} n also) both lacks
+    =
     let first = mentioned_one got m n (front got f l all) (front got g k both) tt tt in
     let later = wanted_first got is (back got f l all) (subst (λ (s : Step). Goes s rest k outcome) (sym first.1) also)
     (back got g k both) lacks in

@@ -138,7 +138,8 @@ pub data Becomes : Gathered → List Waiting → List GotFile → GatheringOutco
       Becomes (with_type (type_declared place name body) so_far) rest files outcome →
       Becomes so_far (item (type_declared place name body) ∷ rest) files outcome
   mentions :
-      {so_far : Gathered} {place : Place} {names : List PlacedName} {rest : List Waiting} {files : List GotFile} {outcome : GatheringOutcome} →
+      {so_far : Gathered} {place : Place} {names : List PlacedName} {rest : List Waiting} {files : List GotFile}
+      {outcome : GatheringOutcome} →
       Becomes so_far (map mention names ++ rest) files outcome →
       Becomes so_far (item (libraries place names) ∷ rest) files outcome
   then :

@@ -19,7 +19,8 @@ LacksFrom got (without_file read file) = got file ≡ None
 LacksFrom got memory_wanted = ⊥
 
 -- what waits comes to the outcome, by what is got under each name, and these files are got for it
-pub record ComesFrom (got : Files) (so_far : Gathered) (waiting : List Waiting) (files : List GotFile) (outcome : GatheringOutcome) : Type 0 where
+pub record ComesFrom (got : Files) (so_far : Gathered) (waiting : List Waiting) (files : List GotFile) (outcome : GatheringOutcome) : Type
+    0 where
   pub becomes : Becomes so_far waiting files outcome
   pub got_files : AreGotFrom got files
   pub lacks : LacksFrom got outcome

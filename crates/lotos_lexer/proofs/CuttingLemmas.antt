@@ -10,7 +10,8 @@ use Rattle.lotos_lexer.specs.Pieces.{piece_at}
 use Rattle.lotos_lexer.specs.Tokens.{Lexed, Tokens, BadByte, OpenComment, with_token, behind, behind_all, place_at, token_at, list_open_behind, cut}
 use Rattle.lotos_lexer.specs.Cutting.{with_tokens}
 
-pub with_tokens-added : (tokens : List Token) (token : Token) (lexed : Lexed) → with_tokens (tokens ++ token ∷ []) lexed ≡ with_tokens tokens (with_token token lexed)
+pub with_tokens-added : (tokens : List Token) (token : Token) (lexed : Lexed)
+    → with_tokens (tokens ++ token ∷ []) lexed ≡ with_tokens tokens (with_token token lexed)
 with_tokens-added [] token lexed = refl
 with_tokens-added (first ∷ rest) token lexed = ap (with_token first) (with_tokens-added rest token lexed)
 
@@ -31,7 +32,8 @@ cut-inside : (number inside : ℕ) (open_list : Bool) (position : Position) (byt
     → cut number inside open_list position bytes ≡ cut number 0 open_list (behind_all (take inside bytes) position) (drop inside bytes)
 cut-inside number zero open_list position bytes within = refl
 cut-inside number (suc inside) open_list position [] within = absurd (omega arith)
-cut-inside number (suc inside) open_list position (byte ∷ rest) within = cut-inside number inside open_list (behind byte position) rest (omega arith)
+cut-inside number (suc inside) open_list position (byte ∷ rest) within =
+    cut-inside number inside open_list (behind byte position) rest (omega arith)
 
 -- a piece of `count` bytes is passed
 cut-passed : (number count : ℕ) (open_list : Bool) (position : Position) (byte : ℕ) (rest : List ℕ) → IsSpan count (byte ∷ rest)
@@ -43,36 +45,44 @@ cut-passed number (suc count) open_list position byte rest span =
     let within : count ≤ length rest = omega (arith, span.1) in
     rw less (cut-inside number count open_list (behind byte position) rest within)
 
-pub cut-blank : (number : ℕ) (open_list : Bool) (position : Position) (bytes : List ℕ) → IsSpan 1 bytes → piece_at open_list bytes ≡ piece.Blank
+pub cut-blank : (number : ℕ) (open_list : Bool) (position : Position) (bytes : List ℕ) → IsSpan 1 bytes
+    → piece_at open_list bytes ≡ piece.Blank
     → cut number 0 open_list position bytes ≡ cut number 0 open_list (behind_all (take 1 bytes) position) (drop 1 bytes)
 cut-blank number open_list position [] span blank = absurd (omega (arith, span.1))
 cut-blank number open_list position (byte ∷ rest) span blank = rw (blank, cut) refl
 
-pub cut-comment : (number count : ℕ) (open_list : Bool) (position : Position) (bytes : List ℕ) → IsSpan count bytes → piece_at open_list bytes ≡ piece.Comment count
+pub cut-comment : (number count : ℕ) (open_list : Bool) (position : Position) (bytes : List ℕ) → IsSpan count bytes
+    → piece_at open_list bytes ≡ piece.Comment count
     → cut number 0 open_list position bytes ≡ cut number 0 open_list (behind_all (take count bytes) position) (drop count bytes)
 cut-comment number count open_list position [] span comment = absurd (omega (arith, span))
-cut-comment number count open_list position (byte ∷ rest) span comment = rw (comment, cut) (cut-passed number count open_list position byte rest span)
+cut-comment number count open_list position (byte ∷ rest) span comment =
+    rw (comment, cut) (cut-passed number count open_list position byte rest span)
 
-pub cut-token : (number : ℕ) (lexeme : Lexeme) (open_list : Bool) (position : Position) (bytes : List ℕ) → IsSpan lexeme.length bytes → piece_at open_list bytes ≡ piece.Token lexeme
+pub cut-token : (number : ℕ) (lexeme : Lexeme) (open_list : Bool) (position : Position) (bytes : List ℕ) → IsSpan lexeme.length bytes
+    → piece_at open_list bytes ≡ piece.Token lexeme
     → cut number 0 open_list position bytes
     ≡ with_token (token_at number position lexeme)
     (cut number 0 (list_open_behind lexeme.kind open_list) (behind_all (take lexeme.length bytes) position) (drop lexeme.length bytes))
 cut-token number lexeme open_list position [] span token = absurd (omega (arith, span))
 cut-token number lexeme open_list position (byte ∷ rest) span token =
-    rw (token, cut) (ap (with_token (token_at number position lexeme)) (cut-passed number lexeme.length (list_open_behind lexeme.kind open_list) position byte rest span))
+    rw (token, cut) (ap (with_token (token_at number position lexeme))
+    (cut-passed number lexeme.length (list_open_behind lexeme.kind open_list) position byte rest span))
 
-pub cut-unclosed : (number : ℕ) (open_list : Bool) (position : Position) (bytes : List ℕ) → 0 < length bytes → piece_at open_list bytes ≡ piece.Unclosed
+pub cut-unclosed : (number : ℕ) (open_list : Bool) (position : Position) (bytes : List ℕ) → 0 < length bytes
+    → piece_at open_list bytes ≡ piece.Unclosed
     → cut number 0 open_list position bytes ≡ OpenComment (place_at number position)
 cut-unclosed number open_list position [] some unclosed = absurd (omega arith)
 cut-unclosed number open_list position (byte ∷ rest) some unclosed = rw (unclosed, cut) refl
 
-pub cut-nothing : (number : ℕ) (open_list : Bool) (position : Position) (bytes : List ℕ) → 0 < length bytes → piece_at open_list bytes ≡ piece.Nothing
+pub cut-nothing : (number : ℕ) (open_list : Bool) (position : Position) (bytes : List ℕ) → 0 < length bytes
+    → piece_at open_list bytes ≡ piece.Nothing
     → cut number 0 open_list position bytes ≡ BadByte (place_at number position)
 cut-nothing number open_list position [] some nothing = absurd (omega arith)
 cut-nothing number open_list position (byte ∷ rest) some nothing = rw (nothing, cut) refl
 
 -- behind a piece the rest of the text is cut from there
-pub step_on : (number : ℕ) (text bytes : List ℕ) (count : ℕ) (open_list : Bool) (position position' : Position) (tokens tokens' : List Token) (open_list' : Bool)
+pub step_on : (number : ℕ) (text bytes : List ℕ) (count : ℕ) (open_list : Bool) (position position' : Position)
+    (tokens tokens' : List Token) (open_list' : Bool)
     → bytes ≡ drop position.offset text
     → position' ≡ behind_all (take count bytes) position → position'.offset ≡ position.offset + count
     → with_tokens tokens (cut number 0 open_list position bytes)

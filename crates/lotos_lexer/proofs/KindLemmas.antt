@@ -69,7 +69,8 @@ pub kinds_below : KindsAreBelowTheCount
 kinds_below = below token_kinds refl
 
 -- a kind that is new to the rows of a table is the kind of no word of it
-not_in_table : (rows : List Spelling) (spelled : List ℕ) (kind : ℕ) → is_new kind (spelling_kinds rows) ≡ true → word_kind_in rows spelled ≡ Some kind → ⊥
+not_in_table : (rows : List Spelling) (spelled : List ℕ) (kind : ℕ) → is_new kind (spelling_kinds rows) ≡ true
+    → word_kind_in rows spelled ≡ Some kind → ⊥
 not_in_table [] spelled kind new found = absurd cc
 not_in_table (row ∷ rows) spelled kind new found =
     let parts = and_parts (not (nat_eq kind row.1)) (is_new kind (spelling_kinds rows)) new in
@@ -83,17 +84,20 @@ not_in_table (row ∷ rows) spelled kind new found =
     by false is_it apart rest = rest (sym (rw is_it refl) ∙ found)
 
 -- in a table of distinct kinds two words of one kind are one word
-apart_in : (rows : List Spelling) (one other : List ℕ) (kind : ℕ) → are_distinct (spelling_kinds rows) ≡ true → word_kind_in rows one ≡ Some kind
+apart_in : (rows : List Spelling) (one other : List ℕ) (kind : ℕ) → are_distinct (spelling_kinds rows) ≡ true
+    → word_kind_in rows one ≡ Some kind
     → word_kind_in rows other ≡ Some kind → folded one ≡ folded other
 apart_in [] one other kind is one_is other_is = absurd cc
 apart_in (row ∷ rows) one other kind is one_is other_is =
     let parts = and_parts (is_new row.1 (spelling_kinds rows)) (are_distinct (spelling_kinds rows)) is in
-    by (bytes_eq (folded row.0) (folded one)) refl (bytes_eq (folded row.0) (folded other)) refl parts.0 (apart_in rows one other kind parts.1)
+    by (bytes_eq (folded row.0) (folded one)) refl (bytes_eq (folded row.0) (folded other)) refl parts.0
+    (apart_in rows one other kind parts.1)
   where
     alike : (spelled : List ℕ) → bytes_eq (folded row.0) (folded spelled) ≡ true → folded row.0 ≡ folded spelled
     alike spelled same = (bytes_eq-Decides (folded row.0) (folded spelled)).0 same
 
-    here : (spelled : List ℕ) → bytes_eq (folded row.0) (folded spelled) ≡ true → word_kind_in (row ∷ rows) spelled ≡ Some kind → row.1 ≡ kind
+    here : (spelled : List ℕ) → bytes_eq (folded row.0) (folded spelled) ≡ true → word_kind_in (row ∷ rows) spelled ≡ Some kind
+        → row.1 ≡ kind
     here spelled same found = let both : Some row.1 ≡ Some kind = sym (rw same refl) ∙ found in cc
 
     behind_row : (spelled : List ℕ) → bytes_eq (folded row.0) (folded spelled) ≡ false → word_kind_in (row ∷ rows) spelled ≡ Some kind
@@ -117,7 +121,8 @@ words_apart one other kind one_is other_is = apart_in reserved_words one other k
 abbrev HasKind : Option Lexeme → Type 0
 HasKind found = IfSome found (λ lexeme. lexeme.kind < COUNT)
 
-word_kind : (rows : List Spelling) (spelled : List ℕ) → are_kinds (spelling_kinds rows) ≡ true → unwrap_or (word_kind_in rows spelled) NAME < COUNT
+word_kind : (rows : List Spelling) (spelled : List ℕ) → are_kinds (spelling_kinds rows) ≡ true
+    → unwrap_or (word_kind_in rows spelled) NAME < COUNT
 word_kind [] spelled is = omega arith
 word_kind (row ∷ rows) spelled is =
     let parts = and_parts (nat_lt row.1 COUNT) (are_kinds (spelling_kinds rows)) is in
@@ -128,7 +133,8 @@ word_kind (row ∷ rows) spelled is =
     by true here rest = here
     by false here rest = rest
 
-run_kind : (rows : List Spelling) (spelled : List ℕ) (other : ℕ) → are_kinds (spelling_kinds rows) ≡ true → other < COUNT → unwrap_or (kind_in rows spelled) other < COUNT
+run_kind : (rows : List Spelling) (spelled : List ℕ) (other : ℕ) → are_kinds (spelling_kinds rows) ≡ true → other < COUNT
+    → unwrap_or (kind_in rows spelled) other < COUNT
 run_kind [] spelled other is small = small
 run_kind (row ∷ rows) spelled other is small =
     let parts = and_parts (nat_lt row.1 COUNT) (are_kinds (spelling_kinds rows)) is in
@@ -160,9 +166,11 @@ or_kind (Some lexeme) other first second = first
 
 lexeme_kind : (open_list : Bool) (bytes : List ℕ) → HasKind (lexeme_at open_list bytes)
 lexeme_kind open_list bytes =
-    or_kind (word bytes) (option_or (digit_name bytes) (option_or (operator bytes) (option_or (closing open_list bytes) (option_or (run bytes) (single_sign bytes)))))
+    or_kind (word bytes) (option_or (digit_name bytes) (option_or (operator bytes)
+    (option_or (closing open_list bytes) (option_or (run bytes) (single_sign bytes)))))
     (if_there (first_is is_ascii_alphabetic bytes) _ (word_kind reserved_words (take (word_length bytes) bytes) refl))
-    (or_kind (digit_name bytes) (option_or (operator bytes) (option_or (closing open_list bytes) (option_or (run bytes) (single_sign bytes))))
+    (or_kind (digit_name bytes) (option_or (operator bytes)
+    (option_or (closing open_list bytes) (option_or (run bytes) (single_sign bytes))))
     (if_there (first_is is_ascii_digit bytes) _ (omega arith))
     (or_kind (operator bytes) (option_or (closing open_list bytes) (option_or (run bytes) (single_sign bytes)))
     (spelling_kind operators bytes refl)
@@ -179,7 +187,8 @@ PieceHasKind _ = Unit {0}
 
 piece_kind : (open_list : Bool) (bytes : List ℕ) → PieceHasKind (piece_at open_list bytes)
 piece_kind open_list bytes =
-    by (first_is is_blank bytes) (begins_with (codes "(*") bytes) (close_at (drop 2 bytes)) (lexeme_at open_list bytes) (lexeme_kind open_list bytes)
+    by (first_is is_blank bytes) (begins_with (codes "(*") bytes) (close_at (drop 2 bytes)) (lexeme_at open_list bytes)
+    (lexeme_kind open_list bytes)
   where
     by : (blank opened : Bool) (closed : Option ℕ) (found : Option Lexeme) → HasKind found
         → PieceHasKind (cond blank piece.Blank (cond opened (comment closed) (token found)))
@@ -199,11 +208,13 @@ one_more first (Tokens tokens) small rest = All-cons (λ (it : Token). it.kind <
 one_more first (BadByte place) small rest = tt
 one_more first (OpenComment place) small rest = tt
 
-cut_kinds : (number inside : ℕ) (open_list : Bool) (position : Position) (bytes : List ℕ) → LexedHasKinds (cut number inside open_list position bytes)
+cut_kinds : (number inside : ℕ) (open_list : Bool) (position : Position) (bytes : List ℕ)
+    → LexedHasKinds (cut number inside open_list position bytes)
 cut_kinds number inside open_list position [] = λ k d within. absurd (omega arith)
 cut_kinds number (suc inside) open_list position (byte ∷ rest) = cut_kinds number inside open_list (behind byte position) rest
 cut_kinds number zero open_list position (byte ∷ rest) =
-    by (piece_at open_list (byte ∷ rest)) refl (piece_kind open_list (byte ∷ rest)) (λ inside opened. cut_kinds number inside opened (behind byte position) rest)
+    by (piece_at open_list (byte ∷ rest)) refl (piece_kind open_list (byte ∷ rest))
+    (λ inside opened. cut_kinds number inside opened (behind byte position) rest)
   where
     by : (found : Piece) → piece_at open_list (byte ∷ rest) ≡ found → PieceHasKind found
         → ((inside : ℕ) (opened : Bool) → LexedHasKinds (cut number inside opened (behind byte position) rest))
@@ -211,7 +222,8 @@ cut_kinds number zero open_list position (byte ∷ rest) =
     by piece.Blank is small more = rw (is, cut) (more 0 open_list)
     by (piece.Comment count) is small more = rw (is, cut) (more (count - 1) open_list)
     by (piece.Token lexeme) is small more =
-        rw (is, cut) (one_more (token_at number position lexeme) _ small (more (lexeme.length - 1) (list_open_behind lexeme.kind open_list)))
+        rw (is, cut) (one_more (token_at number position lexeme) _ small
+        (more (lexeme.length - 1) (list_open_behind lexeme.kind open_list)))
     by piece.Unclosed is small more = rw (is, cut) tt
     by piece.Nothing is small more = rw (is, cut) tt
 

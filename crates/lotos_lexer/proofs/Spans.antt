@@ -17,7 +17,8 @@ use Rattle.lotos_base.proofs.Bytes.{letter_or_digit, digit_or_letter}
 abbrev pub LexemeSpans : Option Lexeme → List ℕ → Type 0
 LexemeSpans found bytes = IfSome found (λ lexeme. IsSpan lexeme.length bytes)
 
-option_or-spans : (one other : Option Lexeme) (bytes : List ℕ) → LexemeSpans one bytes → LexemeSpans other bytes → LexemeSpans (option_or one other) bytes
+option_or-spans : (one other : Option Lexeme) (bytes : List ℕ) → LexemeSpans one bytes → LexemeSpans other bytes
+    → LexemeSpans (option_or one other) bytes
 option_or-spans None other bytes one_spans other_spans = other_spans
 option_or-spans (Some lexeme) other bytes one_spans other_spans = one_spans
 
@@ -29,7 +30,8 @@ word_length-le : (bytes : List ℕ) → word_length bytes ≤ length bytes
 word_length-le [] = omega arith
 word_length-le (byte ∷ rest) =
     let below : word_length rest ≤ length rest = word_length-le rest in
-    elim (is_ascii_alphanumeric byte) as (λ letter. cond letter (suc (word_length rest)) (cond (eqb byte 95) (underscore_before (word_length rest)) 0) ≤ length (byte ∷ rest)) [
+    elim (is_ascii_alphanumeric byte) as (λ letter. cond letter (suc (word_length rest))
+    (cond (eqb byte 95) (underscore_before (word_length rest)) 0) ≤ length (byte ∷ rest)) [
       | true ↦ omega arith
       | false ↦ elim (eqb byte 95) as (λ same. cond same (underscore_before (word_length rest)) 0 ≤ length (byte ∷ rest)) [
         | true ↦ omega (arith, underscore_before-le (word_length rest))
@@ -48,7 +50,10 @@ word-spans [] = tt
 word-spans (byte ∷ rest) = go (is_ascii_alphabetic byte) refl
   where
     found : Lexeme
-    found = record { kind = unwrap_or (word_kind_in reserved_words (take (word_length (byte ∷ rest)) (byte ∷ rest))) NAME; length = word_length (byte ∷ rest) }
+    found = record {
+      kind = unwrap_or (word_kind_in reserved_words (take (word_length (byte ∷ rest)) (byte ∷ rest))) NAME;
+      length = word_length (byte ∷ rest);
+    }
 
     go : (letter : Bool) → is_ascii_alphabetic byte ≡ letter → LexemeSpans (cond letter (Some found) None) (byte ∷ rest)
     go true same = word_length-spans byte rest (letter_or_digit byte same)
@@ -58,7 +63,8 @@ digit_name-spans : (bytes : List ℕ) → LexemeSpans (digit_name bytes) bytes
 digit_name-spans [] = tt
 digit_name-spans (byte ∷ rest) = go (is_ascii_digit byte) refl
   where
-    go : (digit : Bool) → is_ascii_digit byte ≡ digit → LexemeSpans (cond digit (Some (record { kind = DIGIT_NAME; length = word_length (byte ∷ rest) })) None) (byte ∷ rest)
+    go : (digit : Bool) → is_ascii_digit byte ≡ digit → LexemeSpans
+        (cond digit (Some (record { kind = DIGIT_NAME; length = word_length (byte ∷ rest) })) None) (byte ∷ rest)
     go true same = word_length-spans byte rest (digit_or_letter byte same)
     go false same = tt
 
@@ -92,7 +98,8 @@ closing-spans : (open_list : Bool) (bytes : List ℕ) → LexemeSpans (closing o
 closing-spans false bytes = tt
 closing-spans true bytes = go (begins_with (codes "]|") bytes) refl
   where
-    go : (begins : Bool) → begins_with (codes "]|") bytes ≡ begins → LexemeSpans (cond begins (Some (record { kind = GATES_CLOSE; length = 2 })) None) bytes
+    go : (begins : Bool) → begins_with (codes "]|") bytes ≡ begins
+        → LexemeSpans (cond begins (Some (record { kind = GATES_CLOSE; length = 2 })) None) bytes
     go true same = (lit< tt, begins_with-le (codes "]|") bytes same)
     go false same = tt
 
@@ -104,7 +111,10 @@ run-spans (byte ∷ rest) = go (is_sign byte) refl
     bytes = byte ∷ rest
 
     found : Lexeme
-    found = record { kind = unwrap_or (kind_in reserved_runs (take (prefix_len is_sign bytes) bytes)) SIGN_NAME; length = prefix_len is_sign bytes }
+    found = record {
+      kind = unwrap_or (kind_in reserved_runs (take (prefix_len is_sign bytes) bytes)) SIGN_NAME;
+      length = prefix_len is_sign bytes;
+    }
 
     go : (sign : Bool) → is_sign byte ≡ sign → LexemeSpans (cond sign (Some found) None) (byte ∷ rest)
     go true same =

@@ -18,7 +18,8 @@ kinds_unspelled = NAME ∷ DIGIT_NAME ∷ SIGN_NAME ∷ GATES_CLOSE ∷ []
 
 -- every kind of token
 abbrev pub token_kinds : List ℕ
-token_kinds = spelling_kinds reserved_words ++ (spelling_kinds operators ++ (spelling_kinds reserved_runs ++ (spelling_kinds single_signs ++ kinds_unspelled)))
+token_kinds = spelling_kinds reserved_words ++ (spelling_kinds operators
+    ++ (spelling_kinds reserved_runs ++ (spelling_kinds single_signs ++ kinds_unspelled)))
 
 -- no two kinds are one number
 abbrev pub KindsAreDistinct : Type 0

@@ -76,7 +76,8 @@ cut number zero open_list position (byte ∷ rest) =
     elim (piece_at open_list (byte ∷ rest)) [
       | piece.Blank ↦ cut number 0 open_list (behind byte position) rest
       | piece.Comment length ↦ cut number (length - 1) open_list (behind byte position) rest
-      | piece.Token lexeme ↦ with_token (token_at number position lexeme) (cut number (lexeme.length - 1) (list_open_behind lexeme.kind open_list) (behind byte position) rest)
+      | piece.Token lexeme ↦ with_token (token_at number position lexeme)
+          (cut number (lexeme.length - 1) (list_open_behind lexeme.kind open_list) (behind byte position) rest)
       | piece.Unclosed ↦ OpenComment (place_at number position)
       | piece.Nothing ↦ BadByte (place_at number position)
     ]

@@ -25,11 +25,12 @@ struct Cutting {
 /// Cuts a text into its tokens. `number` is the number of the text in their places.
 ///
 /// Answers `BadByte` at the first byte outside comments with which no token and no blank begins,
-/// and `OpenComment` at the `(*` of a comment that is not closed, whichever comes first in the text.
-/// The lexical rules are those of ISO 8807:1989 with this project's form of names.
+/// and `OpenComment` at the `(*` of a comment that is not closed, whichever comes first in the
+/// text. The lexical rules are those of ISO 8807:1989 with this project's form of names.
 pub fn lex(alloc: Global, text: &[u8], number: u32) -> Result<Vec<Token>, LexFault>
     requires { length text.now < 2 ^ 32 }
-    ensures exact { MatchResult result (λ tokens. tokens_of number text.now ≡ Tokens tokens.items) (IsLexFaultOf (tokens_of number text.now)) }
+    ensures exact { MatchResult result (λ tokens. tokens_of number text.now ≡ Tokens tokens.items)
+        (IsLexFaultOf (tokens_of number text.now)) }
     ensures inside { IfOk result (λ tokens. All (IsTokenOf text.now) tokens.items) }
 {
     let mut cutting = Cutting {
@@ -48,10 +49,12 @@ fn cut_piece(text: &[u8], number: u32, cutting: &mut Cutting) -> Result<(), LexF
     requires short { length text.now < 2 ^ 32 }
     requires more { cutting.old.position.offset < length text.now }
     requires of_text { IsOfText cutting.old.position }
-    ensures exact { OnOk result (cut_by number text.now cutting.new ≡ cut_by number text.now cutting.old) }
+    ensures exact { OnOk result (cut_by number text.now cutting.new
+        ≡ cut_by number text.now cutting.old) }
     ensures moved { OnOk result (cutting.old.position.offset < cutting.new.position.offset) }
     ensures inside { OnOk result (IsInside text.now cutting.new) }
-    ensures tokens { OnOk result (All (IsTokenOf text.now) cutting.old.tokens.items → All (IsTokenOf text.now) cutting.new.tokens.items) }
+    ensures tokens { OnOk result (All (IsTokenOf text.now) cutting.old.tokens.items
+        → All (IsTokenOf text.now) cutting.new.tokens.items) }
     ensures fault { IfErr result (IsLexFaultOf (cut_by number text.now cutting.old)) }
 {
     let position = cutting.position;

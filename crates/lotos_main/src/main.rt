@@ -1,15 +1,8 @@
 //! The program `lotos`: the real shelf, input and output, handed to `run`.
 #![tactic(auto)]
 
-mod file_shelf;
-mod in_source;
-mod loops;
-mod out_sink;
-
-use file_shelf::FileShelf;
-use in_source::InSource;
 use lotos_top::{Ended, run};
-use out_sink::OutSink;
+use real_outside::{FileShelf, InSource, OutSink};
 use std::alloc::AllocError;
 use std::process::ExitCode;
 use std::{env, io};
@@ -40,6 +33,3 @@ fn words(rt: &HostRuntime) -> Result<Vec<String>, AllocError> {
         Err(_) => Err(AllocError),
     }
 }
-
-#[cfg(test)]
-mod tests;

@@ -152,7 +152,8 @@ mutual
   pub data IsAtom (text : List ℕ) : List Token → WrittenBehaviour → Type 0 where
     stopping : {word : Token} → IsOf STOP word → IsAtom text (word ∷ []) (stop (place_of word))
     exiting : {word : Token} {tokens : List Token} {values : List WrittenExitValue} →
-        IsOf EXIT word → Optional [] (Between LEFT_PARENTHESIS RIGHT_PARENTHESIS (Separated COMMA (IsWrittenExitValue text))) tokens values →
+        IsOf EXIT word → Optional [] (Between LEFT_PARENTHESIS RIGHT_PARENTHESIS (Separated COMMA (IsWrittenExitValue text))) tokens values
+        →
         IsAtom text (word ∷ tokens) (exit (place_of word) values)
     calling : {name : Token} {gate_tokens tokens : List Token} {gates : List PlacedName} {values : List WrittenTerm} →
         IsOf NAME name → AreOptionalGates text gate_tokens gates → AreArguments text tokens values →

@@ -19,7 +19,8 @@ use Rattle.lotos_rows.specs.StartsRows.{starts_rows}
 -- the rows, subject by subject
 abbrev pub grammar_rows : List GrammarRow
 grammar_rows =
-    names_rows ++ terms_rows ++ types_rows ++ equations_rows ++ renamings_rows ++ behaviours_rows ++ definitions_rows ++ specification_rows ++ starts_rows
+    names_rows ++ terms_rows ++ types_rows ++ equations_rows ++ renamings_rows ++ behaviours_rows ++ definitions_rows ++ specification_rows
+    ++ starts_rows
 
 unfoldable pub rows : List Production
 rows = map (λ row. row.production) grammar_rows

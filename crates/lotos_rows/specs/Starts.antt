@@ -2,17 +2,17 @@
 --
 --   spec     = "specification" name [gates] [params] ":" func {item} ("behaviour" | "behavior") beh [where] "endspec"
 --   typetext = { item }
---   order    = { op [ ":" [names] "->" name ] ";" }
+--   order    = { op [ ":" [names] "->" name ] [name] ";" }
 --   terms    = [ term { "," term } ]
 use Rattle.std.specs.Prelude.{ℕ, List, [], ◌∷◌, ◌++◌, map, Option, Some, None, option_map}
-use Rattle.lotos_base.specs.WrittenTerm.{WrittenTerm, WrittenProfile, ListedOperation}
+use Rattle.lotos_base.specs.WrittenTerm.{PlacedName, WrittenTerm, WrittenProfile, ListedOperation}
 use Rattle.lotos_lexer.specs.declared.kinds.TheConstants.{SPECIFICATION, BEHAVIOUR, BEHAVIOR, ENDSPEC, SEMICOLON}
 use Rattle.lotos_lexer.specs.declared.tokens.Token.{Token}
 use Rattle.syntax_trees.specs.WrittenItem.{WrittenItem}
 use Rattle.syntax_trees.specs.WrittenBehaviour.{WrittenBehaviour}
 use Rattle.syntax_trees.specs.WrittenDefinition.{WrittenHeading, WrittenInner, WrittenSpecification}
 use Rattle.lotos_rows.specs.Words.{IsOf, Optional, Many}
-use Rattle.lotos_rows.specs.Names.{NamedOperation, IsWrittenOperation, PlacedProfile, IsProfile}
+use Rattle.lotos_rows.specs.Names.{NamedOperation, IsName, IsWrittenOperation, PlacedProfile, IsProfile}
 use Rattle.lotos_rows.specs.Terms.{AreTerms}
 use Rattle.lotos_rows.specs.Types.{IsItem}
 use Rattle.lotos_rows.specs.Behaviours.{IsBehaviour}
@@ -46,19 +46,28 @@ pub data IsOptionalProfile (text : List ℕ) : List Token → Option PlacedProfi
   with_profile : {tokens : List Token} {profile : PlacedProfile} → IsProfile text tokens profile
       → IsOptionalProfile text tokens (Some profile)
 
--- op [ ":" [names] "->" name ] ";", placed at the name
+-- [name], the status
+pub data IsOptionalStatus (text : List ℕ) : List Token → Option PlacedName → Type 0 where
+  without_status : IsOptionalStatus text [] None
+  with_status : {tokens : List Token} {status : PlacedName} → IsName text tokens status
+      → IsOptionalStatus text tokens (Some status)
+
+-- op [ ":" [names] "->" name ] [name] ";", placed at the name of the operation
 pub data IsOrderItem (text : List ℕ) : List Token → ListedOperation → Type 0 where
-  listed : {tokens profile_tokens : List Token} {semicolon : Token} {operation : NamedOperation} {profile : Option PlacedProfile} →
-      IsWrittenOperation text tokens operation → IsOptionalProfile text profile_tokens profile → IsOf SEMICOLON semicolon →
-      IsOrderItem text (tokens ++ (profile_tokens ++ semicolon ∷ []))
+  listed : {tokens profile_tokens status_tokens : List Token} {semicolon : Token} {operation : NamedOperation}
+      {profile : Option PlacedProfile} {status : Option PlacedName} →
+      IsWrittenOperation text tokens operation → IsOptionalProfile text profile_tokens profile →
+      IsOptionalStatus text status_tokens status → IsOf SEMICOLON semicolon →
+      IsOrderItem text (tokens ++ (profile_tokens ++ (status_tokens ++ semicolon ∷ [])))
       (record {
         place = operation.name.place;
         name = operation.name.name;
         form = operation.form;
         profile = option_map profile_by_name profile;
+        status = status;
       })
 
--- order = { op [ ":" [names] "->" name ] ";" }
+-- order = { op [ ":" [names] "->" name ] [name] ";" }
 abbrev pub AreOrderItems : List ℕ → List Token → List ListedOperation → Type 0
 AreOrderItems text = Many (IsOrderItem text)
 

@@ -14,12 +14,16 @@ use Rattle.lotos_rows.specs.Row.{GrammarRow, row_of}
 
 abbrev pub starts_rows : List GrammarRow
 starts_rows =
-    row_of (Starts row.Spec) starts.SPEC (Token kind.SPECIFICATION ∷ Part definitions.HEADING ∷ Part specification.ITEMS ∷ Part specification.BEHAVIOUR_WORD ∷ Part behaviours.BEHAVIOUR ∷ Part definitions.WHERE ∷ Token kind.ENDSPEC ∷ []) ∷
+    row_of (Starts row.Spec) starts.SPEC (Token kind.SPECIFICATION ∷ Part definitions.HEADING ∷ Part specification.ITEMS
+    ∷ Part specification.BEHAVIOUR_WORD ∷ Part behaviours.BEHAVIOUR ∷ Part definitions.WHERE ∷ Token kind.ENDSPEC ∷ []) ∷
     row_of (Starts row.Typetext) starts.TYPETEXT (Part specification.ITEMS ∷ []) ∷
     row_of (Starts row.NoOrder) starts.ORDER [] ∷
-    row_of (Starts row.Order) starts.ORDER (Part names.OPERATION ∷ Part starts.OPTIONAL_PROFILE ∷ Token kind.SEMICOLON ∷ Part starts.ORDER ∷ []) ∷
+    row_of (Starts row.Order) starts.ORDER (Part names.OPERATION ∷ Part starts.OPTIONAL_PROFILE ∷ Part starts.OPTIONAL_STATUS
+    ∷ Token kind.SEMICOLON ∷ Part starts.ORDER ∷ []) ∷
     row_of (Starts row.NoOptionalProfile) starts.OPTIONAL_PROFILE [] ∷
     row_of (Starts row.OptionalProfile) starts.OPTIONAL_PROFILE (Part names.PROFILE ∷ []) ∷
     row_of (Starts row.NoTerms) starts.TERMS [] ∷
     row_of (Starts row.Terms) starts.TERMS (Part terms.TERM_LIST ∷ []) ∷
+    row_of (Starts row.NoOptionalStatus) starts.OPTIONAL_STATUS [] ∷
+    row_of (Starts row.OptionalStatus) starts.OPTIONAL_STATUS (Part names.NAME ∷ []) ∷
     []

@@ -14,7 +14,8 @@ terms_rows =
     row_of (Terms row.NoMoreFactors) terms.MORE_FACTORS [] ∷
     row_of (Terms row.MoreFactors) terms.MORE_FACTORS (Part names.OPERATION_NAME ∷ Part terms.FACTOR ∷ Part terms.MORE_FACTORS ∷ []) ∷
     row_of (Terms row.AppliedFactor) terms.FACTOR (Part names.OPERATION_NAME ∷ Part terms.ARGUMENTS ∷ Part terms.SORT_MARK ∷ []) ∷
-    row_of (Terms row.BracketedFactor) terms.FACTOR (Token kind.LEFT_PARENTHESIS ∷ Part terms.TERM ∷ Token kind.RIGHT_PARENTHESIS ∷ Part terms.SORT_MARK ∷ []) ∷
+    row_of (Terms row.BracketedFactor) terms.FACTOR (Token kind.LEFT_PARENTHESIS ∷ Part terms.TERM ∷ Token kind.RIGHT_PARENTHESIS
+    ∷ Part terms.SORT_MARK ∷ []) ∷
     row_of (Terms row.NoArguments) terms.ARGUMENTS [] ∷
     row_of (Terms row.Arguments) terms.ARGUMENTS (Token kind.LEFT_PARENTHESIS ∷ Part terms.TERM_LIST ∷ Token kind.RIGHT_PARENTHESIS ∷ []) ∷
     row_of (Terms row.NoSortMark) terms.SORT_MARK [] ∷

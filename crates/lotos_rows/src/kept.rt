@@ -5,7 +5,8 @@ ghost use Rattle.lotos_rows.specs.Kept.{is_kept_kind, KeptStandInFront};
 
 use lotos_lexer::kinds;
 
-/// The kinds of the kept tokens, each by its bit: names, and the words and marks at which something is placed.
+/// The kinds of the kept tokens, each by its bit: names, and the words and marks at which something
+/// is placed.
 pub const KEPT: u64 = 1 << kinds::CHOICE
     | 1 << kinds::EXIT
     | 1 << kinds::HIDE

@@ -37,7 +37,7 @@ pub enum RowName {
 }
 
 /// The names, in the order of the rows.
-pub static NAMES: [RowName; 158] = [
+pub static NAMES: [RowName; 160] = [
     RowName::Names(NamesRow::Name),
     RowName::Names(NamesRow::Names),
     RowName::Names(NamesRow::NoMoreNames),
@@ -196,6 +196,8 @@ pub static NAMES: [RowName; 158] = [
     RowName::Starts(StartsRow::OptionalProfile),
     RowName::Starts(StartsRow::NoTerms),
     RowName::Starts(StartsRow::Terms),
+    RowName::Starts(StartsRow::NoOptionalStatus),
+    RowName::Starts(StartsRow::OptionalStatus),
 ];
 
 /// The name at the place of the list.

@@ -7,11 +7,11 @@ use lotos_lexer::kinds;
 /// The number of the first part here.
 pub const FIRST_PART: u16 = specification::FIRST_PART + specification::PARTS;
 /// How many parts there are here.
-pub const PARTS: u16 = 5;
+pub const PARTS: u16 = 6;
 /// The number of the first row here.
 pub const FIRST_ROW: u32 = specification::FIRST_ROW + specification::ROWS;
 /// How many rows there are here.
-pub const ROWS: u32 = 8;
+pub const ROWS: u32 = 10;
 
 /// A specification.
 pub const SPEC: u16 = FIRST_PART;
@@ -23,6 +23,8 @@ pub const ORDER: u16 = FIRST_PART + 2;
 pub const OPTIONAL_PROFILE: u16 = FIRST_PART + 3;
 /// Terms with commas between, or nothing.
 pub const TERMS: u16 = FIRST_PART + 4;
+/// The name of a status or nothing.
+pub const OPTIONAL_STATUS: u16 = FIRST_PART + 5;
 
 /// The rows here, by their names.
 #[derive(Clone, Copy, Debug, PartialEq, Eq)]
@@ -33,7 +35,7 @@ pub enum StartsRow {
     Typetext,
     /// `order =`
     NoOrder,
-    /// `order = operation optional_profile ";" order`
+    /// `order = operation optional_profile optional_status ";" order`
     Order,
     /// `optional_profile =`
     NoOptionalProfile,
@@ -43,6 +45,10 @@ pub enum StartsRow {
     NoTerms,
     /// `terms = term_list`
     Terms,
+    /// `optional_status =`
+    NoOptionalStatus,
+    /// `optional_status = name`
+    OptionalStatus,
 }
 
 /// `spec = "specification" heading items behaviour_word behaviour where "endspec"`
@@ -74,12 +80,13 @@ pub const NO_ORDER_ROW: WrittenRow = WrittenRow {
     predicted_by: END,
 };
 
-/// `order = operation optional_profile ";" order`
+/// `order = operation optional_profile optional_status ";" order`
 pub const ORDER_ROW: WrittenRow = WrittenRow {
     left: ORDER,
     right: &[
         Symbol::Part(names::OPERATION),
         Symbol::Part(OPTIONAL_PROFILE),
+        Symbol::Part(OPTIONAL_STATUS),
         Symbol::Token(kinds::SEMICOLON),
         Symbol::Part(ORDER),
     ],
@@ -93,7 +100,7 @@ pub const ORDER_ROW: WrittenRow = WrittenRow {
 pub const NO_OPTIONAL_PROFILE_ROW: WrittenRow = WrittenRow {
     left: OPTIONAL_PROFILE,
     right: &[],
-    predicted_by: 1 << kinds::SEMICOLON,
+    predicted_by: 1 << kinds::NAME | 1 << kinds::SEMICOLON,
 };
 
 /// `optional_profile = profile`
@@ -118,4 +125,18 @@ pub const TERMS_ROW: WrittenRow = WrittenRow {
         | 1 << kinds::DIGIT_NAME
         | 1 << kinds::SIGN_NAME
         | 1 << kinds::LEFT_PARENTHESIS,
+};
+
+/// `optional_status =`
+pub const NO_OPTIONAL_STATUS_ROW: WrittenRow = WrittenRow {
+    left: OPTIONAL_STATUS,
+    right: &[],
+    predicted_by: 1 << kinds::SEMICOLON,
+};
+
+/// `optional_status = name`
+pub const OPTIONAL_STATUS_ROW: WrittenRow = WrittenRow {
+    left: OPTIONAL_STATUS,
+    right: &[Symbol::Part(names::NAME)],
+    predicted_by: 1 << kinds::NAME,
 };

@@ -12,7 +12,7 @@ use ll_engine::{WrittenRow, WrittenTable};
 use lotos_lexer::kinds;
 
 /// The rows, part by part and each in the order of its subject.
-const ROWS: [WrittenRow; 158] = [
+const ROWS: [WrittenRow; 160] = [
     names::NAME_ROW,
     names::NAMES_ROW,
     names::NO_MORE_NAMES_ROW,
@@ -171,10 +171,12 @@ const ROWS: [WrittenRow; 158] = [
     starts::OPTIONAL_PROFILE_ROW,
     starts::NO_TERMS_ROW,
     starts::TERMS_ROW,
+    starts::NO_OPTIONAL_STATUS_ROW,
+    starts::OPTIONAL_STATUS_ROW,
 ];
 
 /// For each part the number of its first row.
-const FIRST_ROWS: [u32; 80] = [
+const FIRST_ROWS: [u32; 81] = [
     names::FIRST_ROW,
     names::FIRST_ROW + 1,
     names::FIRST_ROW + 2,
@@ -255,6 +257,7 @@ const FIRST_ROWS: [u32; 80] = [
     starts::FIRST_ROW + 2,
     starts::FIRST_ROW + 4,
     starts::FIRST_ROW + 6,
+    starts::FIRST_ROW + 8,
 ];
 
 /// The table.
@@ -264,7 +267,8 @@ static TABLE: WrittenTable = WrittenTable {
     tokens: kinds::COUNT,
 };
 
-/// The table. It names the right row for each token and for the end, whichever of the four starts a text has.
+/// The table. It names the right row for each token and for the end, whichever of the four starts a
+/// text has.
 pub fn table() -> &'static WrittenTable
     ensures grammar { (start : ℕ) → written_grammar result.now start ≡ grammar_from start }
     ensures specification { IsTableWritten (written_grammar result.now starts.SPEC) result.now }

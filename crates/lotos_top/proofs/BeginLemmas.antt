@@ -12,7 +12,8 @@ use Rattle.behaviour_tree.specs.declared.definitions.Spec.{Spec}
 use Rattle.behaviour_tree.specs.declared.states.State.{State}
 use Rattle.path_order.specs.RulesView.{rules_in, precedence_in}
 use Rattle.sort_terms.specs.EquationView.{data_of}
-use Rattle.equation_book.specs.BookCanon.{book_canon, book_chooses, book_is_canon}
+use Rattle.equation_book.specs.BookCanon.{book_canon}
+use Rattle.equation_book.specs.BookCanonFacts.{book_chooses, book_is_canon}
 use Rattle.equation_book.specs.declared.book.Book.{Book}
 use Rattle.menu_builder.specs.declared.makers.FreshMenus.{FreshMenus}
 use Rattle.spec_acceptance.specs.Acceptance.{Acceptance}

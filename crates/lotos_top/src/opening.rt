@@ -1,5 +1,5 @@
-//! What is made ready before anything is written: the specification with its first menu, or the line
-//! that says why there is none.
+//! What is made ready before anything is written: the specification with its first menu, or the
+//! line that says why there is none.
 
 ghost use Rattle.demo_walks.specs.DemoSummary.{IsSummary};
 ghost use Rattle.lotos_base.specs.Name.{spelling};

@@ -55,7 +55,8 @@ stands_below (Enable' _ left variables right environment) =
     let first : above (stands_for left) ≤ above_node left = stands_below left in
     let same : above (with_values (without (numbers_of (variables_of variables.items)) (binding (environment_of environment.items)))
     (behaviour_of right.value)) ≡ above (behaviour_of right.value) =
-    above-with (without (numbers_of (variables_of variables.items)) (binding (environment_of environment.items))) (behaviour_of right.value) in
+    above-with (without (numbers_of (variables_of variables.items)) (binding (environment_of environment.items)))
+    (behaviour_of right.value) in
     omega (arith, first, same)
 stands_below (Disable' _ left _ right) =
     let first : above (stands_for left) ≤ above_node left = stands_below left in

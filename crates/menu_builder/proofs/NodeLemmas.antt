@@ -242,7 +242,8 @@ module _ (basis : Basis) (base : ℕ) where
       → AreDraftsPlaced basis base (call process gates (terms_of terms)) (profiles_of terms) [] made → Listed node made
   call_listed node process gates terms made e stands h = record {
     drafts = subst (λ (c : Behaviour). HasDrafts (setting_on basis) base 0 c (plain_drafts made)) (sym e)
-        (subst (λ (c : Behaviour). HasDrafts (setting_on basis) base 0 c (plain_drafts made)) (unchanged (call process gates (terms_of terms)))
+        (subst (λ (c : Behaviour). HasDrafts (setting_on basis) base 0 c (plain_drafts made))
+        (unchanged (call process gates (terms_of terms)))
         (h.drafts (record { base = base; next = 0; scope = [] }) (let same : base ≡ base + 0 = omega arith in same) stands));
     over = h.over;
   }

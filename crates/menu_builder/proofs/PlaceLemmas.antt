@@ -129,7 +129,8 @@ module _ (basis : Basis) (at : Position) (pairs : List (ℕ × ProfiledTerm)) wh
       → ArePairsOf basis.data_.signature inner → OfSignature others
       → StandsAt basis (record { base = at.base; next = at.next; scope = process.parameters }) process.body others inner
   call_part number gates arguments process terms others inner h found is values k = record {
-    below = subst (λ (ps : List (ℕ × Term)). IsWellFormedBelow basis.data_ basis.canon basis.specification process.parameters ps at.base at.next
+    below = subst (λ (ps : List (ℕ × Term)). IsWellFormedBelow basis.data_ basis.canon basis.specification process.parameters ps at.base
+        at.next
         process.body) (sym is) (parts.of_call number gates arguments process h.below found);
     values = values;
     profiles = k;

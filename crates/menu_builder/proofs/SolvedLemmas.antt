@@ -40,7 +40,8 @@ ready_draft signature base d lowered e order terms = record {
 }
 
 -- The entries so far, with those of the drafts that are left, are those of all drafts.
-pub record AreHalfSolved (signature : Signature) (canon : Term → Term) (base : ℕ) (given rest : List Draft) (made : List Entry) : Type 0 where
+pub record AreHalfSolved (signature : Signature) (canon : Term → Term) (base : ℕ) (given rest : List Draft) (made : List Entry) : Type
+    0 where
   pub solved :
       (entries : List solving.Entry) →
       AllSolveTo canon (lowered_drafts base (plain_drafts (reverse rest))) entries →

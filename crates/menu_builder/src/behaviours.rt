@@ -173,7 +173,8 @@ fn guard_moves<D: Deciding>(
     ensures listed { IfOk result (λ made. AreDraftsPlaced
         (basis_of (D.known_data decider.old) (D.canon decider.old) spec.now) first
         (guard (test_of test.now) (behaviour_of part.now))
-        (test_profiles test.now ++ profiles_in part.now) (profiled_pairs environment.now.items) made.items) }
+        (test_profiles test.now ++ profiles_in part.now) (profiled_pairs environment.now.items)
+        made.items) }
     ensures same_known { KeepsData D.known_data D.canon decider.old decider.new }
 {
     let parts = behaviour_moves(spec, ranks, part, environment, first, decider)?;
@@ -201,7 +202,8 @@ fn choice_moves<D: Deciding>(
     ensures listed { IfOk result (λ made. AreDraftsPlaced
         (basis_of (D.known_data decider.old) (D.canon decider.old) spec.now) first
         (choice (behaviour_of left.now) (behaviour_of right.now))
-        (profiles_in left.now ++ profiles_in right.now) (profiled_pairs environment.now.items) made.items) }
+        (profiles_in left.now ++ profiles_in right.now) (profiled_pairs environment.now.items)
+        made.items) }
     ensures same_known { KeepsData D.known_data D.canon decider.old decider.new }
 {
     let lefts = behaviour_moves(spec, ranks, left, environment, first, decider)?;
@@ -231,7 +233,8 @@ fn parallel_moves<D: Deciding>(
     ensures listed { IfOk result (λ made. AreDraftsPlaced
         (basis_of (D.known_data decider.old) (D.canon decider.old) spec.now) first
         (parallel (meet_of meet.now) (behaviour_of left.now) (behaviour_of right.now))
-        (profiles_in left.now ++ profiles_in right.now) (profiled_pairs environment.now.items) made.items) }
+        (profiles_in left.now ++ profiles_in right.now) (profiled_pairs environment.now.items)
+        made.items) }
     ensures same_known { KeepsData D.known_data D.canon decider.old decider.new }
 {
     let lefts = behaviour_moves(spec, ranks, left, environment, first, decider)?;
@@ -315,7 +318,8 @@ fn disable_moves<D: Deciding>(
     ensures listed { IfOk result (λ made. AreDraftsPlaced
         (basis_of (D.known_data decider.old) (D.canon decider.old) spec.now) first
         (disable (behaviour_of left.now) (behaviour_of right.now))
-        (profiles_in left.now ++ profiles_in right.now) (profiled_pairs environment.now.items) made.items) }
+        (profiles_in left.now ++ profiles_in right.now) (profiled_pairs environment.now.items)
+        made.items) }
     ensures same_known { KeepsData D.known_data D.canon decider.old decider.new }
 {
     let lefts = behaviour_moves(spec, ranks, left, environment, first, decider)?;
@@ -340,11 +344,13 @@ fn let_moves<D: Deciding>(
     requires placed { IsPlaced
         (basis_of (D.known_data decider.old) (D.canon decider.old) spec.now) first
         (let_be (map let_of bindings.now.items) (behaviour_of part.now))
-        (map let_profile bindings.now.items ++ profiles_in part.now) (profiled_pairs environment.now.items) }
+        (map let_profile bindings.now.items ++ profiles_in part.now)
+        (profiled_pairs environment.now.items) }
     ensures listed { IfOk result (λ made. AreDraftsPlaced
         (basis_of (D.known_data decider.old) (D.canon decider.old) spec.now) first
         (let_be (map let_of bindings.now.items) (behaviour_of part.now))
-        (map let_profile bindings.now.items ++ profiles_in part.now) (profiled_pairs environment.now.items) made.items) }
+        (map let_profile bindings.now.items ++ profiles_in part.now)
+        (profiled_pairs environment.now.items) made.items) }
     ensures same_known { KeepsData D.known_data D.canon decider.old decider.new }
 {
     let inner = let_environment(bindings, environment, decider)?;

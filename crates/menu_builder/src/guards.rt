@@ -31,8 +31,10 @@ pub fn guarded_drafts(
     requires left { Suits (profiled_pairs environment.now.items) (profiled_in test.now.left) }
     requires right { Suits (profiled_pairs environment.now.items) (profiled_in test.now.right) }
     ensures { IfOk result (λ made. (signature : Signature)
-        → IsReadyForPairs signature (profiled_pairs environment.now.items) (profiled_in test.now.left)
-        → IsReadyForPairs signature (profiled_pairs environment.now.items) (profiled_in test.now.right)
+        → IsReadyForPairs signature (profiled_pairs environment.now.items)
+        (profiled_in test.now.left)
+        → IsReadyForPairs signature (profiled_pairs environment.now.items)
+        (profiled_in test.now.right)
         → Every (HasTermsOf signature) parts.items
         → AreThese signature (filter_map (λ d. Some (guarded_draft
         (test_with (binding (bare_pairs (profiled_pairs environment.now.items)))

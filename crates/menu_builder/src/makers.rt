@@ -29,8 +29,8 @@ use std::alloc::Global;
 pub trait MenuMaker: Drop {
     ghost suits: { Self → Spec → Data → (Term → Term) → Type 0 };
 
-    /// The exact menu of the state, over the data and the canon of the object, where the maker suits
-    /// these and the specification. Afterwards it still suits them.
+    /// The exact menu of the state, over the data and the canon of the object, where the maker
+    /// suits these and the specification. Afterwards it still suits them.
     fn make<D: Deciding>(
         &mut self,
         alloc: Global,

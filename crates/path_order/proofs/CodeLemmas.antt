@@ -9,7 +9,7 @@ use Rattle.std.proofs.lemmas.Bool.Decides.{Decides-eqb}
 use Rattle.lotos_base.specs.Term.{Term as PlainTerm, Terms, variable, node, no_terms, term_then}
 use Rattle.lotos_base.specs.Tests.{term_eq}
 use Rattle.lotos_base.specs.Path.{argument_at}
-use Rattle.termination_theory.specs.Precedence.{Precedence, from_left}
+use Rattle.termination_theory.specs.Precedence.{Status, Precedence}
 use Rattle.termination_theory.specs.OrderTest.{same_length, is_greater}
 use Rattle.sort_terms.specs.ProfiledTerm.{bare}
 use Rattle.sort_terms.specs.TermView.{term_of, terms_of}
@@ -17,7 +17,7 @@ use Rattle.sort_terms.specs.declared.operations.Op.{Op}
 use Rattle.sort_terms.specs.declared.terms.Term.{Term, Var, Node as TermNode}
 use Rattle.sort_terms.proofs.TermListLemmas.{with_last, terms_of-append}
 use Rattle.sort_terms.proofs.BuiltLists.{profiled_Node, profiled_Var}
-use Rattle.path_order.specs.Comparison.{Table, Tables, table_leaf, table_node, no_tables, table_then, compared, all_compared, each_compared, table_at, part_in, equals_in, exceeds_in, exceeds_all_in, some_reaches_in}
+use Rattle.path_order.specs.Comparison.{Table, Tables, table_leaf, table_node, no_tables, table_then, compared, all_compared, each_compared, table_at, part_in, equals_in, exceeds_from, exceeds_all_in, some_reaches_in}
 use Rattle.path_order.specs.ComparedView.{table_of, all_tables}
 use Rattle.path_order.proofs.TableLemmas.{equal_whole, greater_whole, some_over_variable}
 use Rattle.path_order.specs.declared.compared.Compared.{Compared, Leaf, Node, the_lemmas}
@@ -125,18 +125,20 @@ variable_node p n s g us cs other is below =
     table_of-Node false false cs ∙ ap (λ (ts : Tables). table_node false false ts) below ∙ sym (ap (compared p (variable n s)) is)
 
 pub over_node : (p : Precedence) (f g : ℕ) (ts us : Terms) (cs : Vec Compared Global) (rows : List Table) (other : PlainTerm)
-    (e gr same above : Bool) → other ≡ node g us → all_tables cs.items ≡ all_compared p (node f ts) us
+    (e gr same above : Bool) (status : Status) → other ≡ node g us → all_tables cs.items ≡ all_compared p (node f ts) us
     → rows ≡ each_compared p ts other → e ≡ (same && equals_in 0 rows)
-    → gr ≡ (some_reaches_in rows || (exceeds_all_in (all_tables cs.items) && (above || (same && exceeds_in 0 rows))))
-    → same ≡ (nat_eq f g && same_length ts us) → above ≡ nat_lt (p.rank g) (p.rank f) → p.status f ≡ from_left
+    → gr ≡ (some_reaches_in rows || (exceeds_all_in (all_tables cs.items) && (above || (same && exceeds_from status rows))))
+    → same ≡ (nat_eq f g && same_length ts us) → above ≡ nat_lt (p.rank g) (p.rank f) → status ≡ p.status f
     → table_of (Node e gr cs) ≡ compared p (node f ts) other
-over_node p f g ts us cs rows other e gr same above is below rows_eq e_is gr_is same_is above_is left =
+over_node p f g ts us cs rows other e gr same above status is below rows_eq e_is gr_is same_is above_is status_is =
     let rows_are : rows ≡ each_compared p ts (node g us) = rows_eq ∙ ap (each_compared p ts) is in
     let equal : e ≡ term_eq (node f ts) (node g us) =
     e_is ∙ (λ i. same_is i && equals_in 0 (rows_are i)) ∙ equal_whole p f g ts us in
     let greater : gr ≡ is_greater p (node f ts) (node g us) =
-    gr_is ∙ (λ i. some_reaches_in (rows_are i) || (exceeds_all_in (below i) && (above_is i || (same_is i && exceeds_in 0 (rows_are i)))))
-    ∙ greater_whole p f g ts us left in
+    gr_is
+    ∙ (λ i. some_reaches_in (rows_are i)
+    || (exceeds_all_in (below i) && (above_is i || (same_is i && exceeds_from (status_is i) (rows_are i)))))
+    ∙ greater_whole p f g ts us in
     table_of-Node e gr cs ∙ (λ i. table_node (equal i) (greater i) (below i)) ∙ sym (ap (compared p (node f ts)) is)
 
 -- all members

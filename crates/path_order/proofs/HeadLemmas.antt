@@ -30,7 +30,8 @@ mutual
       → below_head p f (node f ts) u ≡ true → node_exceeds p f ts reaches exceed u ≡ true
   below_exceeds p f ts reaches exceed (variable n s) e = e
   below_exceeds p f ts reaches exceed (node g us) e =
-      by_rank_true (nat_lt (p.rank g) (p.rank f)) (all_below p f (node f ts) us) (reaches (node g us)) (node_exceeds_all p f ts reaches exceed us)
+      by_rank_true (nat_lt (p.rank g) (p.rank f)) (all_below p f (node f ts) us) (reaches (node g us))
+      (node_exceeds_all p f ts reaches exceed us)
       (nat_eq f g && exceed us) e (λ h. all_below_exceed p f ts reaches exceed us h)
 
   all_below_exceed : (p : Precedence) (f : ℕ) (ts : Terms) (reaches : Term → Bool) (exceed : Terms → Bool) (us : Terms)

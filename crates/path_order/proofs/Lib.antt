@@ -10,4 +10,5 @@ pub mod Numbers
 pub mod Places
 pub mod ItemLemmas
 pub mod ListingLemmas
+pub mod StatusLemmas
 pub mod RankLemmas

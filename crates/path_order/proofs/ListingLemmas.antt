@@ -3,20 +3,23 @@ use Rattle.std.proofs.Common.{◌≡◌, ℕ, zero, suc, ◌+◌, ◌<◌, ◌�
 use Rattle.std.specs.Prelude.{Some, None, slice_get, ◌⊎◌, nat_lt}
 use Rattle.std.proofs.lemmas.List.{take_more, map-append, length-map}
 use Rattle.std.proofs.lemmas.Option.{same_Some, slice_get_within}
+use Rattle.lotos_base.specs.Equation.{Place}
 use Rattle.lotos_base.specs.WrittenTerm.{ListedOperation}
 use Rattle.lotos_base.specs.WrittenView.{listed_operation_of}
 use Rattle.lotos_base.specs.declared.written_terms.OrderItem.{OrderItem}
 use Rattle.lotos_base.specs.Signature.{Signature}
+use Rattle.termination_theory.specs.Precedence.{Status}
 use Rattle.sort_terms.specs.Operations.{operation_of}
 use Rattle.sort_terms.specs.SignatureView.{signature_of}
 use Rattle.sort_terms.specs.declared.signatures.Signature.{Signature as CodeSignature}
 use Rattle.path_order.specs.Contains.{IsOnce}
 use Rattle.path_order.specs.Listed.{IsListedBy, AreListedBy}
-use Rattle.path_order.specs.Listing.{AreListed, none_listed, listed_then, IsNumberIn, IsUnknown, IsTwice, IsFineItem}
+use Rattle.path_order.specs.Listing.{AreListed, none_listed, listed_then, IsNumberIn, IsUnknown, IsTwice, IsFineItem, listed_name}
+use Rattle.path_order.specs.Statuses.{HasBadStatus, status_written}
 use Rattle.path_order.specs.OrderFaultView.{IsOrderFault}
-use Rattle.path_order.specs.Steps.{HasCommon, IsItemFault}
+use Rattle.path_order.specs.Steps.{HasCommon, IsItemFault, IsStatusFault}
 use Rattle.path_order.specs.declared.order_fault.OrderFault.{OrderFault}
-use Rattle.path_order.specs.declared.order_fault.OrderFault.TheVariants.{UnknownOperation, TwiceListed, NoMemory}
+use Rattle.path_order.specs.declared.order_fault.OrderFault.TheVariants.{UnknownOperation, TwiceListed, BadStatus, NoMemory}
 use Rattle.path_order.proofs.Numbers.{in_joined, first_joined, second_joined}
 
 -- ---- listings
@@ -73,7 +76,7 @@ listed_below signature item fs n j f by same at =
 
 -- ---- one more item
 
-item_at : (order : List OrderItem) (i : ℕ) (item : OrderItem) → i < length order → item ≡ get_or order i item
+pub item_at : (order : List OrderItem) (i : ℕ) (item : OrderItem) → i < length order → item ≡ get_or order i item
     → slice_get (map listed_operation_of order) i ≡ Some (listed_operation_of item)
 item_at [] i item within is = absurd (omega arith)
 item_at (x ∷ xs) zero item within is = ap (λ (o : OrderItem). Some (listed_operation_of o)) (sym is)
@@ -87,7 +90,8 @@ so_far_at [] (suc i) k item at = let none : None ≡ Some item = at in cc
 so_far_at (x ∷ xs) (suc i) zero item at = (omega arith, at)
 so_far_at (x ∷ xs) (suc i) (suc k) item at = let later = so_far_at xs i k item at in (omega (arith, later.0), later.1)
 
-at_so_far : (order : List OrderItem) (i k : ℕ) (item : ListedOperation) → k < i → slice_get (map listed_operation_of order) k ≡ Some item
+pub at_so_far : (order : List OrderItem) (i k : ℕ) (item : ListedOperation)
+    → k < i → slice_get (map listed_operation_of order) k ≡ Some item
     → slice_get (map listed_operation_of (take i order)) k ≡ Some item
 at_so_far xs zero k item before at = absurd (omega (arith, before))
 at_so_far [] (suc i) k item before at = at
@@ -107,37 +111,62 @@ listed_more signature order i item old found new within is so_far by added =
     (subst (λ (is : List ListedOperation). AreListed signature is (old ++ found)) (sym items)
     (listed_last (listed_operation_of item) found so_far by))
 
-pub fine_more : (signature : Signature) (order : List OrderItem) (i : ℕ) (item : OrderItem) (old found : List ℕ) → i < length order
+-- an item of which something was found lists an operation
+known_found : (signature : Signature) (item : ListedOperation) (found : List ℕ) → AreListedBy signature item found
+    → (found ≡ [] → ⊥) → IsUnknown signature item → ⊥
+known_found signature item [] by some unknown = some refl
+known_found signature item (f ∷ fs) by some unknown = unknown f (by.listed 0 f refl)
+
+-- and it lists none again where nothing of it was there already
+once_found : (signature : Signature) (order : List OrderItem) (i : ℕ) (item : ListedOperation) (old found : List ℕ)
+    → AreListed signature (map listed_operation_of (take i order)) old → AreListedBy signature item found
+    → (HasCommon old found → ⊥) → IsTwice signature (map listed_operation_of order) i item → ⊥
+once_found signature order i item old found so_far by apart twice =
+    apart (
+      twice.operation,
+      is_there so_far twice.operation twice.earlier twice.other
+          (at_so_far order i twice.earlier twice.other twice.before twice.is_other) twice.was_listed,
+      by.all twice.operation twice.is_listed,
+    )
+
+pub fine_more : (signature : Signature) (order : List OrderItem) (i : ℕ) (item : OrderItem) (old found : List ℕ) (status : Status)
+    → i < length order
     → item ≡ get_or order i item → AreListed signature (map listed_operation_of (take i order)) old
     → AreListedBy signature (listed_operation_of item) found → (found ≡ [] → ⊥) → (HasCommon old found → ⊥)
+    → status_written (listed_operation_of item).status ≡ Some status
     → ((k : ℕ) → k < i → IsFineItem signature (map listed_operation_of order) k)
     → (k : ℕ) → k < i + 1 → IsFineItem signature (map listed_operation_of order) k
-fine_more signature order i item old found within is so_far by some apart fine k before one at = go (nat_lt k i) refl
+fine_more signature order i item old found status within is so_far by some apart writes fine k before one at = go (nat_lt k i) refl
   where
-    some_found : (ns : List ℕ) → (ns ≡ [] → ⊥) → (f : ℕ) × (slice_get ns 0 ≡ Some f)
-    some_found [] none = absurd (none refl)
-    some_found (n ∷ ns) none = (n, refl)
-
     go : (b : Bool) → nat_lt k i ≡ b
-        → (¬ IsUnknown signature one) × (¬ IsTwice signature (map listed_operation_of order) k one)
+        → (¬ IsUnknown signature one) × (¬ IsTwice signature (map listed_operation_of order) k one) × (¬ HasBadStatus one)
     go true e = fine k (ltb-true k i e) one at
     go false e =
         let past : i ≤ k = ltb-false k i e in
         let same : k ≡ i = omega (arith, past, before) in
         let this : listed_operation_of item ≡ one =
         same_Some (listed_operation_of item) one (sym (item_at order i item within is)
-        ∙ ap (λ (n : ℕ). slice_get (map listed_operation_of order) n) (sym same) ∙ at) in (
-          (λ unknown.
-              let first = some_found found some in
-              unknown first.0 (subst (λ (o : ListedOperation). IsListedBy signature o first.0) this (by.listed 0 first.0 first.1))),
+        ∙ ap (λ (n : ℕ). slice_get (map listed_operation_of order) n) (sym same) ∙ at) in
+        let listed = subst (λ (o : ListedOperation). AreListedBy signature o found) this by in (
+          known_found signature one found listed some,
           (λ twice.
-              let in_found = by.all twice.operation (subst (λ (o : ListedOperation). IsListedBy signature o twice.operation) (sym this)
-              twice.is_listed) in
-              let earlier : twice.earlier < i = let less = twice.before in omega (arith, less, same) in
-              let in_old = is_there so_far twice.operation twice.earlier twice.other
-              (at_so_far order i twice.earlier twice.other earlier twice.is_other) twice.was_listed in
-              apart (twice.operation, in_old, in_found)),
+              once_found signature order i one old found so_far listed apart
+              (subst (λ (n : ℕ). IsTwice signature (map listed_operation_of order) n one) same twice)),
+          (λ bad.
+              let none : None ≡ Some status = sym bad ∙ ap (λ (o : ListedOperation). status_written o.status) (sym this) ∙ writes in cc),
         )
+
+-- what is wrong with the status of an item of which something was found that is new
+pub status_fault : (item : ListedOperation) (before found : List ℕ) (fault : OrderFault) → (found ≡ [] → ⊥)
+    → (HasCommon before found → ⊥) → IsStatusFault item fault → IsItemFault item before found fault
+status_fault item before found (UnknownOperation place name) some apart is = absurd is
+status_fault item before found (TwiceListed place name) some apart is = absurd is
+status_fault item before found (BadStatus place name) some apart is = (is.0, is.1, some, apart)
+status_fault item before found NoMemory some apart is = tt
+
+name_told : (item : ListedOperation) (place : Place) (name : List ℕ) → place ≡ item.place → name ≡ item.name
+    → listed_name item ≡ Some (record { place = place; name = name })
+name_told item place name placed named = λ j. Some (record { place = sym placed j; name = sym named j })
 
 pub first_wrong : (signature : Signature) (order : List OrderItem) (i : ℕ) (item : OrderItem) (old found : List ℕ) (fault : OrderFault)
     → i < length order → item ≡ get_or order i item → AreListed signature (map listed_operation_of (take i order)) old
@@ -151,8 +180,7 @@ first_wrong signature order i item old found (UnknownOperation place name) withi
   wrong = λ f listed.
       let at = by.all f listed in
       let none : None ≡ Some f = ap (λ (ns : List ℕ). slice_get ns at.0) (sym h.2) ∙ at.1 in cc;
-  placed = h.0;
-  named = h.1;
+  told = name_told (listed_operation_of item) _ _ h.0 h.1;
   fine_before = fine;
 }
 first_wrong signature order i item old found (TwiceListed place name) within is so_far by fine h =
@@ -172,10 +200,21 @@ first_wrong signature order i item old found (TwiceListed place name) within is 
         is_other = at.1;
         was_listed = earlier.3;
       };
-      placed = h.0;
-      named = h.1;
+      told = name_told (listed_operation_of item) _ _ h.0 h.1;
       fine_before = fine;
     }
+first_wrong signature order i item old found (BadStatus place name) within is so_far by fine h = record {
+  number = i;
+  item = listed_operation_of item;
+  is_at = item_at order i item within is;
+  wrong = (
+    known_found signature (listed_operation_of item) found by h.2,
+    once_found signature order i (listed_operation_of item) old found so_far by h.3,
+    h.1,
+  );
+  told = h.0;
+  fine_before = fine;
+}
 first_wrong signature order i item old found NoMemory within is so_far by fine h = tt
 
 -- all of them

@@ -7,10 +7,10 @@ use Rattle.std.proofs.Math.Bool.{or-false, or_assoc}
 use Rattle.lotos_base.specs.Term.{Term, variable, node, Terms, no_terms, term_then}
 use Rattle.lotos_base.specs.Path.{argument_at}
 use Rattle.lotos_base.specs.Tests.{term_eq, terms_eq, occurs, occurs_among}
-use Rattle.termination_theory.specs.Precedence.{Precedence, from_left}
+use Rattle.termination_theory.specs.Precedence.{Status, from_left, from_right, Precedence}
 use Rattle.termination_theory.specs.OrderTest.{is_greater, same_length, some_reaches, list_exceeds, exceeds_all}
 use Rattle.termination_theory.proofs.OrderTestLemmas.{greater_by_parts}
-use Rattle.path_order.specs.Comparison.{compared, all_compared, each_compared, equal_in, greater_in, table_at, part_in, if_there, parts_in, some_reaches_in, exceeds_all_in, equal_there, greater_there, equals_in, exceeds_in}
+use Rattle.path_order.specs.Comparison.{compared, all_compared, each_compared, equal_in, greater_in, table_at, part_in, if_there, parts_in, some_reaches_in, exceeds_all_in, equal_there, greater_there, equals_in, exceeds_in, exceeds_last_in, exceeds_from}
 
 equal_of : (p : Precedence) (t u : Term) → equal_in (compared p t u) ≡ term_eq t u
 equal_of p t (variable n s) = refl
@@ -90,6 +90,40 @@ exceeds_of p (term_then t ts) (term_then u us) g k vs e same =
     λ i. (greater_at p t u g k us vs e ∙ sym (and_true (is_greater p t u) (same_length ts us) same)) i
     || (equal_at p t u g k us vs e i && exceeds_of p ts us g (suc k) vs (dropped_rest k vs u us e) same i)
 
+-- one place more, told from the right
+told_more : (all greater equal later told : Bool)
+    → (later || (all && (greater || (equal && told)))) ≡ (((greater && all) || later) || ((equal && all) && told))
+told_more false true true later told = refl
+told_more false true false later told = refl
+told_more false false true later told = refl
+told_more false false false later told = refl
+told_more true true equal true told = refl
+told_more true true equal false told = refl
+told_more true false true later told = refl
+told_more true false false later told = refl
+
+last_of : (p : Precedence) (ts us : Terms) (g k : ℕ) (vs : Terms) (told : Bool) → dropped k vs ≡ us → same_length ts us ≡ true
+    → exceeds_last_in told k (each_compared p ts (node g vs)) ≡ (list_exceeds p from_right ts us || (terms_eq ts us && told))
+last_of p no_terms no_terms g k vs told e same = refl
+last_of p no_terms (term_then u us) g k vs told e same = cc
+last_of p (term_then t ts) no_terms g k vs told e same = cc
+last_of p (term_then t ts) (term_then u us) g k vs told e same =
+    (λ i. exceeds_last_in (greater_at p t u g k us vs e i || (equal_at p t u g k us vs e i && told)) (suc k)
+    (each_compared p ts (node g vs)))
+    ∙ last_of p ts us g (suc k) vs (is_greater p t u || (term_eq t u && told)) (dropped_rest k vs u us e) same
+    ∙ told_more (terms_eq ts us) (is_greater p t u) (term_eq t u) (list_exceeds p from_right ts us) told
+
+or_nothing : (b c : Bool) → (b || (c && false)) ≡ b
+or_nothing true c = refl
+or_nothing false true = refl
+or_nothing false false = refl
+
+exceeds_from_of : (p : Precedence) (status : Status) (ts us : Terms) (g : ℕ) → same_length ts us ≡ true
+    → exceeds_from status (each_compared p ts (node g us)) ≡ list_exceeds p status ts us
+exceeds_from_of p from_left ts us g same = exceeds_of p ts us g 0 us refl same
+exceeds_from_of p from_right ts us g same =
+    last_of p ts us g 0 us false refl same ∙ or_nothing (list_exceeds p from_right ts us) (terms_eq ts us)
+
 -- lists of different lengths are not one list, and none is greater
 unequal_lengths : (ts us : Terms) → same_length ts us ≡ false → terms_eq ts us ≡ false
 unequal_lengths no_terms no_terms e = cc
@@ -97,13 +131,17 @@ unequal_lengths no_terms (term_then u us) e = refl
 unequal_lengths (term_then t ts) no_terms e = refl
 unequal_lengths (term_then t ts) (term_then u us) e = and_right (term_eq t u) (terms_eq ts us) (unequal_lengths ts us e)
 
-no_length_exceeds : (p : Precedence) (ts us : Terms) → same_length ts us ≡ false → list_exceeds p from_left ts us ≡ false
-no_length_exceeds p no_terms us e = refl
-no_length_exceeds p (term_then t ts) no_terms e = refl
-no_length_exceeds p (term_then t ts) (term_then u us) e =
+no_length_exceeds : (p : Precedence) (status : Status) (ts us : Terms) → same_length ts us ≡ false
+    → list_exceeds p status ts us ≡ false
+no_length_exceeds p status no_terms us e = refl
+no_length_exceeds p status (term_then t ts) no_terms e = refl
+no_length_exceeds p from_left (term_then t ts) (term_then u us) e =
     or_from (is_greater p t u && same_length ts us) (term_eq t u && list_exceeds p from_left ts us)
     (and_right (is_greater p t u) (same_length ts us) e)
-    (and_right (term_eq t u) (list_exceeds p from_left ts us) (no_length_exceeds p ts us e))
+    (and_right (term_eq t u) (list_exceeds p from_left ts us) (no_length_exceeds p from_left ts us e))
+no_length_exceeds p from_right (term_then t ts) (term_then u us) e =
+    or_from (is_greater p t u && terms_eq ts us) (list_exceeds p from_right ts us)
+    (and_right (is_greater p t u) (terms_eq ts us) (unequal_lengths ts us e)) (no_length_exceeds p from_right ts us e)
 
 and_under : (a b x y : Bool) → (b ≡ true → x ≡ y) → (b ≡ false → y ≡ false) → ((a && b) && x) ≡ (a && y)
 and_under true true x y held failed = held refl
@@ -118,22 +156,22 @@ equal_whole p f g ts us =
     and_under (nat_eq f g) (same_length ts us) (equals_in 0 (each_compared p ts (node g us))) (terms_eq ts us)
     (λ same. equals_of p ts us g 0 us refl same) (λ differ. unequal_lengths ts us differ)
 
-exceeds_whole : (p : Precedence) (f g : ℕ) (ts us : Terms)
-    → ((nat_eq f g && same_length ts us) && exceeds_in 0 (each_compared p ts (node g us))) ≡ (nat_eq f g && list_exceeds p from_left ts us)
-exceeds_whole p f g ts us =
-    and_under (nat_eq f g) (same_length ts us) (exceeds_in 0 (each_compared p ts (node g us))) (list_exceeds p from_left ts us)
-    (λ same. exceeds_of p ts us g 0 us refl same) (λ differ. no_length_exceeds p ts us differ)
+exceeds_whole : (p : Precedence) (status : Status) (f g : ℕ) (ts us : Terms)
+    → ((nat_eq f g && same_length ts us) && exceeds_from status (each_compared p ts (node g us)))
+    ≡ (nat_eq f g && list_exceeds p status ts us)
+exceeds_whole p status f g ts us =
+    and_under (nat_eq f g) (same_length ts us) (exceeds_from status (each_compared p ts (node g us))) (list_exceeds p status ts us)
+    (λ same. exceeds_from_of p status ts us g same) (λ differ. no_length_exceeds p status ts us differ)
 
-pub greater_whole : (p : Precedence) (f g : ℕ) (ts us : Terms) → p.status f ≡ from_left
+pub greater_whole : (p : Precedence) (f g : ℕ) (ts us : Terms)
     → (some_reaches_in (each_compared p ts (node g us))
     || (exceeds_all_in (all_compared p (node f ts) us)
-    && (nat_lt (p.rank g) (p.rank f) || ((nat_eq f g && same_length ts us) && exceeds_in 0 (each_compared p ts (node g us))))))
+    && (nat_lt (p.rank g) (p.rank f)
+    || ((nat_eq f g && same_length ts us) && exceeds_from (p.status f) (each_compared p ts (node g us))))))
     ≡ is_greater p (node f ts) (node g us)
-greater_whole p f g ts us left =
+greater_whole p f g ts us =
     (λ i. some_of p ts (node g us) i
-    || (all_of p (node f ts) us i
-    && (nat_lt (p.rank g) (p.rank f) || (exceeds_whole p f g ts us ∙ ap (λ status. nat_eq f g && list_exceeds p status ts us)
-    (sym left)) i)))
+    || (all_of p (node f ts) us i && (nat_lt (p.rank g) (p.rank f) || exceeds_whole p (p.status f) f g ts us i)))
     ∙ sym (greater_by_parts p f g ts us)
 
 -- ---- Over a variable

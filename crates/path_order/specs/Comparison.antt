@@ -3,7 +3,7 @@
 use Rattle.std.specs.Prelude.{◌≡◌, ℕ, suc, List, [], ◌∷◌, Option, None, Some, Bool, true, false, zero, ◌&&◌, ◌||◌}
 use Rattle.lotos_base.specs.Term.{Term, variable, node, Terms, no_terms, term_then}
 use Rattle.lotos_base.specs.Tests.{term_eq}
-use Rattle.termination_theory.specs.Precedence.{Precedence}
+use Rattle.termination_theory.specs.Precedence.{Status, from_left, from_right, Precedence}
 use Rattle.termination_theory.specs.OrderTest.{is_greater}
 
 mutual
@@ -95,10 +95,22 @@ abbrev pub equals_in : ℕ → List Table → Bool
 equals_in k [] = true
 equals_in k (c ∷ cs) = equal_there (part_in k c) && equals_in (suc k) cs
 
--- whether at the first place where they differ the term is greater than the argument there
+-- whether at the first place from the left where they differ the term is greater than the argument there
 abbrev pub exceeds_in : ℕ → List Table → Bool
 exceeds_in k [] = false
 exceeds_in k (c ∷ cs) = greater_there (part_in k c) || (equal_there (part_in k c) && exceeds_in (suc k) cs)
+
+-- The same from the right: whether at the last place where they differ the term is greater than the argument there, where
+-- this is told already of the places before these.
+abbrev pub exceeds_last_in : Bool → ℕ → List Table → Bool
+exceeds_last_in told k [] = told
+exceeds_last_in told k (c ∷ cs) =
+    exceeds_last_in (greater_there (part_in k c) || (equal_there (part_in k c) && told)) (suc k) cs
+
+-- the same from the side of the status
+abbrev pub exceeds_from : Status → List Table → Bool
+exceeds_from from_left rows = exceeds_in 0 rows
+exceeds_from from_right rows = exceeds_last_in false 0 rows
 
 -- The rows are the tables of the terms over the other term.
 abbrev pub IsToldOf : Precedence → Terms → Term → List Table → Type 0

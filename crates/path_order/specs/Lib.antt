@@ -16,6 +16,7 @@ pub mod RewritingEnd
 pub mod RuleTest
 pub mod OrderedBy
 pub mod Listed
+pub mod Statuses
 pub mod Listing
 pub mod Contains
 pub mod OrderFaultView

@@ -1,9 +1,10 @@
 -- The order of operations that items give, and what is wrong with items.
-use Rattle.std.specs.Prelude.{◌≡◌, ◌⊎◌, ◌↔◌, ◌<◌, ℕ, List, [], ◌∷◌, ◌++◌, Some, slice_get, slice_index, length}
-use Rattle.lotos_base.specs.WrittenTerm.{ListedOperation}
+use Rattle.std.specs.Prelude.{◌≡◌, ◌⊎◌, ◌↔◌, ◌<◌, ℕ, List, [], ◌∷◌, ◌++◌, Option, Some, slice_get, slice_index, length}
+use Rattle.lotos_base.specs.WrittenTerm.{PlacedName, ListedOperation}
 use Rattle.lotos_base.specs.Equation.{Place}
 use Rattle.lotos_base.specs.Signature.{Signature}
 use Rattle.path_order.specs.Listed.{IsListedBy, AreListedBy}
+use Rattle.path_order.specs.Statuses.{HasBadStatus}
 
 -- The numbers are those that the items list, item by item.
 pub data AreListed (signature : Signature) : List ListedOperation → List ℕ → Type 0 where
@@ -27,7 +28,8 @@ pub record StandsBefore (numbers : List ℕ) (f g : ℕ) : Type 0 where
 -- neither is, and it is declared later.
 abbrev pub IsAbove : List ℕ → ℕ → ℕ → Type 0
 IsAbove listing f g =
-    StandsBefore listing f g ⊎ ((IsNumberIn listing f × (¬ IsNumberIn listing g)) ⊎ ((¬ IsNumberIn listing f) × (¬ IsNumberIn listing g) × (g < f)))
+    StandsBefore listing f g ⊎ ((IsNumberIn listing f × (¬ IsNumberIn listing g)) ⊎
+    ((¬ IsNumberIn listing f) × (¬ IsNumberIn listing g) × (g < f)))
 
 -- The item lists no operation.
 abbrev pub IsUnknown : Signature → ListedOperation → Type 0
@@ -46,17 +48,30 @@ pub record IsTwice (signature : Signature) (items : List ListedOperation) (numbe
 -- Nothing is wrong with the item with this number.
 abbrev pub IsFineItem : Signature → List ListedOperation → ℕ → Type 0
 IsFineItem signature items number = (item : ListedOperation) → slice_get items number ≡ Some item
-    → (¬ IsUnknown signature item) × (¬ IsTwice signature items number item)
+    → (¬ IsUnknown signature item) × (¬ IsTwice signature items number item) × (¬ HasBadStatus item)
 
--- The item with the place and the name is the first one with something wrong, and it is this.
+-- Nothing is wrong with the item with this number but its status.
+abbrev pub IsBadAlone : Signature → List ListedOperation → ℕ → ListedOperation → Type 0
+IsBadAlone signature items number item =
+    (¬ IsUnknown signature item) × (¬ IsTwice signature items number item) × HasBadStatus item
+
+-- the name of the item, with its place
+abbrev pub listed_name : ListedOperation → Option PlacedName
+listed_name item = Some (record { place = item.place; name = item.name })
+
+-- the name of its status, with its place
+abbrev pub listed_status : ListedOperation → Option PlacedName
+listed_status item = item.status
+
+-- An item is the first one with something wrong, and it is this; `told_in` gives the place and the name in it that are
+-- told.
 pub record IsFirstWrong (signature : Signature) (items : List ListedOperation) (IsWrong : ℕ → ListedOperation → Type 0)
-    (place : Place) (name : List ℕ) : Type 0 where
+    (told_in : ListedOperation → Option PlacedName) (place : Place) (name : List ℕ) : Type 0 where
   pub number : ℕ
   pub item : ListedOperation
   pub is_at : slice_get items number ≡ Some item
   pub wrong : IsWrong number item
-  pub placed : place ≡ item.place
-  pub named : name ≡ item.name
+  pub told : told_in item ≡ Some (record { place = place; name = name })
   pub fine_before : (k : ℕ) → k < number → IsFineItem signature items k
 
 -- The ranks order the operations of the signature as the items say, and nothing is wrong with an item.

@@ -6,7 +6,9 @@ ghost use Rattle.path_order.specs.Comparison.{
   equal_there,
   equals_in,
   exceeds_all_in,
+  exceeds_from,
   exceeds_in,
+  exceeds_last_in,
   greater_in,
   greater_there,
   part_in,
@@ -14,9 +16,11 @@ ghost use Rattle.path_order.specs.Comparison.{
   some_reaches_in,
 };
 ghost use Rattle.path_order.specs.ComparedView.{all_tables};
+ghost use Rattle.path_order.specs.PrecedenceView.{status_of};
 ghost use Rattle.std.specs.Option.{option_map};
-ghost use Rattle.std.specs.Prelude.{◌≡◌, IfOk};
+ghost use Rattle.std.specs.Prelude.{◌≡◌, ◌&&◌, ◌||◌, IfOk, false};
 
+use crate::status::Status;
 use lotos_base::NoMemory;
 use std::alloc::Global;
 
@@ -130,8 +134,19 @@ pub fn equals(rows: &[&Compared]) -> bool
     true
 }
 
-/// Whether at the first place where they differ the term is greater than the argument there.
-pub fn exceeds(rows: &[&Compared]) -> bool
+/// Whether at the first place where they differ, counted from the side of the status, the term is
+/// greater than the argument there.
+pub fn exceeds(status: Status, rows: &[&Compared]) -> bool
+    ensures { result ≡ exceeds_from (status_of status) (tables_behind rows.now) }
+{
+    match status {
+        Status::Left => exceeds_from_left(rows),
+        Status::Right => exceeds_from_right(rows),
+    }
+}
+
+// The same from the left.
+fn exceeds_from_left(rows: &[&Compared]) -> bool
     ensures { result ≡ exceeds_in 0 (tables_behind rows.now) }
 {
     for i in 0..rows.len() {
@@ -143,6 +158,33 @@ pub fn exceeds(rows: &[&Compared]) -> bool
         }
     }
     false
+}
+
+// The same from the right: the last place where they differ decides.
+fn exceeds_from_right(rows: &[&Compared]) -> bool
+    ensures { result ≡ exceeds_last_in false 0 (tables_behind rows.now) }
+{
+    let mut told = false;
+    for i in 0..rows.len() {
+        told = told_up_to(rows[i], i, told);
+    }
+    told
+}
+
+// Whether up to this place the last one where they differ has the greater term, where this is told
+// of the places before.
+fn told_up_to(row: &Compared, position: usize, told: bool) -> bool
+    ensures { result ≡ (greater_there (part_in position (table_of row.now))
+        || (equal_there (part_in position (table_of row.now)) && told)) }
+{
+    if greater_there(row, position) {
+        return true;
+    }
+    if equal_there(row, position) {
+        told
+    } else {
+        false
+    }
 }
 
 // Whether the table has an equal term at the position.

@@ -8,10 +8,10 @@ ghost use Rattle.path_order.specs.Comparison.{
   each_compared,
   equals_in,
   exceeds_all_in,
-  exceeds_in,
+  exceeds_from,
   some_reaches_in,
 };
-ghost use Rattle.path_order.specs.PrecedenceView.{precedence_of};
+ghost use Rattle.path_order.specs.PrecedenceView.{precedence_of, status_of};
 ghost use Rattle.sort_terms.specs.SortedView.{term_in};
 ghost use Rattle.sort_terms.specs.TermView.{term_of, terms_of};
 ghost use Rattle.std.specs.Prelude.{◌≡◌, ◌↔◌, ◌&&◌, ◌||◌, IfOk, IsTrue, map, nat_eq, nat_lt};
@@ -23,13 +23,14 @@ ghost use Rattle.termination_theory.specs.PathOrder.{IsGreater};
 use crate::compared::{Compared, equals, exceeds, exceeds_all, parts, some_reaches};
 use crate::heads::exceeds_by_heads;
 use crate::precedence::Precedence;
+use crate::status::Status;
 use lotos_base::NoMemory;
 use sort_terms::{Sorted, Term};
 use std::alloc::Global;
 
 /// Whether the left term is greater than the right one. Where the operation at the head of one of
-/// them is above all that the other one has, it takes no memory and about the sum of the sizes, else
-/// the product of the sizes.
+/// them is above all that the other one has, it takes no memory and about the sum of the sizes,
+/// else the product of the sizes.
 pub fn greater(
     alloc: Global,
     precedence: &Precedence,
@@ -155,7 +156,8 @@ fn over(
     }
     let alike = are_alike(op, *g, arguments, others);
     let equal = are_equal(alike, rows);
-    let greater = is_greater(rows, &below, is_over(precedence, op, *g), alike);
+    let above = is_over(precedence, op, *g);
+    let greater = is_greater(rows, &below, above, alike, precedence.status(op));
     Ok(Compared::Node {
         equal,
         greater,
@@ -234,11 +236,18 @@ fn are_equal(alike: bool, rows: &[&Compared]) -> bool
 }
 
 // Whether the first is greater, by those tables and the tables of the whole over the arguments of
-// the second one.
-fn is_greater(rows: &[&Compared], below: &Vec<Compared>, above: bool, alike: bool) -> bool
+// the second one, where the arguments are compared from the side of the status.
+fn is_greater(
+    rows: &[&Compared],
+    below: &Vec<Compared>,
+    above: bool,
+    alike: bool,
+    status: Status,
+) -> bool
     ensures { result ≡ (some_reaches_in (tables_behind rows.now)
         || (exceeds_all_in (all_tables below.now.items)
-        && (above || (alike && exceeds_in 0 (tables_behind rows.now))))) }
+        && (above
+        || (alike && exceeds_from (status_of status) (tables_behind rows.now))))) }
 {
     if some_reaches(rows) {
         return true;
@@ -249,5 +258,5 @@ fn is_greater(rows: &[&Compared], below: &Vec<Compared>, above: bool, alike: boo
     if above {
         return true;
     }
-    if alike { exceeds(rows) } else { false }
+    if alike { exceeds(status, rows) } else { false }
 }

@@ -4,12 +4,11 @@ ghost use Rattle.path_order.specs.Heads.{all_below, below_head};
 ghost use Rattle.path_order.specs.PrecedenceView.{precedence_of};
 ghost use Rattle.sort_terms.specs.TermView.{term_of, terms_of};
 ghost use Rattle.std.specs.Prelude.{◌≡◌, IsTrue};
-ghost use Rattle.lotos_base.specs.Tests.{occurs, occurs_among};
 ghost use Rattle.termination_theory.specs.PathOrder.{IsGreater};
 
 use crate::comparing::is_over;
 use crate::precedence::Precedence;
-use sort_terms::Term;
+use sort_terms::{Term, has_variable};
 
 /// Whether the operation at the head of the first term is above each operation of the second one,
 /// whose variables all stand in the first one. Then the first term is greater. It takes no memory,
@@ -31,7 +30,7 @@ fn is_below(precedence: &Precedence, op: u32, term: &Term, whole: &Term) -> bool
         (term_of whole.now) (term_of term.now) }
 {
     match term {
-        Term::Var { number, sort } => has_variable(*number, *sort, whole),
+        Term::Var { number, sort } => has_variable(whole, *number, *sort),
         Term::Node {
             op: g,
             arguments,
@@ -57,33 +56,4 @@ fn are_below(precedence: &Precedence, op: u32, terms: &Vec<Term>, whole: &Term) 
         }
     }
     true
-}
-
-// Whether the variable stands in the term.
-#[cycle(occurrence)]
-fn has_variable(number: u64, sort: u32, term: &Term) -> bool
-    ensures { result ≡ occurs number sort (term_of term.now) }
-{
-    match term {
-        Term::Var { number: n, sort: s } => {
-            if *n != number {
-                return false;
-            }
-            *s == sort
-        }
-        Term::Node { arguments, .. } => has_variable_among(number, sort, arguments),
-    }
-}
-
-// Whether it stands in one of the terms.
-#[cycle(occurrence)]
-fn has_variable_among(number: u64, sort: u32, terms: &Vec<Term>) -> bool
-    ensures { result ≡ occurs_among number sort (terms_of terms.now.items) }
-{
-    for term in terms {
-        if has_variable(number, sort, term) {
-            return true;
-        }
-    }
-    false
 }

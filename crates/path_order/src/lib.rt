@@ -18,6 +18,7 @@ pub mod precedence;
 pub mod ranking;
 pub mod rule;
 pub mod rules;
+pub mod status;
 pub mod suiting;
 pub mod turning;
 
@@ -29,3 +30,4 @@ pub use precedence::Precedence;
 pub use ranking::ranks;
 pub use rule::Rule;
 pub use rules::Rules;
+pub use status::Status;

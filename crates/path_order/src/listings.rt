@@ -1,21 +1,31 @@
-//! The operations that items list.
+//! The operations that items list, with their statuses.
 
 ghost use Rattle.lotos_base.specs.WrittenView.{listed_operation_of};
 ghost use Rattle.path_order.specs.Contains.{IsOnce, contains};
 ghost use Rattle.path_order.specs.Listing.{AreListed, IsFineItem};
 ghost use Rattle.path_order.specs.OrderFaultView.{IsOrderFault};
-ghost use Rattle.path_order.specs.Steps.{HasCommon, IsItemFault, IsNewOf};
+ghost use Rattle.path_order.specs.PrecedenceView.{status_by_number, status_of};
+ghost use Rattle.path_order.specs.Statuses.{AreStatusesBy, status_written};
+ghost use Rattle.path_order.specs.Steps.{
+  HasCommon,
+  IsItemFault,
+  IsNewOf,
+  IsStatusFault,
+  given_status,
+};
 ghost use Rattle.sort_terms.specs.SignatureView.{signature_of};
 ghost use Rattle.std.specs.Prelude.{◌≡◌, ◌↔◌, ◌++◌, ◌<◌, ℕ, IsTrue, MatchResult, IfOk, Some, false, length, map, slice_get};
 
 use crate::items::{indexed, listed_by};
 use crate::listing::Listing;
 use crate::order_fault::OrderFault;
+use crate::status::Status;
 use lotos_base::{NoMemory, OrderItem};
 use sort_terms::Signature;
 use std::alloc::Global;
 
-/// The operations that the items list, item by item, or the first fault.
+/// The operations that the items list, item by item, each with the status of its item, or the first
+/// fault.
 pub fn listing(
     alloc: Global,
     signature: &Signature,
@@ -30,6 +40,8 @@ pub fn listing(
         (map listed_operation_of order.now) k) }
     ensures room { IfOk result
         (λ made. length made.listed.items ≡ length signature.now.ops.items) }
+    ensures statuses { IfOk result (λ made. AreStatusesBy (signature_of signature.now)
+        (map listed_operation_of order.now) (status_by_number made.statuses.items)) }
 {
     let names = indexed(alloc, signature.ops())?;
     let mut made = Listing::new(alloc, signature.ops().len())?;
@@ -40,7 +52,7 @@ pub fn listing(
     Ok(made)
 }
 
-// The listing with the operations of one more item at the end.
+// The listing with the operations of one more item at the end, each with the status of the item.
 fn with_item(
     alloc: Global,
     made: Listing,
@@ -49,7 +61,8 @@ fn with_item(
 ) -> Result<Listing, OrderFault>
     requires below { (j f : ℕ) → slice_get found.now j ≡ Some f → f < length made.listed.items }
     requires once { IsOnce found.now }
-    ensures { MatchResult result (λ more. IsNewOf made more found.now)
+    ensures { MatchResult result
+        (λ more. IsNewOf (listed_operation_of item.now) made more found.now)
         (λ fault. IsItemFault (listed_operation_of item.now) made.order.items found.now fault) }
 {
     if found.len() == 0 {
@@ -64,7 +77,27 @@ fn with_item(
             name: item.name.copy(alloc)?,
         });
     }
-    Ok(with_all(made, found)?)
+    let status = item_status(alloc, item)?;
+    Ok(with_all(made, found, status)?)
+}
+
+// The status that the item writes: from the left where it writes none. `BadStatus` where it writes
+// another name.
+fn item_status(alloc: Global, item: &OrderItem) -> Result<Status, OrderFault>
+    ensures { MatchResult result
+        (λ status. status_written (listed_operation_of item.now).status ≡ Some (status_of status))
+        (λ fault. IsStatusFault (listed_operation_of item.now) fault) }
+{
+    let Some(status) = &item.status else {
+        return Ok(Status::Left);
+    };
+    match Status::named(&status.1) {
+        Some(named) => Ok(named),
+        None => Err(OrderFault::BadStatus {
+            place: status.0,
+            name: status.1.copy(alloc)?,
+        }),
+    }
 }
 
 // Whether one of the operations is there already.
@@ -80,8 +113,8 @@ fn has_some(made: &Listing, found: &[u32]) -> bool
     false
 }
 
-// The listing with the operations at the end.
-fn with_all(mut made: Listing, found: &[u32]) -> Result<Listing, NoMemory>
+// The listing with the operations at the end, each with this status.
+fn with_all(mut made: Listing, found: &[u32], status: Status) -> Result<Listing, NoMemory>
     requires below { (j f : ℕ) → slice_get found.now j ≡ Some f → f < length made.listed.items }
     requires once { IsOnce found.now }
     requires new { ¬ HasCommon made.order.items found.now }
@@ -89,9 +122,11 @@ fn with_all(mut made: Listing, found: &[u32]) -> Result<Listing, NoMemory>
         (λ more. more.order.items ≡ made.order.items ++ found.now) }
     ensures room { IfOk result
         (λ more. length more.listed.items ≡ length made.listed.items) }
+    ensures given { IfOk result (λ more. more.statuses.items
+        ≡ given_status made.statuses.items found.now status) }
 {
     for op in found {
-        made.push(*op)?;
+        made.push(*op, status)?;
     }
     Ok(made)
 }

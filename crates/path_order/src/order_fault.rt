@@ -5,7 +5,8 @@ ghost use Rattle.std.specs.Prelude.{◌≡◌};
 use lotos_base::{Name, NoMemory, Place};
 use std::alloc::{AllocError, AllocFailed};
 
-/// Why an order of operations was refused. The first item with a fault counts.
+/// Why an order of operations was refused. The first item with a fault counts, and of one item the
+/// first of these.
 #[derive(Debug, Drop)]
 pub enum OrderFault {
     /// The item lists no operation.
@@ -20,6 +21,13 @@ pub enum OrderFault {
         /// The place of the item's name.
         place: Place,
         /// The item's name.
+        name: Name,
+    },
+    /// The item writes another name than `left` or `right` as its status.
+    BadStatus {
+        /// The place of that name.
+        place: Place,
+        /// That name.
         name: Name,
     },
     /// Memory was wanted and not there.

@@ -28,7 +28,8 @@ use Rattle.place_laws.proofs.PartPlaceLemmas.{variables_in, variables_follow, ex
 pub two_turn : (ps qs : List Place) → StandWhollyBefore ps qs → InTurn (ps ∷ qs ∷ [])
 two_turn ps qs h = ((h, tt), (tt, tt))
 
-pub three_turn : (ps qs rs : List Place) → StandWhollyBefore ps qs → StandWhollyBefore ps rs → StandWhollyBefore qs rs → InTurn (ps ∷ qs ∷ rs ∷ [])
+pub three_turn : (ps qs rs : List Place) → StandWhollyBefore ps qs → StandWhollyBefore ps rs → StandWhollyBefore qs rs
+    → InTurn (ps ∷ qs ∷ rs ∷ [])
 three_turn ps qs rs first second third = ((first, (second, tt)), two_turn qs rs third)
 
 -- ---- operands and the signs between them
@@ -95,7 +96,8 @@ turn_back (ps ∷ pss) qss h = turn_back pss qss h.1
 turn_across : (pss qss : List (List Place)) → InTurn (pss ++ qss) → StandWhollyBefore (joined pss) (joined qss)
 turn_across [] qss h = λ p q here later. absurd here
 turn_across (ps ∷ pss) qss h =
-    both_before ps (joined pss) (joined qss) (before_joined ps qss (every_back (StandWhollyBefore ps) pss qss h.0)) (turn_across pss qss h.1)
+    both_before ps (joined pss) (joined qss) (before_joined ps qss (every_back (StandWhollyBefore ps) pss qss h.0))
+    (turn_across pss qss h.1)
 
 -- ---- grouping
 
@@ -171,7 +173,8 @@ every_two P Q R onward [] one other = tt
 every_two P Q R onward (x ∷ xs) one other = (onward x one.0 other.0, every_two P Q R onward xs one.1 other.1)
 
 prefixed_turn : (prefix : WrittenBehaviour → WrittenBehaviour) (extra : List Place) (bs : List WrittenBehaviour) (signs : List PlacedSign)
-    (rest : List Token) → ((b : WrittenBehaviour) → Adds extra b (prefix b)) → ((qs : List Place) → Within qs rest → StandWhollyBefore extra qs)
+    (rest : List Token) → ((b : WrittenBehaviour) → Adds extra b (prefix b))
+    → ((qs : List Place) → Within qs rest → StandWhollyBefore extra qs)
     → AllWithin (lined bs signs) rest → InTurn (lined bs signs) → InTurn (lined (before_first prefix bs) signs)
 prefixed_turn prefix extra [] signs rest adds after all turn = tt
 prefixed_turn prefix extra (b ∷ bs) signs rest adds after all turn = (
@@ -233,7 +236,8 @@ action_adds place gate offers test b p (inr at) = go (in_either p (offers_places
     go (inr later) = tests (in_either p (test_places test) (behaviour_places b) later)
 
 action_follows : (place : Place) (gate : List ℕ) (offers : List WrittenOffer) (test : Option WrittenPremiss) (b : WrittenBehaviour)
-    → StandWhollyBefore (place ∷ []) (offers_places offers) → StandWhollyBefore (place ∷ []) (test_places test) → StandWhollyBefore (place ∷ []) (behaviour_places b)
+    → StandWhollyBefore (place ∷ []) (offers_places offers) → StandWhollyBefore (place ∷ []) (test_places test)
+    → StandWhollyBefore (place ∷ []) (behaviour_places b)
     → StandWhollyBefore (offers_places offers) (test_places test) → StandWhollyBefore (offers_places offers) (behaviour_places b)
     → StandWhollyBefore (test_places test) (behaviour_places b)
     → InTurn ((place ∷ []) ∷ offers_places offers ∷ test_places test ∷ behaviour_places b ∷ [])

@@ -106,7 +106,8 @@ sorts_follow_both : (xs ys : List WrittenVariable) → SortsFollow xs → SortsF
     → SortsFollow (xs ++ ys)
 sorts_follow_both [] ys one other h = other
 sorts_follow_both (x ∷ xs) ys one other h = (
-  every_both (λ (y : WrittenVariable). (x.sort_place ≡ y.sort_place) ⊎ StandWhollyBefore (x.sort_place ∷ []) (y.sort_place ∷ [])) xs ys one.0
+  every_both (λ (y : WrittenVariable). (x.sort_place ≡ y.sort_place) ⊎ StandWhollyBefore (x.sort_place ∷ []) (y.sort_place ∷ [])) xs ys
+      one.0
       (sorts_behind x.sort_place ys (front_before x.sort_place (sort_places xs) (sort_places ys) h)),
   sorts_follow_both xs ys one.1 other (λ p q here at. h p q (inr here) at),
 )
@@ -197,7 +198,8 @@ values_in (before_more {tokens = ts} {rest = rest} {token = comma} {value = valu
   all_in_right (exit_places values) ts (comma ∷ rest) (all_in_rest (exit_places values) comma rest (values_in more)),
 )
 
-values_turn : {text : List ℕ} {tokens : List Token} {values : List WrittenExitValue} → Separated COMMA (IsWrittenExitValue text) tokens values
+values_turn : {text : List ℕ} {tokens : List Token} {values : List WrittenExitValue}
+    → Separated COMMA (IsWrittenExitValue text) tokens values
     → Rises tokens → InTurn (exit_places values)
 values_turn (last is) h = (tt, tt)
 values_turn (before_more {tokens = ts} {rest = rest} {token = comma} {value = value} {values = values} is comma_is more) h = (
@@ -377,7 +379,8 @@ before_offer (offer_value term) y h = h
 before_offer (offer_variable x) (offer_value term) h = h
 before_offer (offer_variable x) (offer_variable y) h = inr h
 
-behind_offer : (x : WrittenOffer) (ys : List WrittenOffer) → Every (StandWhollyBefore (offer_places x)) (offered_places ys) → Every (OfferFollows x) ys
+behind_offer : (x : WrittenOffer) (ys : List WrittenOffer) → Every (StandWhollyBefore (offer_places x)) (offered_places ys)
+    → Every (OfferFollows x) ys
 behind_offer x [] all = tt
 behind_offer x (y ∷ ys) all = (before_offer x y all.0, behind_offer x ys all.1)
 
@@ -550,7 +553,8 @@ choice_groups_follow (last {tokens = ts} {value = group} is) h = alone_follows g
     among_alone [] one = tt
     among_alone (x ∷ xs) one = (
       one.0,
-      every_both (λ (e : WrittenGateChoice). (x.among ≡ e.among) ⊎ StandWhollyBefore (name_places x.among) (name_places e.among)) xs [] one.1 tt,
+      every_both (λ (e : WrittenGateChoice). (x.among ≡ e.among) ⊎ StandWhollyBefore (name_places x.among) (name_places e.among)) xs []
+          one.1 tt,
       among_alone xs one.2,
     )
 

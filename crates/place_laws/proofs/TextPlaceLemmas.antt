@@ -227,7 +227,8 @@ spaced_follows hs is ts us word head body head_is body_in_ h onward = (
   onward (rises_front ts us (rises_back is (word ∷ (ts ++ us)) (rises_back hs (is ++ word ∷ (ts ++ us)) h)).1),
 )
 
-pub text_rises : {text : List ℕ} {tokens : List Token} {tree : WrittenSpecification} → IsWrittenSpecification text tokens tree → Rises tokens
+pub text_rises : {text : List ℕ} {tokens : List Token} {tree : WrittenSpecification} → IsWrittenSpecification text tokens tree
+    → Rises tokens
     → PlacesRise tree
 text_rises (a_specification {specification = first} {word = word} {end = end} {heading_tokens = hs} {item_tokens = is} {tokens = ts}
     {where_tokens = ws} {heading = head} {body = body} {inner = inner} first_is head_is items_are word_is body_is where_is end_is) h =

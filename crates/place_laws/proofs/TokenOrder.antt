@@ -97,7 +97,8 @@ before_first t qs ts h other p q (inl same) there =
     subst (λ (y : Place). stands_before y q ≡ true) (sym same) (h.0 q (other q there))
 before_first t qs ts h other p q (inr here) there = absurd here
 
-pub first_before : (p : Place) (ps rs : List Place) → StandWhollyBefore (p ∷ []) rs → StandWhollyBefore ps rs → StandWhollyBefore (p ∷ ps) rs
+pub first_before : (p : Place) (ps rs : List Place) → StandWhollyBefore (p ∷ []) rs → StandWhollyBefore ps rs
+    → StandWhollyBefore (p ∷ ps) rs
 first_before p ps rs one other x q (inl same) there = one x q (inl same) there
 first_before p ps rs one other x q (inr at) there = other x q at there
 

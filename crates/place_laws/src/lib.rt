@@ -1,5 +1,5 @@
-//! Nothing executable: in texts that were read the places rise along them, and each list of gates has
-//! a gate.
+//! Nothing executable: in texts that were read the places rise along them, and each list of gates
+//! has a gate.
 #![tactic(auto)]
 
 pub mod gate_laws;

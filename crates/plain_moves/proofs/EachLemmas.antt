@@ -11,16 +11,19 @@ use Rattle.plain_moves.specs.declared.rule.PlainMove.{PlainMove}
 pub take_item : {X : Type 0} (xs : List X) (i : ℕ) (x : X) → i < length xs → x ≡ get_or xs i x → take (i + 1) xs ≡ take i xs ++ x ∷ []
 take_item {X} xs i x h e = take_more xs i x h ∙ ap (λ (y : X). take i xs ++ y ∷ []) (sym e)
 
-one_taken : (f : ShapedMove → Option ShapedMove) (x : ShapedMove) (o : Option ShapedMove) → o ≡ f x → filter_map f (x ∷ []) ≡ option_to_list o
+one_taken : (f : ShapedMove → Option ShapedMove) (x : ShapedMove) (o : Option ShapedMove) → o ≡ f x
+    → filter_map f (x ∷ []) ≡ option_to_list o
 one_taken f x None e = rw (← e) refl
 one_taken f x (Some y) e = rw (← e) refl
 
-made_taken : (made : List PlainMove) (o : Option PlainMove) → map shaped_of (made ++ option_to_list o) ≡ map shaped_of made ++ option_to_list (option_map shaped_of o)
+made_taken : (made : List PlainMove) (o : Option PlainMove)
+    → map shaped_of (made ++ option_to_list o) ≡ map shaped_of made ++ option_to_list (option_map shaped_of o)
 made_taken made None = map-append shaped_of made []
 made_taken made (Some y) = map-append shaped_of made (y ∷ [])
 
 -- the rule is applied to one move more
-pub next_taken : (f : ShapedMove → Option ShapedMove) (xs made : List PlainMove) (i : ℕ) (x : PlainMove) (o : Option PlainMove) → i < length xs → x ≡ get_or xs i x →
+pub next_taken : (f : ShapedMove → Option ShapedMove) (xs made : List PlainMove) (i : ℕ) (x : PlainMove) (o : Option PlainMove)
+    → i < length xs → x ≡ get_or xs i x →
     map shaped_of made ≡ filter_map f (map shaped_of (take i xs)) → option_map shaped_of o ≡ f (shaped_of x) →
     map shaped_of (made ++ option_to_list o) ≡ filter_map f (map shaped_of (take (i + 1) xs))
 next_taken f xs made i x o h e so_far applied =
@@ -32,7 +35,8 @@ next_taken f xs made i x o h e so_far applied =
     ∙ ap (λ (ys : List PlainMove). filter_map f (map shaped_of ys)) (sym (take_item xs i x h e))
 
 -- the list after a move that was made, and after none
-pub pushed : (new made : List PlainMove) (o : Option PlainMove) (y : PlainMove) → o ≡ Some y → new ≡ made ++ y ∷ [] → new ≡ made ++ option_to_list o
+pub pushed : (new made : List PlainMove) (o : Option PlainMove) (y : PlainMove) → o ≡ Some y → new ≡ made ++ y ∷ []
+    → new ≡ made ++ option_to_list o
 pushed new made o y e is = is ∙ ap (λ (p : Option PlainMove). made ++ option_to_list p) (sym e)
 
 pub not_pushed : (made : List PlainMove) (o : Option PlainMove) → o ≡ None → made ≡ made ++ option_to_list o

@@ -22,23 +22,30 @@ pub action_listed : (processes : List Process) (depth gate : ℕ) (next : PlainB
     moves ≡ Some (record { shape = act; move = record { label = gate_event gate []; target = target; asked = []; sorts = [] } } ∷ []) →
     IsListedByForm processes depth (plain.action gate [] None (without_values next)) moves
 action_listed processes depth gate next target moves same listed = λ signature represent leaves n.
-    ap (λ (b : Behaviour). Some (record { shape = act; move = record { label = gate_event gate []; target = b; asked = []; sorts = [] } } ∷ [])) (same_with_values (binding_of [] []) next ∙ sym same)
+    ap (λ (b : Behaviour). Some (record { shape = act; move = record { label = gate_event gate []; target = b; asked = []; sorts = [] } }
+    ∷ [])) (same_with_values (binding_of [] []) next ∙ sym same)
     ∙ sym listed
 
-pub hide_listed : (processes : List Process) (depth : ℕ) (gates used : List ℕ) (b : Behaviour) (parts moves : Option (List ShapedMove)) → used ≡ gates → IsPlainListing processes depth b parts →
-    moves ≡ option_map (filter_map (below hidden (λ m. Some (hiding used m)))) parts → IsListedByForm processes depth (plain.hide gates b) moves
+pub hide_listed : (processes : List Process) (depth : ℕ) (gates used : List ℕ) (b : Behaviour) (parts moves : Option (List ShapedMove))
+    → used ≡ gates → IsPlainListing processes depth b parts →
+    moves ≡ option_map (filter_map (below hidden (λ m. Some (hiding used m)))) parts
+    → IsListedByForm processes depth (plain.hide gates b) moves
 hide_listed processes depth gates used b parts moves same part listed = λ signature represent leaves n.
     ap (each_below hidden (λ m. Some (hiding gates m))) (part signature represent leaves n)
     ∙ ap (λ (gs : List ℕ). option_map (filter_map (below hidden (λ m. Some (hiding gs m)))) parts) (sym same) ∙ sym listed
 
-pub enable_listed : (processes : List Process) (depth : ℕ) (b c used : Behaviour) (parts moves : Option (List ShapedMove)) → used ≡ c → IsPlainListing processes depth b parts →
-    ((signature : Signature) → moves ≡ option_map (filter_map (below_enable signature [] used)) parts) → IsListedByForm processes depth (plain.enable b [] c) moves
+pub enable_listed : (processes : List Process) (depth : ℕ) (b c used : Behaviour) (parts moves : Option (List ShapedMove)) → used ≡ c
+    → IsPlainListing processes depth b parts →
+    ((signature : Signature) → moves ≡ option_map (filter_map (below_enable signature [] used)) parts)
+    → IsListedByForm processes depth (plain.enable b [] c) moves
 enable_listed processes depth b c used parts moves same part listed = λ signature represent leaves n.
     ap (λ o. option_map (filter_map (below_enable signature [] c)) o) (part signature represent leaves n)
     ∙ ap (λ (d : Behaviour). option_map (filter_map (below_enable signature [] d)) parts) (sym same) ∙ sym (listed signature)
 
-pub relabel_listed : (processes : List Process) (depth : ℕ) (pairs used : Relabelling) (b : Behaviour) (parts moves : Option (List ShapedMove)) → used ≡ pairs → IsPlainListing processes depth b parts →
-    moves ≡ option_map (filter_map (below relabelled (λ m. Some (relabelling used m)))) parts → IsListedByForm processes depth (plain.relabel pairs b) moves
+pub relabel_listed : (processes : List Process) (depth : ℕ) (pairs used : Relabelling) (b : Behaviour)
+    (parts moves : Option (List ShapedMove)) → used ≡ pairs → IsPlainListing processes depth b parts →
+    moves ≡ option_map (filter_map (below relabelled (λ m. Some (relabelling used m)))) parts
+    → IsListedByForm processes depth (plain.relabel pairs b) moves
 relabel_listed processes depth pairs used b parts moves same part listed = λ signature represent leaves n.
     ap (each_below relabelled (λ m. Some (relabelling pairs m))) (part signature represent leaves n)
     ∙ ap (λ (ps : Relabelling). option_map (filter_map (below relabelled (λ m. Some (relabelling ps m)))) parts) (sym same) ∙ sym listed
@@ -47,7 +54,8 @@ both_alike : (signature : Signature) (meet : SynchronisationSet) (next : ℕ) {r
     → Option (List ShapedMove)} {o p : Option (List ShapedMove)} → r ≡ q → o ≡ p →
     option_and_then (both_below signature meet next r) o ≡ option_and_then (both_below signature meet next q) p
 both_alike signature meet next {q = q} {o = o} same_rights same_lefts =
-    ap (λ (f : ℕ → Option (List ShapedMove)). option_and_then (both_below signature meet next f) o) same_rights ∙ ap (option_and_then (both_below signature meet next q)) same_lefts
+    ap (λ (f : ℕ → Option (List ShapedMove)). option_and_then (both_below signature meet next f) o) same_rights
+    ∙ ap (option_and_then (both_below signature meet next q)) same_lefts
 
 -- the list of a parallel, from the lists of its sides
 abbrev parallel_list : Signature → SynchronisationSet → ℕ → Behaviour → Behaviour → Option (List ShapedMove) → Option (List ShapedMove)
@@ -71,7 +79,8 @@ parallel_listed processes depth meet b c used_left used_right lefts rights moves
     ∙ ap (λ (x : Behaviour). parallel_list signature meet n used_left x lefts rights) (sym same_right)
     ∙ sym (listed signature n)
 
-pub call_listed : (processes : List Process) (depth number : ℕ) (gates : List ℕ) (process : PlainProcess) (used : Relabelling) (parts moves : Option (List ShapedMove)) →
+pub call_listed : (processes : List Process) (depth number : ℕ) (gates : List ℕ) (process : PlainProcess) (used : Relabelling)
+    (parts moves : Option (List ShapedMove)) →
     slice_get processes number ≡ Some (process_of process) → used ≡ zip process.gates.items gates
     → IsPlainListing processes depth (without_values process.body.value) parts →
     moves ≡ option_map (filter_map (below called (λ m. Some (relabelling used m)))) parts →
@@ -79,7 +88,8 @@ pub call_listed : (processes : List Process) (depth number : ℕ) (gates : List 
 call_listed processes depth number gates process used parts moves found same part listed = λ signature represent leaves n.
     let setting : Setting = record { signature = signature; represent = represent; processes = processes } in
     ap (λ (o : Option Process). called_below setting n (listed_moves setting leaves depth) gates [] o) found
-    ∙ ap (λ (b : Behaviour). each_below called (λ m. Some (relabelling (zip process.gates.items gates) m)) (listed_moves setting leaves depth n b)) (same_with_values (binding_of [] []) process.body.value)
+    ∙ ap (λ (b : Behaviour). each_below called (λ m. Some (relabelling (zip process.gates.items gates) m))
+    (listed_moves setting leaves depth n b)) (same_with_values (binding_of [] []) process.body.value)
     ∙ ap (each_below called (λ m. Some (relabelling (zip process.gates.items gates) m))) (part signature represent leaves n)
     ∙ ap (λ (ps : Relabelling). option_map (filter_map (below called (λ m. Some (relabelling ps m)))) parts) (sym same)
     ∙ sym listed

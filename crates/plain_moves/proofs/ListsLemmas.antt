@@ -33,14 +33,19 @@ left_item {X} xs i x d h e = drop-cons xs i d h ∙ ap (λ (y : X). y ∷ drop (
 pub both_more : (signature : Signature) (meet : SynchronisationSet) (next : ℕ) (rights : ℕ → Option (List ShapedMove))
     (xs : List PlainMove) (i : ℕ) (x : PlainMove) (made here new : Option (List ShapedMove)) →
     i < length xs → x ≡ get_or xs i x →
-    one_behind made (both_below signature meet next rights (map shaped_of (drop i xs))) ≡ both_below signature meet next rights (map shaped_of xs) →
-    here ≡ each_below (both_sides (shaped_of x).shape) (together signature meet (shaped_of x).move) (rights (next + 0)) → new ≡ one_behind made here →
-    one_behind new (both_below signature meet next rights (map shaped_of (drop (i + 1) xs))) ≡ both_below signature meet next rights (map shaped_of xs)
+    one_behind made (both_below signature meet next rights (map shaped_of (drop i xs)))
+    ≡ both_below signature meet next rights (map shaped_of xs) →
+    here ≡ each_below (both_sides (shaped_of x).shape) (together signature meet (shaped_of x).move) (rights (next + 0))
+    → new ≡ one_behind made here →
+    one_behind new (both_below signature meet next rights (map shaped_of (drop (i + 1) xs)))
+    ≡ both_below signature meet next rights (map shaped_of xs)
 both_more signature meet next rights xs i x made here new h e so_far is_here is_new =
     ap (λ (o : Option (List ShapedMove)). one_behind o (both_below signature meet next rights (map shaped_of (drop (i + 1) xs)))) is_new
     ∙ one_behind-assoc made here (both_below signature meet next rights (map shaped_of (drop (i + 1) xs)))
-    ∙ ap (λ (o : Option (List ShapedMove)). one_behind made (one_behind o (both_below signature meet next rights (map shaped_of (drop (i + 1) xs))))) is_here
-    ∙ ap (λ (ys : List PlainMove). one_behind made (both_below signature meet next rights (map shaped_of ys))) (sym (left_item xs i x x h e))
+    ∙ ap (λ (o : Option (List ShapedMove)). one_behind made
+    (one_behind o (both_below signature meet next rights (map shaped_of (drop (i + 1) xs))))) is_here
+    ∙ ap (λ (ys : List PlainMove). one_behind made (both_below signature meet next rights (map shaped_of ys)))
+    (sym (left_item xs i x x h e))
     ∙ so_far
 
 -- one gate more
@@ -53,7 +58,8 @@ gates_more g moves gates i a made here new h e so_far is_here is_new =
     ap (λ (o : Option (List ShapedMove)). one_behind o (at_gates_below g (i + 1) (drop (i + 1) gates) moves)) is_new
     ∙ one_behind-assoc made here (at_gates_below g (i + 1) (drop (i + 1) gates) moves)
     ∙ ap (λ (o : Option (List ShapedMove)). one_behind made (one_behind o (at_gates_below g (i + 1) (drop (i + 1) gates) moves))) is_here
-    ∙ ap (λ n. one_behind made (one_behind (each_below (at_gate i) (λ m. Some (relabelling ((g, a) ∷ []) m)) moves) (at_gates_below g n (drop (i + 1) gates) moves))) (add-one i)
+    ∙ ap (λ n. one_behind made (one_behind (each_below (at_gate i) (λ m. Some (relabelling ((g, a) ∷ []) m)) moves)
+    (at_gates_below g n (drop (i + 1) gates) moves))) (add-one i)
     ∙ ap (λ (ys : List ℕ). one_behind made (at_gates_below g i ys moves)) (sym (left_item gates i a 0 h e))
     ∙ so_far
 

@@ -41,7 +41,8 @@ taken_asks_nothing signature rule.RightSide part = (refl, refl)
 taken_asks_nothing signature (rule.LeftAlone meet right) part = chosen (moves_alone (meet_of meet.now) (label_of part.label)) _ _ refl refl
 taken_asks_nothing signature (rule.RightAlone meet left) part = chosen (moves_alone (meet_of meet.now) (label_of part.label)) _ _ refl refl
 taken_asks_nothing signature (rule.BothWith meet left) part =
-    chosen (move_together signature (meet_of meet.now) (label_of left.now.label) (label_of part.label)) _ _ (no_equations left.now.label part.label) refl
+    chosen (move_together signature (meet_of meet.now) (label_of left.now.label) (label_of part.label)) _ _
+    (no_equations left.now.label part.label) refl
 taken_asks_nothing signature (rule.Hiding gates) part = (refl, refl)
 taken_asks_nothing signature (rule.Enabling right) part = enabled_asks_nothing part.label
   where
@@ -54,15 +55,21 @@ taken_asks_nothing signature (rule.AtGate position formal actual) part = (refl, 
 taken_asks_nothing signature (rule.Called pairs) part = (refl, refl)
 taken_asks_nothing signature (rule.Relabelled pairs) part = (refl, refl)
 
-same_parts : (shape other_shape : Shape) (m n : Move) → shape ≡ other_shape → m.label ≡ n.label → m.target ≡ n.target → m.asked ≡ n.asked → m.sorts ≡ n.sorts →
-    ◌≡◌ {A = Option ShapedMove} (Some (record { shape = shape; move = record { label = m.label; target = m.target; asked = m.asked; sorts = m.sorts } }))
+same_parts : (shape other_shape : Shape) (m n : Move) → shape ≡ other_shape → m.label ≡ n.label → m.target ≡ n.target → m.asked ≡ n.asked
+    → m.sorts ≡ n.sorts →
+    ◌≡◌ {A = Option ShapedMove} (Some (record {
+      shape = shape;
+      move = record { label = m.label; target = m.target; asked = m.asked; sorts = m.sorts };
+    }))
     (Some (record { shape = other_shape; move = record { label = n.label; target = n.target; asked = n.asked; sorts = n.sorts } }))
 same_parts shape other_shape m n shapes labels targets asked sorts = cc
 
 -- a move that asks nothing is known by its shape, its label and its target
 pub by_parts : (o : Option ShapedMove) (shape : Shape) (l : Label) (target : Behaviour) →
-    Some l ≡ option_map (λ (x : ShapedMove). x.move.label) o → IfSome o (λ x. x.shape ≡ shape) → IfSome o (λ x. x.move.target ≡ target) → AsksNothing o →
+    Some l ≡ option_map (λ (x : ShapedMove). x.move.label) o → IfSome o (λ x. x.shape ≡ shape) → IfSome o (λ x. x.move.target ≡ target)
+    → AsksNothing o →
     Some (record { shape = shape; move = record { label = l; target = target; asked = []; sorts = [] } }) ≡ o
 by_parts None shape l target label shapes targets nothing = absurd (cc)
 by_parts (Some x) shape l target label shapes targets nothing =
-    same_parts shape x.shape (record { label = l; target = target; asked = []; sorts = [] }) x.move (sym shapes) (cc) (sym targets) (sym nothing.0) (sym nothing.1)
+    same_parts shape x.shape (record { label = l; target = target; asked = []; sorts = [] }) x.move (sym shapes) (cc) (sym targets)
+    (sym nothing.0) (sym nothing.1)

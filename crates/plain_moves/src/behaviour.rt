@@ -77,7 +77,8 @@ pub fn parallel(
     right: Rc<PlainBehaviour>,
 ) -> Result<Rc<PlainBehaviour>, AllocError>
     ensures { IfOk result (λ made. without_values made.value
-        ≡ plain.parallel (meet_of meet.now) (without_values left.value) (without_values right.value)) }
+        ≡ plain.parallel (meet_of meet.now) (without_values left.value)
+        (without_values right.value)) }
 {
     shared(
         alloc,

@@ -1,4 +1,5 @@
-//! A plain, slow program that lists the moves of behaviours without values, as the definitions list them.
+//! A plain, slow program that lists the moves of behaviours without values, as the definitions list
+//! them.
 #![tactic(auto)]
 
 pub mod behaviour;

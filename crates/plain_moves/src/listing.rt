@@ -23,8 +23,8 @@ pub struct PlainProcess {
     pub body: Rc<PlainBehaviour>,
 }
 
-/// The moves of the behaviour, in their order. There is no list where its parts and the bodies of called processes
-/// reach below the depth.
+/// The moves of the behaviour, in their order. There is no list where its parts and the bodies of
+/// called processes reach below the depth.
 #[cycle(listing)]
 pub fn moves(
     alloc: Global,
@@ -33,7 +33,8 @@ pub fn moves(
     body: &Rc<PlainBehaviour>,
 ) -> Result<Option<Vec<PlainMove>>, AllocError>
     ensures { IfOk result
-        (λ o. IsPlainListing (map process_of processes.now) depth (without_values body.now.value) (list_of o)) }
+        (λ o. IsPlainListing (map process_of processes.now) depth (without_values body.now.value)
+        (list_of o)) }
 {
     if depth == 0 {
         return Ok(None);
@@ -44,7 +45,8 @@ pub fn moves(
 
 /// The behaviour, where a gate `par` is opened into its copies.
 pub fn opened(alloc: Global, body: &Rc<PlainBehaviour>) -> Result<Rc<PlainBehaviour>, AllocError>
-    ensures { IfOk result (λ made. without_values made.value ≡ table.opened (without_values body.now.value)) }
+    ensures { IfOk result (λ made. without_values made.value
+        ≡ table.opened (without_values body.now.value)) }
 {
     match &**body {
         PlainBehaviour::ParGate(gate, gates, meet, part) => copies(alloc, *gate, gates, meet, part),
@@ -61,7 +63,8 @@ fn by_form(
     body: &PlainBehaviour,
 ) -> Result<Option<Vec<PlainMove>>, AllocError>
     ensures { IfOk result
-        (λ o. IsListedByForm (map process_of processes.now) depth (without_values body.now) (list_of o)) }
+        (λ o. IsListedByForm (map process_of processes.now) depth (without_values body.now)
+        (list_of o)) }
 {
     match body {
         PlainBehaviour::Stop | PlainBehaviour::ParGate(..) => Ok(Some(Vec::new(alloc))),

@@ -98,7 +98,8 @@ pub fn in_disable(
     rights: &Option<Vec<PlainMove>>,
 ) -> Result<Option<Vec<PlainMove>>, AllocError>
     ensures { IfOk result (λ o. list_of o ≡ listing.one_behind
-        (listing.each_below shapes.left_side (λ m. Some (table.disabling (without_values right.now.value) m)) (list_of lefts.now))
+        (listing.each_below shapes.left_side
+        (λ m. Some (table.disabling (without_values right.now.value) m)) (list_of lefts.now))
         (listing.each_below shapes.right_side (λ m. Some m) (list_of rights.now))) }
 {
     let first = each_of(alloc, &Rule::Disabling(right), lefts)?;
@@ -117,11 +118,14 @@ pub fn in_parallel(
 ) -> Result<Option<Vec<PlainMove>>, AllocError>
     ensures { IfOk result (λ o. (signature : Signature) (next : ℕ) → list_of o ≡ listing.one_behind
         (listing.each_below shapes.left_side (table.alone (meet_of meet.now)
-        (λ target. plain.parallel (meet_of meet.now) target (without_values right.now.value))) (list_of lefts.now))
+        (λ target. plain.parallel (meet_of meet.now) target (without_values right.now.value)))
+        (list_of lefts.now))
         (listing.one_behind
         (listing.each_below shapes.right_side (table.alone (meet_of meet.now)
-        (λ target. plain.parallel (meet_of meet.now) (without_values left.now.value) target)) (list_of rights.now))
-        (option_and_then (listing.both_below signature (meet_of meet.now) next (λ k. list_of rights.now))
+        (λ target. plain.parallel (meet_of meet.now) (without_values left.now.value) target))
+        (list_of rights.now))
+        (option_and_then (listing.both_below signature (meet_of meet.now) next
+        (λ k. list_of rights.now))
         (list_of lefts.now)))) }
 {
     let first = each_of(alloc, &Rule::LeftAlone(meet, right), lefts)?;
@@ -138,7 +142,8 @@ pub fn both_of(
     rights: &Option<Vec<PlainMove>>,
 ) -> Result<Option<Vec<PlainMove>>, AllocError>
     ensures { IfOk result (λ o. (signature : Signature) (next : ℕ) → list_of o
-        ≡ option_and_then (listing.both_below signature (meet_of meet.now) next (λ k. list_of rights.now))
+        ≡ option_and_then (listing.both_below signature (meet_of meet.now) next
+        (λ k. list_of rights.now))
         (list_of lefts.now)) }
 {
     match lefts {
@@ -155,7 +160,8 @@ pub fn both(
     rights: &Option<Vec<PlainMove>>,
 ) -> Result<Option<Vec<PlainMove>>, AllocError>
     ensures { IfOk result (λ o. (signature : Signature) (next : ℕ) → list_of o
-        ≡ listing.both_below signature (meet_of meet.now) next (λ k. list_of rights.now) (map shaped_of lefts.now)) }
+        ≡ listing.both_below signature (meet_of meet.now) next (λ k. list_of rights.now)
+        (map shaped_of lefts.now)) }
 {
     let mut made = Some(Vec::new(alloc));
     for left in lefts {
@@ -172,7 +178,8 @@ pub fn at_gates(
     gates: &[u32],
     moves: &Option<Vec<PlainMove>>,
 ) -> Result<Option<Vec<PlainMove>>, AllocError>
-    ensures { IfOk result (λ o. list_of o ≡ listing.at_gates_below formal 0 gates.now (list_of moves.now)) }
+    ensures { IfOk result (λ o. list_of o ≡ listing.at_gates_below formal 0 gates.now
+        (list_of moves.now)) }
 {
     let mut made = Some(Vec::new(alloc));
     for position in 0..gates.len() {

@@ -46,7 +46,8 @@ pub fn moves_alone(meet: &PlainMeet, label: PlainLabel) -> bool
 /// Whether the two sides move together with these labels.
 pub fn move_together(meet: &PlainMeet, left: PlainLabel, right: PlainLabel) -> bool
     ensures { (signature : Signature)
-        → result ≡ rules_of.move_together signature (meet_of meet.now) (label_of left) (label_of right) }
+        → result ≡ rules_of.move_together signature (meet_of meet.now) (label_of left)
+        (label_of right) }
 {
     match (left, right) {
         (PlainLabel::Gate(gate), PlainLabel::Gate(other)) => gate == other

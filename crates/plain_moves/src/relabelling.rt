@@ -11,8 +11,8 @@ use crate::label::PlainLabel;
 use std::alloc::{AllocError, Global};
 use std::rc::Rc;
 
-/// The gate that the relabelling gives for a gate: the actual gate of the first pair with this formal gate, or the
-/// gate itself where there is none.
+/// The gate that the relabelling gives for a gate: the actual gate of the first pair with this
+/// formal gate, or the gate itself where there is none.
 pub fn gate_under(pairs: &[(u32, u32)], gate: u32) -> u32
     ensures { result ≡ labels.gate_under pairs.now gate }
 {
@@ -85,7 +85,8 @@ pub fn actuals_under(
     first: &[(u32, u32)],
     second: &[(u32, u32)],
 ) -> Result<Vec<(u32, u32)>, AllocError>
-    ensures { IfOk result (λ made. made.items ≡ map (λ p. (p.0, labels.gate_under second.now p.1)) first.now) }
+    ensures { IfOk result (λ made. made.items
+        ≡ map (λ p. (p.0, labels.gate_under second.now p.1)) first.now) }
 {
     let mut made = Vec::new(alloc);
     for (formal, actual) in first {
@@ -140,7 +141,8 @@ pub fn under(
     }
 }
 
-/// The copies of the body of a gate `par`, each relabelled by one gate, side by side and grouped to the right.
+/// The copies of the body of a gate `par`, each relabelled by one gate, side by side and grouped to
+/// the right.
 pub fn copies(
     alloc: Global,
     gate: u32,

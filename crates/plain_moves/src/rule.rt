@@ -106,7 +106,8 @@ impl<'a> Rule<'a> {
     /// The shape of that move.
     pub fn shape(&self, alloc: Global, part: &PlainMove) -> Result<Rc<PlainShape>, AllocError>
         ensures { IfOk result (λ s. (signature : Signature)
-            → IfSome (taken_of signature self.now (shaped_of part.now)) (λ x. x.shape ≡ shape_of s.value)) }
+            → IfSome (taken_of signature self.now (shaped_of part.now))
+            (λ x. x.shape ≡ shape_of s.value)) }
     {
         let shape = part.shape.clone()?;
         let made = match self {
@@ -126,7 +127,8 @@ impl<'a> Rule<'a> {
     /// The target of that move.
     pub fn target(&self, alloc: Global, part: &PlainMove) -> Result<Rc<PlainBehaviour>, AllocError>
         ensures { IfOk result (λ b. (signature : Signature)
-            → IfSome (taken_of signature self.now (shaped_of part.now)) (λ x. x.move.target ≡ without_values b.value)) }
+            → IfSome (taken_of signature self.now (shaped_of part.now))
+            (λ x. x.move.target ≡ without_values b.value)) }
     {
         let target = part.target.clone()?;
         match self {

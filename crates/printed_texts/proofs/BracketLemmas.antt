@@ -5,10 +5,12 @@ use Rattle.printed_texts.specs.Brackets.{round, bracketed, opening, closed, comm
 
 -- brackets that are closed behind what was written since they were opened
 pub closed_brackets :
-    (needed : Bool) (head text : List ℕ) → closed needed (length (head ++ opening needed)) ((head ++ opening needed) ++ text) ≡ head ++ bracketed needed text
+    (needed : Bool) (head text : List ℕ) → closed needed (length (head ++ opening needed)) ((head ++ opening needed) ++ text) ≡ head
+    ++ bracketed needed text
 closed_brackets true head text =
     rw (take-append_seam (head ++ codes "(") text) (rw (drop-append_seam (head ++ codes "(") text)
-    (ap (λ xs. xs ++ codes ")") (append_assoc head (codes "(") (spaced 42 text)) ∙ append_assoc head (codes "(" ++ spaced 42 text) (codes ")")))
+    (ap (λ xs. xs ++ codes ")") (append_assoc head (codes "(") (spaced 42 text))
+    ∙ append_assoc head (codes "(" ++ spaced 42 text) (codes ")")))
 closed_brackets false head text = ap (λ xs. xs ++ text) (append-nil head)
 
 -- the same, where the parts are known by equations
@@ -26,7 +28,8 @@ closed_text needed head opened written end text position is_opened at is_written
     ∙ closed_brackets needed head text
 
 -- the next text of a list
-pub listed_next : (number : ℕ) (text : List ℕ) (texts : List (List ℕ)) → listed number (text ∷ texts) ≡ separator number ++ text ++ listed (number + 1) texts
+pub listed_next : (number : ℕ) (text : List ℕ) (texts : List (List ℕ))
+    → listed number (text ∷ texts) ≡ separator number ++ text ++ listed (number + 1) texts
 listed_next zero text texts = refl
 listed_next (suc number) text texts = rw (add-one (suc number)) refl
 
@@ -67,5 +70,6 @@ pub listed_all :
 listed_all text_of members number now start over below written =
     let same : number ≡ length members = omega arith in
     let nothing : listed number (map text_of (drop number members)) ≡ []
-    = ap (λ n. listed number (map text_of (drop n members))) same ∙ ap (λ ms. listed number (map text_of ms)) (drop-length members) ∙ listed_nothing number in
+    = ap (λ n. listed number (map text_of (drop n members))) same ∙ ap (λ ms. listed number (map text_of ms)) (drop-length members)
+    ∙ listed_nothing number in
     sym (append-nil now) ∙ ap (λ xs. now ++ xs) (sym nothing) ∙ written

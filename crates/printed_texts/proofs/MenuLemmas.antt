@@ -59,7 +59,8 @@ pub lines_more :
 lines_more s gates entries position was now start below before with_line =
     ap (λ xs. xs ++ written_lines s gates (position + 1 + 1) (drop (position + 1) entries)) with_line
     ∙ append_assoc was (line_at s gates (position + 1) (slice_get entries position)) _
-    ∙ ap (λ n. was ++ (line_at s gates (position + 1) (slice_get entries position) ++ written_lines s gates (position + 1 + 1) (drop n entries)))
+    ∙ ap (λ n. was ++ (line_at s gates (position + 1) (slice_get entries position)
+    ++ written_lines s gates (position + 1 + 1) (drop n entries)))
     (add-one position)
     ∙ ap (λ xs. was ++ xs) (sym (lines_at s gates entries position (position + 1) below))
     ∙ before

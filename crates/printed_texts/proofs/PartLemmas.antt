@@ -23,7 +23,8 @@ written_last s names [] part text = refl
 written_last s names (first ∷ parts) part text = ap (with_part s names first) (written_last s names parts part text)
 
 -- one part more on the list, which comes next
-pub written_more : (s : Signature) (names : List Variable) (more parts : List Part) (part : Part) (text : List ℕ) → more ≡ parts ++ part ∷ []
+pub written_more : (s : Signature) (names : List Variable) (more parts : List Part) (part : Part) (text : List ℕ)
+    → more ≡ parts ++ part ∷ []
     → written s names more text ≡ written s names parts (with_part s names part text)
 written_more s names more parts part text is = ap (λ ps. written s names ps text) is ∙ written_last s names parts part text
 

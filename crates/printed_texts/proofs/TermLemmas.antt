@@ -132,7 +132,8 @@ arguments_are s names (t ∷ ts) true h k = ap (λ texts. round (commas texts)) 
 arguments_are s names (t ∷ ts) false h k = let none : (t ∷ ts) ≡ [] = h refl in grind arith
 
 -- the text of an operation that stands before its arguments, where it is an operand too
-shown_before : (operand : Bool) (s : Signature) (o : Operation) (phrases : List Phrase) → shown operand (prefix_phrase s o phrases) ≡ phrase_text (prefix_phrase s o phrases)
+shown_before : (operand : Bool) (s : Signature) (o : Operation) (phrases : List Phrase)
+    → shown operand (prefix_phrase s o phrases) ≡ phrase_text (prefix_phrase s o phrases)
 shown_before true s o phrases = refl
 shown_before false s o phrases = refl
 
@@ -170,7 +171,8 @@ node_is s names f profile ts = ap (λ t. phrase_of (signature_of s) (map variabl
 -- whether a list has members, by its length
 pub empty_list : {X : Type 0} (xs : List X) (number : ℕ) → number ≡ length xs → not (nat_eq number 0) ≡ false → xs ≡ []
 empty_list [] number h k = refl
-empty_list (x ∷ xs) number h k = let computed : not (nat_eq (length (x ∷ xs)) 0) ≡ false = ap (λ n. not (nat_eq n 0)) (sym h) ∙ k in grind arith
+empty_list (x ∷ xs) number h k = let computed : not (nat_eq (length (x ∷ xs)) 0) ≡ false = ap (λ n. not (nat_eq n 0)) (sym h)
+    ∙ k in grind arith
 
 pub full_list : {X : Type 0} (xs : List X) (number : ℕ) → number ≡ length xs → not (nat_eq number 0) ≡ true → length xs ≡ 0 → ⊥
 full_list xs number h k none = let computed : not (nat_eq 0 0) ≡ true = ap (λ n. not (nat_eq n 0)) (sym (h ∙ none)) ∙ k in grind arith

@@ -34,7 +34,8 @@ phrases_in signature names terms = phrases_of (signature_of signature) (map vari
 
 -- an operation on these arguments, before them and between them
 abbrev pub prefix_in : Signature → List Variable → Op → List Term → Phrase
-prefix_in signature names operation terms = prefix_phrase (signature_of signature) (operation_of operation) (phrases_in signature names terms)
+prefix_in signature names operation terms = prefix_phrase (signature_of signature) (operation_of operation)
+    (phrases_in signature names terms)
 
 abbrev pub infix_in : Signature → List Variable → Op → List Term → Phrase
 infix_in signature names operation terms =

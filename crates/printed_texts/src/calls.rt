@@ -11,10 +11,10 @@ use event_offers::{Label, Menu, Spec};
 use lotos_base::NoMemory;
 use sort_terms::{Signature, Sorted, Variable};
 
-/// Appends the text of a term (ISO 8807:1989, value expressions): `f(a, b)`, or `l + r` for an infix
-/// operation, where an operand that is infix stands in brackets. ` of S` follows where another
-/// operation has the same name, form and argument sorts. A variable has the first of the names with
-/// its number; the variable number `k` without one is `$` and the decimal of `k + 1`.
+/// Appends the text of a term (ISO 8807:1989, value expressions): `f(a, b)`, or `l + r` for an
+/// infix operation, where an operand that is infix stands in brackets. ` of S` follows where
+/// another operation has the same name, form and argument sorts. A variable has the first of the
+/// names with its number; the variable number `k` without one is `$` and the decimal of `k + 1`.
 pub fn term_text(
     signature: &Signature,
     names: &[Variable],

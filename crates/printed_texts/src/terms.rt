@@ -160,8 +160,8 @@ fn push_head<'a>(
     }
 }
 
-// Appends what comes first of an infix operation on two operands. Its sort is written where it has a
-// twin.
+// Appends what comes first of an infix operation on two operands. Its sort is written where it has
+// a twin.
 fn push_infix<'a>(
     operation: &'a Op,
     with_sort: bool,
@@ -215,7 +215,8 @@ fn push_prefix<'a>(
     Ok(())
 }
 
-// Appends what comes before the argument with this number, if there is one, and puts it on the list with those behind it.
+// Appends what comes before the argument with this number, if there is one, and puts it on the list
+// with those behind it.
 fn push_argument<'a>(
     arguments: &'a Vec<Term>,
     index: usize,

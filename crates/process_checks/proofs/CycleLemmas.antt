@@ -101,7 +101,8 @@ module _ (graph : List (List ℕ)) (distances : List (Option ℕ)) (process curr
       let le : length kept.positions ≤ length led.positions = kept.shortest led.positions led.way led.leads in
       omega (arith, le, led.long)
 
-  other_long : (other : ℕ) (others other_way : List ℕ) (k : ℕ) → IsCallAt graph current k other → CallsLead graph other others other_way process
+  other_long : (other : ℕ) (others other_way : List ℕ) (k : ℕ) → IsCallAt graph current k other
+      → CallsLead graph other others other_way process
       → left ≤ length others
   other_long other others other_way k calls leads =
       let w : IsWay graph current (suc (length others)) process =
@@ -109,7 +110,8 @@ module _ (graph : List (List ℕ)) (distances : List (Option ℕ)) (process curr
       let le : suc left ≤ suc (length others) = no_nearer graph distances process current (suc left) (suc (length others)) exact near w in
       omega (arith, le)
 
-  shortest_here : (others other_way : List ℕ) → CallsLead graph current others other_way process → suc (length kept.positions) ≤ length others
+  shortest_here : (others other_way : List ℕ) → CallsLead graph current others other_way process
+      → suc (length kept.positions) ≤ length others
   shortest_here [] [] leads =
       let le : suc left ≤ 0 = no_nearer graph distances process current (suc left) 0 exact near leads in
       absurd (omega (arith, le))
@@ -121,7 +123,8 @@ module _ (graph : List (List ℕ)) (distances : List (Option ℕ)) (process curr
       omega (arith, le, s)
 
   -- a call from which a shortest way goes on has the distance
-  is_near : (other : ℕ) (others other_way : List ℕ) (k : ℕ) → IsCallAt graph current k other → CallsLead graph other others other_way process
+  is_near : (other : ℕ) (others other_way : List ℕ) (k : ℕ) → IsCallAt graph current k other
+      → CallsLead graph other others other_way process
       → length others ≡ length kept.positions → distance_in distances other ≡ Some left
   is_near other others other_way k calls leads long =
       let h : (m : ℕ) × ((distance_in distances other ≡ Some m) × (m ≤ length others)) =

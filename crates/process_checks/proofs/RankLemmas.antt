@@ -46,7 +46,8 @@ cycle_of : (graph : List (List ℕ)) (process position : ℕ) → LiesOnCycle gr
 cycle_of graph process position on =
     (process, (length on.positions, way_of_leads graph process (position ∷ on.positions) on.way process on.leads))
 
-pub refused_cycle : (spec : Spec) (fault : RankFault) → RefusesRanks spec fault → IsCyclic fault → IsGuarded (specification_of spec).processes
+pub refused_cycle : (spec : Spec) (fault : RankFault) → RefusesRanks spec fault → IsCyclic fault
+    → IsGuarded (specification_of spec).processes
     → ⊥
 refused_cycle spec (Unguarded place process cycle) refuses cyclic guarded =
     not_guarded spec.processes.items

@@ -58,7 +58,8 @@ fn empty_lists(alloc: Global, count: usize) -> Result<Vec<Vec<u32>>, NoMemory>
 // Puts the process among the callers of those that it calls.
 fn add_calls(graph: &Vec<Vec<u32>>, process: u32, made: &mut Vec<Vec<u32>>) -> Result<(), NoMemory>
     ensures { IfOk result (λ _. lists_of made.new.items
-        ≡ with_calls process (calls_at (lists_of graph.now.items) process) (lists_of made.old.items)) }
+        ≡ with_calls process (calls_at (lists_of graph.now.items) process)
+        (lists_of made.old.items)) }
 {
     for position in 0..call_count(graph, process) {
         add_call(graph, process, position, made)?;

@@ -1,6 +1,6 @@
 //! Checks of the processes of a specification: whether functionalities agree (ISO 8807:1989, static
-//! semantics), and whether recursion is guarded, with ranks that show it. Its tests are whole texts,
-//! in `resolution_cases`.
+//! semantics), and whether recursion is guarded, with ranks that show it. Its tests are whole
+//! texts, in `resolution_cases`.
 #![tactic(auto)]
 
 pub mod calls;

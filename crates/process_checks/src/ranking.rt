@@ -78,7 +78,8 @@ fn refusal(
     requires graph { lists_of graph.now.items ≡ graph_of spec.now.processes.items }
     requires distances { AreDistances (lists_of graph.now.items) process distances.now.items }
     requires back { IsFirstBack (lists_of graph.now.items) distances.now.items process back }
-    requires first { (earlier k : ℕ) → earlier < process → LiesOnCycle (lists_of graph.now.items) earlier k → ⊥ }
+    requires first { (earlier k : ℕ) → earlier < process
+        → LiesOnCycle (lists_of graph.now.items) earlier k → ⊥ }
     ensures { IfOk result (λ fault. RefusesRanks spec.now fault) }
 {
     let cycle = kept_cycle(alloc, graph, distances, process, back)?;

@@ -274,7 +274,8 @@ impl Search {
         requires latest { IsLatest self.old.chain.items process }
         requires room { length graph.now.items + 1 < 2 ^ 32 }
         ensures going { IfOk result (λ going. going ≡ true
-            → IsStep (lists_of graph.now.items) self.old self.new × (left_in self.new < left_in self.old)) }
+            → IsStep (lists_of graph.now.items) self.old self.new
+            × (left_in self.new < left_in self.old)) }
         ensures cyclic { IfOk result (λ going. going ≡ false
             → CallsHaveCycle (lists_of graph.now.items)) }
     {
@@ -301,7 +302,8 @@ impl Search {
         requires found { IsPending (lists_of graph.now.items) self.old.statuses.items process
             (position_of (status_at self.old.statuses.items process)) found }
         ensures going { IfOk result (λ going. going ≡ true
-            → IsStep (lists_of graph.now.items) self.old self.new × (left_in self.new < left_in self.old)) }
+            → IsStep (lists_of graph.now.items) self.old self.new
+            × (left_in self.new < left_in self.old)) }
         ensures cyclic { IfOk result (λ going. going ≡ false
             → CallsHaveCycle (lists_of graph.now.items)) }
     {

@@ -9,7 +9,7 @@ use Rattle.type_definitions.specs.TypeFault.{TypeFault, double_sort, unknown_sor
 use Rattle.scope_parts.specs.ScopeFault as scope
 use Rattle.printed_texts.specs.Brackets.{round, commas}
 use Rattle.printed_texts.specs.TermText.{sort_text, term_text}
-use Rattle.start_values.specs.Refusal.{Refusal, too_long, bad_byte, open_comment, wrong_syntax, too_deep, too_many_libraries, wrong_names, wrong_types, wrong_scopes, mismatch, unguarded, unknown_operation, twice_listed, unorientable, unjoined, start_values, start_term}
+use Rattle.start_values.specs.Refusal.{Refusal, too_long, bad_byte, open_comment, wrong_syntax, too_deep, too_many_libraries, wrong_names, wrong_types, wrong_scopes, mismatch, unguarded, unknown_operation, twice_listed, bad_status, unorientable, unjoined, start_values, start_term}
 use Rattle.refusal_lines.specs.TextNames.{TextNames, place_text}
 use Rattle.refusal_lines.specs.RefusalPlace.{place_of_equation}
 
@@ -130,6 +130,7 @@ detail_of names data_ spec (mismatch place left right) = mismatch_detail data_ l
 detail_of names data_ spec (unguarded place process cycle) = cycle_detail spec cycle
 detail_of names data_ spec (unknown_operation place name) = behind_blank name
 detail_of names data_ spec (twice_listed place name) = behind_blank name
+detail_of names data_ spec (bad_status place name) = behind_blank name
 detail_of names data_ spec (unorientable equation) = equation_detail data_ equation
 detail_of names data_ spec (unjoined first second peak left right) = pair_detail names data_ second peak left right
 detail_of names data_ spec (start_values wanted given) = counts_text wanted given

@@ -5,7 +5,7 @@ use Rattle.lotos_base.specs.Equation.{Place, Equation, Data}
 use Rattle.type_definitions.specs.MentionFaults.{MentionFault, double_type, unknown_type, type_cycle}
 use Rattle.type_definitions.specs.TypeFault.{TypeFault, double_sort, unknown_sort, double_operation, unknown_operation as no_operation, not_formal, missing_actual, premised, unknown_name, no_reading, two_readings, too_large}
 use Rattle.scope_parts.specs.ScopeFault.{fault_place, refusal_place}
-use Rattle.start_values.specs.Refusal.{Refusal, too_long, bad_byte, open_comment, wrong_syntax, too_deep, too_many_libraries, wrong_names, wrong_types, wrong_scopes, mismatch, unguarded, unknown_operation, twice_listed, unorientable, unjoined, start_values, start_term}
+use Rattle.start_values.specs.Refusal.{Refusal, too_long, bad_byte, open_comment, wrong_syntax, too_deep, too_many_libraries, wrong_names, wrong_types, wrong_scopes, mismatch, unguarded, unknown_operation, twice_listed, bad_status, unorientable, unjoined, start_values, start_term}
 
 -- where a text begins
 abbrev pub beginning : ℕ → Place
@@ -54,6 +54,7 @@ place_of known (mismatch place left right) = Some place
 place_of known (unguarded place process cycle) = Some place
 place_of known (unknown_operation place name) = Some place
 place_of known (twice_listed place name) = Some place
+place_of known (bad_status place name) = Some place
 place_of known (unorientable equation) = place_of_equation known equation
 place_of known (unjoined first second peak left right) = place_of_equation known first
 place_of known (start_values wanted given) = None

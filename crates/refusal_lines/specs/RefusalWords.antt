@@ -4,7 +4,7 @@ use Rattle.sort_terms.specs.ReadingOutcome as reading
 use Rattle.type_definitions.specs.MentionFaults.{MentionFault, double_type, unknown_type, type_cycle}
 use Rattle.type_definitions.specs.TypeFault.{TypeFault, double_sort, unknown_sort, double_operation, unknown_operation as no_operation, not_formal, missing_actual, premised, unknown_name, no_reading, two_readings, too_large}
 use Rattle.scope_parts.specs.ScopeFault as scope
-use Rattle.start_values.specs.Refusal.{Refusal, too_long, bad_byte, open_comment, wrong_syntax, too_deep, too_many_libraries, wrong_names, wrong_types, wrong_scopes, mismatch, unguarded, unknown_operation, twice_listed, unorientable, unjoined, start_values, start_term}
+use Rattle.start_values.specs.Refusal.{Refusal, too_long, bad_byte, open_comment, wrong_syntax, too_deep, too_many_libraries, wrong_names, wrong_types, wrong_scopes, mismatch, unguarded, unknown_operation, twice_listed, bad_status, unorientable, unjoined, start_values, start_term}
 
 -- of the names of types
 abbrev pub words_of_names : MentionFault → List ℕ
@@ -59,6 +59,7 @@ words_of (mismatch place left right) = codes "401 Mismatch"
 words_of (unguarded place process cycle) = codes "402 Unguarded"
 words_of (unknown_operation place name) = codes "501 OrderOperation"
 words_of (twice_listed place name) = codes "502 TwiceListed"
+words_of (bad_status place name) = codes "503 BadStatus"
 words_of (unorientable equation) = codes "601 Unorientable"
 words_of (unjoined first second peak left right) = codes "602 Unjoined"
 words_of (start_values wanted given) = codes "701 StartValues"

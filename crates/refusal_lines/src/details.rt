@@ -153,6 +153,7 @@ fn push_book_detail(
     match fault {
         BookFault::UnknownOperation { name, .. } => push_name(name, into),
         BookFault::TwiceListed { name, .. } => push_name(name, into),
+        BookFault::BadStatus { name, .. } => push_name(name, into),
         BookFault::Unorientable { equation } => push_equation(flat, *equation, into),
         BookFault::Unjoined {
             second,

@@ -14,8 +14,8 @@ use printed_texts::brackets::push_text;
 use start_values::Refused;
 
 /// Appends the line of a refusal: `refused`, its number and name, where it stands, and its detail.
-/// `spec` and `order` are the words for the specification and the order file; `order` is empty where
-/// there is none. After want of memory `into` is as it was.
+/// `spec` and `order` are the words for the specification and the order file; `order` is empty
+/// where there is none. After want of memory `into` is as it was.
 pub fn refusal_line(
     spec: &str,
     order: &str,

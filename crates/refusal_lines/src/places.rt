@@ -154,6 +154,7 @@ fn book_place(fault: &BookFault, flat: &Option<Flat>) -> Option<Place>
     match fault {
         BookFault::UnknownOperation { place, .. } => Some(*place),
         BookFault::TwiceListed { place, .. } => Some(*place),
+        BookFault::BadStatus { place, .. } => Some(*place),
         BookFault::Unorientable { equation } => equation_place(flat, *equation),
         BookFault::Unjoined { first, .. } => equation_place(flat, *first),
         BookFault::NoMemory => None,

@@ -134,6 +134,7 @@ fn book_words(fault: &BookFault) -> &'static [u8]
     match fault {
         BookFault::UnknownOperation { .. } => b"501 OrderOperation",
         BookFault::TwiceListed { .. } => b"502 TwiceListed",
+        BookFault::BadStatus { .. } => b"503 BadStatus",
         BookFault::Unorientable { .. } => b"601 Unorientable",
         BookFault::Unjoined { .. } => b"602 Unjoined",
         BookFault::NoMemory => b"",

@@ -38,7 +38,8 @@ use Rattle.scope_parts.proofs.PartsTell.{gates_tell, variables_tell, exit_values
 -- the counts, once each is compared
 abbrev counted_so : Place → ℕ → ℕ → Callable → Bool → Bool → Resolution Callable
 counted_so place gates values p one other =
-    if one then if other then resolved p else faulty (value_count place (length p.sorts) values) else faulty (gate_count place p.gates gates)
+    if one then if other then resolved p else faulty (value_count place (length p.sorts) values) else faulty
+    (gate_count place p.gates gates)
 
 wrong_gates : (place : Place) (gates values : ℕ) (p : Callable) (other : Bool) → gates ≢ p.gates
     → TellsFirstFault (Is (counted_so place gates values p false other)) (CalledHas place [] gates values (Some p))
@@ -103,7 +104,8 @@ counted_same place gates values p x h = by_gates (nat_eq gates p.gates) (nat_eq 
     by_gates false other e = never_faulty x (gate_count place p.gates gates) e
 
 called_tells : (place : Place) (name : List ℕ) (gates values : ℕ) (found : Option Callable)
-    → TellsFirstFault (Is (and_then (found_process place name found) (counted_call place gates values))) (CalledHas place name gates values found)
+    → TellsFirstFault (Is (and_then (found_process place name found) (counted_call place gates values)))
+    (CalledHas place name gates values found)
 called_tells place name gates values None = record {
   found = λ f h. same_fault f (unknown_process place name) h;
   first = λ f g h k. same_not_after f g (same_fault f (unknown_process place name) h ∙ sym k);
@@ -168,7 +170,8 @@ sign_tells signature scope numbers (synchronising names) left Right Has ps follo
     then_tells (gates_tell scope.gates names follow)
     (λ (gates : List ℕ) is. made_tells (λ behind. parallel (at_gates gates) left behind) (right scope numbers))
     (apart (name_places names) ps
-    (answers_within (name_places names) (gates_tell scope.gates names follow) (gates_within scope.gates names)) (within scope numbers) before)
+    (answers_within (name_places names) (gates_tell scope.gates names follow) (gates_within scope.gates names)) (within scope numbers)
+    before)
 sign_tells signature scope numbers disabling left Right Has ps follow before right within = made_tells _ (right scope numbers)
 sign_tells signature scope numbers (enabling accepted) left Right Has ps follow before right within =
     then_tells (variables_tell signature numbers.variable accepted follow)
@@ -258,7 +261,8 @@ behaviours_tell signature scope numbers (written.choose_value place variables in
     (variables_within signature numbers.variable variables))
     (seeing_within (Is (variables_at signature numbers.variable variables)) (BehindVariables signature scope numbers variables inside)
     (behaviour_places inside)
-    (λ (chosen : List Variable). behaviour_within signature (with_variables chosen scope) (past_variables (length variables) numbers) inside))
+    (λ (chosen : List Variable). behaviour_within signature (with_variables chosen scope) (past_variables (length variables) numbers)
+    inside))
     follow.0.0.0)
 behaviours_tell signature scope numbers (written.choose_gate place gates inside) follow =
     then_tells (choices_tell scope.gates numbers.gate gates follow.1)
@@ -282,7 +286,8 @@ behaviours_tell signature scope numbers (written.par_gate place gates sign insid
     (both_before (choice_places gates) (sign_places sign) (behaviour_places inside) follow.0.0.1.0 follow.0.1.0.0))
 behaviours_tell signature scope numbers (written.binary place sign left right) follow =
     then_tells (behaviours_tell signature scope numbers left follow.2)
-    (λ (first : Behaviour) is. sign_tells signature scope (past left numbers) sign first (λ inside behind. BehaviourIs signature inside behind right)
+    (λ (first : Behaviour) is. sign_tells signature scope (past left numbers) sign first
+    (λ inside behind. BehaviourIs signature inside behind right)
     (λ inside behind. HasFault signature inside behind right) (behaviour_places right) follow.1 follow.0.1.0.0
     (λ s n. behaviours_tell signature s n right follow.3) (λ s n. behaviour_within signature s n right))
     (apart (behaviour_places left) (sign_places sign ++ behaviour_places right)

@@ -30,7 +30,8 @@ doubled_found before (name ∷ names) d e =
     by_test : (b : Bool) → is_bound before name.name ≡ b
         → (if b then Some name else double_from (bind name.name 0 before) names) ≡ Some d
         → (double_from (bind name.name 0 before) names ≡ Some d → DoubledAfter (bind name.name 0 before) names (doubled_at d))
-        → ((is_bound before name.name ≡ true) × (doubled_at d ≡ doubled_at name)) ⊎ DoubledAfter (bind name.name 0 before) names (doubled_at d)
+        → ((is_bound before name.name ≡ true) × (doubled_at d ≡ doubled_at name)) ⊎ DoubledAfter (bind name.name 0 before) names
+        (doubled_at d)
     by_test true is e later = inl (is, let same : d ≡ name = cc in ap doubled_at same)
     by_test false is e later = inr (later e)
 
@@ -64,7 +65,8 @@ doubled_first before (name ∷ names) d g rise e k =
     by_test : (b : Bool) → is_bound before name.name ≡ b
         → (if b then Some name else double_from (bind name.name 0 before) names) ≡ Some d
         → ((is_bound before name.name ≡ true) × (g ≡ doubled_at name)) ⊎ DoubledAfter (bind name.name 0 before) names g
-        → (double_from (bind name.name 0 before) names ≡ Some d → DoubledAfter (bind name.name 0 before) names g → NotAfter (doubled_at d) g)
+        → (double_from (bind name.name 0 before) names ≡ Some d → DoubledAfter (bind name.name 0 before) names g
+        → NotAfter (doubled_at d) g)
         → NotAfter (doubled_at d) g
     by_test true is e h later = at_name (let same : d ≡ name = cc in same) h
     by_test false is e (inl h) later = absurd (let bound = h.0 in let no : ⊥ = cc in no)
@@ -72,16 +74,19 @@ doubled_first before (name ∷ names) d g rise e k =
 
 -- ---- The names of a list beside what else is in it
 
-none_found : {A : Type 0} {Others : Resolution A → Type 0} {Has : ScopeFault → Type 0} (One : ScopeFault → Type 0) → TellsFirstFault Others Has
+none_found : {A : Type 0} {Others : Resolution A → Type 0} {Has : ScopeFault → Type 0} (One : ScopeFault → Type 0)
+    → TellsFirstFault Others Has
     → (f : ScopeFault) → Beside None Others (faulty f) → One f ⊎ Has f
 none_found {Others = Others} One tells f h = inr (tells.found f (subst Others (sym h.2) h.1))
 
-none_first : {A : Type 0} {Others : Resolution A → Type 0} {Has : ScopeFault → Type 0} (One : ScopeFault → Type 0) → TellsFirstFault Others Has
+none_first : {A : Type 0} {Others : Resolution A → Type 0} {Has : ScopeFault → Type 0} (One : ScopeFault → Type 0)
+    → TellsFirstFault Others Has
     → ((g : ScopeFault) → ¬ One g) → (f g : ScopeFault) → Beside None Others (faulty f) → One g ⊎ Has g → NotAfter f g
 none_first One tells nothing f g h (inl k) = absurd (nothing g k)
 none_first {Others = Others} One tells nothing f g h (inr k) = tells.first f g (subst Others (sym h.2) h.1) k
 
-none_none : {A : Type 0} {Others : Resolution A → Type 0} {Has : ScopeFault → Type 0} (One : ScopeFault → Type 0) → TellsFirstFault Others Has
+none_none : {A : Type 0} {Others : Resolution A → Type 0} {Has : ScopeFault → Type 0} (One : ScopeFault → Type 0)
+    → TellsFirstFault Others Has
     → ((g : ScopeFault) → ¬ One g) → (x : A) (g : ScopeFault) → Beside None Others (resolved x) → ¬ (One g ⊎ Has g)
 none_none One tells nothing x g h (inl k) = nothing g k
 none_none {Others = Others} One tells nothing x g h (inr k) = tells.none x g (subst Others (sym h.2) h.1) k
@@ -89,14 +94,16 @@ none_none {Others = Others} One tells nothing x g h (inr k) = tells.none x g (su
 abbrev OneFirst : (ScopeFault → Type 0) → ScopeFault → Type 0
 OneFirst One d = One d × ((g : ScopeFault) → One g → NotAfter d g)
 
-some_found : {A : Type 0} {Others : Resolution A → Type 0} {Has : ScopeFault → Type 0} (One : ScopeFault → Type 0) → TellsFirstFault Others Has → (d : PlacedName)
+some_found : {A : Type 0} {Others : Resolution A → Type 0} {Has : ScopeFault → Type 0} (One : ScopeFault → Type 0)
+    → TellsFirstFault Others Has → (d : PlacedName)
     → OneFirst One (doubled_at d) → (f : ScopeFault) (r : Resolution A) → Others r → faulty f ≡ beside (Some d) r → One f ⊎ Has f
 some_found One tells d one f (resolved y) is e = inl (subst One (sym (same_fault f (doubled_at d) e)) one.0)
 some_found {Has = Has} One tells d one f (faulty o) is e =
     subst (λ (x : ScopeFault). One x ⊎ Has x) (sym (same_fault f (first_of_two (doubled_at d) o) e))
     (first_has (λ (x : ScopeFault). One x ⊎ Has x) (doubled_at d) o (inl one.0) (inr (tells.found o is)))
 
-some_first : {A : Type 0} {Others : Resolution A → Type 0} {Has : ScopeFault → Type 0} (One : ScopeFault → Type 0) → TellsFirstFault Others Has → (d : PlacedName)
+some_first : {A : Type 0} {Others : Resolution A → Type 0} {Has : ScopeFault → Type 0} (One : ScopeFault → Type 0)
+    → TellsFirstFault Others Has → (d : PlacedName)
     → OneFirst One (doubled_at d) → (f g : ScopeFault) (r : Resolution A) → Others r → faulty f ≡ beside (Some d) r → One g ⊎ Has g
     → NotAfter f g
 some_first One tells d one f g (resolved y) is e (inl k) =
@@ -114,10 +121,12 @@ some_none d x (resolved y) e = never_faulty x (doubled_at d) e
 some_none d x (faulty o) e = never_faulty x (first_of_two (doubled_at d) o) e
 
 pub beside_tells : {A : Type 0} {Others : Resolution A → Type 0} {Has : ScopeFault → Type 0} (names : List PlacedName)
-    → Rising (name_places names) → TellsFirstFault Others Has → TellsFirstFault (Beside (first_double names) Others) (λ f. Doubled names f ⊎ Has f)
+    → Rising (name_places names) → TellsFirstFault Others Has
+    → TellsFirstFault (Beside (first_double names) Others) (λ f. Doubled names f ⊎ Has f)
 beside_tells {Others = Others} {Has = Has} names rise tells = by_double (first_double names) refl
   where
-    by_double : (found : Option PlacedName) → double_from [] names ≡ found → TellsFirstFault (Beside found Others) (λ f. Doubled names f ⊎ Has f)
+    by_double : (found : Option PlacedName) → double_from [] names ≡ found
+        → TellsFirstFault (Beside found Others) (λ f. Doubled names f ⊎ Has f)
     by_double None e = record {
       found = none_found (Doubled names) tells;
       first = none_first (Doubled names) tells (λ g. not_doubled [] names g e);
@@ -132,5 +141,6 @@ beside_tells {Others = Others} {Has = Has} names rise tells = by_double (first_d
 
 -- as it is computed
 pub beside_is_tells : {A : Type 0} {Has : ScopeFault → Type 0} (names : List PlacedName) (others : Resolution A)
-    → Rising (name_places names) → TellsFirstFault (Is others) Has → TellsFirstFault (Is (beside (first_double names) others)) (λ f. Doubled names f ⊎ Has f)
+    → Rising (name_places names) → TellsFirstFault (Is others) Has
+    → TellsFirstFault (Is (beside (first_double names) others)) (λ f. Doubled names f ⊎ Has f)
 beside_is_tells names others rise tells = beside_computed (first_double names) others (beside_tells names rise tells)

@@ -48,7 +48,8 @@ same_gates one other names visible =
     ∙ ap (λ (bs : List Binding). record { names = other.names; visible = bs }) visible
 
 -- what was bound stands in front of what was bound before
-bound_over : (names : List (List ℕ)) (n : ℕ) (bindings : List Binding) → (front : List Binding) × (bind_all names n bindings ≡ front ++ bindings)
+bound_over : (names : List (List ℕ)) (n : ℕ) (bindings : List Binding) → (front : List Binding)
+    × (bind_all names n bindings ≡ front ++ bindings)
 bound_over [] n bindings = ([], refl)
 bound_over (name ∷ names) n bindings =
     let rest = bound_over names (suc n) (bind name n bindings) in (

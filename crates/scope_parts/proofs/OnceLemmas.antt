@@ -63,7 +63,8 @@ abbrev from_outcome : {A : Type 0} → ReadingOutcome A → Resolution A
 from_outcome (answered x) = resolved x
 from_outcome (refused r) = faulty (refused_term r)
 
-outcome_of : {A : Type 0} (C : ReadingOutcome A → Type 0) (r : Resolution A) → AsResolution C r → (o : ReadingOutcome A) × C o × (r ≡ from_outcome o)
+outcome_of : {A : Type 0} (C : ReadingOutcome A → Type 0) (r : Resolution A) → AsResolution C r → (o : ReadingOutcome A) × C o
+    × (r ≡ from_outcome o)
 outcome_of C (resolved x) h = (answered x, h, refl)
 outcome_of C (faulty (unknown_gate place name)) h = absurd h
 outcome_of C (faulty (unknown_process place name)) h = absurd h
@@ -74,7 +75,8 @@ outcome_of C (faulty (value_count place wanted given)) h = absurd h
 outcome_of C (faulty (no_bool place)) h = absurd h
 outcome_of C (faulty (refused_term r)) h = (refused r, h, refl)
 
-pub outcome_once : {A : Type 0} (C : ReadingOutcome A → Type 0) → ((one other : ReadingOutcome A) → C one → C other → one ≡ other) → Once (AsResolution C)
+pub outcome_once : {A : Type 0} (C : ReadingOutcome A → Type 0) → ((one other : ReadingOutcome A) → C one → C other → one ≡ other)
+    → Once (AsResolution C)
 outcome_once C once one other h k =
     let first = outcome_of C one h in
     let second = outcome_of C other k in

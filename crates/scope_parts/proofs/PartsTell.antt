@@ -68,7 +68,8 @@ sorts_tell signature (sort ∷ sorts) rise =
 sorts_apart : (p q : Place) (m n : List ℕ) (f g : ScopeFault) → f ≡ unknown_sort p m → g ≡ unknown_sort q n
     → (p ≡ q) ⊎ StandWhollyBefore (p ∷ []) (q ∷ []) → NotAfter f g
 sorts_apart p q m n f g one other side =
-    subst (λ (x : ScopeFault). NotAfter x g) (sym one) (subst (λ (y : ScopeFault). NotAfter (unknown_sort p m) y) (sym other) (by_side side))
+    subst (λ (x : ScopeFault). NotAfter x g) (sym one) (subst (λ (y : ScopeFault). NotAfter (unknown_sort p m) y) (sym other)
+    (by_side side))
   where
     by_side : (p ≡ q) ⊎ StandWhollyBefore (p ∷ []) (q ∷ []) → NotAfter (unknown_sort p m) (unknown_sort q n)
     by_side (inl is) = inr (is, omega arith)
@@ -253,7 +254,8 @@ among_apart gates more next d (e ∷ ds) lack rise all f g h (inl k) = by_side a
     by_side : (d.among ≡ e.among) ⊎ StandWhollyBefore (name_places d.among) (name_places e.among) → NotAfter f g
     by_side (inl is) = tells.first f g h (subst (λ (names : List PlacedName). GatesHave gates names g) (sym is) (lack e.among g k))
     by_side (inr is) =
-        apart (name_places d.among) (name_places e.among) (gates_within gates d.among) (gates_within more e.among) is f g (tells.found f h) k
+        apart (name_places d.among) (name_places e.among) (gates_within gates d.among) (gates_within more e.among) is f g (tells.found f h)
+        k
 among_apart gates more next d (e ∷ ds) lack rise all f g h (inr k) =
     among_apart gates (bind e.name next more) (suc next) d ds (λ names x has. lack names x (gates_still more e.name next names x has)) rise
     all.1 f g h k
@@ -293,7 +295,8 @@ sign_still gates name n (enabling variables) f h = h
 
 -- where more is visible the sign lacks no other gates
 signs_still : (gates more : List Binding) (next : ℕ) (sign : WrittenSign) (ds : List WrittenGateChoice)
-    → ((f : ScopeFault) → SignHas more sign f → SignHas gates sign f) → (f : ScopeFault) → SignsHave more next sign ds f → SignHas gates sign f
+    → ((f : ScopeFault) → SignHas more sign f → SignHas gates sign f) → (f : ScopeFault) → SignsHave more next sign ds f
+    → SignHas gates sign f
 signs_still gates more next sign [] lack f h = absurd h
 signs_still gates more next sign (d ∷ ds) lack f (inl h) = lack f h
 signs_still gates more next sign (d ∷ ds) lack f (inr h) =

@@ -138,7 +138,8 @@ offers_following_within signature scope next [] f h = absurd h
 offers_following_within signature scope next (o ∷ os) f (inl h) =
     in_left (fault_place f) (offer_places o) (joined (offered_places os)) (offer_within signature scope next o f h)
 offers_following_within signature scope next (o ∷ os) f (inr h) =
-    in_right (fault_place f) (offer_places o) (joined (offered_places os)) (offers_following_within signature scope (past_offer o next) os f h)
+    in_right (fault_place f) (offer_places o) (joined (offered_places os))
+    (offers_following_within signature scope (past_offer o next) os f h)
 
 pub offers_within : (signature : Signature) (scope : List Variable) (next : ℕ) (os : List WrittenOffer)
     → Within (OffersHave signature scope next os) (offers_places os)

@@ -172,7 +172,8 @@ mutual
       named_visible scope head.name ∙ ap is_some agree.0 ∙ sym (named_visible other head.name) in
       let here : unknown_at signature scope head ≡ unknown_at signature other head = rw named refl in
       let each = each_unknown_agrees signature scope other ws agree.1 in
-      ap (λ (rs : List ReadingRefusal). in_text_order head.form rs (unknown_in_each signature scope ws) ++ unknown_sorts signature head.sorts) here
+      ap (λ (rs : List ReadingRefusal). in_text_order head.form rs (unknown_in_each signature scope ws)
+      ++ unknown_sorts signature head.sorts) here
       ∙ ap (λ (rs : List (List ReadingRefusal)). in_text_order head.form
       (unknown_at signature other head) rs ++ unknown_sorts signature head.sorts)
       each
@@ -187,7 +188,8 @@ mutual
 
 -- ---- What a question comes to
 
-comes_moved : {A : Type 0} (unknown : List ReadingRefusal) (place : Place) (P Q : A → Type 0) → ((x : A) → P x → Q x) → ((x : A) → Q x → P x)
+comes_moved : {A : Type 0} (unknown : List ReadingRefusal) (place : Place) (P Q : A → Type 0) → ((x : A) → P x → Q x)
+    → ((x : A) → Q x → P x)
     → (o : ReadingOutcome A) → ComesTo unknown place P o → ComesTo unknown place Q o
 comes_moved (first ∷ rest) place P Q out back (answered x) h = absurd h
 comes_moved (first ∷ rest) place P Q out back (refused r) h = h
@@ -205,7 +207,8 @@ comes_moved [] place P Q out back (refused r) (inr h) = inr (
   h.1,
 )
 
-pub reading_moved : (signature : Signature) (scope other : List Variable) (w : WrittenTerm) (expected : Option ℕ) (o : ReadingOutcome SortedTerm)
+pub reading_moved : (signature : Signature) (scope other : List Variable) (w : WrittenTerm) (expected : Option ℕ)
+    (o : ReadingOutcome SortedTerm)
     → AgreeIn scope other w → ReadingIs signature scope w expected o → ReadingIs signature other w expected o
 reading_moved signature scope other w expected o agree reading =
     comes_moved (unknown_in signature other w) (written_head w).place (IsReading signature scope w expected)
@@ -231,7 +234,8 @@ pair_moved signature scope other left right o on_left on_right reading =
     )) o
     (subst (λ (unknown : List ReadingRefusal). ComesTo unknown (written_head left).place (IsPairReading signature scope left right) o)
     (ap (λ (rs : List ReadingRefusal). rs ++ unknown_in signature scope right) (unknown_agrees signature scope other left on_left)
-    ∙ ap (λ (rs : List ReadingRefusal). unknown_in signature other left ++ rs) (unknown_agrees signature scope other right on_right)) reading)
+    ∙ ap (λ (rs : List ReadingRefusal). unknown_in signature other left ++ rs) (unknown_agrees signature scope other right on_right))
+    reading)
 
 -- ---- The variables that the names mean
 

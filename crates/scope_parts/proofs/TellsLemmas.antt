@@ -27,11 +27,13 @@ Within Has ps = (f : ScopeFault) → Has f → IsOneOf (fault_place f) ps
 abbrev pub Apart : (ScopeFault → Type 0) → (ScopeFault → Type 0) → Type 0
 Apart One Other = (f g : ScopeFault) → One f → Other g → NotAfter f g
 
-pub apart : {One Other : ScopeFault → Type 0} (ps qs : List Place) → Within One ps → Within Other qs → StandWhollyBefore ps qs → Apart One Other
+pub apart : {One Other : ScopeFault → Type 0} (ps qs : List Place) → Within One ps → Within Other qs → StandWhollyBefore ps qs
+    → Apart One Other
 apart ps qs one other before f g h k = inl (before (fault_place f) (fault_place g) (one f h) (other g k))
 
 -- the faults that a question comes to stand where those stand that it tells
-pub answers_within : {A : Type 0} {Question : Resolution A → Type 0} {Has : ScopeFault → Type 0} (ps : List Place) → TellsFirstFault Question Has
+pub answers_within : {A : Type 0} {Question : Resolution A → Type 0} {Has : ScopeFault → Type 0} (ps : List Place)
+    → TellsFirstFault Question Has
     → Within Has ps → Within (λ f. Question (faulty f)) ps
 answers_within ps tells within f h = within f (tells.found f h)
 
@@ -52,7 +54,8 @@ done_tells x = record {
 }
 
 pub tells_so : {A : Type 0} {Question Same : Resolution A → Type 0} {Has : ScopeFault → Type 0}
-    → ((r : Resolution A) → Same r → Question r) → ((r : Resolution A) → Question r → Same r) → TellsFirstFault Question Has → TellsFirstFault Same Has
+    → ((r : Resolution A) → Same r → Question r) → ((r : Resolution A) → Question r → Same r) → TellsFirstFault Question Has
+    → TellsFirstFault Same Has
 tells_so there back tells = record {
   found = λ f h. tells.found f (there (faulty f) h);
   first = λ f g h k. tells.first f g (there (faulty f) h) k;
@@ -60,7 +63,8 @@ tells_so there back tells = record {
 }
 
 pub tells_these : {A : Type 0} {Question : Resolution A → Type 0} {Has These : ScopeFault → Type 0}
-    → ((f : ScopeFault) → Has f → These f) → ((f : ScopeFault) → These f → Has f) → TellsFirstFault Question Has → TellsFirstFault Question These
+    → ((f : ScopeFault) → Has f → These f) → ((f : ScopeFault) → These f → Has f) → TellsFirstFault Question Has
+    → TellsFirstFault Question These
 tells_these there back tells = record {
   found = λ f h. there f (tells.found f h);
   first = λ f g h k. tells.first f g h (back g k);

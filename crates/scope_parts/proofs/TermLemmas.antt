@@ -50,7 +50,8 @@ refusal_means C (sort.NoReading place) h = h
 refusal_means C (sort.TwoReadings place) h = h
 refusal_means C sort.NoMemory h = tt
 
-unless_moved : (fault : SortFault) (P Q : ReadingRefusal → Type 0) → ((r : ReadingRefusal) → P r → Q r) → UnlessNoMemory fault P → UnlessNoMemory fault Q
+unless_moved : (fault : SortFault) (P Q : ReadingRefusal → Type 0) → ((r : ReadingRefusal) → P r → Q r) → UnlessNoMemory fault P
+    → UnlessNoMemory fault Q
 unless_moved (sort.UnknownName place) P Q out h = out _ h
 unless_moved (sort.UnknownSort place) P Q out h = out _ h
 unless_moved (sort.NoReading place) P Q out h = out _ h

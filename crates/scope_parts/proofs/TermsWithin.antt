@@ -33,7 +33,8 @@ stand_all : (ps : List Place) (lists : List (List ReadingRefusal)) → Every (St
 stand_all ps [] all = tt
 stand_all ps (list ∷ lists) all = stand_both ps list (together lists) all.0 (stand_all ps lists all.1)
 
-stand_in_order : (ps : List Place) (form : Form) (here : List ReadingRefusal) (lists : List (List ReadingRefusal)) → Stand ps here → Every (Stand ps) lists
+stand_in_order : (ps : List Place) (form : Form) (here : List ReadingRefusal) (lists : List (List ReadingRefusal)) → Stand ps here
+    → Every (Stand ps) lists
     → Stand ps (in_text_order form here lists)
 stand_in_order ps prefix_form here lists at all = stand_both ps here (together lists) at (stand_all ps lists all)
 stand_in_order ps infix_form here [] at all = stand_both ps here [] at tt
@@ -83,13 +84,15 @@ mutual
 head_among : (w : WrittenTerm) → IsOneOf (written_head w).place (term_places w)
 head_among (written head arguments) = inl refl
 
-refusal_stands : {A : Type 0} (ps : List Place) (unknown : List ReadingRefusal) (place : Place) (P : A → Type 0) (r : ReadingRefusal) → Stand ps unknown
+refusal_stands : {A : Type 0} (ps : List Place) (unknown : List ReadingRefusal) (place : Place) (P : A → Type 0) (r : ReadingRefusal)
+    → Stand ps unknown
     → IsOneOf place ps → ComesTo unknown place P (refused r) → IsOneOf (refusal_place r) ps
 refusal_stands ps (q ∷ rest) place P r all at is = subst (λ (x : ReadingRefusal). IsOneOf (refusal_place x) ps) (sym is) all.0
 refusal_stands ps [] place P r all at (inl is) = subst (λ (x : ReadingRefusal). IsOneOf (refusal_place x) ps) (sym is.1) at
 refusal_stands ps [] place P r all at (inr is) = subst (λ (x : ReadingRefusal). IsOneOf (refusal_place x) ps) (sym is.1) at
 
-only_refusals : {A : Type 0} (ps : List Place) (C : ReadingOutcome A → Type 0) → ((r : ReadingRefusal) → C (refused r) → IsOneOf (refusal_place r) ps)
+only_refusals : {A : Type 0} (ps : List Place) (C : ReadingOutcome A → Type 0)
+    → ((r : ReadingRefusal) → C (refused r) → IsOneOf (refusal_place r) ps)
     → Within (λ f. AsResolution C (faulty f)) ps
 only_refusals ps C so (unknown_gate place name) h = absurd h
 only_refusals ps C so (unknown_process place name) h = absurd h
@@ -114,7 +117,8 @@ pair_within signature scope left right =
     (λ r is. refusal_stands (term_places left ++ term_places right) (unknown_in signature scope left ++ unknown_in signature scope right)
     (written_head left).place _ r
     (stand_both (term_places left ++ term_places right) (unknown_in signature scope left) (unknown_in signature scope right)
-    (term_stands (term_places left ++ term_places right) signature scope left (λ p here. in_left p (term_places left) (term_places right) here))
+    (term_stands (term_places left ++ term_places right) signature scope left
+    (λ p here. in_left p (term_places left) (term_places right) here))
     (term_stands (term_places left ++ term_places right) signature scope right
     (λ p here. in_right p (term_places left) (term_places right) here)))
     (in_left (written_head left).place (term_places left) (term_places right) (head_among left)) is)

@@ -34,9 +34,11 @@ use Rattle.scope_parts.proofs.BehavioursTell.{behaviours_tell}
 
 -- ---- Headings
 
-gates_tell : (next : ℕ) (gates : List PlacedName) → Rising (name_places gates) → TellsFirstFault (Is (formal_gates next gates)) (Doubled gates)
+gates_tell : (next : ℕ) (gates : List PlacedName) → Rising (name_places gates)
+    → TellsFirstFault (Is (formal_gates next gates)) (Doubled gates)
 gates_tell next gates rise =
-    tells_these one_side (λ f h. inl h) (beside_is_tells gates (resolved (numbers_from next gates)) rise (done_tells (numbers_from next gates)))
+    tells_these one_side (λ f h. inl h) (beside_is_tells gates (resolved (numbers_from next gates)) rise
+    (done_tells (numbers_from next gates)))
   where
     one_side : (f : ScopeFault) → Doubled gates f ⊎ ⊥ → Doubled gates f
     one_side f (inl h) = h
@@ -62,7 +64,8 @@ parameters_next signature numbers heading gates =
 heading_tells : (signature : Signature) (numbers : Numbers) (heading : WrittenHeading) → HeadingFollows heading
     → TellsFirstFault (Is (heading_at signature numbers heading)) (HeadingHas signature numbers heading)
 heading_tells signature numbers heading follow =
-    and_then_tells (formal_gates numbers.gate heading.gates) (parameters_next signature numbers heading) (gates_tell numbers.gate heading.gates follow.1)
+    and_then_tells (formal_gates numbers.gate heading.gates) (parameters_next signature numbers heading)
+    (gates_tell numbers.gate heading.gates follow.1)
     (λ gates is. and_then_tells (variables_at signature numbers.variable heading.parameters) (exit_next signature heading gates)
     (variables_tell signature numbers.variable heading.parameters follow.2)
     (λ parameters so. value_tells (functionality_at signature heading.functionality)
@@ -112,7 +115,8 @@ name_tells : (before : List Binding) (heading : WrittenHeading) → TellsFirstFa
 name_tells before heading = by_test (is_bound before heading.name) refl
   where
     by_test : (b : Bool) → is_bound before heading.name ≡ b
-        → TellsFirstFault (Is (if b then faulty (double_name heading.place heading.name) else resolved heading.name)) (NameHas before heading)
+        → TellsFirstFault (Is (if b then faulty (double_name heading.place heading.name) else resolved heading.name))
+        (NameHas before heading)
     by_test true e = record {
       found = λ f h. (e, same_fault f (double_name heading.place heading.name) h);
       first = λ f g h k. same_not_after f g (same_fault f (double_name heading.place heading.name) h ∙ sym k.1);
@@ -130,7 +134,8 @@ name_within before heading f h = ap fault_place h.1
 
 mutual
   pub inner_tells : (signature : Signature) (visible : List Callable) (before : List Binding) (numbers : Numbers) (inner : WrittenInner)
-      → InnerFollows inner → TellsFirstFault (InnerIs signature visible before numbers inner) (InnerHas signature visible before numbers inner)
+      → InnerFollows inner → TellsFirstFault (InnerIs signature visible before numbers inner)
+      (InnerHas signature visible before numbers inner)
   inner_tells signature visible before numbers (inner_item item) follow = done_tells []
   inner_tells signature visible before numbers (process heading body inner) follow =
       then_tells (name_tells before heading)
@@ -154,11 +159,13 @@ mutual
       (before_both (heading.place ∷ []) (definition_places heading body) (inners_places inner) follow.0.0.0 follow.0.0.1.0))
 
   pub inners_tell : (signature : Signature) (visible : List Callable) (before : List Binding) (numbers : Numbers) (inners : WrittenInners)
-      → InnersFollow inners → TellsFirstFault (InnersAre signature visible before numbers inners) (InnersHave signature visible before numbers inners)
+      → InnersFollow inners → TellsFirstFault (InnersAre signature visible before numbers inners)
+      (InnersHave signature visible before numbers inners)
   inners_tell signature visible before numbers no_inner follow = done_tells []
   inners_tell signature visible before numbers (inner_then inner others) follow =
       then_tells (inner_tells signature visible before numbers inner follow.1)
-      (λ (first : List Process) is. made_tells (λ rest. first ++ rest) (inners_tell signature visible (with_name inner before) (past_inner inner numbers) others follow.2))
+      (λ (first : List Process) is. made_tells (λ rest. first ++ rest)
+      (inners_tell signature visible (with_name inner before) (past_inner inner numbers) others follow.2))
       (apart (inner_places inner) (inners_places others)
       (answers_within (inner_places inner) (inner_tells signature visible before numbers inner follow.1)
       (inner_within signature visible before numbers inner))

@@ -32,7 +32,8 @@ abbrev pub Follows : WrittenBehaviour → Type 0
 Follows (stop place) = Unit {0}
 Follows (exit place values) = InTurn (exit_places values)
 Follows (call place name gates values) =
-    InTurn ((place ∷ []) ∷ name_places gates ∷ joined (value_places values) ∷ []) × Rising (name_places gates) × InTurn (value_places values)
+    InTurn ((place ∷ []) ∷ name_places gates ∷ joined (value_places values) ∷ []) × Rising (name_places gates)
+    × InTurn (value_places values)
 Follows (action place gate offers test next) =
     InTurn ((place ∷ []) ∷ offers_places offers ∷ test_places test ∷ behaviour_places next ∷ [])
     × OffersFollowOn offers × Follows next

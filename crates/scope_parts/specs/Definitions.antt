@@ -94,7 +94,8 @@ abbrev mutual
   InnerIs signature visible before numbers (inner_item item) = Is (resolved [])
   InnerIs signature visible before numbers (process heading body inner) =
       ThenResolves (Is (new_process before heading))
-      (λ name. ThenResolves (DefinitionIs signature (callables signature (suc numbers.process) inner ++ visible) (past_name numbers) heading body)
+      (λ name. ThenResolves (DefinitionIs signature (callables signature (suc numbers.process) inner ++ visible) (past_name numbers) heading
+      body)
       (λ definition. Made (λ within. process_with heading definition ∷ within)
       (InnersAre signature (callables signature (suc numbers.process) inner ++ visible) [] (past_own heading body
       (past_name numbers)) inner)))

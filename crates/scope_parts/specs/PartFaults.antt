@@ -54,7 +54,8 @@ VariablesHave signature next variables fault =
 
 -- the values of `exit`
 abbrev pub ExitValuesHave : Signature → List Variable → List WrittenExitValue → ScopeFault → Type 0
-ExitValuesHave signature scope values fault = OfOne (λ (value : WrittenExitValue) f. ExitValueIs signature scope value (faulty f)) values fault
+ExitValuesHave signature scope values fault = OfOne (λ (value : WrittenExitValue) f. ExitValueIs signature scope value (faulty f)) values
+    fault
 
 -- actual values, at the sorts of their parameters. A value whose parameter has a sort that the data lack is not read
 abbrev pub ValuesHave : Signature → List Variable → List (Option ℕ) → List WrittenTerm → ScopeFault → Type 0

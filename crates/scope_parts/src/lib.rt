@@ -1,6 +1,6 @@
-//! Parts of behaviours and definitions with their names, counts and sorts resolved: gates, variables,
-//! offers, terms (ISO 8807:1989, static semantics); and which faults a text has, each with its place,
-//! with the law that the one that is answered comes first of them.
+//! Parts of behaviours and definitions with their names, counts and sorts resolved: gates,
+//! variables, offers, terms (ISO 8807:1989, static semantics); and which faults a text has, each
+//! with its place, with the law that the one that is answered comes first of them.
 #![tactic(auto)]
 
 pub mod bindings;

@@ -15,7 +15,15 @@ use Rattle.syntax_trees.specs.WrittenDefinition.{WrittenInner, process, inners_o
 -- a process that is put together
 pub made_process : (place : Place) (name : Name) (gates : Vec (Place × Name) Global) (params : Vec VarText Global)
     (func : Option (Vec (Place × Name) Global)) (body : BehText) (inner : Vec InnerText Global) →
-    process_of (roll-ProcessText (record { place = place; name = name; gates = gates; params = params; func = func; body = body; inner = inner }))
+    process_of (roll-ProcessText (record {
+      place = place;
+      name = name;
+      gates = gates;
+      params = params;
+      func = func;
+      body = body;
+      inner = inner;
+    }))
     ≡ process (heading_of place name gates.items params.items func) (behaviour_of body) (inners_of (map inner_of inner.items))
 made_process place name gates params func body inner =
     fold-roll-ProcessText WrittenInner WrittenInner inner_level process_level

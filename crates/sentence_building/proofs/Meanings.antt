@@ -25,7 +25,8 @@ use Rattle.sentence_trees.specs.LotosGrammar.{IsLotosGrammar}
 
 -- the value of the tree of a derivation is the one meaning that its tokens have
 pub value_is : (text : List ℕ) (g : ContextFree) → IsLotosGrammar g → (tokens : List Token) (tree : Forest) →
-    DerivesSymbols g.rows tree (Part g.start ∷ []) → leaves tree ≡ map kind_of tokens → (found : Meaning) → Derived text g.start tokens found →
+    DerivesSymbols g.rows tree (Part g.start ∷ []) → leaves tree ≡ map kind_of tokens → (found : Meaning)
+    → Derived text g.start tokens found →
     value_of_tree (numbered_row_means text) is_kept_kind tree tokens ≡ Some found
 value_is text g is tokens tree derives leaves_are found derived =
     let other : DerivesSymbols g.rows derived.0 (Part g.start ∷ []) =

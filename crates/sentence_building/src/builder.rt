@@ -33,7 +33,8 @@ fn build_row(
     token: Option<Token>,
     parts: &mut Vec<Value>,
 ) -> Built
-    ensures { IfOk result (λ built. option_map meaning built ≡ row_means text.now row token (from_last meaning parts.old.items)) }
+    ensures { IfOk result (λ built. option_map meaning built
+        ≡ row_means text.now row token (from_last meaning parts.old.items)) }
 {
     match row {
         RowName::Names(row) => names::build(alloc, text, row, token, parts),
@@ -82,7 +83,8 @@ impl<'a> Actions for Builder<'a> {
         token: Option<Token>,
         mut parts: Vec<Value>,
     ) -> Result<Option<Value>, AllocError>
-        ensures { IfOk result (λ built. option_map meaning built ≡ numbered_row_means self.now.text.now row token (from_last meaning parts.items)) }
+        ensures { IfOk result (λ built. option_map meaning built
+            ≡ numbered_row_means self.now.text.now row token (from_last meaning parts.items)) }
     {
         match row_name(row) {
             Some(name) => build_row(alloc, self.text, name, token, &mut parts),

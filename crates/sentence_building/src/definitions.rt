@@ -63,7 +63,8 @@ fn declared_process(process: ProcessText) -> InnerText
 /// An item before others and processes.
 #[tactic(auto, using(tree_building::proofs::FromLast::from_last_more))]
 fn joined_item(parts: &mut Vec<Value>) -> Built
-    ensures { IfOk result (λ built. option_map meaning built ≡ item_before_inner (from_last meaning parts.old.items)) }
+    ensures { IfOk result (λ built. option_map meaning built
+        ≡ item_before_inner (from_last meaning parts.old.items)) }
 {
     let Some(item) = take::<ItemText>(parts) else {
         return Ok(None);
@@ -78,7 +79,8 @@ fn joined_item(parts: &mut Vec<Value>) -> Built
 /// A process before items and other processes.
 #[tactic(auto, using(tree_building::proofs::FromLast::from_last_more))]
 fn joined_process(parts: &mut Vec<Value>) -> Built
-    ensures { IfOk result (λ built. option_map meaning built ≡ process_before_inner (from_last meaning parts.old.items)) }
+    ensures { IfOk result (λ built. option_map meaning built
+        ≡ process_before_inner (from_last meaning parts.old.items)) }
 {
     let Some(process) = take::<ProcessText>(parts) else {
         return Ok(None);
@@ -94,7 +96,8 @@ fn joined_process(parts: &mut Vec<Value>) -> Built
 /// to the first.
 fn process_of_heading(heading: Heading, body: BehText, inner: Vec<InnerText>) -> ProcessText
     ensures { process_of result
-        ≡ plain.process (plain_heading_of heading) (behaviour_of body) (plain.inners_of (from_last inner_of inner.items)) }
+        ≡ plain.process (plain_heading_of heading) (behaviour_of body)
+        (plain.inners_of (from_last inner_of inner.items)) }
 {
     ProcessText {
         place: heading.place,
@@ -109,7 +112,8 @@ fn process_of_heading(heading: Heading, body: BehText, inner: Vec<InnerText>) ->
 
 /// A whole process.
 fn process(alloc: Global, parts: &mut Vec<Value>) -> Built
-    ensures { IfOk result (λ built. option_map meaning built ≡ process_of_parts (from_last meaning parts.old.items)) }
+    ensures { IfOk result (λ built. option_map meaning built
+        ≡ process_of_parts (from_last meaning parts.old.items)) }
 {
     let Some(heading) = take::<Heading>(parts) else {
         return Ok(None);
@@ -130,7 +134,8 @@ fn process(alloc: Global, parts: &mut Vec<Value>) -> Built
 /// What a row of processes and headings builds from its parts.
 #[tactic(auto, using(tree_building::proofs::FromLast::from_last_none))]
 pub fn build(alloc: Global, row: DefinitionsRow, parts: &mut Vec<Value>) -> Built
-    ensures { IfOk result (λ built. option_map meaning built ≡ definitions_row_means row None (from_last meaning parts.old.items)) }
+    ensures { IfOk result (λ built. option_map meaning built
+        ≡ definitions_row_means row None (from_last meaning parts.old.items)) }
 {
     match row {
         DefinitionsRow::Heading => Ok(heading(parts)),

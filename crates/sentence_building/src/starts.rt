@@ -11,7 +11,7 @@ ghost use Rattle.tree_building.specs.DefinitionsViews.{plain_heading_of};
 ghost use Rattle.tree_building.specs.MeaningView.{meaning};
 ghost use Rattle.tree_building.specs.NamesViews.{profile_of};
 ghost use Rattle.tree_building.specs.RowMeaning.{specification_row_means, starts_row_means};
-ghost use Rattle.tree_building.specs.StartsMeaning.{item_before_order, some_profile, specification_of_parts};
+ghost use Rattle.tree_building.specs.StartsMeaning.{item_before_order, some_profile, some_status, specification_of_parts};
 ghost use Rattle.sentence_building.specs.Whole.{whole_specification};
 
 use behaviour_building::grouped;
@@ -33,7 +33,8 @@ use type_building::types::joined_items;
 #[tactic(auto, using(tree_building::proofs::FromLast::map_reverse))]
 fn whole(heading: Heading, items: Vec<ItemText>, body: BehText, inner: Vec<InnerText>) -> SpecText
     ensures { specification_of result
-        ≡ whole_specification (plain_heading_of heading) (from_last item_of items.items) (behaviour_of body) (from_last inner_of inner.items) }
+        ≡ whole_specification (plain_heading_of heading) (from_last item_of items.items)
+        (behaviour_of body) (from_last inner_of inner.items) }
 {
     SpecText {
         place: heading.place,
@@ -49,7 +50,8 @@ fn whole(heading: Heading, items: Vec<ItemText>, body: BehText, inner: Vec<Inner
 
 /// A whole specification.
 fn specification(alloc: Global, parts: &mut Vec<Value>) -> Built
-    ensures { IfOk result (λ built. option_map meaning built ≡ specification_of_parts (from_last meaning parts.old.items)) }
+    ensures { IfOk result (λ built. option_map meaning built
+        ≡ specification_of_parts (from_last meaning parts.old.items)) }
 {
     let Some(heading) = take::<Heading>(parts) else {
         return Ok(None);
@@ -75,7 +77,8 @@ fn specification(alloc: Global, parts: &mut Vec<Value>) -> Built
 
 /// The names of sorts without their places.
 fn sort_names(alloc: Global, sorts: Vec<Named>) -> Result<Vec<Name>, AllocError>
-    ensures { IfOk result (λ names. map spelling names.items ≡ map (λ sort. spelling sort.1) sorts.items) }
+    ensures { IfOk result (λ names. map spelling names.items
+        ≡ map (λ sort. spelling sort.1) sorts.items) }
 {
     let mut names = Vec::with_capacity(alloc, sorts.len())?;
     for sort in sorts {
@@ -96,7 +99,8 @@ fn by_name(alloc: Global, profile: OpProfile) -> Result<Profile, AllocError>
 
 /// The sorts of a profile by name, where there is a profile.
 fn maybe_by_name(alloc: Global, profile: Option<OpProfile>) -> Result<Option<Profile>, AllocError>
-    ensures { IfOk result (λ it. option_map written_profile_of it ≡ option_map profile_by_name (option_map profile_of profile)) }
+    ensures { IfOk result (λ it. option_map written_profile_of it
+        ≡ option_map profile_by_name (option_map profile_of profile)) }
 {
     match profile {
         Some(profile) => Ok(Some(by_name(alloc, profile)?)),
@@ -107,12 +111,16 @@ fn maybe_by_name(alloc: Global, profile: Option<OpProfile>) -> Result<Option<Pro
 /// An item of an order file before others.
 #[tactic(auto, using(tree_building::proofs::FromLast::from_last_more))]
 fn joined_order(alloc: Global, parts: &mut Vec<Value>) -> Built
-    ensures { IfOk result (λ built. option_map meaning built ≡ item_before_order (from_last meaning parts.old.items)) }
+    ensures { IfOk result (λ built. option_map meaning built
+        ≡ item_before_order (from_last meaning parts.old.items)) }
 {
     let Some(operation) = take::<NamedOp>(parts) else {
         return Ok(None);
     };
     let Some(profile) = take::<Option<OpProfile>>(parts) else {
+        return Ok(None);
+    };
+    let Some(status) = take::<Option<Named>>(parts) else {
         return Ok(None);
     };
     let Some(mut items) = take::<Vec<OrderItem>>(parts) else {
@@ -124,6 +132,7 @@ fn joined_order(alloc: Global, parts: &mut Vec<Value>) -> Built
         name: operation.name.1,
         form: operation.form,
         profile,
+        status,
     })?;
     Ok(Some(Value::OrderItems(items)))
 }
@@ -136,10 +145,19 @@ fn with_profile(parts: &mut Vec<Value>) -> Option<Value>
     Some(Value::MaybeProfile(Some(profile)))
 }
 
+/// The status that the name is.
+fn with_status(parts: &mut Vec<Value>) -> Option<Value>
+    ensures { option_map meaning result ≡ some_status (from_last meaning parts.old.items) }
+{
+    let status = take::<Named>(parts)?;
+    Some(Value::MaybeName(Some(status)))
+}
+
 /// What a row of a specification's items or of its word builds from its parts.
 #[tactic(auto, using(tree_building::proofs::FromLast::from_last_none))]
 pub fn build_of_specification(alloc: Global, row: SpecificationRow, parts: &mut Vec<Value>) -> Built
-    ensures { IfOk result (λ built. option_map meaning built ≡ specification_row_means row None (from_last meaning parts.old.items)) }
+    ensures { IfOk result (λ built. option_map meaning built
+        ≡ specification_row_means row None (from_last meaning parts.old.items)) }
 {
     match row {
         SpecificationRow::NoItems => Ok(Some(Value::Items(Vec::new(alloc)))),
@@ -153,7 +171,8 @@ pub fn build_of_specification(alloc: Global, row: SpecificationRow, parts: &mut 
 /// What a row of the four texts builds from its parts.
 #[tactic(auto, using(tree_building::proofs::FromLast::from_last_none))]
 pub fn build(alloc: Global, row: StartsRow, parts: &mut Vec<Value>) -> Built
-    ensures { IfOk result (λ built. option_map meaning built ≡ starts_row_means row None (from_last meaning parts.old.items)) }
+    ensures { IfOk result (λ built. option_map meaning built
+        ≡ starts_row_means row None (from_last meaning parts.old.items)) }
 {
     match row {
         StartsRow::Spec => specification(alloc, parts),
@@ -164,5 +183,7 @@ pub fn build(alloc: Global, row: StartsRow, parts: &mut Vec<Value>) -> Built
         StartsRow::OptionalProfile => Ok(with_profile(parts)),
         StartsRow::NoTerms => Ok(Some(Value::Terms(Vec::new(alloc)))),
         StartsRow::Terms => Ok(take::<Vec<Written>>(parts).map(Value::Terms)),
+        StartsRow::NoOptionalStatus => Ok(Some(Value::MaybeName(None))),
+        StartsRow::OptionalStatus => Ok(with_status(parts)),
     }
 }

@@ -1,4 +1,5 @@
-//! The trees of specifications, items, order files and lists of terms, each built from the derivation of its tokens.
+//! The trees of specifications, items, order files and lists of terms, each built from the
+//! derivation of its tokens.
 
 ghost use Rattle.std.specs.Prelude.{◌≡◌, ℕ, List, IfOk, Some, map, option_map};
 ghost use Rattle.ll_engine.specs.Language.{IsLeftmostDerivation};
@@ -31,14 +32,15 @@ fn derived_value(
 ) -> Result<Option<Value>, AllocError>
     requires lotos { IsLotosGrammar grammar.now }
     requires derivation { IsLeftmostDerivation grammar.now rows.items (map kind_of tokens.now) }
-    ensures { IfOk result (λ built. (found : Meaning) → Derived text.now grammar.now.start tokens.now found
+    ensures { IfOk result (λ built. (found : Meaning)
+        → Derived text.now grammar.now.start tokens.now found
         → option_map meaning built ≡ Some found) }
 {
     fold_derivation(alloc, &Builder { text }, grammar, tokens, rows)
 }
 
-/// The specification that the tokens of a text are, from the rows of their leftmost derivation. Only want of memory may come
-/// instead.
+/// The specification that the tokens of a text are, from the rows of their leftmost derivation.
+/// Only want of memory may come instead.
 pub fn specification_tree(
     alloc: Global,
     text: &[u8],
@@ -46,7 +48,8 @@ pub fn specification_tree(
     rows: Vec<u32>,
 ) -> Result<SpecText, AllocError>
     requires { IsLeftmostDerivation (grammar_from starts.SPEC) rows.items (map kind_of tokens.now) }
-    ensures { IfOk result (λ spec. IsWrittenSpecification text.now tokens.now (specification_of spec)) }
+    ensures { IfOk result (λ spec. IsWrittenSpecification text.now tokens.now
+        (specification_of spec)) }
 {
     let grammar = specification_grammar();
     let Some(value) = derived_value(alloc, text, &grammar, tokens, rows)? else {
@@ -58,15 +61,16 @@ pub fn specification_tree(
     Ok(spec)
 }
 
-/// The items that the tokens of a text are, in text order, from the rows of their leftmost derivation. Only want of memory may
-/// come instead.
+/// The items that the tokens of a text are, in text order, from the rows of their leftmost
+/// derivation. Only want of memory may come instead.
 pub fn items_trees(
     alloc: Global,
     text: &[u8],
     tokens: &[Token],
     rows: Vec<u32>,
 ) -> Result<Vec<ItemText>, AllocError>
-    requires { IsLeftmostDerivation (grammar_from starts.TYPETEXT) rows.items (map kind_of tokens.now) }
+    requires { IsLeftmostDerivation (grammar_from starts.TYPETEXT) rows.items
+        (map kind_of tokens.now) }
     ensures { IfOk result (λ items. AreItems text.now tokens.now (map item_of items.items)) }
 {
     let grammar = types_grammar();
@@ -79,8 +83,8 @@ pub fn items_trees(
     Ok(items)
 }
 
-/// The operations that the tokens of an order file list, in text order, from the rows of their leftmost derivation. Only want
-/// of memory may come instead.
+/// The operations that the tokens of an order file list, in text order, from the rows of their
+/// leftmost derivation. Only want of memory may come instead.
 pub fn order_items(
     alloc: Global,
     text: &[u8],
@@ -88,7 +92,8 @@ pub fn order_items(
     rows: Vec<u32>,
 ) -> Result<Vec<OrderItem>, AllocError>
     requires { IsLeftmostDerivation (grammar_from starts.ORDER) rows.items (map kind_of tokens.now) }
-    ensures { IfOk result (λ items. AreOrderItems text.now tokens.now (map listed_operation_of items.items)) }
+    ensures { IfOk result (λ items. AreOrderItems text.now tokens.now
+        (map listed_operation_of items.items)) }
 {
     let grammar = order_grammar();
     let Some(value) = derived_value(alloc, text, &grammar, tokens, rows)? else {
@@ -100,8 +105,8 @@ pub fn order_items(
     Ok(items)
 }
 
-/// The terms that the tokens of a text are, in text order, from the rows of their leftmost derivation. Only want of memory may
-/// come instead.
+/// The terms that the tokens of a text are, in text order, from the rows of their leftmost
+/// derivation. Only want of memory may come instead.
 pub fn terms_trees(
     alloc: Global,
     text: &[u8],
@@ -109,7 +114,8 @@ pub fn terms_trees(
     rows: Vec<u32>,
 ) -> Result<Vec<Written>, AllocError>
     requires { IsLeftmostDerivation (grammar_from starts.TERMS) rows.items (map kind_of tokens.now) }
-    ensures { IfOk result (λ terms. AreOptionalTerms text.now tokens.now (map written_term_of terms.items)) }
+    ensures { IfOk result (λ terms. AreOptionalTerms text.now tokens.now
+        (map written_term_of terms.items)) }
 {
     let grammar = terms_grammar();
     let Some(value) = derived_value(alloc, text, &grammar, tokens, rows)? else {

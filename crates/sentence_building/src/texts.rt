@@ -1,4 +1,5 @@
-//! The trees of the four texts, taken out of the values that their derivations are built into. Lists come in text order.
+//! The trees of the four texts, taken out of the values that their derivations are built into.
+//! Lists come in text order.
 
 ghost use Rattle.std.specs.Prelude.{◌≡◌, map, option_map, reverse};
 ghost use Rattle.lotos_base.specs.WrittenView.{listed_operation_of, written_term_of};
@@ -31,7 +32,8 @@ pub fn built_items(value: Value) -> Option<Vec<ItemText>>
 /// The items of an order file that the value is, if it is some.
 #[tactic(auto, using(tree_building::proofs::FromLast::map_reverse))]
 pub fn built_order(value: Value) -> Option<Vec<OrderItem>>
-    ensures { option_map (λ items. map listed_operation_of items.items) result ≡ order_items_in (meaning value) }
+    ensures { option_map (λ items. map listed_operation_of items.items) result
+        ≡ order_items_in (meaning value) }
 {
     let items = Vec::<OrderItem>::of(value)?;
     Some(turned(items))
@@ -40,7 +42,8 @@ pub fn built_order(value: Value) -> Option<Vec<OrderItem>>
 /// The terms that the value is, if it is some.
 #[tactic(auto, using(tree_building::proofs::FromLast::map_reverse))]
 pub fn built_terms(value: Value) -> Option<Vec<Written>>
-    ensures { option_map (λ terms. map written_term_of terms.items) result ≡ terms_in (meaning value) }
+    ensures { option_map (λ terms. map written_term_of terms.items) result
+        ≡ terms_in (meaning value) }
 {
     let terms = Vec::<Written>::of(value)?;
     Some(turned(terms))

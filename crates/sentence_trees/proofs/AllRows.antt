@@ -84,7 +84,8 @@ module _ (text : List ℕ) where
   parts_kept number production tokens values value is stands given =
       let it = named_row number production is in
       let keeps = each_at (KeepsParts text) grammar_rows number it.row all_keep it.is_row in
-      let stands_row = subst (λ (p : Production). StandForTokens kind_of (PartMeans text) p.right tokens values) (sym it.production_is) stands in
+      let stands_row = subst (λ (p : Production). StandForTokens kind_of (PartMeans text) p.right tokens values) (sym it.production_is)
+      stands in
       let given_row : row_means text it.row.name (front_token is_kept_kind it.row.production.right tokens) values ≡ Some value =
       ap (λ (p : Production). row_means text it.row.name (front_token is_kept_kind p.right tokens) values) it.production_is
       ∙ sym (ap (option_and_then (λ (name : RowName). row_means text name (front_token is_kept_kind production.right tokens) values))
@@ -112,7 +113,8 @@ are_terms text tokens meaning terms (as_one {value = value} it) same = let e : v
     cc in subst (AreOptionalTerms text tokens) e it
 
 is_specification : (text : List ℕ) (tokens : List Token) (meaning : Meaning) (found : WrittenSpecification) →
-    As a_specification (IsWrittenSpecification text) tokens meaning → meaning ≡ a_specification found → IsWrittenSpecification text tokens found
+    As a_specification (IsWrittenSpecification text) tokens meaning → meaning ≡ a_specification found
+    → IsWrittenSpecification text tokens found
 is_specification text tokens meaning found (as_one {value = value} it) same = let e : value ≡ found =
     cc in subst (IsWrittenSpecification text tokens) e it
 

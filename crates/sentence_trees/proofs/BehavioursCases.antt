@@ -66,13 +66,15 @@ module _ (text : List ℕ) where
   sign_derived (family.sign_disabling is) = by_disabling_sign text is refl
   sign_derived (family.sign_enabling is accepted) = by_enabling_sign text is (accept_derived accepted) refl
 
-  exit_value_before : {own tokens : List Token} {value : WrittenExitValue} {more : List WrittenExitValue} → IsWrittenExitValue text own value →
+  exit_value_before : {own tokens : List Token} {value : WrittenExitValue} {more : List WrittenExitValue}
+      → IsWrittenExitValue text own value →
       D behaviours.MORE_EXIT_VALUES tokens (some_exit_values more) →
       D behaviours.EXIT_LIST (own ++ tokens) (some_exit_values (value ∷ more))
   exit_value_before (family.any_value word sort) more = by_any_exit_value text word (by_name text sort refl) more refl
   exit_value_before (family.value_given it) more = by_given_exit_value text (term_derived text it).derived more refl
 
-  exit_list_derived : {tokens : List Token} {values : List WrittenExitValue} → Separated kind.COMMA (IsWrittenExitValue text) tokens values →
+  exit_list_derived : {tokens : List Token} {values : List WrittenExitValue}
+      → Separated kind.COMMA (IsWrittenExitValue text) tokens values →
       D behaviours.EXIT_LIST tokens (some_exit_values values)
   exit_list_derived (last {tokens = own} {value = value} it) =
       subst (λ (l : List Token). D behaviours.EXIT_LIST l (some_exit_values (value ∷ []))) (append-nil own)

@@ -6,7 +6,8 @@ use Rattle.lotos_lexer.specs.declared.tokens.Token.{Token}
 use Rattle.sentence_trees.specs.Blame.{BeginsSomeText, IsBlamed}
 
 -- what a beginning begins with is a beginning
-pub begins_with : {A : Type 0} (one : List Token → A → Type 0) (tokens more : List Token) → BeginsSomeText one (tokens ++ more) → BeginsSomeText one tokens
+pub begins_with : {A : Type 0} (one : List Token → A → Type 0) (tokens more : List Token) → BeginsSomeText one (tokens ++ more)
+    → BeginsSomeText one tokens
 begins_with one tokens more begins =
     (more ++ begins.0, begins.1, subst (λ it. one it begins.1) (append_assoc tokens more begins.0) begins.2)
 
@@ -24,7 +25,8 @@ not_before one tokens at other first second before =
     let parts : take (at + 1) tokens ++ drop (at + 1) (take other tokens) ≡ take other tokens =
     ap (λ it. it ++ drop (at + 1) (take other tokens)) (sym shorter) ∙ take-append-drop (at + 1) (take other tokens) in
     first.not_with (let inside : other ≤ length tokens = second.in_range in omega arith)
-    (begins_with one (take (at + 1) tokens) (drop (at + 1) (take other tokens)) (subst (BeginsSomeText one) (sym parts) second.begins_before))
+    (begins_with one (take (at + 1) tokens) (drop (at + 1) (take other tokens))
+    (subst (BeginsSomeText one) (sym parts) second.begins_before))
 
 pub one_blamed : {A : Type 0} (one : List Token → A → Type 0) (tokens : List Token) (at other : ℕ) → IsBlamed one tokens at →
     IsBlamed one tokens other → at ≡ other

@@ -32,7 +32,8 @@ use Rattle.sentence_trees.proofs.Each.{Each}
 use Rattle.sentence_trees.proofs.Lists.{is_of, shown}
 
 module _ (text : List ℕ) where
-  equations_joined : {own tokens : List Token} {equation : WrittenEquation} {more : List WrittenEquation} → IsWrittenEquation text own equation →
+  equations_joined : {own tokens : List Token} {equation : WrittenEquation} {more : List WrittenEquation}
+      → IsWrittenEquation text own equation →
       IsEquationEnd text tokens more →
       IsEquationList text (own ++ tokens) (equation ∷ more)
   equations_joined {own = own} {equation = equation} it ends_without =

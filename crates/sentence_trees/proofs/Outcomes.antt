@@ -42,7 +42,8 @@ same_place place other e =
     let line : place.line ≡ other.line = ap (λ it. it.line) e in
     let col : place.col ≡ other.col = ap (λ it. it.column) e in
     let make : ℕ → ℕ → ℕ → Place = λ a b c. record { text = a; line = b; col = c } in
-    ap (λ it. make it place.line place.col) text ∙ ap (λ it. make other.text it place.col) line ∙ ap (λ it. make other.text other.line it) col
+    ap (λ it. make it place.line place.col) text ∙ ap (λ it. make other.text it place.col) line
+    ∙ ap (λ it. make other.text other.line it) col
 
 -- of two faults one is want of memory, or they are the same
 abbrev Agree : ReadFault → ReadFault → Type 0
@@ -53,7 +54,8 @@ module _ {A : Type 0} (one : List Token → A → Type 0) (nodes : A → List Tr
   pub one_tree : (some other : A) → IsRead one nodes number text some → IsRead one nodes number text other → some ≡ other
   one_tree some other first second =
       unique second.tokens some other
-      (subst (λ it. one it some) (same_tokens (tokens_of number text) first.tokens second.tokens first.cut_into second.cut_into) first.sentence)
+      (subst (λ it. one it some) (same_tokens (tokens_of number text) first.tokens second.tokens first.cut_into second.cut_into)
+      first.sentence)
       second.sentence
 
   pub not_both : (tree : A) (fault : ReadFault) → IsRead one nodes number text tree → IsFault one nodes number text fault → fault ≡ NoMemory
@@ -90,7 +92,8 @@ module _ {A : Type 0} (one : List Token → A → Type 0) (nodes : A → List Tr
       let same : text_place_of place ≡ text_place_of place' = cc in
       ap TooDeep (same_place place place' same)
 
-  syntax_or_deep : (place place' : Place) → IsFault one nodes number text (Syntax place) → IsFault one nodes number text (TooDeep place') → ⊥
+  syntax_or_deep : (place place' : Place) → IsFault one nodes number text (Syntax place) → IsFault one nodes number text (TooDeep place')
+      → ⊥
   syntax_or_deep place place' first second =
       let tokens : second.0 ≡ first.0 = same_tokens (tokens_of number text) second.0 first.0 second.2 first.2.cut_into in
       first.2.blamed.no_text second.1 (subst (λ it. one it second.1) tokens second.3)
@@ -180,7 +183,8 @@ one_outcome_within : {A : Type 0} (limit : ℕ) (one : List ℕ → List Token �
 one_outcome_within limit one nodes unique = record {
   one_tree = λ number text some other first second. one_tree (one text) nodes (unique text) number text some other first.1 second.1;
   not_both = λ number text tree cause read is. not_both_within limit (one text) nodes (unique text) number text tree cause read is;
-  one_fault = λ number text some other first second. one_fault_within limit (one text) nodes (unique text) number text some other first second;
+  one_fault = λ number text some other first second. one_fault_within limit (one text) nodes (unique text) number text some other first
+      second;
 }
 
 one_outcome : {A : Type 0} (one : List ℕ → List Token → A → Type 0) (nodes : A → List TreeNode) →

@@ -45,15 +45,16 @@ module _ (text : List ℕ) where
   pub by_no_order : {value : Meaning} → starts_row_means row.NoOrder None ([]) ≡ Some value → D starts.ORDER ([]) value
   by_no_order given = derived_by text 152 (row_of (Starts row.NoOrder) starts.ORDER ([])) refl nothing given
 
-  pub by_order : {o1 o2 o3 : List Token} {m1 m2 m3 value : Meaning} {t1 : Token} → D names.OPERATION o1 m1 →
-      D starts.OPTIONAL_PROFILE o2 m2 → IsOf kind.SEMICOLON t1 → D starts.ORDER o3 m3 →
-      starts_row_means row.Order None (m1 ∷ m2 ∷ m3 ∷ []) ≡ Some value → D starts.ORDER (o1 ++ (o2 ++ (t1 ∷ o3))) value
-  by_order {o1 = o1} {o2 = o2} {o3 = o3} {m1 = m1} {m2 = m2} {m3 = m3} {value = value} {t1 = t1} d1 d2 i1 d3 given =
-      subst (λ (l : List Token). D starts.ORDER (o1 ++ (o2 ++ (t1 ∷ l))) value) (append-nil o3)
+  pub by_order : {o1 o2 o3 o4 : List Token} {m1 m2 m3 m4 value : Meaning} {t1 : Token} → D names.OPERATION o1 m1 →
+      D starts.OPTIONAL_PROFILE o2 m2 → D starts.OPTIONAL_STATUS o3 m3 → IsOf kind.SEMICOLON t1 → D starts.ORDER o4 m4 →
+      starts_row_means row.Order None (m1 ∷ m2 ∷ m3 ∷ m4 ∷ []) ≡ Some value → D starts.ORDER (o1 ++ (o2 ++ (o3 ++ (t1 ∷ o4)))) value
+  by_order {o1 = o1} {o2 = o2} {o3 = o3} {o4 = o4} {m1 = m1} {m2 = m2} {m3 = m3} {m4 = m4} {value = value} {t1 = t1}
+      d1 d2 d3 i1 d4 given =
+      subst (λ (l : List Token). D starts.ORDER (o1 ++ (o2 ++ (o3 ++ (t1 ∷ l)))) value) (append-nil o4)
       (derived_by text 153
       (row_of (Starts row.Order) starts.ORDER
-      (Part names.OPERATION ∷ Part starts.OPTIONAL_PROFILE ∷ Tok kind.SEMICOLON ∷ Part starts.ORDER ∷ [])) refl
-      (part d1 (part d2 (token t1 i1.kind_is (part d3 nothing)))) given)
+      (Part names.OPERATION ∷ Part starts.OPTIONAL_PROFILE ∷ Part starts.OPTIONAL_STATUS ∷ Tok kind.SEMICOLON ∷ Part starts.ORDER ∷ []))
+      refl (part d1 (part d2 (part d3 (token t1 i1.kind_is (part d4 nothing))))) given)
 
   pub by_no_optional_profile : {value : Meaning} → starts_row_means row.NoOptionalProfile None ([]) ≡ Some value →
       D starts.OPTIONAL_PROFILE ([]) value
@@ -75,3 +76,15 @@ module _ (text : List ℕ) where
   by_terms {o1 = o1} {m1 = m1} {value = value} d1 given =
       subst (λ (l : List Token). D starts.TERMS (l) value) (append-nil o1)
       (derived_by text 157 (row_of (Starts row.Terms) starts.TERMS (Part terms.TERM_LIST ∷ [])) refl (part d1 nothing) given)
+
+  pub by_no_optional_status : {value : Meaning} → starts_row_means row.NoOptionalStatus None ([]) ≡ Some value →
+      D starts.OPTIONAL_STATUS ([]) value
+  by_no_optional_status given =
+      derived_by text 158 (row_of (Starts row.NoOptionalStatus) starts.OPTIONAL_STATUS ([])) refl nothing given
+
+  pub by_optional_status : {o1 : List Token} {m1 value : Meaning} → D names.NAME o1 m1 →
+      starts_row_means row.OptionalStatus None (m1 ∷ []) ≡ Some value → D starts.OPTIONAL_STATUS (o1) value
+  by_optional_status {o1 = o1} {m1 = m1} {value = value} d1 given =
+      subst (λ (l : List Token). D starts.OPTIONAL_STATUS (l) value) (append-nil o1)
+      (derived_by text 159 (row_of (Starts row.OptionalStatus) starts.OPTIONAL_STATUS (Part names.NAME ∷ [])) refl
+      (part d1 nothing) given)

@@ -36,8 +36,8 @@ module _ (text : List ℕ) where
 
   order_gives : GivesMeaning text
       (row_of (Starts row.Order) starts.ORDER
-      (Part names.OPERATION ∷ Part starts.OPTIONAL_PROFILE ∷ Tok kind.SEMICOLON ∷ Part starts.ORDER ∷ []))
-  order_gives _ _ (part (as_one _) (part (as_one _) (token _ _ (part (as_one _) nothing)))) = (_, refl)
+      (Part names.OPERATION ∷ Part starts.OPTIONAL_PROFILE ∷ Part starts.OPTIONAL_STATUS ∷ Tok kind.SEMICOLON ∷ Part starts.ORDER ∷ []))
+  order_gives _ _ (part (as_one _) (part (as_one _) (part (as_one _) (token _ _ (part (as_one _) nothing))))) = (_, refl)
 
   no_optional_profile_gives : GivesMeaning text (row_of (Starts row.NoOptionalProfile) starts.OPTIONAL_PROFILE [])
   no_optional_profile_gives _ _ nothing = (_, refl)
@@ -51,11 +51,26 @@ module _ (text : List ℕ) where
   terms_gives : GivesMeaning text (row_of (Starts row.Terms) starts.TERMS (Part terms.TERM_LIST ∷ []))
   terms_gives _ _ (part (as_one _) nothing) = (_, refl)
 
+  no_optional_status_gives : GivesMeaning text (row_of (Starts row.NoOptionalStatus) starts.OPTIONAL_STATUS [])
+  no_optional_status_gives _ _ nothing = (_, refl)
+
+  optional_status_gives : GivesMeaning text (row_of (Starts row.OptionalStatus) starts.OPTIONAL_STATUS (Part names.NAME ∷ []))
+  optional_status_gives _ _ (part (as_one _) nothing) = (_, refl)
+
   pub starts_give : Each (GivesMeaning text) starts_rows
   starts_give = (
     spec_gives,
     (
       typetext_gives,
-      (no_order_gives, (order_gives, (no_optional_profile_gives, (optional_profile_gives, (no_terms_gives, (terms_gives, tt)))))),
+      (
+        no_order_gives,
+        (
+          order_gives,
+          (
+            no_optional_profile_gives,
+            (optional_profile_gives, (no_terms_gives, (terms_gives, (no_optional_status_gives, (optional_status_gives, tt))))),
+          ),
+        ),
+      ),
     ),
   )

@@ -42,9 +42,9 @@ module _ (text : List ℕ) where
 
   order_row : KeepsParts text
       (row_of (Starts row.Order) starts.ORDER
-      (Part names.OPERATION ∷ Part starts.OPTIONAL_PROFILE ∷ Tok kind.SEMICOLON ∷ Part starts.ORDER ∷ []))
-  order_row _ _ value (part (as_one p1) (part (as_one p2) (token t1 i1 (part (as_one p3) nothing)))) given =
-      shown _ _ given (and_then (family.listed p1 p2 (is_of t1 i1)) p3) (simp (append-nil, append_assoc) refl)
+      (Part names.OPERATION ∷ Part starts.OPTIONAL_PROFILE ∷ Part starts.OPTIONAL_STATUS ∷ Tok kind.SEMICOLON ∷ Part starts.ORDER ∷ []))
+  order_row _ _ value (part (as_one p1) (part (as_one p2) (part (as_one p3) (token t1 i1 (part (as_one p4) nothing))))) given =
+      shown _ _ given (and_then (family.listed p1 p2 p3 (is_of t1 i1)) p4) (simp (append-nil, append_assoc) refl)
 
   no_optional_profile_row : KeepsParts text (row_of (Starts row.NoOptionalProfile) starts.OPTIONAL_PROFILE [])
   no_optional_profile_row _ _ value nothing given = shown _ _ given family.without_profile refl
@@ -58,11 +58,26 @@ module _ (text : List ℕ) where
   terms_row : KeepsParts text (row_of (Starts row.Terms) starts.TERMS (Part terms.TERM_LIST ∷ []))
   terms_row _ _ value (part (as_one p1) nothing) given = shown _ _ given (there p1) (simp (append-nil) refl)
 
+  no_optional_status_row : KeepsParts text (row_of (Starts row.NoOptionalStatus) starts.OPTIONAL_STATUS [])
+  no_optional_status_row _ _ value nothing given = shown _ _ given family.without_status refl
+
+  optional_status_row : KeepsParts text (row_of (Starts row.OptionalStatus) starts.OPTIONAL_STATUS (Part names.NAME ∷ []))
+  optional_status_row _ _ value (part (as_one p1) nothing) given = shown _ _ given (family.with_status p1) (simp (append-nil) refl)
+
   pub starts_keep : Each (KeepsParts text) starts_rows
   starts_keep = (
     spec_row,
     (
       typetext_row,
-      (no_order_row, (order_row, (no_optional_profile_row, (optional_profile_row, (no_terms_row, (terms_row, tt)))))),
+      (
+        no_order_row,
+        (
+          order_row,
+          (
+            no_optional_profile_row,
+            (optional_profile_row, (no_terms_row, (terms_row, (no_optional_status_row, (optional_status_row, tt))))),
+          ),
+        ),
+      ),
     ),
   )

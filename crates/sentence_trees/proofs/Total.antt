@@ -26,7 +26,8 @@ module _ {T A : Type 0} (value_of : ℕ → Option T → List A → Option A) (k
     (stay : list_all (stays_said said) rows ≡ true)
     (gives : (number : ℕ) (row : Production) → slice_get rows number ≡ Some row → said row.left ≡ true →
     (tokens : List T) (values : List A) →
-    StandForTokens kind has row.right tokens values → (value : A) × (value_of number (front_token keeps row.right tokens) values ≡ Some value)) where
+    StandForTokens kind has row.right tokens values → (value : A)
+    × (value_of number (front_token keeps row.right tokens) values ≡ Some value)) where
   -- the trees of symbols have values, and the symbols stand for their tokens
   record Valued (trees : Forest) (symbols : List Symbol) (own : List T) : Type 0 where
     values : List A

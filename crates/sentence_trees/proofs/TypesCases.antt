@@ -37,7 +37,8 @@ module _ (text : List ℕ) where
     first_derived : IsWrittenOperation text own first
     more_derived : D types.MORE_OPERATIONS others (some_named_operations more)
 
-  line_derived : {tokens : List Token} {operations : List NamedOperation} → Separated kind.COMMA (IsWrittenOperation text) tokens operations →
+  line_derived : {tokens : List Token} {operations : List NamedOperation}
+      → Separated kind.COMMA (IsWrittenOperation text) tokens operations →
       LineDerived tokens operations
   line_derived (last {tokens = own} {value = operation} it) = record {
     own = own;

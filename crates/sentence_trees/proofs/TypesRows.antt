@@ -38,7 +38,8 @@ module _ (text : List ℕ) where
 
   lines_joined : {own more_tokens profile_tokens rest : List Token} (operation : NamedOperation) (more : List NamedOperation)
       {profile : PlacedProfile} {others : List WrittenOperation} →
-      IsWrittenOperation text own operation → Further kind.COMMA (IsWrittenOperation text) more_tokens more → IsProfile text profile_tokens profile →
+      IsWrittenOperation text own operation → Further kind.COMMA (IsWrittenOperation text) more_tokens more
+      → IsProfile text profile_tokens profile →
       AreOperations text rest others →
       AreOperations text (((own ++ more_tokens) ++ profile_tokens) ++ rest) (operations_of_profile (operation ∷ more) profile ++ others)
   lines_joined operation more first others has_profile (family.operations lines) =

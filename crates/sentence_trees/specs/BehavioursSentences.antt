@@ -37,7 +37,8 @@ pub data IsAfterOffer (text : List ℕ) : List Token → PlainActionEnd → Type
       IsOf LEFT_BRACKET left →
       IsPremiss text test_tokens test → IsOf RIGHT_BRACKET right → IsOf SEMICOLON semicolon → IsFlatList text tokens flat →
       IsAfterOffer text (left ∷ (test_tokens ++ right ∷ semicolon ∷ tokens)) (record { offers = []; test = Some test; behind = flat })
-  without_selection : {semicolon : Token} {tokens : List Token} {flat : PlainFlat} → IsOf SEMICOLON semicolon → IsFlatList text tokens flat →
+  without_selection : {semicolon : Token} {tokens : List Token} {flat : PlainFlat} → IsOf SEMICOLON semicolon
+      → IsFlatList text tokens flat →
       IsAfterOffer text (semicolon ∷ tokens) (record { offers = []; test = None; behind = flat })
 
 -- what stands behind a name at the start of a behaviour
@@ -77,7 +78,8 @@ behaviours_part text p tokens meaning =
     (choose (p == behaviours.OFFER) (As some_offers (IsWrittenOffer text) tokens meaning)
     (choose (p == behaviours.AFTER_OFFER) (As an_action (IsAfterOffer text) tokens meaning)
     (choose (p == behaviours.EXIT_VALUES)
-    (As some_exit_values (Optional [] (Between LEFT_PARENTHESIS RIGHT_PARENTHESIS (Separated COMMA (IsWrittenExitValue text)))) tokens meaning)
+    (As some_exit_values (Optional [] (Between LEFT_PARENTHESIS RIGHT_PARENTHESIS (Separated COMMA (IsWrittenExitValue text)))) tokens
+    meaning)
     (choose (p == behaviours.EXIT_LIST) (As some_exit_values (Separated COMMA (IsWrittenExitValue text)) tokens meaning)
     (choose (p == behaviours.MORE_EXIT_VALUES) (As some_exit_values (Further COMMA (IsWrittenExitValue text)) tokens meaning)
     (choose (p == behaviours.LET_LIST) (As some_lets (Separated COMMA (IsLetDeclaration text)) tokens meaning)

@@ -54,7 +54,8 @@ pub record TextsAreUnambiguous : Type 0 where
 -- tokens with these kinds
 pub record RowsHaveTheSentences : Type 0 where
   pub specification : (text : List ℕ) (tokens : List Token) →
-      IsSentence (grammar_from starts.SPEC) (map kind_of tokens) ↔ ((found : WrittenSpecification) × IsWrittenSpecification text tokens found)
+      IsSentence (grammar_from starts.SPEC) (map kind_of tokens)
+      ↔ ((found : WrittenSpecification) × IsWrittenSpecification text tokens found)
   pub items : (text : List ℕ) (tokens : List Token) →
       IsSentence (grammar_from starts.TYPETEXT) (map kind_of tokens) ↔ ((items : List WrittenItem) × AreItems text tokens items)
   pub order : (text : List ℕ) (tokens : List Token) →

@@ -45,7 +45,8 @@ PartMeans text p tokens meaning =
 -- a row keeps what its parts are
 abbrev pub KeepsParts : List ℕ → GrammarRow → Type 0
 KeepsParts text row =
-    (tokens : List Token) (values : List Meaning) (value : Meaning) → StandForTokens kind_of (PartMeans text) row.production.right tokens values →
+    (tokens : List Token) (values : List Meaning) (value : Meaning)
+    → StandForTokens kind_of (PartMeans text) row.production.right tokens values →
     row_means text row.name (front_token is_kept_kind row.production.right tokens) values ≡ Some value →
     PartMeans text row.production.left tokens value
 

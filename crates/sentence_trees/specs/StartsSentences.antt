@@ -3,8 +3,8 @@ use Rattle.std.specs.Prelude.{ℕ, ◌==◌, List, [], ◌∷◌}
 use Rattle.lotos_lexer.specs.declared.tokens.Token.{Token}
 use Rattle.lotos_rows.specs.declared.starts.TheConstants as starts
 use Rattle.lotos_rows.specs.declared.specification.TheConstants as specification
-use Rattle.lotos_rows.specs.Starts.{IsBehaviourWord, IsWrittenSpecification, AreItems, IsOptionalProfile, AreOrderItems, AreOptionalTerms}
-use Rattle.tree_building.specs.Meaning.{Meaning, a_specification, some_items, a_word, some_order_items, maybe_profile, some_terms}
+use Rattle.lotos_rows.specs.Starts.{IsBehaviourWord, IsWrittenSpecification, AreItems, IsOptionalProfile, IsOptionalStatus, AreOrderItems, AreOptionalTerms}
+use Rattle.tree_building.specs.Meaning.{Meaning, a_specification, some_items, a_word, some_order_items, maybe_profile, maybe_name, some_terms}
 use Rattle.sentence_trees.specs.PartSentences.{As, choose}
 
 pub data IsWord : List Token → Unit {0} → Type 0 where
@@ -20,4 +20,5 @@ starts_part text p tokens meaning =
     (choose (p == starts.TYPETEXT) (As some_items (AreItems text) tokens meaning)
     (choose (p == starts.ORDER) (As some_order_items (AreOrderItems text) tokens meaning)
     (choose (p == starts.OPTIONAL_PROFILE) (As maybe_profile (IsOptionalProfile text) tokens meaning)
-    (As some_terms (AreOptionalTerms text) tokens meaning))))
+    (choose (p == starts.OPTIONAL_STATUS) (As maybe_name (IsOptionalStatus text) tokens meaning)
+    (As some_terms (AreOptionalTerms text) tokens meaning)))))

@@ -29,10 +29,12 @@ fn kinds_of(alloc: Global, tokens: &[Token]) -> Result<Vec<u16>, AllocError>
     tokens.iter().map(|token| token.kind).collect(alloc)
 }
 
-/// The tokens of a text with their derivation by the rows of the grammar, or the fault in its place.
+/// The tokens of a text with their derivation by the rows of the grammar, or the fault in its
+/// place.
 fn derivation(alloc: Global, text: &[u8], number: u32, kind: TextKind) -> Result<Derived, ReadFault>
     requires { length text.now + 1 < 2 ^ 32 }
-    ensures { MatchResult result (IsDerived (start_of kind) number text.now) (IsUnderived (start_of kind) number text.now) }
+    ensures { MatchResult result (IsDerived (start_of kind) number text.now)
+        (IsUnderived (start_of kind) number text.now) }
 {
     let tokens = lex(alloc, text, number)?;
     let kinds = kinds_of(alloc, &tokens)?;
@@ -51,8 +53,9 @@ fn derivation(alloc: Global, text: &[u8], number: u32, kind: TextKind) -> Result
 
 /// Cuts a text into its tokens and derives them as a text of the kind.
 ///
-/// Answers the lexical fault of the text, or `Syntax` at the first token with which the tokens before it stop being the
-/// beginning of such a text, or just past the last byte where all of them are a beginning and no text.
+/// Answers the lexical fault of the text, or `Syntax` at the first token with which the tokens
+/// before it stop being the beginning of such a text, or just past the last byte where all of them
+/// are a beginning and no text.
 pub fn derive(alloc: Global, text: &[u8], number: u32, kind: TextKind) -> Result<Derived, ReadFault>
     requires { length text.now + 1 < 2 ^ 32 }
     ensures derived { IfOk result (IsDerived (start_of kind) number text.now) }

@@ -7,7 +7,8 @@ use lotos_base::Place;
 use lotos_lexer::LexFault;
 use std::alloc::{AllocError, AllocFailed};
 
-/// Why a text is not read. The first of them that there is counts, in this order; want of memory may come with any.
+/// Why a text is not read. The first of them that there is counts, in this order; want of memory
+/// may come with any.
 #[derive(Clone, Copy, Debug, PartialEq, Eq)]
 pub enum ReadFault {
     /// It has more than 1,048,576 bytes.

@@ -1,5 +1,5 @@
 -- What lines of traces come to: one thing at most, and lawful sessions.
-use Rattle.std.proofs.Common.{◌≡◌, ◌≢◌, ◌⊎◌, inl, inr, ◌+◌, ℕ, suc, List, [], ◌∷◌, length, Bool, true, false, Option, None, Some, bytes_eq, refl, ap, sym, ◌∙◌, subst}
+use Rattle.std.proofs.Common.{◌≡◌, ◌≢◌, ◌⊎◌, inl, inr, ◌+◌, ℕ, suc, List, [], ◌∷◌, length, Bool, true, false, Option, None, Some, refl, ap, sym, ◌∙◌, subst}
 use Rattle.lotos_base.proofs.Options.{none_and_some}
 use Rattle.lotos_base.specs.Signature.{Signature}
 use Rattle.lotos_base.specs.Term.{Term}
@@ -9,8 +9,7 @@ use Rattle.sentence_trees.specs.ReadingLaws.{TextsHaveOneOutcome}
 use Rattle.sentence_trees.specs.declared.fault.ReadFault.{ReadFault}
 use Rattle.sentence_trees.specs.declared.fault.ReadFault.TheVariants.{NoMemory}
 use Rattle.sort_terms.specs.ReadingLaws.{ReadingComesToOneThing}
-use Rattle.sort_terms.specs.ReadingOutcome as reading
-use Rattle.sort_terms.specs.ReadingOutcome.{ReadingIs, SortedTerm}
+use Rattle.sort_terms.specs.ReadingOutcome.{SortedTerm, one_name}
 use Rattle.sort_terms.proofs.OutcomeLemmas.{same_answer, not_answered_and_refused}
 use Rattle.behaviour_semantics.specs.Label.{Label}
 use Rattle.behaviour_semantics.specs.Solving.{Entry}
@@ -19,18 +18,18 @@ use Rattle.behaviour_semantics.proofs.OptionLemmas.{some_value}
 use Rattle.session_histories.specs.Session.{SessionBasis, Situation, Progress, opened, first_situation}
 use Rattle.session_histories.specs.Refusal.{StepRefusal, entry_numbered, number_refusal, count_refusal, condition_refusal}
 use Rattle.session_histories.specs.Lawful.{IsSituation, IsLawful, HasStepped}
-use Rattle.session_histories.specs.Replay.{LineRefusal, bad_line, step_refused, label_differs, ReplayRefusal, LinesOutcome, goes_on, stops, AreRead, IsOneMisread, shown_label, LineComesTo, has_no_form, is_not_read, is_miscounted, is_misread, is_unmet, is_mislabelled, is_replayed, LinesComeTo, all_done, one_stops, one_goes_on, ComeBehind, TraceComesTo, ReplayIs}
+use Rattle.session_histories.specs.Replay.{LineRefusal, bad_line, step_refused, label_differs, state_differs, ReplayRefusal, in_line, LinesOutcome, goes_on, stops, AreRead, IsOneMisread, shown_label, shown_state, first_line, LineComesTo, has_no_form, is_not_read, is_miscounted, is_misread, is_unmet, is_mislabelled, is_replayed, StateComesTo, is_missing, has_no_state, is_elsewhere, is_there, LinesComeTo, all_done, one_stops, one_goes_on, StatedLinesComeTo, all_stated, step_stops, state_stops, both_go_on, ComeBehindName, ComeBehind, TraceComesTo, ReplayIs}
 use Rattle.session_histories.specs.SessionLaws.{IsStateOver, HaveOneStart}
 use Rattle.session_histories.specs.StepLaws.{StepsAreExact}
-use Rattle.session_histories.specs.TraceLine.{StepLine, step_line, lines_of}
-use Rattle.session_histories.specs.TraceText.{trace_heading}
+use Rattle.session_histories.specs.TraceLine.{StepLine, step_line, lines_of, Heading, no_heading, of_steps, of_states, heading_of}
 use Rattle.session_histories.proofs.ProgressLemmas.{stepped_lawful}
 use Rattle.session_histories.proofs.RefusalLemmas.{IsFree, free_of_count}
 use Rattle.session_histories.proofs.StepLemmas.{met_free}
 
 -- ---- Questions in turn: each stops the line, or gives one thing to go on with
 
-abbrev Turn : {A : Type 0} → (LineRefusal → Type 0) → (A → Type 0) → (A → LinesOutcome LineRefusal → Type 0) → LinesOutcome LineRefusal → Type 0
+abbrev Turn : {A : Type 0} → (LineRefusal → Type 0) → (A → Type 0) → (A → LinesOutcome LineRefusal → Type 0) → LinesOutcome LineRefusal
+    → Type 0
 Turn {A} Stops Goes Next outcome =
     ((why : LineRefusal) × Stops why × (outcome ≡ stops why)) ⊎ ((a : A) × Goes a × Next a outcome)
 
@@ -318,7 +317,7 @@ module _ (texts : TextsHaveOneOutcome) (readings : ReadingComesToOneThing) (step
       → LinesComeTo basis number progress lines one → LinesComeTo basis number progress lines other → one ≡ other
   lines_once number progress [] _ _ ready all_done all_done = refl
   lines_once number progress (line ∷ lines) _ _ ready (one_stops {why = why} h) (one_stops {why = other} k) =
-      ap (λ (it : LineRefusal). stops (record { line = number; why = it }))
+      ap (λ (it : LineRefusal). stops (in_line number it))
       (same_stop why other (line_once texts readings steps basis progress line ready (stops why) (stops other) h k))
   lines_once number progress (line ∷ lines) _ _ ready (one_stops {why = why} h) (one_goes_on {next = next} k rest) =
       absurd (no_way next why (line_once texts readings steps basis progress line ready (goes_on next) (stops why) k h))
@@ -331,17 +330,84 @@ module _ (texts : TextsHaveOneOutcome) (readings : ReadingComesToOneThing) (step
       (ready_again targets basis progress next ready (went_on basis progress next line h)) rest
       (subst (λ (it : Progress). LinesComeTo basis (number + 1) it lines other) (sym same) more)
 
-  behind_once : (first : Situation) (heading : Bool) (lines : List (List ℕ)) (one other : LinesOutcome ReplayRefusal)
+  -- a state comes to one thing
+  state_once : (progress : Progress) (there_ : Option (List ℕ)) (one other : LinesOutcome LineRefusal)
+      → StateComesTo basis progress there_ one → StateComesTo basis progress there_ other → one ≡ other
+  state_once progress None _ _ is_missing is_missing = refl
+  state_once progress (Some line) _ _ (has_no_state h) (has_no_state k) = refl
+  state_once progress (Some line) _ _ (has_no_state h) (is_elsewhere kept k n) = absurd (none_and_some _ kept h k)
+  state_once progress (Some line) _ _ (has_no_state h) (is_there k) = absurd (none_and_some _ (shown_state basis progress) h k)
+  state_once progress (Some line) _ _ (is_elsewhere kept h n) (has_no_state k) = absurd (none_and_some _ kept k h)
+  state_once progress (Some line) _ _ (is_elsewhere kept h n) (is_elsewhere other k m) =
+      ap (λ (it : List ℕ). stops (state_differs it (shown_state basis progress))) (some_value (sym h ∙ k))
+  state_once progress (Some line) _ _ (is_elsewhere kept h n) (is_there k) = absurd (n (some_value (sym h ∙ k)))
+  state_once progress (Some line) _ _ (is_there h) (has_no_state k) = absurd (none_and_some _ (shown_state basis progress) k h)
+  state_once progress (Some line) _ _ (is_there h) (is_elsewhere kept k n) = absurd (n (some_value (sym k ∙ h)))
+  state_once progress (Some line) _ _ (is_there h) (is_there k) = refl
+
+  stated_once : (number : ℕ) (progress : Progress) (lines : List (List ℕ)) (one other : LinesOutcome ReplayRefusal)
+      → IsReady basis progress → StatedLinesComeTo basis number progress lines one → StatedLinesComeTo basis number progress lines other
+      → one ≡ other
+  stated_once number progress [] _ _ ready all_stated all_stated = refl
+  stated_once number progress (line ∷ lines) _ _ ready (step_stops {why = why} h) (step_stops {why = other} k) =
+      ap (λ (it : LineRefusal). stops (in_line number it))
+      (same_stop why other (line_once texts readings steps basis progress line ready (stops why) (stops other) h k))
+  stated_once number progress (line ∷ lines) _ _ ready (step_stops {why = why} h) (state_stops {next = next} k s) =
+      absurd (no_way next why (line_once texts readings steps basis progress line ready (goes_on next) (stops why) k h))
+  stated_once number progress (line ∷ state ∷ lines) _ _ ready (step_stops {why = why} h) (both_go_on {next = next} k s rest) =
+      absurd (no_way next why (line_once texts readings steps basis progress line ready (goes_on next) (stops why) k h))
+  stated_once number progress (line ∷ lines) _ _ ready (state_stops {next = next} h s) (step_stops {why = why} k) =
+      absurd (no_way next why (line_once texts readings steps basis progress line ready (goes_on next) (stops why) h k))
+  stated_once number progress (line ∷ lines) _ _ ready (state_stops {next = next} {why = why} h s)
+      (state_stops {next = last} {why = other} k t) =
+      let same : next ≡ last = same_way next last
+      (line_once texts readings steps basis progress line ready (goes_on next) (goes_on last) h k) in
+      ap (λ (it : LineRefusal). stops (in_line (number + 1) it))
+      (same_stop why other
+      (state_once next (first_line lines) (stops why) (stops other) s
+      (subst (λ (it : Progress). StateComesTo basis it (first_line lines) (stops other)) (sym same) t)))
+  stated_once number progress (line ∷ state ∷ lines) _ _ ready (state_stops {next = next} {why = why} h s)
+      (both_go_on {next = last} k t rest) =
+      let same : next ≡ last = same_way next last
+      (line_once texts readings steps basis progress line ready (goes_on next) (goes_on last) h k) in
+      absurd (no_way next why
+      (state_once next (Some state) (goes_on next) (stops why)
+      (subst (λ (it : Progress). StateComesTo basis it (Some state) (goes_on it)) (sym same) t) s))
+  stated_once number progress (line ∷ state ∷ lines) _ _ ready (both_go_on {next = next} h s rest) (step_stops {why = why} k) =
+      absurd (no_way next why (line_once texts readings steps basis progress line ready (goes_on next) (stops why) h k))
+  stated_once number progress (line ∷ state ∷ lines) _ _ ready (both_go_on {next = next} h s rest)
+      (state_stops {next = last} {why = why} k t) =
+      let same : next ≡ last = same_way next last
+      (line_once texts readings steps basis progress line ready (goes_on next) (goes_on last) h k) in
+      absurd (no_way last why
+      (state_once last (Some state) (goes_on last) (stops why)
+      (subst (λ (it : Progress). StateComesTo basis it (Some state) (goes_on it)) same s) t))
+  stated_once number progress (line ∷ state ∷ lines) one other ready (both_go_on {next = next} h s rest)
+      (both_go_on {next = last} k t more) =
+      let same : next ≡ last = same_way next last
+      (line_once texts readings steps basis progress line ready (goes_on next) (goes_on last) h k) in
+      stated_once (number + 2) next lines one other
+      (ready_again targets basis progress next ready (went_on basis progress next line h)) rest
+      (subst (λ (it : Progress). StatedLinesComeTo basis (number + 2) it lines other) (sym same) more)
+
+  named_once : (first : Situation) (is_named : Bool) (kept : List ℕ) (lines : List (List ℕ)) (one other : LinesOutcome ReplayRefusal)
+      → IsReady basis (opened first) → ComeBehindName basis first is_named kept lines one
+      → ComeBehindName basis first is_named kept lines other → one ≡ other
+  named_once first true kept lines one other ready h k = stated_once 2 (opened first) lines one other ready h k
+  named_once first false kept lines one other ready h k = h ∙ sym k
+
+  behind_once : (first : Situation) (heading : Heading) (lines : List (List ℕ)) (one other : LinesOutcome ReplayRefusal)
       → IsReady basis (opened first) → ComeBehind basis first heading lines one → ComeBehind basis first heading lines other
       → one ≡ other
-  behind_once first true lines one other ready h k = lines_once 2 (opened first) lines one other ready h k
-  behind_once first false lines one other ready h k = h ∙ sym k
+  behind_once first no_heading lines one other ready h k = h ∙ sym k
+  behind_once first of_steps lines one other ready h k = lines_once 2 (opened first) lines one other ready h k
+  behind_once first (of_states kept) lines one other ready h k =
+      named_once first (one_name kept basis.specification.name) kept lines one other ready h k
 
   trace_once : (first : Situation) (lines : List (List ℕ)) (one other : LinesOutcome ReplayRefusal) → IsReady basis (opened first)
       → TraceComesTo basis first lines one → TraceComesTo basis first lines other → one ≡ other
   trace_once first [] one other ready h k = h ∙ sym k
-  trace_once first (line ∷ lines) one other ready h k =
-      behind_once first (bytes_eq line trace_heading) lines one other ready h k
+  trace_once first (line ∷ lines) one other ready h k = behind_once first (heading_of line) lines one other ready h k
 
   pub replay_once : (first : Situation) (text : List ℕ) (one other : LinesOutcome ReplayRefusal) → IsStateOver basis first.state
       → IsSituation basis first → ReplayIs basis first text one → ReplayIs basis first text other → one ≡ other
@@ -363,17 +429,37 @@ lines_lawful basis number progress new (line ∷ lines) lawful (one_goes_on {nex
 pub no_stop : (new : Progress) (why : ReplayRefusal) → goes_on new ≡ stops why → ⊥
 no_stop new why e = cc e
 
-behind_lawful : (basis : SessionBasis) (first : Situation) (heading : Bool) (lines : List (List ℕ)) (new : Progress)
+stated_lawful : (basis : SessionBasis) (number : ℕ) (progress new : Progress) (lines : List (List ℕ)) → IsLawful basis progress
+    → StatedLinesComeTo basis number progress lines (goes_on new) → IsLawful basis new × HaveOneStart progress new
+stated_lawful basis number progress _ [] lawful all_stated = (lawful, refl)
+stated_lawful basis number progress new (line ∷ []) lawful none = elim none [ ]
+stated_lawful basis number progress new (line ∷ state ∷ lines) lawful (both_go_on {next = next} h s rest) =
+    let step : IsStepFrom basis progress next = went_on basis progress next line h in
+    let made : IsLawful basis next × HaveOneStart progress next =
+    stepped_lawful basis progress next step.number step.values step.label lawful step.is in
+    let last : IsLawful basis new × HaveOneStart next new = stated_lawful basis (number + 2) next new lines made.0 rest in
+    (last.0, last.1 ∙ made.1)
+
+named_lawful : (basis : SessionBasis) (first : Situation) (is_named : Bool) (kept : List ℕ) (lines : List (List ℕ)) (new : Progress)
+    → IsSituation basis first → ComeBehindName basis first is_named kept lines (goes_on new)
+    → IsLawful basis new × (first_situation new ≡ first)
+named_lawful basis first true kept lines new menu h =
+    stated_lawful basis 2 (opened first) new lines (record { start = menu; steps = refl }) h
+named_lawful basis first false kept lines new menu h = absurd (no_stop new _ h)
+
+behind_lawful : (basis : SessionBasis) (first : Situation) (heading : Heading) (lines : List (List ℕ)) (new : Progress)
     → IsSituation basis first → ComeBehind basis first heading lines (goes_on new)
     → IsLawful basis new × (first_situation new ≡ first)
-behind_lawful basis first true lines new menu h =
+behind_lawful basis first no_heading lines new menu h = absurd (no_stop new _ h)
+behind_lawful basis first of_steps lines new menu h =
     lines_lawful basis 2 (opened first) new lines (record { start = menu; steps = refl }) h
-behind_lawful basis first false lines new menu h = absurd (no_stop new _ h)
+behind_lawful basis first (of_states kept) lines new menu h =
+    named_lawful basis first (one_name kept basis.specification.name) kept lines new menu h
 
 trace_lawful : (basis : SessionBasis) (first : Situation) (lines : List (List ℕ)) (new : Progress) → IsSituation basis first
     → TraceComesTo basis first lines (goes_on new) → IsLawful basis new × (first_situation new ≡ first)
 trace_lawful basis first [] new menu h = absurd (no_stop new _ h)
-trace_lawful basis first (line ∷ lines) new menu h = behind_lawful basis first (bytes_eq line trace_heading) lines new menu h
+trace_lawful basis first (line ∷ lines) new menu h = behind_lawful basis first (heading_of line) lines new menu h
 
 pub replay_lawful : (basis : SessionBasis) (first : Situation) (text : List ℕ) (new : Progress) → IsSituation basis first
     → ReplayIs basis first text (goes_on new) → IsLawful basis new × (first_situation new ≡ first)

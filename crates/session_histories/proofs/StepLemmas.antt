@@ -152,7 +152,8 @@ stepped_once determined menu_once basis old new other number values label anothe
     h.lawful.derivation ∙ (ap₂ (canonical_derivation basis.canon) entries given ∙ sym k.lawful.derivation) in
     let keeps : DerivesCanonically basis.data_ basis.canon basis.specification.processes old.situation.state h.item.derivation k.item.label
     k.next.state = subst
-    (λ (it : Derivation). DerivesCanonically basis.data_ basis.canon basis.specification.processes old.situation.state it k.item.label k.next.state)
+    (λ (it : Derivation). DerivesCanonically basis.data_ basis.canon basis.specification.processes old.situation.state it k.item.label
+    k.next.state)
     (sym derivations) k.lawful.keeps in
     let move : SameMove basis.data_ basis.canon basis.specification.processes old.situation.state h.item.derivation h.item.label
     k.item.label h.next.state k.next.state h.lawful.keeps keeps =

@@ -1,23 +1,32 @@
 -- The lines of a trace say what its items are.
-use Rattle.std.proofs.Common.{◌≡◌, ◌⊎◌, inl, inr, ◌+◌, ◌%◌, ◌<◌, ◌^◌, ℕ, List, [], ◌∷◌, ◌++◌, drop, length, get_or, Bool, true, false, not, ◌||◌, ◌&&◌, nat_eq, nat_lt, nat_le, if◌then◌else◌, Some, None, option_map, codes, decimal, refl, ap, ap₂, sym, ◌∙◌, subst, arith, append_assoc, append-nil, eqb-true, lt-ltb, le-leb, ne_eqb, mod-lt, eq-zero-or-pos, suc-le-suc}
+use Rattle.std.proofs.Common.{◌≡◌, ◌≢◌, ◌⊎◌, inl, inr, ◌+◌, ◌%◌, ◌<◌, ◌^◌, ℕ, List, [], ◌∷◌, ◌++◌, drop, length, get_or, Bool, true, false, not, ◌||◌, ◌&&◌, nat_eq, nat_lt, nat_le, if◌then◌else◌, Some, None, option_map, codes, decimal, refl, ap, ap₂, sym, ◌∙◌, subst, arith, append_assoc, append-nil, eqb-true, lt-ltb, le-leb, ne_eqb, mod-lt, eq-zero-or-pos, suc-le-suc}
 use Rattle.std.specs.List.{list_any, list_all, starts_with}
 use Rattle.std.specs.Char.{is_ascii_digit}
 use Rattle.std.specs.Str.Parse.{digits_value}
 use Rattle.std.proofs.lemmas.Fmt.{decimal_by_steps, decimal_is_IsNumeral, decimal_digit, decimal_nonempty, first_decimal, length-decimal-le}
 use Rattle.std.proofs.lemmas.List.Folds.{list_any-append, list_all-append}
 use Rattle.std.proofs.lemmas.Bool.{and_from, or_right, and_parts}
+use Rattle.lotos_base.specs.Names.{folded}
 use Rattle.lotos_base.specs.Signature.{Signature}
 use Rattle.lotos_base.specs.Term.{Term}
+use Rattle.lotos_base.proofs.Bytes.{bytes_same}
+use Rattle.behaviour_semantics.specs.Behaviour.{Behaviour}
 use Rattle.behaviour_semantics.specs.Label.{Label}
+use Rattle.behaviour_semantics.specs.Listing.{IsAmong}
 use Rattle.behaviour_semantics.specs.WellFormed.{Every}
+use Rattle.behaviour_semantics.proofs.ListLemmas.{Every-append, Every-among}
+use Rattle.printed_texts.specs.BehaviourText.{state_text}
 use Rattle.printed_texts.specs.Brackets.{commas}
 use Rattle.printed_texts.specs.MenuText.{label_text, term_texts}
-use Rattle.session_histories.specs.Session.{SessionBasis, Item, Situation, PastStep, stepped, items_of}
+use Rattle.session_histories.specs.Session.{SessionBasis, Item, Situation, PastStep, stepped, items_of, first_of}
 use Rattle.session_histories.specs.Lawful.{IsSituation, IsLawfulItem, LeadTo}
-use Rattle.session_histories.specs.Replay.{goes_on, LineComesTo, is_replayed, LinesComeTo, all_done, one_goes_on, ReplayIs}
-use Rattle.session_histories.specs.TraceLaws.{HavePlainNames, IsReadable, ReadBack}
-use Rattle.session_histories.specs.TraceLine.{StepLine, with_byte, around_arrow, first_digits, behind_digits, leads_with_zero, is_number, with_terms, with_number, with_arrow, step_line, with_first, lines_of}
-use Rattle.session_histories.specs.TraceText.{given_text, arrow, step_text, ended, steps_text, trace_text}
+use Rattle.session_histories.specs.Replay.{LinesOutcome, ReplayRefusal, goes_on, LineComesTo, is_replayed, is_there, LinesComeTo, all_done, one_goes_on, StatedLinesComeTo, all_stated, both_go_on, ComeBehindName, ComeBehind, TraceComesTo, ReplayIs}
+use Rattle.session_histories.specs.TraceLaws.{HavePlainNames, IsReadable, ReadBack, HaveLineNames, trace_of}
+use Rattle.session_histories.specs.TraceLine.{StepLine, with_byte, around_arrow, first_digits, behind_digits, leads_with_zero, is_number, with_terms, with_number, with_arrow, step_line, with_first, lines_of, has_return, kept_state, Heading, of_states, with_name, heading_of}
+use Rattle.session_histories.specs.TraceText.{given_text, arrow, step_text, ended, steps_text, plain_trace, trace_heading, line_of_state, stated_steps}
+use Rattle.state_texts.specs.BoundNames.{bound_names, names_in_bodies, names_at_hand, MovesKeepNames}
+use Rattle.state_texts.specs.StateTexts.{StateTextsAreOfNames}
+use Rattle.state_texts.specs.TextBytes.{IsOnOneLine}
 use Rattle.session_histories.proofs.LineBytes.{Seen, nothing, see_byte, is_calm, run, Leads, joined, piece, ends_calm, without, no_arrow_begun, no_whole_arrow, decimal_leads, commas_lead, texts_lead, label_leads}
 
 -- ---- Line feeds
@@ -272,8 +281,114 @@ module _ (basis : SessionBasis) (plain : HavePlainNames basis) where
       (line_ends step.item)))
       (one_goes_on (one_line first h.1 done step.item h.2 h.3 readable.0) rest))
 
-  pub trace_leads_back : (first last : Situation) (steps : List PastStep) → LeadTo basis first steps last
+  pub plain_leads_back : (first last : Situation) (steps : List PastStep) → LeadTo basis first steps last
       → Every (IsReadable basis) (items_of steps)
-      → ReplayIs basis first (trace_text basis.data_.signature basis.specification.gate_names (items_of steps))
+      → ReplayIs basis first (plain_trace basis.data_.signature basis.specification.gate_names (items_of steps))
       (goes_on (record { situation = last; steps = steps }))
-  trace_leads_back first last steps h readable = item_lines_lead 2 first last [] steps h readable
+  plain_leads_back first last steps h readable = item_lines_lead 2 first last [] steps h readable
+
+  -- ---- The lines of steps with their states
+
+  module _ (keep : MovesKeepNames) (texts : StateTextsAreOfNames) (begin : Behaviour) (have : HaveLineNames basis begin) where
+    -- the names in the state stand on one line
+    abbrev IsKeptInLine : Behaviour → Type 0
+    IsKeptInLine state = Every IsOnOneLine (bound_names state)
+
+    each_so : (xs : List (List ℕ)) → ((name : List ℕ) → IsAmong name xs → IsOnOneLine name) → Every IsOnOneLine xs
+    each_so [] so = tt
+    each_so (x ∷ xs) so = (so x (inl refl), each_so xs (λ name among. so name (inr among)))
+
+    item_keeps : (before : Situation) (item : Item) (next : Behaviour) → IsLawfulItem basis before item next → IsKeptInLine before.state
+        → IsKeptInLine next
+    item_keeps before item next lawful kept =
+        each_so (bound_names next)
+        (λ name among. Every-among IsOnOneLine (names_at_hand basis.specification.processes before.state) name
+        (Every-append IsOnOneLine (bound_names before.state) (names_in_bodies basis.specification.processes) kept have.bodies)
+        (keep.moved basis.data_ basis.canon basis.specification.processes before.state item.derivation item.label next name
+        lawful.keeps among))
+
+    state_stands : (state : Behaviour) → IsKeptInLine state
+        → IsOnOneLine (state_text basis.data_.signature basis.specification state)
+    state_stands state kept =
+        texts.on_one_line basis.data_.signature basis.specification state (record {
+          sorts = have.states.sorts;
+          operations = have.states.operations;
+          gates = have.states.gates;
+          processes = have.states.processes;
+          variables = kept;
+        })
+
+    abbrev stated_lines : Situation → List PastStep → List ℕ
+    stated_lines last steps = stated_steps basis.data_.signature basis.specification last steps
+
+    -- steps that lead on from a situation are taken there
+    taken_there : (next last : Situation) (steps : List PastStep) → LeadTo basis next steps last → first_of last steps ≡ next
+    taken_there next last [] h = sym h
+    taken_there next last (step ∷ steps) h = h.0
+
+    keeps_state : (state : Behaviour) → IsKeptInLine state
+        → kept_state (line_of_state basis.data_.signature basis.specification state)
+        ≡ Some (state_text basis.data_.signature basis.specification state)
+    keeps_state state kept =
+        ap (λ (b : Bool). if b then None else Some (state_text basis.data_.signature basis.specification state))
+        (state_stands state kept).no_return
+
+    both_cut : (step : PastStep) (state : Behaviour) (more : List ℕ) → IsKeptInLine state
+        → lines_of (ended (step_text basis.data_.signature basis.specification.gate_names step.item)
+        ++ (ended (line_of_state basis.data_.signature basis.specification state) ++ more))
+        ≡ step_text basis.data_.signature basis.specification.gate_names step.item
+        ∷ line_of_state basis.data_.signature basis.specification state ∷ lines_of more
+    both_cut step state more kept =
+        ended_cut (step_text basis.data_.signature basis.specification.gate_names step.item)
+        (ended (line_of_state basis.data_.signature basis.specification state) ++ more) (line_ends step.item)
+        ∙ ap (λ (it : List (List ℕ)). step_text basis.data_.signature basis.specification.gate_names step.item ∷ it)
+        (ended_cut (line_of_state basis.data_.signature basis.specification state) more (state_stands state kept).no_line_feed)
+
+    stated_lines_lead : (number : ℕ) (first last : Situation) (done steps : List PastStep) → LeadTo basis first steps last
+        → Every (IsReadable basis) (items_of steps) → IsKeptInLine first.state
+        → StatedLinesComeTo basis number (record { situation = first; steps = done }) (lines_of (stated_lines last steps))
+        (goes_on (record { situation = last; steps = done ++ steps }))
+    stated_lines_lead number first last done [] h readable kept =
+        subst (λ (it : Situation). StatedLinesComeTo basis number (record { situation = first; steps = done }) []
+        (goes_on (record { situation = it; steps = done ++ [] }))) h
+        (subst (λ (it : List PastStep). StatedLinesComeTo basis number (record { situation = first; steps = done }) []
+        (goes_on (record { situation = first; steps = it }))) (sym (append-nil done)) all_stated)
+    stated_lines_lead number first last done (step ∷ steps) h readable kept =
+        let here : PastStep = record { item = step.item; before = first } in
+        let same : here ≡ step = λ i. record { item = step.item; before = sym h.0 i } in
+        let again : IsKeptInLine h.1.state = item_keeps first step.item h.1.state h.2 kept in
+        let rest : StatedLinesComeTo basis (number + 2) (record { situation = h.1; steps = done ++ (here ∷ []) })
+        (lines_of (stated_lines last steps)) (goes_on (record { situation = last; steps = done ++ (here ∷ []) ++ steps })) =
+        stated_lines_lead (number + 2) h.1 last (done ++ (here ∷ [])) steps h.4 readable.1 again in
+        subst (λ (it : List PastStep). StatedLinesComeTo basis number (record { situation = first; steps = done })
+        (lines_of (stated_lines last (step ∷ steps))) (goes_on (record { situation = last; steps = it })))
+        (append_assoc done (here ∷ []) steps ∙ ap (λ (it : PastStep). done ++ (it ∷ steps)) same)
+        (subst (λ (it : Situation). StatedLinesComeTo basis number (record { situation = first; steps = done })
+        (lines_of (ended (step_text basis.data_.signature basis.specification.gate_names step.item)
+        ++ (ended (line_of_state basis.data_.signature basis.specification it.state) ++ stated_lines last steps)))
+        (goes_on (record { situation = last; steps = done ++ (here ∷ []) ++ steps }))) (sym (taken_there h.1 last steps h.4))
+        (subst (λ (it : List (List ℕ)). StatedLinesComeTo basis number (record { situation = first; steps = done }) it
+        (goes_on (record { situation = last; steps = done ++ (here ∷ []) ++ steps })))
+        (sym (both_cut step h.1.state (stated_lines last steps) again))
+        (both_go_on (one_line first h.1 done step.item h.2 h.3 readable.0) (is_there (keeps_state h.1.state again)) rest)))
+
+    -- ---- The first line
+
+    says_name : (name : List ℕ) → name ≢ [] → has_return name ≡ false → heading_of (trace_heading name) ≡ of_states name
+    says_name [] some none = absurd (some refl)
+    says_name (byte ∷ bytes) some none = ap (λ (b : Bool). with_name (if b then None else Some (byte ∷ bytes))) none
+
+    pub stated_leads_back : (first last : Situation) (steps : List PastStep) → LeadTo basis first steps last
+        → Every (IsReadable basis) (items_of steps) → first.state ≡ begin
+        → ReplayIs basis first (trace_of basis last steps) (goes_on (record { situation = last; steps = steps }))
+    stated_leads_back first last steps h readable begins =
+        let name : List ℕ = basis.specification.name in
+        let came : LinesOutcome ReplayRefusal = goes_on (record { situation = last; steps = steps }) in
+        subst (λ (it : List (List ℕ)). TraceComesTo basis first it came)
+        (sym (ended_cut (trace_heading name) (stated_lines last steps) have.name.no_line_feed))
+        (subst (λ (it : Heading). ComeBehind basis first it (lines_of (stated_lines last steps)) came)
+        (sym (says_name name have.named have.name.no_return))
+        (subst (λ (it : Bool). ComeBehindName basis first it name (lines_of (stated_lines last steps)) came)
+        (sym (bytes_same (folded name) (folded name) refl))
+        (stated_lines_lead 2 first last [] steps h readable
+        (subst IsKeptInLine (sym begins) have.states.variables))))

@@ -10,3 +10,4 @@ pub mod ReplayLaws
 pub mod TraceLaws
 pub mod LineCases
 pub mod RefusalCases
+pub mod StateCases

@@ -10,7 +10,7 @@ use Rattle.behaviour_semantics.specs.Shape.{act, inner_step, left_side, right_si
 use Rattle.behaviour_semantics.specs.Solving.{Entry}
 use Rattle.session_histories.specs.Session.{SessionBasis, Item}
 use Rattle.session_histories.specs.Refusal.{StepRefusal, no_entry, value_count, value_sort, unmet, step_refusal}
-use Rattle.session_histories.specs.TraceText.{trace_text}
+use Rattle.session_histories.specs.TraceText.{plain_trace}
 
 -- the sorts Bool and Nat, and the operations `0`, `Succ`, `true`, `false` and `lt`
 abbrev pub operation_named : List ℕ → Form → List ℕ → ℕ → Operation
@@ -124,11 +124,11 @@ item number values label = record {
   label = label;
 }
 
--- The trace of each kind of label.
+-- The trace of each kind of label, in format 1.
 pub record TracesHaveTexts : Type 0 where
-  pub no_step : trace_text small_signature small_specification.gate_names [] ≡ codes "lotos-trace 1\n"
+  pub no_step : plain_trace small_signature small_specification.gate_names [] ≡ codes "lotos-trace 1\n"
   pub steps :
-      trace_text small_signature small_specification.gate_names
+      plain_trace small_signature small_specification.gate_names
       (item 1 (succ nought ∷ []) (gate_event 0 (succ nought ∷ []))
       ∷ item 12 [] inner_event
       ∷ item 3 (nought ∷ less nought (succ nought) ∷ []) (exit_event (nought ∷ truth ∷ []))

@@ -1,11 +1,12 @@
 -- The trace of a session, replayed from its first situation, leads to that session.
-use Rattle.std.specs.Prelude.{◌≡◌, ◌≢◌, ◌<◌, ℕ, List, false, codes}
+use Rattle.std.specs.Prelude.{◌≡◌, ◌≢◌, ◌<◌, ℕ, List, [], false, codes}
 use Rattle.std.specs.List.{list_any}
 use Rattle.lotos_base.specs.WrittenTerm.{WrittenTerm}
 use Rattle.lotos_lexer.specs.Bytes.{is_blank}
 use Rattle.sentence_trees.specs.Reading.{IsTermsReading}
 use Rattle.lotos_base.specs.Signature.{Signature, Sort, Operation}
 use Rattle.lotos_base.specs.Term.{Term}
+use Rattle.behaviour_semantics.specs.Behaviour.{Behaviour}
 use Rattle.behaviour_semantics.specs.Rule.{AreValues}
 use Rattle.behaviour_semantics.specs.WellFormed.{Every}
 use Rattle.printed_texts.specs.Brackets.{commas}
@@ -14,7 +15,10 @@ use Rattle.session_histories.specs.Session.{SessionBasis, Item, Situation, PastS
 use Rattle.session_histories.specs.Lawful.{IsSituation, LeadTo}
 use Rattle.session_histories.specs.Replay.{AreRead, LinesOutcome, ReplayRefusal, ReplayIs, goes_on}
 use Rattle.session_histories.specs.SessionLaws.{IsStateOver}
-use Rattle.session_histories.specs.TraceText.{trace_text}
+use Rattle.session_histories.specs.TraceText.{trace_text, plain_trace}
+use Rattle.state_texts.specs.BoundNames.{names_in_bodies}
+use Rattle.state_texts.specs.StateTexts.{HaveNames}
+use Rattle.state_texts.specs.TextBytes.{IsOnOneLine}
 
 -- A name without blanks, and other than `=>`, which is the sign of a premiss and no name.
 pub record IsPlainName (name : List ℕ) : Type 0 where
@@ -44,19 +48,38 @@ pub record IsTraceable (basis : SessionBasis) (first last : Situation) (steps : 
   pub names : HavePlainNames basis
   pub items : Every (IsReadable basis) (items_of steps)
 
--- the trace of the steps
-abbrev pub trace_of : SessionBasis → List PastStep → List ℕ
-trace_of basis steps = trace_text basis.data_.signature basis.specification.gate_names (items_of steps)
+-- The states of a session from this one on can be kept in lines: each name that may stand in one of them stands on one line, and so
+-- does that of the specification, which has a byte.
+pub record HaveLineNames (basis : SessionBasis) (first : Behaviour) : Type 0 where
+  pub name : IsOnOneLine basis.specification.name
+  pub named : basis.specification.name ≢ []
+  pub states : HaveNames IsOnOneLine basis.data_.signature basis.specification first
+  pub bodies : Every IsOnOneLine (names_in_bodies basis.specification.processes)
 
--- It is replayed to that session, and comes to nothing else.
+-- the trace of a session that these steps lead to, and that of format 1
+abbrev pub trace_of : SessionBasis → Situation → List PastStep → List ℕ
+trace_of basis last steps = trace_text basis.data_.signature basis.specification (record { situation = last; steps = steps })
+
+abbrev pub plain_trace_of : SessionBasis → List PastStep → List ℕ
+plain_trace_of basis steps = plain_trace basis.data_.signature basis.specification.gate_names (items_of steps)
+
+-- the text is replayed to the session, and comes to nothing else
+pub record LeadsBack (basis : SessionBasis) (first last : Situation) (steps : List PastStep) (text : List ℕ) : Type 0 where
+  pub replayed : ReplayIs basis first text (goes_on (record { situation = last; steps = steps }))
+  pub alone :
+      (outcome : LinesOutcome ReplayRefusal) →
+      IsStateOver basis first.state →
+      ReplayIs basis first text outcome →
+      outcome ≡ goes_on (record { situation = last; steps = steps })
+
+-- The trace of a session leads back to it, and so does that of format 1 with the same steps.
 pub record TracesLeadBack : Type 0 where
-  pub replayed :
+  pub stated :
       (basis : SessionBasis) (first last : Situation) (steps : List PastStep) →
       IsTraceable basis first last steps →
-      ReplayIs basis first (trace_of basis steps) (goes_on (record { situation = last; steps = steps }))
-  pub alone :
-      (basis : SessionBasis) (first last : Situation) (steps : List PastStep) (outcome : LinesOutcome ReplayRefusal) →
-      IsStateOver basis first.state →
+      HaveLineNames basis first.state →
+      LeadsBack basis first last steps (trace_of basis last steps)
+  pub plain :
+      (basis : SessionBasis) (first last : Situation) (steps : List PastStep) →
       IsTraceable basis first last steps →
-      ReplayIs basis first (trace_of basis steps) outcome →
-      outcome ≡ goes_on (record { situation = last; steps = steps })
+      LeadsBack basis first last steps (plain_trace_of basis steps)

@@ -1,9 +1,10 @@
--- The lines of a trace, and what a line of a step says.
+-- The lines of a trace: what the first one says, what a line of a step says, and which state a line keeps.
 use Rattle.std.specs.Prelude.{ℕ, List, [], ◌∷◌, drop, length, Bool, false, ◌&&◌, ◌||◌, not, nat_eq, nat_lt, if◌then◌else◌, Option, None, Some, option_map}
 use Rattle.std.specs.Char.{is_ascii_digit}
 use Rattle.std.specs.List.{list_any, starts_with}
 use Rattle.std.specs.Str.Parse.{digits_value}
-use Rattle.session_histories.specs.TraceText.{arrow}
+use Rattle.std.specs.Str.{bytes_eq}
+use Rattle.session_histories.specs.TraceText.{arrow, plain_heading, heading_mark, state_mark}
 
 -- the lines of a text, without their line feeds. The last line may lack its line feed
 abbrev pub with_first : ℕ → List (List ℕ) → List (List ℕ)
@@ -72,3 +73,28 @@ has_return line = list_any (nat_eq 13) line
 
 abbrev pub step_line : List ℕ → Option StepLine
 step_line line = if has_return line then None else with_arrow (around_arrow line)
+
+-- What stands behind a mark, if the line begins with it. A line with a carriage return has no form.
+abbrev pub behind_mark : List ℕ → List ℕ → Option (List ℕ)
+behind_mark mark line =
+    if has_return line then None else if starts_with nat_eq line mark then Some (drop (length mark) line) else None
+
+-- the text of the state that a line keeps, if it has the form `at STATE`
+abbrev pub kept_state : List ℕ → Option (List ℕ)
+kept_state line = behind_mark state_mark line
+
+-- What the first line says: it is no heading; the lines of steps alone follow; or lines of steps and states follow, of a
+-- specification with this name.
+pub data Heading : Type 0 where
+  no_heading : Heading
+  of_steps : Heading
+  of_states : (name : List ℕ) → Heading
+
+-- a name has at least one byte
+abbrev pub with_name : Option (List ℕ) → Heading
+with_name None = no_heading
+with_name (Some []) = no_heading
+with_name (Some (byte ∷ bytes)) = of_states (byte ∷ bytes)
+
+abbrev pub heading_of : List ℕ → Heading
+heading_of line = if bytes_eq line plain_heading then of_steps else with_name (behind_mark heading_mark line)

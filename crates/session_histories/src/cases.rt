@@ -3,6 +3,12 @@
 
 ghost use Rattle.session_histories.specs.LineCases.{LinesHaveNoForm, LinesSay, TextsAreCut};
 ghost use Rattle.session_histories.specs.RefusalCases.{StepsAreRefused, TracesHaveTexts};
+ghost use Rattle.session_histories.specs.StateCases.{
+  HeadingsSay,
+  StatesAreCompared,
+  StatesAreKept,
+  TracesHaveStates,
+};
 
 /// Texts are cut at their line feeds.
 pub fn texts_are_cut()
@@ -27,4 +33,24 @@ pub fn steps_are_refused()
 /// A trace has a line for each step.
 pub fn traces_have_texts()
     ensures { TracesHaveTexts }
+{}
+
+/// What the first line of a trace says.
+pub fn headings_say()
+    ensures { HeadingsSay }
+{}
+
+/// Lines that keep a state, and lines that do not.
+pub fn states_are_kept()
+    ensures { StatesAreKept }
+{}
+
+/// A trace has the line of the state behind each step.
+pub fn traces_have_states()
+    ensures { TracesHaveStates }
+{}
+
+/// What a trace comes to by its first line and by its states.
+pub fn states_are_compared()
+    ensures { StatesAreCompared }
 {}

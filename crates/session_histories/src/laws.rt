@@ -14,6 +14,7 @@ use behaviour_semantics::targets::targets_are_well_formed;
 use behaviour_semantics::transition::moves_are_determined;
 use sentence_trees::reading_laws::texts_have_one_outcome;
 use sort_terms::laws::reading_comes_to_one_thing;
+use state_texts::laws::{moves_keep_names, state_texts_are_of_names};
 
 /// A session goes where its derivations go, with canonical values and, up to alike states, by the
 /// rules of the standard.
@@ -49,9 +50,11 @@ pub fn replay_is_exact()
 }
 
 /// The trace of a session, replayed from its first situation, leads to that session and to nothing
-/// else.
+/// else, and so does that of format 1.
 pub fn traces_lead_back()
     ensures { TracesLeadBack }
 {
     replay_is_exact();
+    moves_keep_names();
+    state_texts_are_of_names();
 }

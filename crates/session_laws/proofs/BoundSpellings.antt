@@ -20,7 +20,7 @@ use Rattle.scope_parts.specs.Terms.{BindingIs, BindingsAre, let_names, LetIs, Of
 use Rattle.scope_parts.specs.Choices.{GateChoice, ParChoice, under_gates, under_par, under_values}
 use Rattle.scope_parts.specs.Behaviours.{SignIs, BehaviourIs}
 use Rattle.scope_parts.specs.Definitions.{Heading, DefinitionIs, InnerIs, InnersAre, SpecificationIs}
-use Rattle.visible_gates.proofs.ScopeLemmas.{one_value, beside_there}
+use Rattle.declaration_laws.proofs.ScopeLemmas.{one_value, beside_there}
 use Rattle.state_texts.specs.BoundNames.{names_of_variables, bound_names}
 use Rattle.texts_read_back.specs.TextNames.{IsWordSpelling}
 use Rattle.session_laws.specs.PrintedStates.{IsNamedProcess}

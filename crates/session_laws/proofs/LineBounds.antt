@@ -12,9 +12,9 @@ use Rattle.line_server.specs.Answered as served
 use Rattle.line_server.specs.Answered.{no_line, ended_by, behind_one}
 use Rattle.session_histories.specs.Session.{SessionBasis, Situation, PastStep, Progress, items_of, stepped, opened}
 use Rattle.session_histories.specs.Lawful.{HasStepped}
-use Rattle.session_histories.specs.TraceLine.{lines_of}
+use Rattle.session_histories.specs.TraceLine.{lines_of, Heading, no_heading, of_steps, of_states}
 use Rattle.session_histories.specs.Replay as trace
-use Rattle.session_histories.specs.Replay.{goes_on, is_miscounted, is_misread, is_unmet, is_replayed, LinesComeTo, all_done, one_goes_on, ComeBehind}
+use Rattle.session_histories.specs.Replay.{goes_on, is_miscounted, is_misread, is_unmet, is_replayed, LinesComeTo, all_done, one_goes_on, StatedLinesComeTo, all_stated, both_go_on, ComeBehindName, ComeBehind}
 use Rattle.history_lines.specs.Standing.{Standing}
 use Rattle.history_lines.specs.Befallen.{Befallen}
 use Rattle.history_lines.specs.StepAnswer as step
@@ -76,10 +76,23 @@ lines_within basis [] number progress new within all_done = within
 lines_within basis (line ∷ lines) number progress new within (one_goes_on {next = next} comes later) =
     lines_within basis lines (number + 1) next new (line_within basis progress next line within comes) later
 
-behind_within : (basis : SessionBasis) (first : Situation) (heads : Bool) (lines : List (List ℕ)) (new : Progress)
-    → ComeBehind basis first heads lines (goes_on new) → IsWithinLines new
-behind_within basis first true lines new comes = lines_within basis lines 2 (opened first) new tt comes
-behind_within basis first false lines new comes = absurd (cc comes)
+stated_within : (basis : SessionBasis) (lines : List (List ℕ)) (number : ℕ) (progress new : Progress) → IsWithinLines progress
+    → StatedLinesComeTo basis number progress lines (goes_on new) → IsWithinLines new
+stated_within basis [] number progress new within all_stated = within
+stated_within basis (line ∷ []) number progress new within none = elim none [ ]
+stated_within basis (line ∷ state ∷ lines) number progress new within (both_go_on {next = next} comes there_ later) =
+    stated_within basis lines (number + 2) next new (line_within basis progress next line within comes) later
+
+named_within : (basis : SessionBasis) (first : Situation) (same : Bool) (kept : List ℕ) (lines : List (List ℕ)) (new : Progress)
+    → ComeBehindName basis first same kept lines (goes_on new) → IsWithinLines new
+named_within basis first true kept lines new comes = stated_within basis lines 2 (opened first) new tt comes
+named_within basis first false kept lines new comes = absurd (cc comes)
+
+behind_within : (basis : SessionBasis) (first : Situation) (heading : Heading) (lines : List (List ℕ)) (new : Progress)
+    → ComeBehind basis first heading lines (goes_on new) → IsWithinLines new
+behind_within basis first no_heading lines new comes = absurd (cc comes)
+behind_within basis first of_steps lines new comes = lines_within basis lines 2 (opened first) new tt comes
+behind_within basis first (of_states kept) lines new comes = named_within basis first _ kept lines new comes
 
 replay_within : (basis : SessionBasis) (first : Situation) (lines : List (List ℕ)) (new : Progress)
     → trace.TraceComesTo basis first lines (goes_on new) → IsWithinLines new

@@ -15,7 +15,7 @@ use Rattle.session_histories.specs.Lawful.{IsSituation}
 use Rattle.session_histories.proofs.StepLemmas.{one_situation}
 use Rattle.spec_acceptance.specs.Acceptance.{Acceptance}
 use Rattle.spec_acceptance.specs.AcceptanceLaws.{DataAreWellFormed}
-use Rattle.spec_acceptance.proofs.DecidedOrders.{over_once}
+use Rattle.spec_acceptance.proofs.DecidedOrders.{over_once, statuses_once}
 use Rattle.spec_acceptance.proofs.DecidedRules.{data_within, greater_also, AreAlike, rules_once}
 use Rattle.history_lines.specs.Beginning.{Beginning}
 use Rattle.lotos_top.specs.Opening.{AreNormalForms, SessionBegins}
@@ -43,11 +43,11 @@ canon_once acceptance canon other well is also =
     let two = also.2.ordered in
     let alike : AreAlike count p q = record {
       there =
-          greater_also count p q (over_once acceptance.data_.signature acceptance.items p q one.by_items two.by_items)
-          (λ f. one.statuses f ∙ sym (two.statuses f));
+          greater_also count p q (over_once acceptance.data_.signature acceptance.items p q one two)
+          (statuses_once acceptance.data_.signature acceptance.items p q one two);
       back =
-          greater_also count q p (over_once acceptance.data_.signature acceptance.items q p two.by_items one.by_items)
-          (λ f. two.statuses f ∙ sym (one.statuses f));
+          greater_also count q p (over_once acceptance.data_.signature acceptance.items q p two one)
+          (statuses_once acceptance.data_.signature acceptance.items q p two one);
     } in
     let same : is.1 ≡ also.1 =
     rules_once count p q alike acceptance.data_ is.1 also.1 (data_within acceptance.data_ well) is.2.joined.0 also.2.joined.0 in

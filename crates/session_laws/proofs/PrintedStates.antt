@@ -179,7 +179,7 @@ module _ (keep : MovesKeepNames) (follow : SessionsFollowDerivations) (begun : B
       standing.progress.situation.state name reached there_))
 
 -- the names at hand where the session of an accepted specification begins
-at_hand : MovesKeepNames → (acceptance : Acceptance) (begun : Beginning) → SessionBegins acceptance begun → HasNamedDefinitions acceptance
+pub at_hand : MovesKeepNames → (acceptance : Acceptance) (begun : Beginning) → SessionBegins acceptance begun → HasNamedDefinitions acceptance
     → Every IsWordSpelling (names_at_hand begun.basis.specification.processes begun.progress.situation.state)
 at_hand keep acceptance begun begins has =
     subst (λ (it : Specification). Every IsWordSpelling (names_at_hand it.processes begun.progress.situation.state))

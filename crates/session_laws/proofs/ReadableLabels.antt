@@ -3,8 +3,8 @@ use Rattle.std.proofs.Common.{sym, subst}
 use Rattle.lotos_base.specs.Equation.{Data, IsWellFormedData}
 use Rattle.type_definitions.specs.DeclaredTypes.{types_of}
 use Rattle.behaviour_semantics.specs.Behaviour.{Behaviour, Specification}
-use Rattle.visible_gates.specs.VisibleGates.{IsOneOf, UsesOnly, MovesStayAtGates}
-use Rattle.visible_gates.specs.DeclaredGates.{HasDeclaredGates, TextsHaveDeclaredGates}
+use Rattle.declaration_laws.specs.VisibleGates.{IsOneOf, UsesOnly, MovesStayAtGates}
+use Rattle.declaration_laws.specs.DeclaredGates.{HasDeclaredGates, TextsHaveDeclaredGates}
 use Rattle.label_readings.specs.LabelLaws.{HasReadableNames}
 use Rattle.label_readings.specs.MenuReadings.{IsShownMenu, MenuIsReadBack, MenusAreReadBack}
 use Rattle.session_histories.specs.Lawful.{LeadTo}

@@ -4,7 +4,6 @@ use Rattle.std.proofs.lemmas.Option.{same_Some}
 use Rattle.lotos_base.specs.Counts.{last_count}
 use Rattle.lotos_base.specs.Outside.{Texts}
 use Rattle.lotos_base.specs.Equation.{Data}
-use Rattle.behaviour_semantics.specs.Behaviour.{Specification}
 use Rattle.behaviour_semantics.specs.WellFormed.{Every}
 use Rattle.line_server.specs.Answered as served
 use Rattle.line_server.specs.Answered.{no_line, ended_by, behind_one}
@@ -27,7 +26,13 @@ use Rattle.history_lines.specs.Reached.{IsReached}
 use Rattle.history_lines.specs.ReportLaws.{LinesLeadOn}
 use Rattle.spec_acceptance.specs.Acceptance.{Acceptance}
 use Rattle.lotos_top.specs.Opening.{SessionBegins}
+use Rattle.behaviour_semantics.specs.Behaviour.{Process, Specification}
+use Rattle.behaviour_semantics.proofs.EveryLemmas.{every_front, every_back}
+use Rattle.behaviour_semantics.proofs.ListLemmas.{Every-weaker}
+use Rattle.state_texts.specs.BoundNames.{bound_names, names_in_bodies, names_at_hand, MovesKeepNames}
 use Rattle.session_laws.specs.AcceptedNames.{HasAcceptedNames, AcceptedNamesAreOfText}
+use Rattle.session_laws.specs.PrintedStates.{IsNamedProcess, HasNamedDefinitions, AcceptedDefinitionsAreNamed}
+use Rattle.session_laws.proofs.PrintedStates.{at_hand}
 use Rattle.session_laws.specs.LineBounds.{IsWithinLines, LinesKeepWithin}
 use Rattle.session_laws.specs.OneBeginning.{SessionsBeginOnce}
 use Rattle.session_laws.specs.SavedTraces.{ComesTo, Saves, Replays, ReplaysTo, SavedTracesAreReplayed}
@@ -89,7 +94,8 @@ stands_so keep lead begun now can to = record {
 
 -- ---- What is replayed
 
-text_trace : (begun : Beginning) (now : SessionPoint) → CanBegin begun → HasNamesOfText begun.basis → StandsSo begun now
+text_trace : (begun : Beginning) (now : SessionPoint) → CanBegin begun → HasNamesOfText begun.basis begun.progress.situation.state
+    → StandsSo begun now
     → HasTextTrace begun.basis begun.progress.situation now.standing.progress.situation now.standing.progress.steps
 text_trace begun now can names so = record {
   over = can.over;
@@ -150,7 +156,7 @@ replayed_so standing told name bytes progress _ tells stored short alone (is_rep
 -- ---- From one run to another
 
 module _ (keep : LinesKeepWithin) (lead : LinesLeadOn) (traces : TracesAreReplayed) (begun : Beginning) (can : CanBegin begun)
-    (names : HasNamesOfText begun.basis) (name : List ℕ) (progress : Progress) (saved told : Texts) (reply : Reply SessionPoint)
+    (names : HasNamesOfText begun.basis begun.progress.situation.state) (name : List ℕ) (progress : Progress) (saved told : Texts) (reply : Reply SessionPoint)
     (saves : Saves begun name progress saved) (stands : told name ≡ saved name) (replays : Replays begun name told reply) where
   saving : StandsSo begun saves.now
   saving = stands_so keep lead begun saves.now can saves.comes_to
@@ -159,7 +165,7 @@ module _ (keep : LinesKeepWithin) (lead : LinesLeadOn) (traces : TracesAreReplay
   replaying = stands_so keep lead begun replays.now can replays.comes_to
 
   abbrev bytes : List ℕ
-  bytes = trace_of begun.basis saves.now.standing.progress.steps
+  bytes = trace_of begun.basis saves.now.standing.progress.situation saves.now.standing.progress.steps
 
   has_saved : HasSaved saves.now.standing name saved
   has_saved =
@@ -174,8 +180,8 @@ module _ (keep : LinesKeepWithin) (lead : LinesLeadOn) (traces : TracesAreReplay
       → ReplayIs replays.now.standing.basis (first_situation replays.now.standing.progress) bytes outcome
       → outcome ≡ goes_on saves.now.standing.progress
   alone outcome is =
-      traces.alone begun.basis begun.progress.situation saves.now.standing.progress.situation saves.now.standing.progress.steps outcome
-      (text_trace begun saves.now can names saving)
+      (traces.stated begun.basis begun.progress.situation saves.now.standing.progress.situation saves.now.standing.progress.steps
+      (text_trace begun saves.now can names saving)).alone outcome can.over
       (subst (λ (first : Situation). ReplayIs begun.basis first bytes outcome) replaying.reached.start
       (subst (λ (basis : SessionBasis). ReplayIs basis (first_situation replays.now.standing.progress) bytes outcome)
       replaying.reached.basis is))
@@ -199,18 +205,29 @@ module _ (keep : LinesKeepWithin) (lead : LinesLeadOn) (traces : TracesAreReplay
     stays = replays.comes.quits ∙ came.stays;
   }
 
-names_of : (acceptance : Acceptance) (begun : Beginning) → SessionBegins acceptance begun → HasAcceptedNames acceptance
-    → HasNamesOfText begun.basis
-names_of acceptance begun begins names = record {
+names_of : MovesKeepNames → (acceptance : Acceptance) (begun : Beginning) → SessionBegins acceptance begun → HasAcceptedNames acceptance
+    → HasNamedDefinitions acceptance → HasNamesOfText begun.basis begun.progress.situation.state
+names_of moves acceptance begun begins names defined = record {
   signature = subst (λ (it : Data). HasTextNames it.signature) (sym begins.data_is) names.signature;
   gates = subst (λ (it : Specification). Every IsWordSpelling it.gate_names) (sym begins.specification_is) names.gates;
+  name = subst (λ (it : Specification). IsWordSpelling it.name) (sym begins.specification_is) defined.name;
+  processes =
+      subst (λ (it : Specification). Every (λ (p : Process). IsWordSpelling p.name) it.processes) (sym begins.specification_is)
+      (Every-weaker IsNamedProcess (λ (p : Process). IsWordSpelling p.name) (λ p is. is.name) acceptance.spec.processes
+      defined.processes);
+  bodies = every_back IsWordSpelling (bound_names begun.progress.situation.state) (names_in_bodies begun.basis.specification.processes) all;
+  start = every_front IsWordSpelling (bound_names begun.progress.situation.state) (names_in_bodies begun.basis.specification.processes) all;
 }
+  where
+    all : Every IsWordSpelling (names_at_hand begun.basis.specification.processes begun.progress.situation.state)
+    all = at_hand moves acceptance begun begins defined
 
-pub saved_traces_are_replayed : LinesKeepWithin → LinesLeadOn → SessionsBeginOnce → AcceptedNamesAreOfText → TracesAreReplayed
-    → SavedTracesAreReplayed
-saved_traces_are_replayed keep lead once named traces = record {
+pub saved_traces_are_replayed : LinesKeepWithin → LinesLeadOn → SessionsBeginOnce → AcceptedNamesAreOfText → AcceptedDefinitionsAreNamed
+    → MovesKeepNames → TracesAreReplayed → SavedTracesAreReplayed
+saved_traces_are_replayed keep lead once named defined moves traces = record {
   replayed = λ asked files acceptance saving replaying name progress saved told reply accepted begins again saves stands replays.
       let same : saving ≡ replaying = once asked files acceptance saving replaying accepted begins again in
-      came_back keep lead traces saving begins.can_begin (names_of acceptance saving begins (named asked files acceptance accepted)) name
+      came_back keep lead traces saving begins.can_begin
+      (names_of moves acceptance saving begins (named asked files acceptance accepted) (defined asked files acceptance accepted)) name
       progress saved told reply saves stands (subst (λ (begun : Beginning). Replays begun name told reply) (sym same) replays);
 }

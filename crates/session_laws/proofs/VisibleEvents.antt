@@ -14,10 +14,10 @@ use Rattle.behaviour_semantics.specs.Solving.{Entry}
 use Rattle.behaviour_semantics.specs.Transition.{Transition}
 use Rattle.behaviour_semantics.specs.TransitionLaws.{TransitionsAreDerived}
 use Rattle.behaviour_semantics.specs.WellFormed.{IsSpecification}
-use Rattle.visible_gates.specs.VisibleGates.{IsOneOf, IsAt, UsesOnly, MovesStayAtGates}
-use Rattle.visible_gates.specs.DeclaredGates.{HasDistinctGates, HasDeclaredGates, TextsHaveDeclaredGates}
-use Rattle.visible_gates.proofs.GateLemmas.{put_in}
-use Rattle.visible_gates.specs.EntryGates.{EntriesStayAtGates}
+use Rattle.declaration_laws.specs.VisibleGates.{IsOneOf, IsAt, UsesOnly, MovesStayAtGates}
+use Rattle.declaration_laws.specs.DeclaredGates.{HasDistinctGates, HasDeclaredGates, TextsHaveDeclaredGates}
+use Rattle.declaration_laws.proofs.GateLemmas.{put_in}
+use Rattle.declaration_laws.specs.EntryGates.{EntriesStayAtGates}
 use Rattle.session_histories.specs.Lawful.{LeadTo}
 use Rattle.session_histories.specs.Session.{Situation, derivations_of}
 use Rattle.session_histories.specs.SessionLaws.{SessionsFollowDerivations, IsStateOver}

@@ -6,8 +6,8 @@ use Rattle.behaviour_semantics.specs.Label.{Label}
 use Rattle.behaviour_semantics.specs.Transition.{Transition}
 use Rattle.behaviour_semantics.specs.Solving.{Entry}
 use Rattle.behaviour_semantics.specs.Menu.{IsEntry}
-use Rattle.visible_gates.specs.VisibleGates.{IsOneOf, IsAt}
-use Rattle.visible_gates.specs.DeclaredGates.{HasDistinctGates}
+use Rattle.declaration_laws.specs.VisibleGates.{IsOneOf, IsAt}
+use Rattle.declaration_laws.specs.DeclaredGates.{HasDistinctGates}
 use Rattle.history_lines.specs.Beginning.{Beginning}
 use Rattle.history_lines.specs.Standing.{Standing}
 use Rattle.history_lines.specs.Reached.{IsReached}

@@ -8,12 +8,16 @@ ghost use Rattle.session_laws.specs.RunLines.{RunLinesAreAnswered};
 ghost use Rattle.session_laws.specs.SavedTraces.{SavedTracesAreReplayed};
 ghost use Rattle.session_laws.specs.VisibleEvents.{SessionsShowDeclaredGates};
 
+use crate::state_laws::accepted_definitions_are_named;
 use behaviour_semantics::transition::transitions_are_derived;
+use declaration_laws::gates::{
+    entries_stay_at_gates, moves_stay_at_gates, texts_have_declared_gates,
+};
 use history_lines::laws::lines_lead_on;
 use session_histories::laws::sessions_follow_derivations;
 use spec_acceptance::outcome_laws::data_are_well_formed;
+use state_texts::laws::moves_keep_names;
 use texts_read_back::trace_laws::traces_are_replayed;
-use visible_gates::laws::{entries_stay_at_gates, moves_stay_at_gates, texts_have_declared_gates};
 
 /// Numbers of entries and values that the lines of a session give keep within what a line of a
 /// trace can hold: at most ten digits, and terms nested at most 500 deep.
@@ -49,6 +53,8 @@ pub fn saved_traces_are_replayed()
     lines_lead_on();
     sessions_begin_once();
     accepted_names_are_of_text();
+    accepted_definitions_are_named();
+    moves_keep_names();
     traces_are_replayed();
 }
 

@@ -37,7 +37,8 @@ counted text terms others wanted are are_other is other = other (ap length (same
 
 -- ---- Readings
 
-reads_once : (signature : Signature) (term : WrittenTerm) (one other : reading.ReadingOutcome SortedTerm) → ReadingIs signature [] term None one
+reads_once : (signature : Signature) (term : WrittenTerm) (one other : reading.ReadingOutcome SortedTerm)
+    → ReadingIs signature [] term None one
     → ReadingIs signature [] term None other → one ≡ other
 reads_once signature term one other = comes_once _ _ _ one other
 
@@ -54,7 +55,8 @@ term_reads_once signature text term other one two are are_other reads reads_othe
     let same : other ≡ term = cc lists in
     reads_once signature term one two reads (subst (λ (it : WrittenTerm). ReadingIs signature [] it None two) same reads_other)
 
-pair_reads_one : (signature : Signature) (text : List ℕ) (left right left' right' : WrittenTerm) (one two : reading.ReadingOutcome SortedPair)
+pair_reads_one : (signature : Signature) (text : List ℕ) (left right left' right' : WrittenTerm)
+    (one two : reading.ReadingOutcome SortedPair)
     → AreTerms text (left ∷ right ∷ []) → AreTerms text (left' ∷ right' ∷ []) → PairReadingIs signature [] left right one
     → PairReadingIs signature [] left' right' two → one ≡ two
 pair_reads_one signature text left right left' right' one two are are_other reads reads_other =

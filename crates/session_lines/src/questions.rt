@@ -73,8 +73,8 @@ fn push_form(signature: &Signature, form: &Sorted, into: &mut Vec<u8>) -> Result
     push_text(into, b"\n")
 }
 
-/// The normal form of the one term in the text. `BadTerm` comes for a fault of the text's tokens, of
-/// the grammar of terms or of depth; then `BadCommand` where there are fewer terms or more; then
+/// The normal form of the one term in the text. `BadTerm` comes for a fault of the text's tokens,
+/// of the grammar of terms or of depth; then `BadCommand` where there are fewer terms or more; then
 /// `BadTerm` where the term has not one reading.
 pub fn normal_form(
     alloc: Global,
@@ -87,7 +87,8 @@ pub fn normal_form(
     ensures answered { MatchResult result
         (λ form. IsNormalAnswer (data_of book.old.flat).signature (book_canon book.old) text.now
         (gives (term_in form)))
-        (RefusesWith (IsNormalAnswer (data_of book.old.flat).signature (book_canon book.old) text.now)) }
+        (RefusesWith (IsNormalAnswer (data_of book.old.flat).signature (book_canon book.old)
+        text.now)) }
     ensures same_data { data_of book.new.flat ≡ data_of book.old.flat }
     ensures same_canon { book_canon book.new ≡ book_canon book.old }
 {

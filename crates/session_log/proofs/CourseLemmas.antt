@@ -1,5 +1,5 @@
 -- Courses that are begun, stepped and undone.
-use Rattle.std.proofs.Common.{◌≡◌, ℕ, List, [], ◌∷◌, ◌++◌, Some, None, length, append-nil, false, refl, ap, ap₂, sym, ◌∙◌, subst}
+use Rattle.std.proofs.Common.{◌≡◌, ℕ, zero, suc, ◌+◌, drop, List, [], ◌∷◌, ◌++◌, Some, None, length, append-nil, false, refl, ap, ap₂, sym, ◌∙◌, subst}
 use Rattle.std.proofs.lemmas.List.{map-append, nil_from_length, length-map}
 use Rattle.std.proofs.lemmas.Option.{none-some}
 use Rattle.lotos_base.specs.Signature.{Signature}
@@ -40,7 +40,7 @@ use Rattle.session_histories.specs.StepLaws.{HasItem}
 use Rattle.session_histories.proofs.ProgressLemmas.{stepped_lawful, undone_lawful}
 use Rattle.session_histories.proofs.StepLemmas.{equal_leaves, lawful_item, one_situation}
 use Rattle.session_log.specs.CourseView.{basis_over, item_of, situation_of, past_of, pasts_of, progress_of}
-use Rattle.session_log.specs.Courses.{IsGoneOn, IsUndone, oldest_state, first_state_of}
+use Rattle.session_log.specs.Courses.{AreClosedStates, IsGoneOn, IsUndone, oldest_state, first_state_of, behind_state}
 use Rattle.session_log.specs.Entries.{AreGiven, IsChosenEntry, IsEntryAt}
 use Rattle.session_log.specs.Kept.{AreSuited, IsKeptCourse, IsKeptMenu, IsKeptPast, IsKeptState}
 use Rattle.session_log.specs.declared.courses.Course.{Course}
@@ -267,6 +267,37 @@ oldest_kept signature spec state (past ∷ history) now kept = kept.0.state
 pub first_kept : (data_ : Data) (canon : Term → Term) (spec : Spec) (course : Course) → IsKeptCourse data_ canon spec course
     → IsKeptState data_.signature spec (first_state_of course)
 first_kept data_ canon spec course kept = oldest_kept data_.signature spec course.state course.history.items kept.state kept.history
+
+-- ---- Closed states
+
+closed_pasts : (signature : Signature) (spec : Spec) (history : List Past) → Every (IsKeptPast signature spec) history
+    → Every (λ (past : Past). IsClosedNode past.state.node) history
+closed_pasts signature spec [] h = tt
+closed_pasts signature spec (past ∷ history) h = (h.0.state.closed, closed_pasts signature spec history h.1)
+
+pub closed_states : (data_ : Data) (canon : Term → Term) (spec : Spec) (course : Course) → IsKeptCourse data_ canon spec course
+    → AreClosedStates course
+closed_states data_ canon spec course kept =
+    record { state = kept.state.closed; history = closed_pasts data_.signature spec course.history.items kept.history }
+
+oldest_closed : (state : State) (history : List Past) → IsClosedNode state.node
+    → Every (λ (past : Past). IsClosedNode past.state.node) history → IsClosedNode (oldest_state state history).node
+oldest_closed state [] now h = now
+oldest_closed state (past ∷ history) now h = h.0
+
+closed_behind : (index : ℕ) (history : List Past) → Every (λ (past : Past). IsClosedNode past.state.node) history
+    → Every (λ (past : Past). IsClosedNode past.state.node) (drop index history)
+closed_behind zero history h = h
+closed_behind (suc index) [] h = tt
+closed_behind (suc index) (past ∷ history) h = closed_behind index history h.1
+
+-- so is the state behind each step
+pub behind_closed : (course : Course) (index : ℕ) → AreClosedStates course → IsClosedNode (behind_state course index).node
+behind_closed course index closed =
+    oldest_closed course.state (drop (index + 1) course.history.items) closed.state
+    (closed_behind (index + 1) course.history.items closed.history)
+
+-- ---- The beginning of another course
 
 -- a copy of a state of the specification is one
 pub copied_kept : (signature : Signature) (spec : Spec) (state copy : State) → state_of copy ≡ state_of state

@@ -1,5 +1,5 @@
 -- What comes of the lines of a trace.
-use Rattle.std.proofs.Common.{◌≡◌, ◌≢◌, inl, inr, ◌<◌, ◌≤◌, ◌+◌, ℕ, List, [], ◌∷◌, ◌++◌, map, drop, length, get_or, Bool, true, false, bytes_eq, Option, Some, None, refl, ap, sym, ◌∙◌, subst, arith, append-nil, append_assoc}
+use Rattle.std.proofs.Common.{◌≡◌, ◌≢◌, inl, inr, ◌<◌, ◌≤◌, ◌+◌, ℕ, List, [], ◌∷◌, ◌++◌, map, drop, length, get_or, Bool, true, false, nat_eq, Option, Some, None, refl, ap, sym, ◌∙◌, subst, arith, append-nil, append_assoc, eqb-true}
 use Rattle.std.proofs.lemmas.List.{map-append, drop_all, length-map}
 use Rattle.std.proofs.lemmas.Option.{none-some}
 use Rattle.lotos_base.specs.Signature.{Signature}
@@ -22,7 +22,7 @@ use Rattle.sort_terms.specs.declared.signatures.Signature.{Signature as CodeSign
 use Rattle.sort_terms.specs.declared.sort_faults.SortFault.{SortFault}
 use Rattle.sort_terms.specs.declared.sort_faults.SortFault.TheVariants as term_fault
 use Rattle.sort_terms.specs.ReadingOutcome as reading
-use Rattle.sort_terms.specs.ReadingOutcome.{ReadingIs, SortedTerm, answered, IsReading}
+use Rattle.sort_terms.specs.ReadingOutcome.{ReadingIs, SortedTerm, answered, IsReading, one_name}
 use Rattle.sort_terms.specs.SortedView.{profiled_in, term_in}
 use Rattle.sort_terms.specs.declared.sorted.Sorted.{Sorted}
 use Rattle.behaviour_semantics.specs.Fault.{first_of_two}
@@ -53,18 +53,20 @@ use Rattle.lotos_base.proofs.Pieces.{next_member}
 use Rattle.menu_builder.specs.Menus.{entries_in}
 use Rattle.session_histories.specs.Refusal as plain
 use Rattle.session_histories.specs.Refusal.{StepRefusal, entry_numbered, count_refusal, number_refusal, condition_refusal, value_refusal, step_refusal}
-use Rattle.session_histories.specs.Replay.{has_no_form, LineRefusal, bad_line, step_refused, label_differs, LinesOutcome, goes_on, stops, ReplayRefusal, AreRead, IsOneMisread, IsReadStep, shown_label, LineComesTo, is_not_read, is_miscounted, is_misread, is_unmet, is_mislabelled, is_replayed, LinesComeTo, all_done, one_stops, one_goes_on, no_heading, ComeBehind, TraceComesTo, ReplayIs}
-use Rattle.session_histories.specs.TraceLine.{StepLine, step_line, lines_of}
-use Rattle.session_histories.specs.TraceText.{trace_heading}
+use Rattle.session_histories.specs.Replay.{has_no_form, LineRefusal, bad_line, step_refused, label_differs, state_differs, LinesOutcome, goes_on, stops, ReplayRefusal, in_line, other_specification, AreRead, IsOneMisread, IsReadStep, shown_label, LineComesTo, is_not_read, is_miscounted, is_misread, is_unmet, is_mislabelled, is_replayed, LinesComeTo, all_done, one_stops, one_goes_on, StateComesTo, is_missing, has_no_state, is_elsewhere, is_there, first_line, shown_state, StatedLinesComeTo, all_stated, step_stops, state_stops, both_go_on, refuses_heading, ComeBehindName, ComeBehind, TraceComesTo, ReplayIs}
+use Rattle.printed_texts.specs.BehaviourText.{state_text}
+use Rattle.behaviour_tree.specs.DefinitionView.{specification_of}
+use Rattle.behaviour_tree.specs.StateView.{state_of}
+use Rattle.session_histories.specs.TraceLine.{StepLine, step_line, lines_of, kept_state, Heading, no_heading, of_steps, of_states, heading_of}
 use Rattle.session_histories.proofs.RefusalLemmas.{free_of_count, fit_sorts}
 use Rattle.session_log.proofs.EntryLemmas.{entry_there}
 use Rattle.session_log.specs.Entries.{AreGiven, IsEntryAt}
-use Rattle.session_log.specs.RefusalView.{TellsStep, TellsLine, TellsReplay, fault_at, line_fault_of, line_fault_of_text, line_fault_of_term}
+use Rattle.session_log.specs.RefusalView.{TellsStep, TellsLine, TellsReplay, fault_at, IsInLine, line_fault_of, line_fault_of_text, line_fault_of_term}
 use Rattle.session_log.specs.CourseView.{basis_over, pasts_of, progress_of, situation_of}
 use Rattle.session_log.specs.declared.courses.Course.{Course}
 use Rattle.session_log.specs.declared.courses.Past.{Past}
 use Rattle.session_log.specs.Lines.{said_by}
-use Rattle.session_log.specs.Replayed.{AreReadAt, IsMisreadAt, IsReadAt, IsReadRefusal, are_miscounted, are_misread}
+use Rattle.session_log.specs.Replayed.{written_state, IsStateRefusal, keeps_none, keeps_other, IsStatedBehind, AreReadAt, IsMisreadAt, IsReadAt, IsReadRefusal, are_miscounted, are_misread}
 use Rattle.session_log.specs.declared.lines.StepLine.{StepLine as CodeLine}
 use Rattle.session_log.specs.declared.refusals.LineFault.{LineFault}
 use Rattle.session_log.specs.declared.refusals.LineFault.TheVariants as line_fault
@@ -76,21 +78,22 @@ use Rattle.session_log.specs.declared.refusals.StepRefusal.TheVariants as step
 -- ---- Faults of lines with their numbers
 
 pub told_at : (Is : LineRefusal → Type 0) (line : ℕ) (fault : LineFault) → TellsLine Is fault
-    → TellsReplay (λ (refusal : ReplayRefusal). (refusal.line ≡ line) × Is refusal.why) (fault_at fault line)
+    → TellsReplay (IsInLine line Is) (fault_at fault line)
 told_at Is line line_fault.BadLine h = (refl, h)
 told_at Is line (line_fault.LabelDiffers kept found) h = (refl, h)
+told_at Is line (line_fault.StateDiffers kept found) h = (refl, h)
 told_at Is line (line_fault.Step refusal) h = (h.0, h.1, (refl, h.2))
 told_at Is line line_fault.NoMemory h = tt
 
 pub told_as : (Is : LineRefusal → Type 0) (line : ℕ) (fault : LineFault) (told : ReplayFault) → told ≡ fault_at fault line
-    → TellsLine Is fault → TellsReplay (λ (refusal : ReplayRefusal). (refusal.line ≡ line) × Is refusal.why) told
-told_as Is line fault told is h =
-    subst (TellsReplay (λ (refusal : ReplayRefusal). (refusal.line ≡ line) × Is refusal.why)) (sym is) (told_at Is line fault h)
+    → TellsLine Is fault → TellsReplay (IsInLine line Is) told
+told_as Is line fault told is h = subst (TellsReplay (IsInLine line Is)) (sym is) (told_at Is line fault h)
 
 pub tells_line : (Is Other : LineRefusal → Type 0) → ((why : LineRefusal) → Is why → Other why) → (fault : LineFault) → TellsLine Is fault
     → TellsLine Other fault
 tells_line Is Other so line_fault.BadLine h = so bad_line h
 tells_line Is Other so (line_fault.LabelDiffers kept found) h = so (label_differs kept.items found.items) h
+tells_line Is Other so (line_fault.StateDiffers kept found) h = so (state_differs kept.items found.items) h
 tells_line Is Other so (line_fault.Step refusal) h = (h.0, h.1, so (step_refused h.0) h.2)
 tells_line Is Other so line_fault.NoMemory h = tt
 
@@ -142,7 +145,8 @@ term_read signature other scope term sort value none same is_of read =
       read = subst (λ (it : ℕ). ReadingIs signature [] term (Some sort) (answered (record { term = term_in value; sort = it }))) is.1 here;
     }
 
-misread : (signature other : Signature) (scope : List Variable) (term : WrittenTerm) (sort : ℕ) (refusal : reading.ReadingRefusal) → scope ≡ []
+misread : (signature other : Signature) (scope : List Variable) (term : WrittenTerm) (sort : ℕ) (refusal : reading.ReadingRefusal)
+    → scope ≡ []
     → other ≡ signature → ReadingIs other scope term (Some sort) (reading.refused refusal) → IsMisreadAt signature term sort
 misread signature other scope term sort refusal none same h = (
   refusal,
@@ -423,90 +427,168 @@ module _ (data_ : Data) (canon : Term → Term) (spec : Spec) (progress : Progre
       (terms_of values) there at.read (label_of label) new stepped (written_label signature spec.gate_names.items label)
       (label_shown data_ canon spec signature label printed)) fault k)
 
--- ---- What a trace comes to
+-- ---- What lines come to
 
--- a heading, and lines behind it
-pub behind_heading : (basis : SessionBasis) (first : Situation) (text line rest : List ℕ) (outcome : LinesOutcome ReplayRefusal)
-    → lines_of text ≡ line ∷ lines_of rest → bytes_eq line trace_heading ≡ true
-    → LinesComeTo basis 2 (opened first) (lines_of rest) outcome → ReplayIs basis first text outcome
-behind_heading basis first text line rest outcome cut heading h =
-    subst (λ (it : List (List ℕ)). TraceComesTo basis first it outcome) (sym cut)
-    (subst (λ (b : Bool). ComeBehind basis first b (lines_of rest) outcome) (sym heading) h)
-
-pub without_heading : (basis : SessionBasis) (first : Situation) (text line : List ℕ) (lines : List (List ℕ))
-    → lines_of text ≡ line ∷ lines → bytes_eq line trace_heading ≡ false → ReplayIs basis first text no_heading
-without_heading basis first text line lines cut heading =
-    subst (λ (it : List (List ℕ)). TraceComesTo basis first it no_heading) (sym cut)
-    (subst (λ (b : Bool). ComeBehind basis first b lines no_heading) (sym heading) refl)
-
-pub nothing_to_replay : (basis : SessionBasis) (first : Situation) (text : List ℕ) → text ≡ [] → ReplayIs basis first text no_heading
-nothing_to_replay basis first text none =
-    subst (λ (it : List ℕ). ReplayIs basis first it no_heading) (sym none) refl
+-- What lines come to by their number, where the session stands, and what they are.
+abbrev pub Lines : Type 1
+Lines = ℕ → Progress → List (List ℕ) → LinesOutcome ReplayRefusal → Type 0
 
 -- What is left of the lines decides what the whole trace comes to.
-abbrev pub Decides : SessionBasis → ℕ → Progress → List ℕ → (LinesOutcome ReplayRefusal → Type 0) → Type 0
-Decides basis number progress rest Whole =
-    (outcome : LinesOutcome ReplayRefusal) → LinesComeTo basis number progress (lines_of rest) outcome → Whole outcome
+abbrev pub Decides : Lines → ℕ → Progress → List ℕ → (LinesOutcome ReplayRefusal → Type 0) → Type 0
+Decides Comes number progress rest Whole =
+    (outcome : LinesOutcome ReplayRefusal) → Comes number progress (lines_of rest) outcome → Whole outcome
 
 pub line_done : (basis : SessionBasis) (number : ℕ) (progress new : Progress) (line rest more : List ℕ)
-    (Whole : LinesOutcome ReplayRefusal → Type 0) → Decides basis number progress rest Whole → lines_of rest ≡ line ∷ lines_of more
-    → LineComesTo basis progress line (goes_on new) → Decides basis (number + 1) new more Whole
+    (Whole : LinesOutcome ReplayRefusal → Type 0) → Decides (LinesComeTo basis) number progress rest Whole
+    → lines_of rest ≡ line ∷ lines_of more → LineComesTo basis progress line (goes_on new)
+    → Decides (LinesComeTo basis) (number + 1) new more Whole
 line_done basis number progress new line rest more Whole decides cut is = λ outcome h.
     decides outcome (subst (λ (it : List (List ℕ)). LinesComeTo basis number progress it outcome) (sym cut) (one_goes_on is h))
 
 pub line_refused : (basis : SessionBasis) (number : ℕ) (progress : Progress) (line rest more : List ℕ) (why : LineRefusal)
-    (Whole : LinesOutcome ReplayRefusal → Type 0) → Decides basis number progress rest Whole → lines_of rest ≡ line ∷ lines_of more
-    → LineComesTo basis progress line (stops why) → Whole (stops (record { line = number; why = why }))
+    (Whole : LinesOutcome ReplayRefusal → Type 0) → Decides (LinesComeTo basis) number progress rest Whole
+    → lines_of rest ≡ line ∷ lines_of more → LineComesTo basis progress line (stops why) → Whole (stops (in_line number why))
 line_refused basis number progress line rest more why Whole decides cut is =
-    decides (stops (record { line = number; why = why }))
-    (subst (λ (it : List (List ℕ)). LinesComeTo basis number progress it (stops (record { line = number; why = why }))) (sym cut)
-    (one_stops is))
+    decides (stops (in_line number why))
+    (subst (λ (it : List (List ℕ)). LinesComeTo basis number progress it (stops (in_line number why))) (sym cut) (one_stops is))
 
-pub all_replayed : (basis : SessionBasis) (number : ℕ) (progress : Progress) (rest : List ℕ) (Whole : LinesOutcome ReplayRefusal → Type 0)
-    → Decides basis number progress rest Whole → rest ≡ [] → Whole (goes_on progress)
-all_replayed basis number progress rest Whole decides none =
-    decides (goes_on progress)
-    (subst (λ (it : List ℕ). LinesComeTo basis number progress (lines_of it) (goes_on progress)) (sym none) all_done)
+-- where no line is left, the whole goes on
+pub ended_so : (Comes : Lines) → ((number : ℕ) (progress : Progress) → Comes number progress [] (goes_on progress)) → (number : ℕ)
+    (progress : Progress) (rest : List ℕ) (Whole : LinesOutcome ReplayRefusal → Type 0) → Decides Comes number progress rest Whole
+    → length rest < 1 → Whole (goes_on progress)
+ended_so Comes none number progress [] Whole decides short = decides (goes_on progress) (none number progress)
+ended_so Comes none number progress (byte ∷ rest) Whole decides short = absurd (omega (arith, short))
 
 pub lines_ended : (basis : SessionBasis) (number : ℕ) (progress : Progress) (rest : List ℕ) (Whole : LinesOutcome ReplayRefusal → Type 0)
-    → Decides basis number progress rest Whole → length rest < 1 → Whole (goes_on progress)
-lines_ended basis number progress [] Whole decides short = all_replayed basis number progress [] Whole decides refl
-lines_ended basis number progress (byte ∷ rest) Whole decides short = absurd (omega (arith, short))
+    → Decides (LinesComeTo basis) number progress rest Whole → length rest < 1 → Whole (goes_on progress)
+lines_ended basis number progress rest Whole decides short =
+    ended_so (LinesComeTo basis) (λ n p. all_done) number progress rest Whole decides short
+
+pub stated_ended : (basis : SessionBasis) (number : ℕ) (progress : Progress) (rest : List ℕ) (Whole : LinesOutcome ReplayRefusal → Type 0)
+    → Decides (StatedLinesComeTo basis) number progress rest Whole → length rest < 1 → Whole (goes_on progress)
+stated_ended basis number progress rest Whole decides short =
+    ended_so (StatedLinesComeTo basis) (λ n p. all_stated) number progress rest Whole decides short
 
 -- the faults of a line as those of the trace
 pub faults_told : (Is Other : ReplayRefusal → Type 0) → ((refusal : ReplayRefusal) → Is refusal → Other refusal) → (fault : ReplayFault)
     → TellsReplay Is fault → TellsReplay Other fault
-faults_told Is Other so (replay.BadLine line) h = so (record { line = line; why = bad_line }) h
-faults_told Is Other so (replay.LabelDiffers line kept found) h =
-    so (record { line = line; why = label_differs kept.items found.items }) h
-faults_told Is Other so (replay.Step line refusal) h = (h.0, h.1, so (record { line = line; why = step_refused h.0 }) h.2)
+faults_told Is Other so (replay.BadLine line) h = so (in_line line bad_line) h
+faults_told Is Other so (replay.OtherSpecification kept) h = so (other_specification kept.items) h
+faults_told Is Other so (replay.LabelDiffers line kept found) h = so (in_line line (label_differs kept.items found.items)) h
+faults_told Is Other so (replay.StateDiffers line kept found) h = so (in_line line (state_differs kept.items found.items)) h
+faults_told Is Other so (replay.Step line refusal) h = (h.0, h.1, so (in_line line (step_refused h.0)) h.2)
 faults_told Is Other so replay.NoMemory h = tt
 
--- the first line of a text, which may be empty
-pub bad_heading : (basis : SessionBasis) (first : Situation) (text line rest : List ℕ)
-    → (0 < length text → lines_of text ≡ line ∷ lines_of rest) → bytes_eq line trace_heading ≡ false
-    → ReplayIs basis first text no_heading
-bad_heading basis first [] line rest cut heading = refl
-bad_heading basis first (byte ∷ text) line rest cut heading =
-    without_heading basis first (byte ∷ text) line (lines_of rest) (cut (omega arith)) heading
-
-pub good_heading : (basis : SessionBasis) (first : Situation) (text line rest : List ℕ)
-    → (0 < length text → lines_of text ≡ line ∷ lines_of rest) → 0 < length text → bytes_eq line trace_heading ≡ true
-    → Decides basis 2 (opened first) rest (ReplayIs basis first text)
-good_heading basis first text line rest cut some heading = λ outcome h.
-    behind_heading basis first text line rest outcome (cut some) heading h
+-- a refusal in a line stops the trace, where it does for each reason
+pub refused_so : (number : ℕ) (Is : LineRefusal → Type 0) (Whole : LinesOutcome ReplayRefusal → Type 0)
+    → ((why : LineRefusal) → Is why → Whole (stops (in_line number why))) → (fault : ReplayFault)
+    → TellsReplay (IsInLine number Is) fault → TellsReplay (λ (refusal : ReplayRefusal). Whole (stops refusal)) fault
+refused_so number Is Whole so fault h =
+    faults_told (IsInLine number Is) (λ (refusal : ReplayRefusal). Whole (stops refusal)) told fault h
+  where
+    told : (refusal : ReplayRefusal) → IsInLine number Is refusal → Whole (stops refusal)
+    told (in_line line why) k = subst (λ (n : ℕ). Whole (stops (in_line n why))) (sym k.0) (so why k.1)
+    told (other_specification kept) k = absurd k
 
 -- a line that is refused stops the trace
 pub refused_at : (basis : SessionBasis) (number : ℕ) (progress : Progress) (line rest more : List ℕ)
-    (Whole : LinesOutcome ReplayRefusal → Type 0) → Decides basis number progress rest Whole → lines_of rest ≡ line ∷ lines_of more
-    → (fault : ReplayFault)
-    → TellsReplay (λ (refusal : ReplayRefusal). (refusal.line ≡ number) × LineComesTo basis progress line (stops refusal.why)) fault
+    (Whole : LinesOutcome ReplayRefusal → Type 0) → Decides (LinesComeTo basis) number progress rest Whole
+    → lines_of rest ≡ line ∷ lines_of more → (fault : ReplayFault)
+    → TellsReplay (IsInLine number (λ why. LineComesTo basis progress line (stops why))) fault
     → TellsReplay (λ (refusal : ReplayRefusal). Whole (stops refusal)) fault
 refused_at basis number progress line rest more Whole decides cut fault h =
-    faults_told (λ (refusal : ReplayRefusal). (refusal.line ≡ number) × LineComesTo basis progress line (stops refusal.why))
-    (λ (refusal : ReplayRefusal). Whole (stops refusal))
-    (λ refusal k. subst (λ (n : ℕ). Whole (stops (record { line = n; why = refusal.why }))) (sym k.0)
-    (line_refused basis number progress line rest more refusal.why Whole decides cut k.1)) fault h
+    refused_so number (λ why. LineComesTo basis progress line (stops why)) Whole
+    (λ why is. line_refused basis number progress line rest more why Whole decides cut is) fault h
+
+-- ---- Lines of steps and states
+
+pub both_done : (basis : SessionBasis) (number after : ℕ) (progress new : Progress) (line rest more last : List ℕ)
+    (Whole : LinesOutcome ReplayRefusal → Type 0) → after ≡ number + 2 → Decides (StatedLinesComeTo basis) number progress rest Whole
+    → lines_of rest ≡ line ∷ lines_of more → LineComesTo basis progress line (goes_on new) → IsStatedBehind basis new more last
+    → Decides (StatedLinesComeTo basis) after new last Whole
+both_done basis number after progress new line rest more last Whole counted decides cut is stated = λ outcome h.
+    decides outcome
+    (subst (λ (it : List (List ℕ)). StatedLinesComeTo basis number progress it outcome)
+    (sym (cut ∙ ap (λ (it : List (List ℕ)). line ∷ it) stated.cut))
+    (both_go_on is stated.is (subst (λ (n : ℕ). StatedLinesComeTo basis n new (lines_of last) outcome) counted h)))
+
+pub step_refused_at : (basis : SessionBasis) (number : ℕ) (progress : Progress) (line rest more : List ℕ)
+    (Whole : LinesOutcome ReplayRefusal → Type 0) → Decides (StatedLinesComeTo basis) number progress rest Whole
+    → lines_of rest ≡ line ∷ lines_of more → (fault : ReplayFault)
+    → TellsReplay (IsInLine number (λ why. LineComesTo basis progress line (stops why))) fault
+    → TellsReplay (λ (refusal : ReplayRefusal). Whole (stops refusal)) fault
+step_refused_at basis number progress line rest more Whole decides cut fault h =
+    refused_so number (λ why. LineComesTo basis progress line (stops why)) Whole
+    (λ why is. decides (stops (in_line number why))
+    (subst (λ (it : List (List ℕ)). StatedLinesComeTo basis number progress it (stops (in_line number why))) (sym cut)
+    (step_stops is))) fault h
+
+pub state_refused_at : (basis : SessionBasis) (number after : ℕ) (progress new : Progress) (line rest more : List ℕ)
+    (Whole : LinesOutcome ReplayRefusal → Type 0) → after ≡ number + 1 → Decides (StatedLinesComeTo basis) number progress rest Whole
+    → lines_of rest ≡ line ∷ lines_of more → LineComesTo basis progress line (goes_on new) → (fault : ReplayFault)
+    → TellsReplay (IsInLine after (λ why. StateComesTo basis new (first_line (lines_of more)) (stops why))) fault
+    → TellsReplay (λ (refusal : ReplayRefusal). Whole (stops refusal)) fault
+state_refused_at basis number after progress new line rest more Whole counted decides cut goes fault h =
+    refused_so after (λ why. StateComesTo basis new (first_line (lines_of more)) (stops why)) Whole
+    (λ why is. subst (λ (n : ℕ). Whole (stops (in_line n why))) (sym counted) (decides (stops (in_line (number + 1) why))
+    (subst (λ (it : List (List ℕ)). StatedLinesComeTo basis number progress it (stops (in_line (number + 1) why))) (sym cut)
+    (state_stops goes is)))) fault h
+
+-- ---- The line of a state
+
+pub state_shown : (data_ : Data) (canon : Term → Term) (spec : Spec) (signature : CodeSignature) (course : Course)
+    → signature_of signature ≡ data_.signature
+    → written_state signature spec course.state ≡ shown_state (basis_over data_ canon spec) (progress_of course)
+state_shown data_ canon spec signature course same =
+    ap (λ (it : Signature). state_text it (specification_of spec) (state_of course.state)) same
+
+pub none_kept : (line text : List ℕ) (why : LineRefusal) → (why ≡ bad_line) × (kept_state line ≡ None) → IsStateRefusal line text why
+none_kept line text why h = subst (IsStateRefusal line text) (sym h.0) (keeps_none h.1)
+
+pub other_kept : (line kept found text : List ℕ) → kept_state line ≡ Some kept → found ≡ text → (why : LineRefusal)
+    → (kept ≢ found) × (why ≡ state_differs kept found) → IsStateRefusal line text why
+other_kept line kept found text keeps same why h =
+    subst (IsStateRefusal line text) (sym h.1)
+    (subst (λ (it : List ℕ). IsStateRefusal line text (state_differs kept it)) (sym same)
+    (keeps_other kept keeps (λ e. h.0 (e ∙ sym same))))
+
+pub none_there : (rest : List ℕ) → nat_eq (length rest) 0 ≡ true → rest ≡ []
+none_there [] is = refl
+none_there (byte ∷ rest) is = let e = eqb-true (length (byte ∷ rest)) 0 is in absurd (omega (arith, e))
+
+pub some_there : (rest : List ℕ) → nat_eq (length rest) 0 ≡ false → 0 < length rest
+some_there [] is = let never : true ≡ false = is in absurd (cc never)
+some_there (byte ∷ rest) is = omega arith
+
+pub state_kept : (basis : SessionBasis) (progress : Progress) (rest line more text : List ℕ) → lines_of rest ≡ line ∷ lines_of more
+    → text ≡ shown_state basis progress → kept_state line ≡ Some text → IsStatedBehind basis progress rest more
+state_kept basis progress rest line more text cut shown keeps = record {
+  state = line;
+  cut = cut;
+  is = is_there (keeps ∙ ap (λ (it : List ℕ). Some it) shown);
+}
+
+pub state_refused : (basis : SessionBasis) (progress : Progress) (line text : List ℕ) (lines : List (List ℕ)) → text ≡ shown_state basis progress
+    → (why : LineRefusal) → IsStateRefusal line text why → StateComesTo basis progress (first_line (line ∷ lines)) (stops why)
+state_refused basis progress line text lines shown _ (keeps_none none) = has_no_state none
+state_refused basis progress line text lines shown _ (keeps_other kept keeps other) =
+    subst (λ (it : List ℕ). StateComesTo basis progress (Some line) (stops (state_differs kept it))) (sym shown)
+    (is_elsewhere kept keeps (λ same. other (same ∙ sym shown)))
+
+pub none_left : (basis : SessionBasis) (progress : Progress) (number : ℕ) (rest : List ℕ) → rest ≡ []
+    → IsInLine number (λ why. StateComesTo basis progress (first_line (lines_of rest)) (stops why)) (in_line number bad_line)
+none_left basis progress number rest none =
+    (refl, subst (λ (it : List ℕ). StateComesTo basis progress (first_line (lines_of it)) (stops bad_line)) (sym none) is_missing)
+
+pub state_told : (basis : SessionBasis) (progress : Progress) (number : ℕ) (rest line more text : List ℕ)
+    → lines_of rest ≡ line ∷ lines_of more → text ≡ shown_state basis progress → (fault : LineFault) (told : ReplayFault)
+    → told ≡ fault_at fault number → TellsLine (IsStateRefusal line text) fault
+    → TellsReplay (IsInLine number (λ why. StateComesTo basis progress (first_line (lines_of rest)) (stops why))) told
+state_told basis progress number rest line more text cut shown fault told is h =
+    told_as (λ why. StateComesTo basis progress (first_line (lines_of rest)) (stops why)) number fault told is
+    (tells_line (IsStateRefusal line text) (λ why. StateComesTo basis progress (first_line (lines_of rest)) (stops why))
+    (λ why k. subst (λ (it : List (List ℕ)). StateComesTo basis progress (first_line it) (stops why)) (sym cut)
+    (state_refused basis progress line text (lines_of more) shown why k)) fault h)
 
 -- what holds over data that have not changed
 pub over_same : (data_ other : Data) (canon also : Term → Term) (P : Data → (Term → Term) → Type 0) → other ≡ data_ → also ≡ canon
@@ -515,19 +597,64 @@ over_same data_ other canon also P same same_canon h = subst (λ (d : Data). P d
 
 -- ---- A trace with its heading
 
-pub heading_some : (line text : List ℕ) → bytes_eq line trace_heading ≡ true → length line ≤ length text → 0 < length text
-heading_some [] text heading within = absurd (cc heading)
+-- what comes behind the first line is what the whole comes to
+pub behind_first : (basis : SessionBasis) (first : Situation) (text line rest : List ℕ) (outcome : LinesOutcome ReplayRefusal)
+    → (0 < length text → lines_of text ≡ line ∷ lines_of rest) → 0 < length text
+    → ComeBehind basis first (heading_of line) (lines_of rest) outcome → ReplayIs basis first text outcome
+behind_first basis first text line rest outcome cut some h =
+    subst (λ (it : List (List ℕ)). TraceComesTo basis first it outcome) (sym (cut some)) h
+
+-- a text without a heading, which may be empty
+pub bad_heading : (basis : SessionBasis) (first : Situation) (text line rest : List ℕ)
+    → (0 < length text → lines_of text ≡ line ∷ lines_of rest) → heading_of line ≡ no_heading → ReplayIs basis first text refuses_heading
+bad_heading basis first [] line rest cut none = refl
+bad_heading basis first (byte ∷ text) line rest cut none =
+    behind_first basis first (byte ∷ text) line rest refuses_heading cut (omega arith)
+    (subst (λ (it : Heading). ComeBehind basis first it (lines_of rest) refuses_heading) (sym none) refl)
+
+-- a heading has a byte
+pub heading_some : (line text : List ℕ) → (heading_of line ≡ no_heading → ⊥) → length line ≤ length text → 0 < length text
+heading_some [] text heading within = absurd (heading refl)
 heading_some (byte ∷ line) text heading within = omega (arith, within)
 
+-- lines of steps behind their heading
 pub replayed_behind : (basis : SessionBasis) (course : Course) (text line rest : List ℕ)
-    → (0 < length text → lines_of text ≡ line ∷ lines_of rest) → length line ≤ length text → bytes_eq line trace_heading ≡ true
+    → (0 < length text → lines_of text ≡ line ∷ lines_of rest) → length line ≤ length text → heading_of line ≡ of_steps
     → course.history.items ≡ [] → (outcome : LinesOutcome ReplayRefusal)
     → LinesComeTo basis 2 (progress_of course) (lines_of rest) outcome
     → ReplayIs basis (situation_of course.state course.menu) text outcome
 replayed_behind basis course text line rest cut within heading none outcome h =
-    good_heading basis (situation_of course.state course.menu) text line rest cut (heading_some line text heading within) heading outcome
+    behind_first basis (situation_of course.state course.menu) text line rest outcome cut
+    (heading_some line text (λ other. absurd (cc (other, heading))) within)
+    (subst (λ (it : Heading). ComeBehind basis (situation_of course.state course.menu) it (lines_of rest) outcome) (sym heading)
     (subst (λ (it : List Past). LinesComeTo basis 2 (record { situation = situation_of course.state course.menu; steps = pasts_of it })
-    (lines_of rest) outcome) none h)
+    (lines_of rest) outcome) none h))
+
+-- lines of steps and states behind a heading with a name
+pub named_behind : (basis : SessionBasis) (course : Course) (text line rest kept : List ℕ)
+    → (0 < length text → lines_of text ≡ line ∷ lines_of rest) → length line ≤ length text → heading_of line ≡ of_states kept
+    → course.history.items ≡ [] → (outcome : LinesOutcome ReplayRefusal)
+    → ComeBehindName basis (situation_of course.state course.menu) (one_name kept basis.specification.name) kept (lines_of rest) outcome
+    → ReplayIs basis (situation_of course.state course.menu) text outcome
+named_behind basis course text line rest kept cut within heading none outcome h =
+    behind_first basis (situation_of course.state course.menu) text line rest outcome cut
+    (heading_some line text (λ other. absurd (cc (other, heading))) within)
+    (subst (λ (it : Heading). ComeBehind basis (situation_of course.state course.menu) it (lines_of rest) outcome) (sym heading) h)
+
+pub stated_behind : (basis : SessionBasis) (course : Course) (rest kept : List ℕ)
+    → one_name kept basis.specification.name ≡ true → course.history.items ≡ [] → (outcome : LinesOutcome ReplayRefusal)
+    → StatedLinesComeTo basis 2 (progress_of course) (lines_of rest) outcome
+    → ComeBehindName basis (situation_of course.state course.menu) (one_name kept basis.specification.name) kept (lines_of rest) outcome
+stated_behind basis course rest kept same none outcome h =
+    subst (λ (it : Bool). ComeBehindName basis (situation_of course.state course.menu) it kept (lines_of rest) outcome) (sym same)
+    (subst (λ (it : List Past). StatedLinesComeTo basis 2
+    (record { situation = situation_of course.state course.menu; steps = pasts_of it }) (lines_of rest) outcome) none h)
+
+pub other_behind : (basis : SessionBasis) (first : Situation) (kept : List ℕ) (lines : List (List ℕ))
+    → one_name kept basis.specification.name ≡ false
+    → ComeBehindName basis first (one_name kept basis.specification.name) kept lines (stops (other_specification kept))
+other_behind basis first kept lines other =
+    subst (λ (it : Bool). ComeBehindName basis first it kept lines (stops (other_specification kept))) (sym other) refl
 
 -- ---- A replay from the beginning of a session
 

@@ -1,13 +1,32 @@
 -- What the code reads in the lines of a trace.
-use Rattle.std.specs.Prelude.{ℕ, ◌+◌, List, [], ◌∷◌, ◌++◌, take, drop, nat_eq, if◌then◌else◌}
+use Rattle.std.specs.Prelude.{ℕ, ◌+◌, ◌≤◌, length, List, [], ◌∷◌, ◌++◌, take, drop, nat_eq, if◌then◌else◌}
 use Rattle.std.specs.Char.{is_ascii_digit}
+use Rattle.std.proofs.Common.{Bor}
 use Rattle.session_histories.specs.TraceLine as plain
 use Rattle.session_histories.specs.TraceLine.{AroundArrow}
+use Rattle.session_log.specs.declared.lines.Heading.{Heading}
+use Rattle.session_log.specs.declared.lines.Heading.TheVariants.{NoHeading, OfSteps, OfStates}
 use Rattle.session_log.specs.declared.lines.StepLine.{StepLine}
 
 -- what a line says
 abbrev pub said_by : StepLine → plain.StepLine
 said_by said = record { number = said.number; terms = said.terms.now; label = said.label.now }
+
+-- the bytes that are borrowed
+abbrev pub bytes_of : Bor (List ℕ) → List ℕ
+bytes_of bytes = bytes.now
+
+-- what the first line says
+abbrev pub heading_said : Heading → plain.Heading
+heading_said NoHeading = plain.no_heading
+heading_said OfSteps = plain.of_steps
+heading_said (OfStates name) = plain.of_states name.now
+
+-- a heading with a name has more than a byte
+abbrev pub IsLongHeading : Heading → List ℕ → Type 0
+IsLongHeading NoHeading line = Unit {0}
+IsLongHeading OfSteps line = Unit {0}
+IsLongHeading (OfStates name) line = 2 ≤ length line
 
 -- how many bytes stand before the first line feed
 abbrev pub line_length : List ℕ → ℕ

@@ -1,18 +1,20 @@
 -- The refusals of `session_histories` that those of the code stand for. Want of memory is none of them.
-use Rattle.std.specs.Prelude.{◌≡◌, ℕ, Option, None, Some}
+use Rattle.std.specs.Prelude.{◌≡◌, ◌<◌, ℕ, Option, None, Some}
 use Rattle.sentence_trees.specs.declared.fault.ReadFault.{ReadFault}
 use Rattle.sentence_trees.specs.declared.fault.ReadFault.TheVariants as text_fault
 use Rattle.sort_terms.specs.SortedView.{term_in}
 use Rattle.sort_terms.specs.declared.sort_faults.SortFault.{SortFault}
 use Rattle.sort_terms.specs.declared.sort_faults.SortFault.TheVariants as term_fault
 use Rattle.session_histories.specs.Refusal as plain
-use Rattle.session_histories.specs.Replay.{LineRefusal, bad_line, step_refused, label_differs, ReplayRefusal}
+use Rattle.session_histories.specs.Replay.{LineRefusal, bad_line, step_refused, label_differs, state_differs, ReplayRefusal, in_line, other_specification}
 use Rattle.session_log.specs.declared.refusals.StepRefusal.{StepRefusal}
 use Rattle.session_log.specs.declared.refusals.StepRefusal.TheVariants as step
 use Rattle.session_log.specs.declared.refusals.LineFault.{LineFault}
 use Rattle.session_log.specs.declared.refusals.LineFault.TheVariants as line_fault
 use Rattle.session_log.specs.declared.refusals.ReplayFault.{ReplayFault}
 use Rattle.session_log.specs.declared.refusals.ReplayFault.TheVariants as replay
+use Rattle.session_log.specs.declared.refusals.TraceFault.{TraceFault}
+use Rattle.session_log.specs.declared.refusals.TraceFault.TheVariants as trace
 
 -- why a step is refused
 abbrev pub step_refusal_of : StepRefusal → Option plain.StepRefusal
@@ -62,6 +64,7 @@ TellsStepOf Is refusal = (why : plain.StepRefusal) × (step_refusal_of refusal �
 abbrev pub TellsLine : (LineRefusal → Type 0) → LineFault → Type 0
 TellsLine Is line_fault.BadLine = Is bad_line
 TellsLine Is (line_fault.LabelDiffers kept found) = Is (label_differs kept.items found.items)
+TellsLine Is (line_fault.StateDiffers kept found) = Is (state_differs kept.items found.items)
 TellsLine Is (line_fault.Step refusal) = TellsStepOf Is refusal
 TellsLine Is line_fault.NoMemory = Unit {0}
 
@@ -69,16 +72,29 @@ TellsLine Is line_fault.NoMemory = Unit {0}
 abbrev pub fault_at : LineFault → ℕ → ReplayFault
 fault_at line_fault.BadLine line = replay.BadLine line
 fault_at (line_fault.LabelDiffers kept found) line = replay.LabelDiffers line kept found
+fault_at (line_fault.StateDiffers kept found) line = replay.StateDiffers line kept found
 fault_at (line_fault.Step refusal) line = replay.Step line refusal
 fault_at line_fault.NoMemory line = replay.NoMemory
 
 -- the reason at this line is one that the relation has
 abbrev pub At : (ReplayRefusal → Type 0) → ℕ → LineRefusal → Type 0
-At Is line why = Is (record { line = line; why = why })
+At Is line why = Is (in_line line why)
 
 -- the fault of a trace is one that the relation has, or memory was wanted
 abbrev pub TellsReplay : (ReplayRefusal → Type 0) → ReplayFault → Type 0
 TellsReplay Is (replay.BadLine line) = At Is line bad_line
+TellsReplay Is (replay.OtherSpecification kept) = Is (other_specification kept.items)
 TellsReplay Is (replay.LabelDiffers line kept found) = At Is line (label_differs kept.items found.items)
+TellsReplay Is (replay.StateDiffers line kept found) = At Is line (state_differs kept.items found.items)
 TellsReplay Is (replay.Step line refusal) = TellsStepOf (At Is line) refusal
 TellsReplay Is replay.NoMemory = Unit {0}
+
+-- the refusal is that of the line with this number, for a reason that the relation has
+abbrev pub IsInLine : ℕ → (LineRefusal → Type 0) → ReplayRefusal → Type 0
+IsInLine number Is (in_line line why) = (line ≡ number) × Is why
+IsInLine number Is (other_specification kept) = ⊥
+
+-- a text of this length has more bytes than the limit, or memory was wanted
+abbrev pub TellsLength : (limit length : ℕ) → TraceFault → Type 0
+TellsLength limit length trace.TooLong = limit < length
+TellsLength limit length trace.NoMemory = Unit {0}

@@ -1,5 +1,5 @@
 -- What the code replays lines of traces over, and what comes of them.
-use Rattle.std.specs.Prelude.{◌≡◌, ℕ, List, [], length, Some}
+use Rattle.std.specs.Prelude.{◌≡◌, ◌≢◌, ℕ, List, [], ◌∷◌, length, None, Some}
 use Rattle.lotos_base.specs.WrittenTerm.{WrittenTerm}
 use Rattle.lotos_base.specs.Signature.{Signature}
 use Rattle.sort_terms.specs.ReaderView.{signature_read}
@@ -15,7 +15,17 @@ use Rattle.event_offers.specs.declared.drafts.Entry.{Entry}
 use Rattle.event_offers.specs.declared.menus.Menu.{Menu}
 use Rattle.menu_builder.specs.Menus.{entries_in}
 use Rattle.session_histories.specs.Refusal.{StepRefusal, entry_numbered, number_refusal}
-use Rattle.session_histories.specs.Replay.{LineRefusal, bad_line, step_refused, AreRead, IsOneMisread}
+use Rattle.printed_texts.specs.BehaviourText.{state_text}
+use Rattle.behaviour_tree.specs.DefinitionView.{specification_of}
+use Rattle.behaviour_tree.specs.StateView.{state_of}
+use Rattle.behaviour_tree.specs.declared.definitions.Spec.{Spec}
+use Rattle.behaviour_tree.specs.declared.states.State.{State}
+use Rattle.sort_terms.specs.declared.signatures.Signature as code
+use Rattle.session_histories.specs.Session.{SessionBasis, Progress}
+use Rattle.session_histories.specs.TraceLine.{lines_of, kept_state}
+use Rattle.session_histories.specs.Replay.{LineRefusal, bad_line, step_refused, state_differs, ReplayRefusal, other_specification, AreRead, IsOneMisread, StateComesTo, goes_on}
+use Rattle.session_log.specs.RefusalView.{TellsReplay}
+use Rattle.session_log.specs.declared.refusals.ReplayFault.{ReplayFault}
 use Rattle.session_log.specs.Entries.{AreGiven, IsEntryAt}
 use Rattle.session_log.specs.declared.replaying.TraceGround.{TraceGround}
 
@@ -52,3 +62,24 @@ pub data IsReadRefusal (signature : Signature) (menu : Menu) (number : ℕ) (ter
       length terms ≡ length entry.variables →
       IsOneMisread signature entry.variables terms →
       IsReadRefusal signature menu number terms bad_line
+
+-- ---- The lines of states
+
+-- the text of a state
+abbrev pub written_state : code.Signature → Spec → State → List ℕ
+written_state signature spec state = state_text (signature_of signature) (specification_of spec) (state_of state)
+
+-- Why a line is refused that has to keep a state with this text.
+pub data IsStateRefusal (line text : List ℕ) : LineRefusal → Type 0 where
+  keeps_none : kept_state line ≡ None → IsStateRefusal line text bad_line
+  keeps_other : (kept : List ℕ) → kept_state line ≡ Some kept → kept ≢ text → IsStateRefusal line text (state_differs kept text)
+
+-- The line of a state was taken from the text that is left, and it keeps the state where the session stands.
+pub record IsStatedBehind (basis : SessionBasis) (progress : Progress) (rest more : List ℕ) : Type 0 where
+  pub state : List ℕ
+  pub cut : lines_of rest ≡ state ∷ lines_of more
+  pub is : StateComesTo basis progress (Some state) (goes_on progress)
+
+-- the fault says that the trace is of the specification with this name
+abbrev pub IsOfOther : List ℕ → ReplayFault → Type 0
+IsOfOther name fault = TellsReplay (λ (refusal : ReplayRefusal). refusal ≡ other_specification name) fault

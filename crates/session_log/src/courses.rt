@@ -16,8 +16,14 @@ ghost use Rattle.session_log.specs.CourseView.{basis_over, progress_of};
 ghost use Rattle.session_log.specs.Entries.{AreGiven, IsChosenEntry};
 ghost use Rattle.session_log.specs.Kept.{AreSuited, IsKeptCourse, IsKeptMenu, IsKeptState};
 ghost use Rattle.session_log.specs.RefusalView.{TellsStep};
-ghost use Rattle.session_log.specs.Courses.{IsGoneOn, IsSameCourse, IsUndone, first_state_of};
-ghost use Rattle.std.specs.Prelude.{◌≡◌, IfOk, MatchResult, None, OnErr, OnOk, []};
+ghost use Rattle.session_log.specs.Courses.{
+  behind_state,
+  IsGoneOn,
+  IsSameCourse,
+  IsUndone,
+  first_state_of,
+};
+ghost use Rattle.std.specs.Prelude.{◌≡◌, ◌<◌, IfOk, MatchResult, None, OnErr, OnOk, [], length};
 ghost use Rattle.step_taker.specs.Taken.{IsTaken, ground_of};
 ghost use Rattle.lotos_base.specs.Equation.{Data};
 ghost use Rattle.lotos_base.specs.Term.{Term};
@@ -120,6 +126,18 @@ impl Course {
         }
     }
 
+    /// The state behind the step at this position: the one in which the next step was taken, or the
+    /// present one.
+    pub fn state_behind(&self, index: usize) -> &State
+        requires { index < length self.now.history.items }
+        ensures { result.now ≡ behind_state self.now index }
+    {
+        match self.history.get(index + 1) {
+            None => &self.state,
+            Some(next) => &next.state,
+        }
+    }
+
     /// Takes the step by the entry with this number and these values. A refusal leaves the course as it
     /// was.
     pub fn step<M: MenuMaker, D: Deciding>(
@@ -190,7 +208,8 @@ impl Course {
         requires menu { IsKeptMenu (D.known_data data.old).signature self.now.menu }
         requires given { AreGiven (D.known_data data.old).signature values.now }
         ensures chosen { MatchResult result
-            (IsChosenEntry (D.known_data data.old) (D.canon data.old) self.now.menu number values.now)
+            (IsChosenEntry (D.known_data data.old) (D.canon data.old) self.now.menu number
+            values.now)
             (λ refusal. (spec : Spec) → TellsStep (step_refusal
             (basis_over (D.known_data data.old) (D.canon data.old) spec)
             (entries_in self.now.menu) number (terms_of values.now)) refusal) }

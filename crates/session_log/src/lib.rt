@@ -11,5 +11,5 @@ pub mod sessions;
 pub mod traces;
 
 pub use menu_builder::MenuMaker;
-pub use refusals::{ReplayFault, StepRefusal};
+pub use refusals::{ReplayFault, StepRefusal, TraceFault};
 pub use sessions::Session;

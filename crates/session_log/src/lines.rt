@@ -9,7 +9,15 @@ ghost use Rattle.session_histories.specs.TraceLine.{
   lines_of,
 };
 ghost use Rattle.session_histories.specs.TraceText.{arrow};
-ghost use Rattle.session_log.specs.Lines.{around_at, digit_count, line_length, said_by};
+ghost use Rattle.session_log.specs.Lines.{
+  around_at,
+  bytes_of,
+  digit_count,
+  heading_said,
+  IsLongHeading,
+  line_length,
+  said_by,
+};
 ghost use Rattle.std.specs.List.{list_all, starts_with};
 ghost use Rattle.std.specs.Char.{is_ascii_digit};
 ghost use Rattle.std.specs.Prelude.{
@@ -19,6 +27,7 @@ ghost use Rattle.std.specs.Prelude.{
   ◌≤◌,
   ◌∷◌,
   IfSome,
+  Some,
   drop,
   length,
   nat_eq,
@@ -38,11 +47,22 @@ pub struct StepLine<'a> {
     pub label: &'a [u8],
 }
 
+/// What the first line of a trace says.
+#[derive(Clone, Copy, Debug)]
+pub enum Heading<'a> {
+    /// It is no heading.
+    NoHeading,
+    /// Lines of steps alone follow.
+    OfSteps,
+    /// Lines of steps and of states follow, of a specification with this name.
+    OfStates(&'a [u8]),
+}
+
 /// The first line of a text, without its line feed, and what stands behind it.
 pub fn first_line(text: &[u8]) -> (&[u8], &[u8])
     ensures line { 0 < length text.now → lines_of text.now ≡ result.0.now ∷ lines_of result.1.now }
     ensures shorter { 0 < length text.now → length result.1.now < length text.now }
-    ensures within { length result.0.now ≤ length text.now }
+    ensures within { length result.0.now + length result.1.now ≤ length text.now }
 {
     let length = bytes_before_feed(text);
     (&text[..length], without_first(&text[length..]))
@@ -74,8 +94,8 @@ fn bytes_before_feed(text: &[u8]) -> usize
     count
 }
 
-/// What the line says, if it has the form of a step: `N t, t => LABEL`, or `N => LABEL`, with one to
-/// ten digits without a leading zero, or `0`, for N. A line with a carriage return has it not.
+/// What the line says, if it has the form of a step: `N t, t => LABEL`, or `N => LABEL`, with one
+/// to ten digits without a leading zero, or `0`, for N. A line with a carriage return has it not.
 pub fn step_line(line: &[u8]) -> Option<StepLine<'_>>
     ensures says { option_map said_by result ≡ plain.step_line line.now }
     ensures within { IfSome result (λ said. length said.terms.now ≤ length line.now) }
@@ -87,6 +107,63 @@ pub fn step_line(line: &[u8]) -> Option<StepLine<'_>>
         None => None,
         Some(position) => with_number(&line[..position], &line[position + 4..]),
     }
+}
+
+/// What the line says as the first one of a trace: `lotos-trace 1`, or `lotos-trace 2 NAME` with at
+/// least one byte for NAME. A line with a carriage return is no heading.
+pub fn read_heading(line: &[u8]) -> Heading<'_>
+    ensures says { heading_said result ≡ plain.heading_of line.now }
+    ensures long { IsLongHeading result line.now }
+{
+    if line == b"lotos-trace 1".as_slice() {
+        return Heading::OfSteps;
+    }
+    match behind_mark(b"lotos-trace 2 ", line) {
+        None => Heading::NoHeading,
+        Some(name) => with_name(line, name),
+    }
+}
+
+// The heading of the line with this name, which has a byte or is none.
+fn with_name<'a>(line: &[u8], name: &'a [u8]) -> Heading<'a>
+    requires { 14 ≤ length line.now }
+    ensures says { heading_said result ≡ plain.with_name (Some name.now) }
+    ensures long { IsLongHeading result line.now }
+{
+    match name {
+        [] => Heading::NoHeading,
+        [_, ..] => Heading::OfStates(name),
+    }
+}
+
+/// The text of the state that the line keeps, if it has the form `at STATE`. A line with a carriage
+/// return has it not.
+pub fn kept_state(line: &[u8]) -> Option<&[u8]>
+    ensures { option_map bytes_of result ≡ plain.kept_state line.now }
+{
+    behind_mark(b"at ", line)
+}
+
+// What stands behind the mark, if the line begins with it and has no carriage return.
+fn behind_mark<'a>(mark: &[u8], line: &'a [u8]) -> Option<&'a [u8]>
+    ensures behind { option_map bytes_of result ≡ plain.behind_mark mark.now line.now }
+    ensures within { IfSome result (λ _. length mark.now ≤ length line.now) }
+{
+    if holds_return(line) {
+        return None;
+    }
+    if begins_with(mark, line) {
+        return Some(&line[mark.len()..]);
+    }
+    None
+}
+
+// Whether the line begins with the mark.
+fn begins_with(mark: &[u8], line: &[u8]) -> bool
+    ensures tested { result ≡ starts_with nat_eq line.now mark.now }
+    ensures within { result ≡ true → length mark.now ≤ length line.now }
+{
+    line.starts_with(mark)
 }
 
 // Whether there is a carriage return in the line.

@@ -55,11 +55,18 @@ impl From<NoMemory> for StepRefusal {
 /// Why a trace is not replayed. Lines are numbered from 1.
 #[derive(Debug, Drop)]
 pub enum ReplayFault {
-    /// The first line is not `lotos-trace 1`, or a later one has not the form of a step, its terms are
-    /// not read, or a value has not one reading at the sort of its variable.
+    /// The first line is neither `lotos-trace 1` nor `lotos-trace 2 ` with a name behind it; or a
+    /// later one has not the form of a step, its terms are not read, or a value has not one reading
+    /// at the sort of its variable; or the line behind a step does not begin with `at `, or is
+    /// missing, and then has the number behind the last one.
     BadLine {
         /// The number of the line.
         line: u32,
+    },
+    /// The first line names another specification, letter case aside.
+    OtherSpecification {
+        /// The name in the line.
+        kept: Vec<u8>,
     },
     /// The label of a line is not the text of the label that its step has.
     LabelDiffers {
@@ -68,6 +75,15 @@ pub enum ReplayFault {
         /// The label of the line.
         kept: Vec<u8>,
         /// The text of the label of the step.
+        found: Vec<u8>,
+    },
+    /// The state of a line is not the text of the state that was reached.
+    StateDiffers {
+        /// The number of the line.
+        line: u32,
+        /// The state of the line.
+        kept: Vec<u8>,
+        /// The text of the state that was reached.
         found: Vec<u8>,
     },
     /// The step of a line is refused.
@@ -93,16 +109,44 @@ impl From<NoMemory> for ReplayFault {
     }
 }
 
+/// Why the text of a trace is not given.
+#[derive(Debug, Drop)]
+pub enum TraceFault {
+    /// It has more bytes than it may have.
+    TooLong,
+    /// There is no memory for it.
+    NoMemory,
+}
+
+impl From<NoMemory> for TraceFault {
+    ghost use Rattle.session_log.specs.declared.refusals.TraceFault.TheVariants.{
+      NoMemory as out_of_memory,
+    };
+
+    ghost from_gives = { λ _ fault. fault ≡ out_of_memory };
+
+    fn from(_fault: NoMemory) -> TraceFault {
+        TraceFault::NoMemory
+    }
+}
+
 /// Why a line of a trace is refused, without its number.
 #[derive(Debug, Drop)]
 pub enum LineFault {
-    /// The line has not the form of a step, or its terms are not read.
+    /// The line has not its form, or its terms are not read.
     BadLine,
     /// Its label is not that of its step.
     LabelDiffers {
         /// The label of the line.
         kept: Vec<u8>,
         /// The text of the label of the step.
+        found: Vec<u8>,
+    },
+    /// Its state is not the one that was reached.
+    StateDiffers {
+        /// The state of the line.
+        kept: Vec<u8>,
+        /// The text of the state that was reached.
         found: Vec<u8>,
     },
     /// Its step is refused.
@@ -178,6 +222,9 @@ impl LineFault {
             LineFault::BadLine => ReplayFault::BadLine { line },
             LineFault::LabelDiffers { kept, found } => {
                 ReplayFault::LabelDiffers { line, kept, found }
+            }
+            LineFault::StateDiffers { kept, found } => {
+                ReplayFault::StateDiffers { line, kept, found }
             }
             LineFault::Step(why) => ReplayFault::Step { line, why },
             LineFault::NoMemory => ReplayFault::NoMemory,

@@ -3,37 +3,35 @@
 ghost use Rattle.behaviour_tree.specs.BehaviourView.{terms_of};
 ghost use Rattle.behaviour_tree.specs.MoveView.{label_of};
 ghost use Rattle.event_offers.specs.Keeping.{KeepsData};
-ghost use Rattle.lotos_base.specs.Name.{spelling};
 ghost use Rattle.menu_builder.specs.Menus.{entries_in};
 ghost use Rattle.session_histories.specs.Lawful.{HasStepped};
 ghost use Rattle.session_histories.specs.Refusal.{step_refusal};
 ghost use Rattle.session_histories.specs.Replay.{goes_on, ReplayIs, stops};
-ghost use Rattle.session_histories.specs.Session.{first_situation, items_of};
-ghost use Rattle.session_histories.specs.TraceText.{trace_text};
+ghost use Rattle.session_histories.specs.Session.{first_situation};
 ghost use Rattle.session_log.specs.CourseView.{basis_over, progress_of};
 ghost use Rattle.session_log.specs.Entries.{AreGiven};
 ghost use Rattle.session_log.specs.Kept.{AreSuited, IsKeptState, IsLawfulSession};
-ghost use Rattle.session_log.specs.RefusalView.{TellsReplay, TellsStep};
-ghost use Rattle.session_log.specs.Courses.{IsUndone};
+ghost use Rattle.session_log.specs.RefusalView.{TellsLength, TellsReplay, TellsStep};
+ghost use Rattle.session_log.specs.Courses.{AreClosedStates, IsUndone, written_trace};
 ghost use Rattle.sort_terms.specs.SignatureView.{signature_of};
 ghost use Rattle.std.specs.Prelude.{
   ◌≡◌,
   ◌++◌,
   ◌<◌,
+  ◌≤◌,
   ◌^◌,
   [],
   IfOk,
   MatchResult,
   length,
-  map,
 };
 ghost use Rattle.lotos_base.specs.Equation.{Data};
 ghost use Rattle.lotos_base.specs.Term.{Term};
 
 use crate::courses::Course;
-use crate::refusals::{ReplayFault, StepRefusal};
+use crate::refusals::{ReplayFault, StepRefusal, TraceFault};
 use crate::replaying::{TraceGround, replay_text};
-use crate::traces::push_trace;
+use crate::traces::trace_within;
 use behaviour_tree::{Label, Spec, State};
 use event_offers::Menu;
 use lotos_base::NoMemory;
@@ -111,10 +109,10 @@ impl<M: MenuMaker> Session<M> {
     /// Takes the step by the entry with this number, counted from 1, and these values for its
     /// variables, and answers its label.
     ///
-    /// The step is refused, in this order, as `NoEntry` where the number is outside 1 to the length of
-    /// the menu, as `ValueCount` where there are more or fewer values than variables, as `ValueSort`
-    /// at the first value of another sort, and as `Unmet` at the first condition that does not hold. A
-    /// refusal leaves state, menu and history as they were.
+    /// The step is refused, in this order, as `NoEntry` where the number is outside 1 to the length
+    /// of the menu, as `ValueCount` where there are more or fewer values than variables, as
+    /// `ValueSort` at the first value of another sort, and as `Unmet` at the first condition that
+    /// does not hold. A refusal leaves state, menu and history as they were.
     pub fn step<D: Deciding>(
         &mut self,
         number: u64,
@@ -163,23 +161,39 @@ impl<M: MenuMaker> Session<M> {
         self.course.undo()
     }
 
-    /// Appends the trace: the line `lotos-trace 1`, and for each step its number, its values as they
-    /// were given and its label. After a failure for want of memory the text is as it was.
+    /// Appends the trace: the line `lotos-trace 2 NAME` with the name of the specification, and for
+    /// each step the line of its number, its values as they were given and its label, and the line
+    /// `at STATE` of the state behind it. After a failure for want of memory the text is as it was.
     pub fn trace(&self, signature: &Signature, into: &mut Vec<u8>) -> Result<(), NoMemory>
+        requires { AreClosedStates self.now.course }
         ensures { MatchResult result
-            (λ _. into.new.items ≡ into.old.items ++ trace_text (signature_of signature.now)
-            (map spelling self.now.spec.gate_names.items)
-            (items_of (progress_of self.now.course).steps))
+            (λ _. into.new.items ≡ into.old.items
+            ++ written_trace signature.now self.now.spec self.now.course)
             (λ _. into.new.items ≡ into.old.items) }
     {
-        let mut text = Vec::new(*into.allocator());
-        push_trace(
-            signature,
-            self.spec.gate_names.as_slice(),
-            self.course.history(),
-            &mut text,
-        )?;
-        Ok(into.extend_from_slice(text.as_slice())?)
+        // A text has never more bytes than a `usize` counts.
+        match self.trace_within(*into.allocator(), signature, usize::MAX) {
+            Ok(text) => append(text, into),
+            Err(_) => Err(NoMemory),
+        }
+    }
+
+    /// The trace. Answers `TooLong` exactly where it has more bytes than the limit; then no more of
+    /// it is written than the first lines that have.
+    pub fn trace_within(
+        &self,
+        alloc: Global,
+        signature: &Signature,
+        limit: usize,
+    ) -> Result<Vec<u8>, TraceFault>
+        requires { AreClosedStates self.now.course }
+        ensures { MatchResult result
+            (λ text. (text.items ≡ written_trace signature.now self.now.spec self.now.course)
+            × (length text.items ≤ limit))
+            (TellsLength limit
+            (length (written_trace signature.now self.now.spec self.now.course))) }
+    {
+        trace_within(alloc, signature, &self.spec, &self.course, limit)
     }
 
     /// Takes the steps of the trace from the oldest state that the session keeps, and where all
@@ -232,4 +246,17 @@ impl<M: MenuMaker> Session<M> {
         self.course = course;
         Ok(count)
     }
+}
+
+// Appends the text, which is taken as it is where there is none before it.
+fn append(text: Vec<u8>, into: &mut Vec<u8>) -> Result<(), NoMemory>
+    ensures { MatchResult result
+        (λ _. into.new.items ≡ into.old.items ++ text.items)
+        (λ _. into.new.items ≡ into.old.items) }
+{
+    if into.is_empty() {
+        *into = text;
+        return Ok(());
+    }
+    Ok(into.extend_from_slice(text.as_slice())?)
 }

@@ -1,6 +1,7 @@
 pub mod ProfiledTermLemmas
 pub mod TermListLemmas
 pub mod SizeLemmas
+pub mod CopyLemmas
 pub mod NameIndexLemmas
 pub mod PositionLemmas
 pub mod ScopeLemmas

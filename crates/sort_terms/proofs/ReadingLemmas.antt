@@ -135,20 +135,23 @@ one_found signature scope w t suits (Some e) s at =
     of_one_sort signature scope w (Some e) s one.0 one.1 at.0 (λ r h. h.1 ∙ sym at.0)
 
 -- the outcome where no name is unknown
-pub outcome_known : {A : Type 0} (unknown : List ReadingRefusal) (place : Place) (P : A → Type 0) (outcome : ReadingOutcome A) → unknown ≡ []
+pub outcome_known : {A : Type 0} (unknown : List ReadingRefusal) (place : Place) (P : A → Type 0) (outcome : ReadingOutcome A)
+    → unknown ≡ []
     → ComesTo [] place P outcome → ComesTo unknown place P outcome
 outcome_known unknown place P outcome none comes =
     subst (λ (rs : List ReadingRefusal). ComesTo rs place P outcome) (sym none) comes
 
 -- the outcome where a name is unknown
-pub outcome_unknown : {A : Type 0} (unknown : List ReadingRefusal) (place : Place) (P : A → Type 0) (first : ReadingRefusal) (rest : List ReadingRefusal)
+pub outcome_unknown : {A : Type 0} (unknown : List ReadingRefusal) (place : Place) (P : A → Type 0) (first : ReadingRefusal)
+    (rest : List ReadingRefusal)
     → unknown ≡ first ∷ rest → ComesTo unknown place P (refused first)
 outcome_unknown unknown place P first rest is =
     subst (λ (rs : List ReadingRefusal). ComesTo rs place P (refused first)) (sym is) refl
 
 -- ---- Over the code's terms
 
-pub first_is : (fault : SortFault) (P : ReadingRefusal → Type 0) (r : ReadingRefusal) → refusal_of fault ≡ Some r → P r → UnlessNoMemory fault P
+pub first_is : (fault : SortFault) (P : ReadingRefusal → Type 0) (r : ReadingRefusal) → refusal_of fault ≡ Some r → P r
+    → UnlessNoMemory fault P
 first_is (UnknownName place) P r is h = subst (λ (x : ReadingRefusal). P x) (sym (same_Some _ _ is)) h
 first_is (UnknownSort place) P r is h = subst (λ (x : ReadingRefusal). P x) (sym (same_Some _ _ is)) h
 first_is (NoReading place) P r is h = subst (λ (x : ReadingRefusal). P x) (sym (same_Some _ _ is)) h

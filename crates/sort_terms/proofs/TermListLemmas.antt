@@ -73,13 +73,3 @@ pub all_profiled-append : (xs : List Term) (x : Term)
     → all_profiled (xs ++ x ∷ []) ≡ with_last_profiled (all_profiled xs) (profiled_of x)
 all_profiled-append [] x = refl
 all_profiled-append (y ∷ ys) x = ap (λ ts. profiled_term_then (profiled_of y) ts) (all_profiled-append ys x)
-
--- a list that one more copy was added to
-pub copied_more : (xs made new : List Term) (i : ℕ) (x y : Term) → i < length xs → x ≡ get_or xs i x
-    → new ≡ made ++ y ∷ [] → all_profiled made ≡ all_profiled (take i xs) → profiled_of y ≡ profiled_of x
-    → all_profiled new ≡ all_profiled (take (i + 1) xs)
-copied_more xs made new i x y h e is so_far copy =
-    ap all_profiled is ∙ all_profiled-append made y
-    ∙ ap (λ (ts : ProfiledTerms). with_last_profiled ts (profiled_of y)) so_far
-    ∙ ap (λ (t : ProfiledTerm). with_last_profiled (all_profiled (take i xs)) t) copy
-    ∙ sym (ap all_profiled (take_item xs i x h e) ∙ all_profiled-append (take i xs) x)

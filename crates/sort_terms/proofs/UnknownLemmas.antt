@@ -61,7 +61,8 @@ between_none from to xs past =
     ap (λ (n : ℕ). take n (drop from xs)) nothing
 
 -- the member at the place has the first unknown name
-pub found_among : {A : Type 0} (f : A → List ReadingRefusal) (from i to : ℕ) (xs : List A) (x : A) (fault : SortFault) → i < to → to ≤ length xs
+pub found_among : {A : Type 0} (f : A → List ReadingRefusal) (from i to : ℕ) (xs : List A) (x : A) (fault : SortFault) → i < to
+    → to ≤ length xs
     → x ≡ get_or xs i x → together (map f (between from to xs)) ≡ together (map f (between i to xs)) → IsFirstRefusal (f x) (Some fault)
     → IsFirstRefusal (together (map f (between from to xs))) (Some fault)
 found_among f from i to xs x fault before within is so_far first =

@@ -26,3 +26,5 @@ pub mod Searching
 pub mod FoundAt
 pub mod ReadingLaws
 pub mod WellFormedTest
+pub mod MadeTerms
+pub mod Copied

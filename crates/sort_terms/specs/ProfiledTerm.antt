@@ -54,3 +54,8 @@ abbrev mutual
   pub AreOf : Signature → ProfiledTerms → Type 0
   AreOf signature no_profiled_terms = Unit {0}
   AreOf signature (profiled_term_then t ts) = IsOf signature t × AreOf signature ts
+
+-- Each of the terms has the property.
+abbrev pub All : (ProfiledTerm → Type 0) → ProfiledTerms → Type 0
+All P no_profiled_terms = Unit {0}
+All P (profiled_term_then t ts) = P t × All P ts

@@ -22,5 +22,6 @@ ReadingComesToOneThing = (signature : Signature) (scope : List Variable) (w : Wr
 
 -- and so does reading a pair
 abbrev pub PairReadingComesToOneThing : Type 0
-PairReadingComesToOneThing = (signature : Signature) (scope : List Variable) (left right : WrittenTerm) (one other : ReadingOutcome SortedPair)
+PairReadingComesToOneThing = (signature : Signature) (scope : List Variable) (left right : WrittenTerm)
+    (one other : ReadingOutcome SortedPair)
     → PairReadingIs signature scope left right one → PairReadingIs signature scope left right other → one ≡ other

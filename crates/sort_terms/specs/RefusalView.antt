@@ -16,7 +16,8 @@ refusal_of NoMemory = None
 -- the fault is the first of the refusals, if there is one
 abbrev pub IsFirstRefusal : List ReadingRefusal → Option SortFault → Type 0
 IsFirstRefusal refusals None = refusals ≡ []
-IsFirstRefusal refusals (Some fault) = (first : ReadingRefusal) × (rest : List ReadingRefusal) × (refusal_of fault ≡ Some first) × (refusals ≡ first ∷ rest)
+IsFirstRefusal refusals (Some fault) = (first : ReadingRefusal) × (rest : List ReadingRefusal) × (refusal_of fault ≡ Some first)
+    × (refusals ≡ first ∷ rest)
 
 -- the property of the refusal that a fault stands for, unless memory was wanting
 abbrev pub UnlessNoMemory : SortFault → (ReadingRefusal → Type 0) → Type 0

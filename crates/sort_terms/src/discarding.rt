@@ -1,5 +1,5 @@
-//! What the drop of terms does, by a loop. It takes no memory: the lists that are still to be dropped
-//! hang in one another.
+//! What the drop of terms does, by a loop. It takes no memory: the lists that are still to be
+//! dropped hang in one another.
 
 ghost use Rattle.sort_terms.specs.TermSize.{IsTurnOf, size_of, sizes_of};
 ghost use Rattle.std.specs.Prelude.{◌≡◌, ◌+◌, ◌<◌, []};
@@ -17,8 +17,8 @@ pub enum Turn {
     Done(Vec<Term>, Vec<Term>),
 }
 
-/// Drops an operation without arguments, or one behind which nothing is left. Any other takes the terms
-/// behind it for its arguments, and stands where its own first argument stood, which is next.
+/// Drops an operation without arguments, or one behind which nothing is left. Any other takes the
+/// terms behind it for its arguments, and stands where its own first argument stood, which is next.
 pub(crate) fn exchanged(
     op: u32,
     profile: Rc<Op>,
@@ -42,7 +42,8 @@ pub(crate) fn exchanged(
     Turn::Further(next, arguments)
 }
 
-/// Drops a term, or a part of it, and gives what is left of it and of the others, and a list without terms.
+/// Drops a term, or a part of it, and gives what is left of it and of the others, and a list
+/// without terms.
 pub(crate) fn opened(first: Term, others: Vec<Term>) -> (Vec<Term>, Vec<Term>)
     ensures less { sizes_of result.0.items < size_of first + sizes_of others.items }
     ensures empty { result.1.items ≡ [] }

@@ -2,10 +2,11 @@
 
 ghost use Rattle.sort_terms.specs.ProfiledTerm.{head_sort};
 ghost use Rattle.sort_terms.specs.TermSize.{IsTurnOf, size_of, sizes_of, whole_of};
-ghost use Rattle.sort_terms.specs.TermView.{all_profiled, profiled_of, term_of, terms_of};
+ghost use Rattle.sort_terms.specs.TermView.{profiled_of, term_of, terms_of};
 ghost use Rattle.std.specs.Prelude.{◌≡◌, ◌↔◌, IfOk, IsTrue};
 ghost use Rattle.lotos_base.specs.Sorting.{AreGround, IsGround};
 
+use crate::copying::copies;
 use crate::discarding::{Turn, exchanged, opened};
 use crate::operations::Op;
 use lotos_base::NoMemory;
@@ -99,7 +100,6 @@ impl Term {
     }
 
     /// The same term, with the same profiles.
-    #[cycle(copies)]
     pub fn copy(&self) -> Result<Term, NoMemory>
         ensures { IfOk result (λ t. profiled_of t ≡ profiled_of self.now) }
     {
@@ -205,16 +205,4 @@ fn are_ground(terms: &Vec<Term>) -> bool
         }
     }
     true
-}
-
-/// The same terms, with the same profiles.
-#[cycle(copies)]
-pub fn copies(terms: &Vec<Term>) -> Result<Vec<Term>, NoMemory>
-    ensures { IfOk result (λ ts. all_profiled ts.items ≡ all_profiled terms.now.items) }
-{
-    let mut made = Vec::with_capacity(*terms.allocator(), terms.len())?;
-    for term in terms {
-        made.push(term.copy()?)?;
-    }
-    Ok(made)
 }

@@ -54,7 +54,8 @@ leads_on a b c whole First next x leads is = record {
   failed = λ after fault other. leads.failed after fault (failed_then b c after First next x fault is other);
 }
 
-pub leads_out : {A B : Type 0} (a b c : ShelfState) (whole : Part Refused B) (First : Part Refused A) (next : A → Part Refused B) (fault : NotAccepted) →
+pub leads_out : {A B : Type 0} (a b c : ShelfState) (whole : Part Refused B) (First : Part Refused A) (next : A → Part Refused B)
+    (fault : NotAccepted) →
     Leads a b whole (Then First next) → Failed b c First fault → Failed a c whole fault
 leads_out a b c whole First next fault leads is = leads.failed c fault (failed_first b c First next fault is)
 
@@ -193,7 +194,13 @@ module _ (a : ShelfState) (order : Option (List ℕ)) (tree : WrittenSpecificati
 
 pub holds : (whole : Resolved) (items : List ListedOperation) (words : List (List ℕ)) (known : WithValues) (accepted : Accepted)
     → KnowsValues whole items words known → Starts known accepted
-    → HoldsAccepted (record { libraries = whole.read; data_ = whole.data_; spec = whole.spec; items = items; values = terms_of known.values.items })
+    → HoldsAccepted (record {
+      libraries = whole.read;
+      data_ = whole.data_;
+      spec = whole.spec;
+      items = items;
+      values = terms_of known.values.items;
+    })
     accepted
 holds whole items words known accepted knows starts = record {
   spec_is = ap specification_of starts.same_spec ∙ knows.book_known.keeps.same;

@@ -72,7 +72,8 @@ module _ (data_ : Data) (tree : WrittenSpecification) (spec : Specification) whe
   none_told : (ds : List Disagreement) → ds ≡ [] → seen_disagreements ds ≡ []
   none_told ds none = ap seen_disagreements none
 
-  agree_or_differ : (b : Specification) (fault : FunctionalityFault) → FunctionalitiesAgree data_ tree spec b → Disagree data_ tree spec fault
+  agree_or_differ : (b : Specification) (fault : FunctionalityFault) → FunctionalitiesAgree data_ tree spec b
+      → Disagree data_ tree spec fault
       → ⊥
   agree_or_differ b (differ_at place left right) is not =
       subst (λ (ds : List PlacedDisagreement). IsFirstTold ds place left right)
@@ -204,7 +205,8 @@ module _ (data_ : Data) (tree : WrittenSpecification) (spec : Specification) whe
 
   cyclic_once : (fault other : RecursionFault) → Cyclic data_ tree spec fault → Cyclic data_ tree spec other → fault ≡ other
   cyclic_once (unguarded_at place process cycle) (unguarded_at other also too) is same =
-      cycle_told_once calls_all place other process also cycle too (cycle_of_text place process cycle is) (cycle_of_text other also too same)
+      cycle_told_once calls_all place other process also cycle too (cycle_of_text place process cycle is)
+      (cycle_of_text other also too same)
 
   pub ranks_decided : IsDecided (Guarded spec) (Cyclic data_ tree spec)
   ranks_decided = record {

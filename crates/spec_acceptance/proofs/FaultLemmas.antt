@@ -51,7 +51,7 @@ use Rattle.spec_acceptance.specs.Texts.{text_refusal, text_told}
 use Rattle.spec_acceptance.specs.Types.{of_names, of_declarations, HaveFault, types_told}
 use Rattle.spec_acceptance.specs.Scopes.{Breaks, scopes_told}
 use Rattle.spec_acceptance.specs.Checks.{KeepsSpecification, differ_at, IsFirstDisagreement, Disagree, functionality_told, unguarded_at, Cyclic, recursion_told}
-use Rattle.spec_acceptance.specs.Book.{names_none, names_twice, not_oriented, not_joined, DoesNotOpen, opening_told}
+use Rattle.spec_acceptance.specs.Book.{names_none, names_twice, names_no_status, not_oriented, not_joined, DoesNotOpen, opening_told}
 use Rattle.spec_acceptance.specs.Doing.{Faulty, with_libraries_refused, with_data_refused, with_spec_refused}
 use Rattle.spec_acceptance.specs.declared.not_accepted.NotAccepted.TheVariants.{Spec}
 use Rattle.spec_acceptance.specs.declared.stages.WithData.{WithData}
@@ -204,6 +204,7 @@ pub book_faulty : (items : List ListedOperation) (known : WithSpec) (found : Boo
     → Faulty (DoesNotOpen items (data_of known.flat)) (by_spec opening_told known) (Spec (with_spec_refused known (fault.Book found)))
 book_faulty items known (book.UnknownOperation place name) not is = (names_none (text_place_of place) (spelling name), is, refl)
 book_faulty items known (book.TwiceListed place name) not is = (names_twice (text_place_of place) (spelling name), is, refl)
+book_faulty items known (book.BadStatus place name) not is = (names_no_status (text_place_of place) (spelling name), is, refl)
 book_faulty items known (book.Unorientable equation) not is = (not_oriented equation, is, refl)
 book_faulty items known (book.Unjoined first second peak left right) not is =
     (not_joined first second (term_in peak) (term_in left) (term_in right), (is.0, is.2.0, is.1, is.2.1, is.2.2), refl)

@@ -28,7 +28,8 @@ use Rattle.behaviour_tree.specs.Over.{AreTermsOf, IsSpecOver, IsStateOf, IsStart
 use Rattle.behaviour_tree.specs.StateView.{node_profiles, state_of}
 use Rattle.behaviour_tree.specs.declared.definitions.Spec.{Spec as CodeSpec}
 use Rattle.behaviour_tree.specs.declared.states.State.{State}
-use Rattle.equation_book.specs.BookCanon.{book_canon, book_is_canon}
+use Rattle.equation_book.specs.BookCanon.{book_canon}
+use Rattle.equation_book.specs.BookCanonFacts.{book_is_canon}
 use Rattle.equation_book.specs.declared.book.Book.{Book}
 use Rattle.start_values.specs.Refusal as plain
 use Rattle.start_values.specs.Refusal.{Refusal}
@@ -82,7 +83,8 @@ valued_fine words known flat parameters made same shown kept are terms whole ite
 }
 
 -- the refusal with what is known by then
-refused_there : (known : WithBook) (found : SpecFault) (answer : NotAccepted) (IsFault : Refusal → Type 0) → RefusesStarts known found answer
+refused_there : (known : WithBook) (found : SpecFault) (answer : NotAccepted) (IsFault : Refusal → Type 0)
+    → RefusesStarts known found answer
     → FailsAs IsFault (start_fault.Refused found) → (whole : Resolved) (items : List ListedOperation) → KnowsBook whole items known
     → Faulty IsFault (with_spec whole.read whole.data_ whole.spec) answer
 refused_there known found answer IsFault refuses is whole items knows =

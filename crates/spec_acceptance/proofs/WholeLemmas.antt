@@ -108,7 +108,8 @@ module _ (types : TypesAreDecided) (fine : DataAreWellFormed) (exits : ExitsAreD
   founded_wants order tree =
       then_wants (Gathers tree) _ got (gathers_determined tree got) (gathers_wants tree got) (λ gathered f2 i2.
       then_wants (Flattens gathered) _ got (flattens_determined gathered)
-      (looks_wants (HaveData (types_of gathered.types)) (HaveFault (types_of gathered.types)) (types_told gathered.read) got) (λ data_ f3 have.
+      (looks_wants (HaveData (types_of gathered.types)) (HaveFault (types_of gathered.types)) (types_told gathered.read) got)
+      (λ data_ f3 have.
       then_wants (Resolves gathered data_ tree) _ got (resolves_determined gathered data_ tree)
       (looks_wants (StandsFor data_ tree) (Breaks data_ tree) (scopes_told gathered.read data_) got) (λ spec f4 i4.
       then_wants (ComesToAgreement gathered data_ tree spec) _ got (agrees_determined gathered data_ tree spec)
@@ -133,7 +134,8 @@ module _ (types : TypesAreDecided) (fine : DataAreWellFormed) (exits : ExitsAreD
 
   starts_determined : (founded : Founded) (words : List (List ℕ)) → IsDetermined got (StartsWithValues founded words)
   starts_determined founded words =
-      looks_determined (AreStartValues (start_of founded.data_ founded.spec words)) (IsStartFault (start_of founded.data_ founded.spec words))
+      looks_determined (AreStartValues (start_of founded.data_ founded.spec words))
+      (IsStartFault (start_of founded.data_ founded.spec words))
       (with_spec founded.libraries founded.data_ founded.spec) got (starts_decided (start_of founded.data_ founded.spec words))
 
   accepts_determined : (text : List ℕ) (order : Option (List ℕ)) (words : List (List ℕ)) → IsDetermined got (AcceptsText text order words)

@@ -28,7 +28,8 @@ pub record KeepsSpecification (data_ : Data) (tree : WrittenSpecification) (spec
 
 -- all functionalities agree
 abbrev pub FunctionalitiesAgree : Data → WrittenSpecification → Specification → Specification → Type 0
-FunctionalitiesAgree data_ tree spec same = (same ≡ spec) × ((kept : Spec) × KeepsSpecification data_ tree spec kept × (all_disagreements kept ≡ []))
+FunctionalitiesAgree data_ tree spec same = (same ≡ spec)
+    × ((kept : Spec) × KeepsSpecification data_ tree spec kept × (all_disagreements kept ≡ []))
 
 -- two functionalities differ at a place
 pub data FunctionalityFault : Type 0 where

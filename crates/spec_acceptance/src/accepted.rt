@@ -79,7 +79,8 @@ impl Accepted {
         ensures { MatchResult result
             (AcceptsWith (shelf_state (F.texts shelf.old) (F.faults shelf.old) (F.calls shelf.old))
             (shelf_state (F.texts shelf.new) (F.faults shelf.new) (F.calls shelf.new))
-            (AcceptsText text.now (option_map (λ word. word.now) order.entry) (words_of values.now)))
+            (AcceptsText text.now (option_map (λ word. word.now) order.entry)
+            (words_of values.now)))
             (Failed (shelf_state (F.texts shelf.old) (F.faults shelf.old) (F.calls shelf.old))
             (shelf_state (F.texts shelf.new) (F.faults shelf.new) (F.calls shelf.new))
             (AcceptsText text.now (option_map (λ word. word.now) order.entry) (words_of

@@ -1,5 +1,5 @@
-//! Laws of functionalities, recursion and books. Each function carries a law as its contract and does
-//! nothing.
+//! Laws of functionalities, recursion and books. Each function carries a law as its contract and
+//! does nothing.
 
 ghost use Rattle.spec_acceptance.specs.AcceptanceLaws.{
   BooksAreDecided,

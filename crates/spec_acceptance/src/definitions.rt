@@ -59,7 +59,8 @@ pub fn resolved(alloc: Global, tree: &SpecText, known: WithData) -> Result<WithS
 /// The same, whose functionalities agree.
 pub fn agreed(alloc: Global, known: WithSpec) -> Result<WithSpec, NotAccepted>
     ensures { (whole : Resolved) → KnowsSpec whole known → MatchResult result
-        (λ made. KnowsSpec whole made × FunctionalitiesAgree whole.data_ whole.tree whole.spec whole.spec)
+        (λ made. KnowsSpec whole made × FunctionalitiesAgree whole.data_ whole.tree whole.spec
+        whole.spec)
         (Faulty (Disagree whole.data_ whole.tree whole.spec)
         (functionality_told whole.read whole.data_ whole.spec)) }
 {

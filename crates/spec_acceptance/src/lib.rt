@@ -1,5 +1,6 @@
-//! The acceptance of a specification: the order of faults as one definition, which files are got for
-//! it, and what is found in them; and the law that by the texts that a shelf tells there is one answer.
+//! The acceptance of a specification: the order of faults as one definition, which files are got
+//! for it, and what is found in them; and the law that by the texts that a shelf tells there is one
+//! answer.
 #![tactic(auto)]
 
 pub mod accepted;

@@ -19,9 +19,9 @@ pub fn data_are_well_formed()
     ensures { DataAreWellFormed }
 {}
 
-/// By what is got under each name a specification is accepted in one way at most, or refused for one
-/// fault, or one file is not got, where memory is there; and the same files are got for it in the
-/// same order. Where memory is wanted, the first ones of these files were got.
+/// By what is got under each name a specification is accepted in one way at most, or refused for
+/// one fault, or one file is not got, where memory is there; and the same files are got for it in
+/// the same order. Where memory is wanted, the first ones of these files were got.
 pub fn acceptance_has_one_outcome()
     ensures one { AcceptanceHasOneOutcome }
     ensures wanted { WantedFilesAreFirst }

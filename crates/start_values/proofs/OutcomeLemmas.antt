@@ -81,7 +81,8 @@ value_count signature (sort ∷ sorts) (given ∷ others) [] h = absurd h
 value_count signature (sort ∷ sorts) (given ∷ others) (value ∷ values) h =
     ap suc (value_count signature sorts others values h.1)
 
-same_refusal : (one other : reading.ReadingRefusal) → ◌≡◌ {A = reading.ReadingOutcome SortedTerm} (reading.refused one) (reading.refused other)
+same_refusal : (one other : reading.ReadingRefusal) → ◌≡◌ {A = reading.ReadingOutcome SortedTerm} (reading.refused one)
+    (reading.refused other)
     → one ≡ other
 same_refusal one other e = cc e
 
@@ -206,4 +207,5 @@ module _ (sorted : ReadingsAreWellSorted) (signature : Signature) where
 
 pub start_values_are_ground : StartValuesAreGround
 start_values_are_ground start values is =
-    values_ground (λ signature scope w t sort over. reads_sorted signature scope over w t sort) start.signature start.sorts is.terms values is.valued
+    values_ground (λ signature scope w t sort over. reads_sorted signature scope over w t sort) start.signature start.sorts is.terms values
+    is.valued

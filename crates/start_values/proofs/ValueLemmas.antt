@@ -70,7 +70,8 @@ terms_at index terms = map word_term_of (drop index terms)
 pub next_sort : (parameters : List Variable) (index : ℕ) (parameter : Variable) → index < length parameters
     → parameter ≡ get_or parameters index parameter
     → sorts_at index parameters ≡ parameter.sort ∷ sorts_at (index + 1) parameters
-next_sort parameters index parameter within is = ap (λ (xs : List Variable). parameter_sorts xs) (next_member parameters index parameter within is)
+next_sort parameters index parameter within is = ap (λ (xs : List Variable). parameter_sorts xs)
+    (next_member parameters index parameter within is)
 
 pub next_term : (terms : List code.WordTerm) (index : ℕ) (given : code.WordTerm) → index < length terms
     → given ≡ get_or terms index given → terms_at index terms ≡ word_term_of given ∷ terms_at (index + 1) terms

@@ -11,9 +11,9 @@ use Rattle.behaviour_semantics.specs.Behaviour.{Specification}
 -- The fault. A text is too long, or not read at a place; one text of a library too many is mentioned; the names of types or
 -- the types are wrong; definitions and behaviours break a rule on names, counts, `Bool` or terms; functionalities disagree,
 -- each None for `noexit` or the sorts of `exit`; calls make an unguarded cycle through these processes; an item of the order
--- names no operation, or one that an earlier item names; the equation of the number cannot be oriented; the critical pair of
--- the rules of these equations with this peak is not joined, and its sides have these two chosen forms; the start values are
--- too few or too many, or a term among them is refused.
+-- names no operation, or one that an earlier item names, or has a status that is none; the equation of the number cannot be
+-- oriented; the critical pair of the rules of these equations with this peak is not joined, and its sides have these two
+-- chosen forms; the start values are too few or too many, or a term among them is refused.
 pub data Refusal : Type 0 where
   too_long : (text : ℕ) → Refusal
   bad_byte open_comment wrong_syntax too_deep : Place → Refusal
@@ -23,7 +23,7 @@ pub data Refusal : Type 0 where
   wrong_scopes : ScopeFault → Refusal
   mismatch : Place → (left right : Option (List ℕ)) → Refusal
   unguarded : Place → (process : ℕ) → (cycle : List ℕ) → Refusal
-  unknown_operation twice_listed : Place → (name : List ℕ) → Refusal
+  unknown_operation twice_listed bad_status : Place → (name : List ℕ) → Refusal
   unorientable : (equation : ℕ) → Refusal
   unjoined : (first second : ℕ) → (peak left right : Term) → Refusal
   start_values : (wanted given : ℕ) → Refusal

@@ -22,7 +22,7 @@ use Rattle.process_checks.specs.declared.rank_table.RankFault.TheVariants as ran
 use Rattle.equation_book.specs.declared.book_fault.BookFault.{BookFault}
 use Rattle.equation_book.specs.declared.book_fault.BookFault.TheVariants as book
 use Rattle.start_values.specs.Refusal as plain
-use Rattle.start_values.specs.Refusal.{Refusal, too_long, bad_byte, open_comment, wrong_syntax, too_deep, too_many_libraries, wrong_names, wrong_types, wrong_scopes, mismatch, unguarded, unknown_operation, twice_listed, unorientable, unjoined, start_values, start_term}
+use Rattle.start_values.specs.Refusal.{Refusal, too_long, bad_byte, open_comment, wrong_syntax, too_deep, too_many_libraries, wrong_names, wrong_types, wrong_scopes, mismatch, unguarded, unknown_operation, twice_listed, bad_status, unorientable, unjoined, start_values, start_term}
 use Rattle.start_values.specs.declared.spec_fault.SpecFault.{SpecFault}
 use Rattle.start_values.specs.declared.spec_fault.SpecFault.TheVariants as fault
 use Rattle.start_values.specs.declared.refused.Refused.{Refused}
@@ -83,6 +83,7 @@ told_of_ranks rank.NoMemory = None
 abbrev pub told_of_book : BookFault → Option Refusal
 told_of_book (book.UnknownOperation place name) = Some (unknown_operation (text_place_of place) (spelling name))
 told_of_book (book.TwiceListed place name) = Some (twice_listed (text_place_of place) (spelling name))
+told_of_book (book.BadStatus place name) = Some (bad_status (text_place_of place) (spelling name))
 told_of_book (book.Unorientable equation) = Some (unorientable equation)
 told_of_book (book.Unjoined first second peak left right) =
     Some (unjoined first second (term_in peak) (term_in left) (term_in right))

@@ -378,7 +378,8 @@ entered_so sizes first second third last heading body inner task tasks now name 
     (λ (p : Point). Made (process_with heading) (DefinitionIs p.signature p.processes (numbers_of p) heading body) (resolved made))
     so defined) in
     subst
-    (λ (p : Point). WalkGoesOn sizes (standing first (in_front (process heading body inner) task ∷ tasks)) (standing p now) (made ∷ []) places)
+    (λ (p : Point). WalkGoesOn sizes (standing first (in_front (process heading body inner) task ∷ tasks)) (standing p now) (made ∷ [])
+    places)
     (sym (behind ∙ ap (past_definition heading body) so))
     (subst
     (λ (ts : List Task). WalkGoesOn sizes (standing first (in_front (process heading body inner) task ∷ tasks))
@@ -427,7 +428,8 @@ pub item_gone : (sizes : List ℕ) (point : Point) (x : WrittenInner) (item : Wr
     → WalkGoesOn sizes (standing point (in_front x task ∷ tasks)) (standing point now) [] []
 item_gone sizes point x item task tasks now is are ready =
     subst (λ (ts : List Task). WalkGoesOn sizes (standing point (in_front x task ∷ tasks)) (standing point ts) [] []) (sym are)
-    (subst (λ (y : WrittenInner). WalkGoesOn sizes (standing point (in_front y task ∷ tasks)) (standing point (task ∷ tasks)) [] []) (sym is)
+    (subst (λ (y : WrittenInner). WalkGoesOn sizes (standing point (in_front y task ∷ tasks)) (standing point (task ∷ tasks)) [] [])
+    (sym is)
     (past_item sizes point item task tasks
     (subst (λ (y : WrittenInner). AreSizesKnown sizes (standing point (in_front y task ∷ tasks))) is ready)))
 

@@ -35,7 +35,8 @@ use syntax_trees::SpecText;
 /// the text, each before those of its own `where`. Where the places of the text rise along it, no
 /// fault of the text comes before the one that is answered. The equations of the data play no part.
 pub fn resolve(alloc: Global, text: &SpecText, flat: &Flat) -> Result<Spec, ScopeFault>
-    ensures read { Answers specification_of result (SpecificationIs (signature_of flat.now.signature)
+    ensures read { Answers specification_of result
+        (SpecificationIs (signature_of flat.now.signature)
         (written_specification text.now)) }
     ensures over { TextHasGateLists (written_specification text.now)
         → IfOk result (IsSpecOver (signature_of flat.now.signature)) }

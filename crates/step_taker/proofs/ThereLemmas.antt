@@ -107,7 +107,8 @@ pub copies_walked : (ground : Ground) (leaves : List Term) (g : ℕ) (gates : Li
     → IsWalked ground leaves (stand (par_gate g gates meet b) s n k) result
 copies_walked ground leaves g gates meet b s n k (Ok moved) m = copies_moved ground leaves g gates meet b s n k moved m
 copies_walked ground leaves g gates meet b s n k (Err fault) h =
-    unless_more (IsFirstStepFault ground leaves (stand (copies g gates meet b) s n k)) (IsFirstStepFault ground leaves (stand (par_gate g gates
+    unless_more (IsFirstStepFault ground leaves (stand (copies g gates meet b) s n k))
+    (IsFirstStepFault ground leaves (stand (par_gate g gates
     meet b) s n k))
     (λ f first. record {
       first = first.first;

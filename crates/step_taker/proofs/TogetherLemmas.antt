@@ -30,7 +30,8 @@ module _ (ground : Ground) (leaves : List Term) (meet : SynchronisationSet) (b c
       })
 
   module _ (first : Moved) (l : IsMoved ground leaves (stand b s (suc n) k) first) where
-    told_right : (fault : StepFault) → UnlessMemory (IsFirstStepFault ground leaves (stand c t (suc (n + size s)) (k + length l.move.sorts)))
+    told_right : (fault : StepFault) → UnlessMemory (IsFirstStepFault ground leaves
+        (stand c t (suc (n + size s)) (k + length l.move.sorts)))
         fault
         → UnlessMemory (IsFirstStepFault ground leaves (stand (parallel meet b c) (plain_shape.both_sides s t) n k)) fault
     told_right =

@@ -200,7 +200,8 @@ pub fn inner_step(
     at: At,
 ) -> Result<Moved, StepFault>
     ensures { (base : Ground) (leaves : List Term) (place : Stand)
-        → IsPassable base (plain.inner_action (behaviour_of next.now.value)) (profiles_in next.now.value)
+        → IsPassable base (plain.inner_action (behaviour_of next.now.value))
+        (profiles_in next.now.value)
         → IsThere place (plain.inner_action (behaviour_of next.now.value)) (shape_of shape.now) at
         → IsWalked base leaves place result }
 {

@@ -55,7 +55,8 @@ pub fn take<D: Deciding>(
 // Answers nothing where the derivation has no leaf behind those of its nodes.
 fn none_left_over(leaves: &[Sorted], behind: At) -> Result<(), StepFault>
     ensures { (n : ℕ) → behind.node ≡ kept_number n
-        → IsStepChecked n (if nat_lt behind.leaf (length leaves.now) then Some not_fitting else None)
+        → IsStepChecked n (if nat_lt behind.leaf (length leaves.now) then Some not_fitting
+        else None)
         result }
 {
     if behind.leaf < leaves.len() {

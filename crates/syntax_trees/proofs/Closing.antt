@@ -31,7 +31,8 @@ not_before_end : {W : Type 0} (binds : W → ℕ) (strength : ℕ) (first : W) (
 not_before_end binds strength first waiting ends second rest is front last same = ends (first ∷ front) last (ap (λ l. first ∷ l) same)
 
 -- where the last of the signs is weaker, all are
-all_weaker : {W : Type 0} (binds : W → ℕ) (strength : ℕ) (waiting : List W) → StrengthRises binds waiting → EndsWeaker binds strength waiting
+all_weaker : {W : Type 0} (binds : W → ℕ) (strength : ℕ) (waiting : List W) → StrengthRises binds waiting
+    → EndsWeaker binds strength waiting
     → All (λ w. binds w < strength) waiting
 all_weaker binds strength [] rises ends = All-nil (λ w. binds w < strength)
 all_weaker binds strength (first ∷ []) rises ends = All-cons (λ w. binds w < strength) first [] (ends [] first refl)
@@ -54,7 +55,8 @@ rises_front {W} binds (first ∷ waiting) more rises = (
     all_front P [] ys all = All-nil P
     all_front P (x ∷ xs) ys all = All-cons P x xs (All-head P x (xs ++ ys) all) (all_front P xs ys (All-tail P x (xs ++ ys) all))
 
-rises_more : {W : Type 0} (binds : W → ℕ) (waiting : List W) (last : W) → StrengthRises binds waiting → All (λ w. binds w < binds last) waiting
+rises_more : {W : Type 0} (binds : W → ℕ) (waiting : List W) (last : W) → StrengthRises binds waiting
+    → All (λ w. binds w < binds last) waiting
     → StrengthRises binds (waiting ++ last ∷ [])
 rises_more binds [] last rises weaker = (All-nil (λ later. binds last < binds later), tt)
 rises_more binds (first ∷ waiting) last rises weaker = (
@@ -136,5 +138,6 @@ module _ {W S A : Type 0} (strength : S → ℕ) (join : S → A → A → A) (v
       → Takes binding view join 0 before after first tree → EndsWeaker binding 0 after →
       closed join (map view before) first ≡ tree
   all_is_closed before after first tree rises takes ends =
-      let none = nothing_weaker binding after (rises_front binding after takes.taken (subst (StrengthRises binding) takes.falls rises)) ends in
+      let none = nothing_weaker binding after (rises_front binding after takes.taken (subst (StrengthRises binding) takes.falls rises))
+      ends in
       ap (λ (l : List W). closed join (map view l) first) (takes.falls ∙ ap (λ (l : List W). l ++ takes.taken) none) ∙ sym takes.tree_is

@@ -79,7 +79,8 @@ module _ {A S O G : Type 0} (strength : S → ℕ) (join : S → A → A → A) 
             ∙ ap (λ (w : List (S × A)). Some (grouped_onto strength join (map plain operands) (map plain_sign signs)
             (record { first = plain left; waiting = w })))
             (in_front_is ∙ sym waiting_is),
-        subst (StrengthRises binding) (sym new_is) (still_rises strength join viewed (plain_sign sign) waiting after (plain tree) (plain right)
+        subst (StrengthRises binding) (sym new_is) (still_rises strength join viewed (plain_sign sign) waiting after (plain tree)
+            (plain right)
             (sign, right) inv.2 takes_it ends_so refl),
       )
 

@@ -36,7 +36,8 @@ seen_over : (over under places : List Place) → reverse places ≡ reverse over
 seen_over over under places e =
     let count : length (reverse (map text_place_of over)) ≡ length over =
     length-reverse (map text_place_of over) ∙ length-map over text_place_of in
-    map-reversed text_place_of places ∙ ap (map text_place_of) e ∙ map-append text_place_of (reverse over) (drop (length over) (reverse under))
+    map-reversed text_place_of places ∙ ap (map text_place_of) e
+    ∙ map-append text_place_of (reverse over) (drop (length over) (reverse under))
     ∙ ap (λ it. it ++ map text_place_of (drop (length over) (reverse under))) (sym (map-reversed text_place_of over))
     ∙ ap (λ it. reverse (map text_place_of over) ++ it)
     (sym (drop-map text_place_of (length over) (reverse under)) ∙ ap (drop (length over)) (sym (map-reversed text_place_of under))

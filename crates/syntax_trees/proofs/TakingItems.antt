@@ -126,7 +126,8 @@ count_waiting-append [] last = omega arith
 count_waiting-append (list ∷ rest) last = let e = count_waiting-append rest last in omega arith
 
 -- in other words
-same : (before : List WrittenItem) (inner : List WrittenInner) {outers outers' : List OuterList} {kept kept' ahead ahead' : List WrittenInner}
+same : (before : List WrittenItem) (inner : List WrittenInner) {outers outers' : List OuterList}
+    {kept kept' ahead ahead' : List WrittenInner}
     {items items' : List WrittenItem} → outers ≡ outers' → kept ≡ kept' → ahead ≡ ahead' → items ≡ items' →
     IsTaking before inner outers kept ahead items → IsTaking before inner outers' kept' ahead' items'
 same before inner {outers} {outers'} {kept} {kept'} {ahead} {ahead'} {items} {items'} e k a x so =
@@ -158,12 +159,14 @@ pub opened : (before : List WrittenItem) (inner : List WrittenInner) (outers out
     IsTaking before inner (map outer_of outers') (kept_in own) (ahead_in own) items
 opened before inner outers outers' level next own last definition list items so kept ahead at parts pushed own_kept own_ahead =
     let level_kept : kept_in level ≡ (outer_of last).kept = ap inner_list_of (sym kept) ∙ ap kept_in (sym at) in
-    let level_ahead : ahead_in level ≡ process (outer_of last).heading (outer_of last).body (inners_of (inner_list_of list)) ∷ (outer_of last).ahead =
+    let level_ahead : ahead_in level ≡ process (outer_of last).heading (outer_of last).body (inners_of (inner_list_of list))
+    ∷ (outer_of last).ahead =
     ap inner_list_of ahead ∙ ap (λ it. it ∷ ahead_in next) (seen_process definition ∙ parts)
     ∙ ap (λ it. process (outer_of last).heading (outer_of last).body (inners_of (inner_list_of list)) ∷ ahead_in it) (sym at) in
     same before inner (sym (ap (map outer_of) pushed ∙ map-append outer_of outers (last ∷ []))) (ap inner_list_of (sym own_kept))
     (ap inner_list_of (sym own_ahead)) refl
-    (opens before inner (map outer_of outers) (outer_of last) (inner_list_of list) items (same before inner refl level_kept level_ahead refl so))
+    (opens before inner (map outer_of outers) (outer_of last) (inner_list_of list) items
+    (same before inner refl level_kept level_ahead refl so))
 
 -- the declarations of a process are done
 pub closed_level : (before : List WrittenItem) (inner : List WrittenInner) (outers outers' : List Outer) (level next above : Level)

@@ -189,7 +189,8 @@ behaviour_is limit (action place gate offers test next) depth k h =
     (flat_map nodes_of_offer offers ++ (nodes_of_maybe_premiss test ++ behaviour_nodes (depth + 1) next))
     (followed (everywhere (first_deeper limit terms)) (behaviour_firsts limit next)) h
     (λ j i.
-    ap (first_deeper limit) (sym (append_assoc (flat_map nodes_of_offer offers) (nodes_of_maybe_premiss test) (behaviour_nodes (depth + 1) next)))
+    ap (first_deeper limit) (sym (append_assoc (flat_map nodes_of_offer offers) (nodes_of_maybe_premiss test)
+    (behaviour_nodes (depth + 1) next)))
     ∙ terms_behind limit j terms (behaviour_nodes (depth + 1) next) (behaviour_firsts limit next) (behaviour_is limit next (depth + 1) j i))
 behaviour_is limit (inner_action place next) depth k h =
     in_front limit depth k place (behaviour_nodes (depth + 1) next) (behaviour_firsts limit next) h

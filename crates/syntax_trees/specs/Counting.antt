@@ -20,5 +20,6 @@ declared_in list = declarations_among (inners_of (inner_list_of list))
 
 -- of a first declaration with so many, and others, one is dropped, or all are there and the next one has fewer
 abbrev pub IsCountingTurnOf : ℕ → ℕ → Turn → Type 0
-IsCountingTurnOf first others (Further next list) = (declared_by next < first) × (declared_by next + declared_in list.items ≡ first + others)
+IsCountingTurnOf first others (Further next list) = (declared_by next < first)
+    × (declared_by next + declared_in list.items ≡ first + others)
 IsCountingTurnOf first others (Done left) = declared_in left.items < first + others

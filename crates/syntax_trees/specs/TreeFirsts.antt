@@ -34,7 +34,8 @@ behaviour_firsts limit (exit place values) = below place (everywhere (first_deep
 behaviour_firsts limit (call place name gates values) = below place (everywhere (first_deeper limit (nodes_of_terms values)))
 behaviour_firsts limit (action place gate offers test next) =
     below place
-    (followed (everywhere (first_deeper limit (flat_map nodes_of_offer offers ++ nodes_of_maybe_premiss test))) (behaviour_firsts limit next))
+    (followed (everywhere (first_deeper limit (flat_map nodes_of_offer offers ++ nodes_of_maybe_premiss test)))
+    (behaviour_firsts limit next))
 behaviour_firsts limit (inner_action place next) = below place (behaviour_firsts limit next)
 behaviour_firsts limit (guard place test next) =
     below place (followed (everywhere (first_deeper limit (nodes_of_premiss test))) (behaviour_firsts limit next))

@@ -43,7 +43,8 @@ impl Operand for BehText {
         left: BehText,
         right: BehText,
     ) -> Result<BehText, AllocError>
-        ensures { IfOk result (λ tree. behaviour_of tree ≡ joined (placed_sign_of sign) (behaviour_of left) (behaviour_of right)) }
+        ensures { IfOk result (λ tree. behaviour_of tree
+            ≡ joined (placed_sign_of sign) (behaviour_of left) (behaviour_of right)) }
     {
         let form = BehForm::Binary(sign.1, Box::new(alloc, left)?, Box::new(alloc, right)?);
         Ok(BehText {
@@ -53,17 +54,21 @@ impl Operand for BehText {
     }
 }
 
-/// The behaviour of the operands with the signs between them. The list is split at its first sign of the weakest strength,
-/// and both parts are grouped likewise; from the weakest the signs are `>>`, `[>`, the parallel ones and `[]`
-/// (ISO 8807:1989, behaviour expressions). Nothing recurses. Only want of memory may come instead.
+/// The behaviour of the operands with the signs between them. The list is split at its first sign
+/// of the weakest strength, and both parts are grouped likewise; from the weakest the signs are
+/// `>>`, `[>`, the parallel ones and `[]` (ISO 8807:1989, behaviour expressions). Nothing recurses.
+/// Only want of memory may come instead.
 pub fn group(
     alloc: Global,
     operands: Vec<BehText>,
     signs: Vec<(Place, Sign)>,
 ) -> Result<BehText, NoMemory>
     requires { length operands.items ≡ length signs.items + 1 }
-    ensures computed { IfOk result (λ tree. grouped strength_of joined (map behaviour_of operands.items) (map placed_sign_of signs.items) ≡ Some (behaviour_of tree)) }
-    ensures split { IfOk result (λ tree. IsGrouped strength_of joined (map behaviour_of operands.items) (map placed_sign_of signs.items) (behaviour_of tree)) }
+    ensures computed { IfOk result (λ tree.
+        grouped strength_of joined (map behaviour_of operands.items)
+        (map placed_sign_of signs.items) ≡ Some (behaviour_of tree)) }
+    ensures split { IfOk result (λ tree. IsGrouped strength_of joined
+        (map behaviour_of operands.items) (map placed_sign_of signs.items) (behaviour_of tree)) }
 {
     Ok(group_operands(alloc, operands, signs)?)
 }

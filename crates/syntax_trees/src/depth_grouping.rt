@@ -1,4 +1,5 @@
-//! The grouping of first nodes: as that of a flat list of behaviours, with the strengths of its signs.
+//! The grouping of first nodes: as that of a flat list of behaviours, with the strengths of its
+//! signs.
 
 ghost use Rattle.std.specs.Prelude.{◌≡◌, ℕ, IfOk};
 ghost use Rattle.syntax_trees.specs.Firsts.{Firsts, between};
@@ -35,7 +36,8 @@ impl Operand for FirstNodes {
         left: FirstNodes,
         right: FirstNodes,
     ) -> Result<FirstNodes, AllocError>
-        ensures { IfOk result (λ nodes. firsts_of nodes ≡ between (firsts_of left) (firsts_of right)) }
+        ensures { IfOk result (λ nodes. firsts_of nodes
+            ≡ between (firsts_of left) (firsts_of right)) }
     {
         left.between(right)
     }

@@ -1,4 +1,5 @@
-//! The drop of a specification by a loop. It takes no memory: the lists that are still to be dropped hang in one another.
+//! The drop of a specification by a loop. It takes no memory: the lists that are still to be
+//! dropped hang in one another.
 
 ghost use Rattle.std.specs.Prelude.{◌≡◌, ◌+◌, ◌<◌};
 ghost use Rattle.syntax_trees.specs.Counting.{IsCountingTurnOf, declared_by, declared_by_process, declared_in};
@@ -42,8 +43,8 @@ fn exchanged(process: ProcessText, inner: Vec<InnerText>) -> (InnerText, Vec<Inn
     (InnerText::Process(other), own)
 }
 
-/// Drops a process that declares nothing, or behind which nothing is left. Any other takes the declarations behind it for
-/// its own, and stands where its own first one stood, which is next.
+/// Drops a process that declares nothing, or behind which nothing is left. Any other takes the
+/// declarations behind it for its own, and stands where its own first one stood, which is next.
 fn turned(process: ProcessText, others: Vec<InnerText>) -> Turn
     ensures { IsCountingTurnOf (declared_by_process process) (declared_in others.items) result }
 {
@@ -78,8 +79,9 @@ fn opened(first: InnerText, others: Vec<InnerText>) -> Vec<InnerText>
     }
 }
 
-/// Drops a specification, however deep its processes are nested. Its behaviours and terms are dropped by recursion, so they
-/// are to be no deeper than those of a text that was read. Takes no memory.
+/// Drops a specification, however deep its processes are nested. Its behaviours and terms are
+/// dropped by recursion, so they are to be no deeper than those of a text that was read. Takes no
+/// memory.
 pub fn discard(spec: SpecText) {
     let SpecText { inner, .. } = spec;
     let mut left = inner;

@@ -41,16 +41,19 @@ impl FirstNodes {
 
     /// With a node in front, which the others stand one below.
     pub fn below(self, place: Place) -> Result<FirstNodes, AllocError>
-        ensures { IfOk result (λ nodes. firsts_of nodes ≡ below (text_place_of place) (firsts_of self)) }
+        ensures { IfOk result (λ nodes. firsts_of nodes
+            ≡ below (text_place_of place) (firsts_of self)) }
     {
         let FirstNodes { mut places, rest } = self;
         places.push(place)?;
         Ok(FirstNodes { places, rest })
     }
 
-    /// Those of this part, and then those of the part behind it. The work is that of the shorter list.
+    /// Those of this part, and then those of the part behind it. The work is that of the shorter
+    /// list.
     pub fn followed(self, behind: FirstNodes) -> Result<FirstNodes, AllocError>
-        ensures { IfOk result (λ nodes. firsts_of nodes ≡ followed (firsts_of self) (firsts_of behind)) }
+        ensures { IfOk result (λ nodes. firsts_of nodes
+            ≡ followed (firsts_of self) (firsts_of behind)) }
     {
         if self.rest.is_some() {
             return Ok(self);
@@ -65,7 +68,8 @@ impl FirstNodes {
 
     /// Those of a node between this part and the part behind it, which both stand one below.
     pub fn between(self, behind: FirstNodes) -> Result<FirstNodes, AllocError>
-        ensures { IfOk result (λ nodes. firsts_of nodes ≡ between (firsts_of self) (firsts_of behind)) }
+        ensures { IfOk result (λ nodes. firsts_of nodes
+            ≡ between (firsts_of self) (firsts_of behind)) }
     {
         match self.places.last().copied() {
             Some(place) => self.followed(behind)?.below(place),
@@ -76,7 +80,8 @@ impl FirstNodes {
 
 /// The places of the first list over those of the second, where both count from their ends.
 fn overlaid(over: Vec<Place>, under: Vec<Place>) -> Result<Vec<Place>, AllocError>
-    ensures { IfOk result (λ places. reverse places.items ≡ reverse over.items ++ drop (length over.items) (reverse under.items)) }
+    ensures { IfOk result (λ places. reverse places.items ≡ reverse over.items
+        ++ drop (length over.items) (reverse under.items)) }
 {
     if over.len() >= under.len() {
         return Ok(over);

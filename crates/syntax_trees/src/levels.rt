@@ -51,9 +51,13 @@ impl Level {
 
     /// Takes the next declaration out.
     pub fn take_next(&mut self, alloc: Global) -> Option<InnerText>
-        ensures kept { take self.new.kept self.new.list.items ≡ take self.old.kept self.old.list.items }
-        ensures next { MatchOption result (drop self.new.next self.new.list.items ≡ []) (λ inner. drop self.old.next self.old.list.items ≡ inner ∷ drop self.new.next self.new.list.items) }
-        ensures last { MatchOption result (drop self.old.next self.old.list.items ≡ []) (λ _. self.new.kept < self.new.next) }
+        ensures kept { take self.new.kept self.new.list.items
+            ≡ take self.old.kept self.old.list.items }
+        ensures next { MatchOption result (drop self.new.next self.new.list.items ≡ [])
+            (λ inner. drop self.old.next self.old.list.items
+            ≡ inner ∷ drop self.new.next self.new.list.items) }
+        ensures last { MatchOption result (drop self.old.next self.old.list.items ≡ [])
+            (λ _. self.new.kept < self.new.next) }
     {
         if self.next == self.list.len() {
             return None;
@@ -66,8 +70,10 @@ impl Level {
     /// Puts a process without items behind those that stay.
     pub fn keep(&mut self, process: ProcessText)
         requires { self.old.kept < self.old.next }
-        ensures kept { take self.new.kept self.new.list.items ≡ take self.old.kept self.old.list.items ++ InnerText.Process process ∷ [] }
-        ensures ahead { drop self.new.next self.new.list.items ≡ drop self.old.next self.old.list.items }
+        ensures kept { take self.new.kept self.new.list.items
+            ≡ take self.old.kept self.old.list.items ++ InnerText.Process process ∷ [] }
+        ensures ahead { drop self.new.next self.new.list.items
+            ≡ drop self.old.next self.old.list.items }
     {
         self.list[self.kept] = InnerText::Process(process);
         self.kept += 1;
@@ -112,7 +118,10 @@ impl Outer {
     pub fn of(definition: ProcessText, level: Level) -> (Outer, Vec<InnerText>)
         requires { level.kept < level.next }
         ensures level { result.0.level ≡ level }
-        ensures process { process_of definition ≡ process (heading_of result.0.place result.0.name result.0.gates.items result.0.params.items result.0.func) (behaviour_of result.0.body) (inners_of (inner_list_of result.1.items)) }
+        ensures process { process_of definition
+            ≡ process (heading_of result.0.place result.0.name result.0.gates.items
+            result.0.params.items result.0.func) (behaviour_of result.0.body)
+            (inners_of (inner_list_of result.1.items)) }
     {
         let ProcessText {
             place,
@@ -137,8 +146,12 @@ impl Outer {
 
     /// The list that the process stands in, where the process has these declarations and stays.
     pub fn close(self, inner: Vec<InnerText>) -> Level
-        ensures kept { inner_list_of (take result.kept result.list.items) ≡ inner_list_of (take self.level.kept self.level.list.items) ++ process (heading_of self.place self.name self.gates.items self.params.items self.func) (behaviour_of self.body) (inners_of (inner_list_of inner.items)) ∷ [] }
-        ensures ahead { drop result.next result.list.items ≡ drop self.level.next self.level.list.items }
+        ensures kept { inner_list_of (take result.kept result.list.items)
+            ≡ inner_list_of (take self.level.kept self.level.list.items)
+            ++ process (heading_of self.place self.name self.gates.items self.params.items
+            self.func) (behaviour_of self.body) (inners_of (inner_list_of inner.items)) ∷ [] }
+        ensures ahead { drop result.next result.list.items
+            ≡ drop self.level.next self.level.list.items }
     {
         let Outer {
             place,

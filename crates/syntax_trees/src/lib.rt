@@ -1,6 +1,6 @@
-//! The syntax trees of a text of LOTOS (ISO 8807:1989, syntax; ACT ONE's types with it), as they are
-//! read and before anything is resolved, and how deep their nodes stand, which is found before any
-//! tree is made. Names stand as they are spelled, terms as they are written.
+//! The syntax trees of a text of LOTOS (ISO 8807:1989, syntax; ACT ONE's types with it), as they
+//! are read and before anything is resolved, and how deep their nodes stand, which is found before
+//! any tree is made. Names stand as they are spelled, terms as they are written.
 #![tactic(auto)]
 
 mod behaviour_grouping;

@@ -21,7 +21,8 @@ fn one_more(count: usize) -> Result<usize, AllocError>
 
 /// What a process declares; an item declares nothing.
 fn own_declarations(inner: &InnerText) -> &[InnerText]
-    ensures { declarations_in (inner_of inner.now) ≡ 1 + declarations_among (inners_of (inner_list_of result.now)) }
+    ensures { declarations_in (inner_of inner.now)
+        ≡ 1 + declarations_among (inners_of (inner_list_of result.now)) }
 {
     match inner {
         InnerText::Item(_) => &[],
@@ -31,7 +32,8 @@ fn own_declarations(inner: &InnerText) -> &[InnerText]
 
 /// How many items and processes are declared at every depth.
 fn count_declarations(alloc: Global, inner: &[InnerText]) -> Result<usize, AllocError>
-    ensures { IfOk result (λ count. count ≡ declarations_among (inners_of (inner_list_of inner.now))) }
+    ensures { IfOk result (λ count. count ≡ declarations_among
+        (inners_of (inner_list_of inner.now))) }
 {
     let mut waiting: Vec<&[InnerText]> = Vec::new(alloc);
     waiting.push(inner)?;
@@ -46,7 +48,8 @@ fn count_declarations(alloc: Global, inner: &[InnerText]) -> Result<usize, Alloc
     Ok(count)
 }
 
-/// Moves the items of the declarations, at every depth, to the end of `items`, and gives back what is left.
+/// Moves the items of the declarations, at every depth, to the end of `items`, and gives back what
+/// is left.
 fn move_items(
     alloc: Global,
     inner: Vec<InnerText>,
@@ -54,10 +57,14 @@ fn move_items(
     items: &mut Vec<ItemText>,
 ) -> Vec<InnerText>
     requires outermost { outer.items ≡ [] }
-    requires room { declarations_among (inners_of (inner_list_of inner.items)) ≤ vec_capacity outer }
-    requires space { vec_len items.old + declarations_among (inners_of (inner_list_of inner.items)) ≤ vec_capacity items.old }
-    ensures taken { map item_of items.new.items ≡ map item_of items.old.items ++ items_of_inners (inners_of (inner_list_of inner.items)) }
-    ensures left { inner_list_of result.items ≡ list_of_inners (processes_of (inners_of (inner_list_of inner.items))) }
+    requires room { declarations_among (inners_of (inner_list_of inner.items))
+        ≤ vec_capacity outer }
+    requires space { vec_len items.old + declarations_among (inners_of (inner_list_of inner.items))
+        ≤ vec_capacity items.old }
+    ensures taken { map item_of items.new.items ≡ map item_of items.old.items
+        ++ items_of_inners (inners_of (inner_list_of inner.items)) }
+    ensures left { inner_list_of result.items
+        ≡ list_of_inners (processes_of (inners_of (inner_list_of inner.items))) }
 {
     let mut outer = outer;
     let mut level = Level::of(inner);
@@ -78,11 +85,14 @@ fn move_items(
 }
 
 impl SpecText {
-    /// Moves all items out: first those before the behaviour, then those of `where` at every depth, in text order. All
-    /// else stays. Only want of memory may come instead, and then the text is as before.
+    /// Moves all items out: first those before the behaviour, then those of `where` at every depth,
+    /// in text order. All else stays. Only want of memory may come instead, and then the text is as
+    /// before.
     pub fn take_items(&mut self, alloc: Global) -> Result<Vec<ItemText>, NoMemory>
-        ensures taken { IfOk result (λ items. map item_of items.items ≡ items_of_specification (specification_of self.old)) }
-        ensures left { OnOk result (specification_of self.new ≡ without_items (specification_of self.old)) }
+        ensures taken { IfOk result (λ items. map item_of items.items
+            ≡ items_of_specification (specification_of self.old)) }
+        ensures left { OnOk result (specification_of self.new
+            ≡ without_items (specification_of self.old)) }
         ensures unchanged { OnErr result (specification_of self.new ≡ specification_of self.old) }
     {
         let count = count_declarations(alloc, &self.inner)?;

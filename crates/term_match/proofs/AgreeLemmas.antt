@@ -9,9 +9,9 @@ use Rattle.lotos_base.specs.Term.{variable, node, term_then}
 use Rattle.lotos_base.specs.Sorting.{Occurs, OccursAmong}
 use Rattle.lotos_base.specs.Substitution.{Substitution, substituted, all_substituted}
 use Rattle.rewriting_theory.proofs.UnifyLemmas.{no_occurring_unifier}
-use Rattle.sort_terms.specs.ProfiledTerm.{ProfiledTerm, ProfiledTerms, profiled_variable, profiled_node, no_profiled_terms, profiled_term_then, bare, all_bare, head_sort, FitsProfiles, FitArguments, IsOf, AreOf}
+use Rattle.sort_terms.specs.ProfiledTerm.{ProfiledTerm, ProfiledTerms, profiled_variable, profiled_node, no_profiled_terms, profiled_term_then, bare, all_bare, head_sort, FitsProfiles, FitArguments, IsOf, AreOf, All}
 use Rattle.term_match.specs.ProfiledInstance.{ProfiledSubstitution, profiled_instance, profiled_instances}
-use Rattle.term_match.proofs.MatchLemmas.{All, IsInherited}
+use Rattle.term_match.proofs.MatchLemmas.{IsInherited}
 use Rattle.term_match.specs.Disagreement.{TermDisagreement, agreed, clashing, binds, has_number, have_number, is_number, against, or_else, disagreement, disagreements, clashes, clash_among}
 
 -- ---- Numbers that stand in terms

@@ -8,7 +8,7 @@ use Rattle.lotos_base.specs.Signature.{Signature, Operation}
 use Rattle.lotos_base.specs.Sorting.{Occurs, OccursAmong}
 use Rattle.lotos_base.specs.Substitution.{binding}
 use Rattle.lotos_base.specs.Tests.{term_eq}
-use Rattle.sort_terms.specs.ProfiledTerm.{ProfiledTerm, ProfiledTerms, profiled_variable, profiled_node, no_profiled_terms, profiled_term_then, bare, all_bare, FitsProfiles, FitArguments, IsOf, AreOf}
+use Rattle.sort_terms.specs.ProfiledTerm.{ProfiledTerm, ProfiledTerms, profiled_variable, profiled_node, no_profiled_terms, profiled_term_then, bare, all_bare, FitsProfiles, FitArguments, IsOf, AreOf, All}
 use Rattle.sort_terms.specs.declared.sorted.Sorted.{Sorted}
 use Rattle.term_match.specs.SubstView.{profiled_pairs}
 use Rattle.term_match.specs.ProfiledInstance.{bare_pairs}
@@ -73,11 +73,6 @@ mutual
       all_search_distinct ls ts step.0 more step.2 (search_distinct l t found step.0 step.1 distinct)
 
 -- ---- What holds of the parts of the term holds of what is found
-
--- each of the terms has the property
-abbrev pub All : (ProfiledTerm → Type 0) → ProfiledTerms → Type 0
-All P no_profiled_terms = Unit {0}
-All P (profiled_term_then t ts) = P t × All P ts
 
 -- each pair has a term and a number with these properties
 abbrev pub AreKept : (ProfiledTerm → Type 0) → (ℕ → Type 0) → Pairs → Type 0
@@ -197,7 +192,8 @@ search_is_match pattern t pairs e = record {
     everything no_profiled_terms = tt
     everything (profiled_term_then u us) = (tt, everything us)
 
-pub search_is_distinct : (pattern t : ProfiledTerm) (pairs : Pairs) → searched pattern t [] ≡ Some pairs → AreDistinctNumbers (numbers_of pairs)
+pub search_is_distinct : (pattern t : ProfiledTerm) (pairs : Pairs) → searched pattern t [] ≡ Some pairs
+    → AreDistinctNumbers (numbers_of pairs)
 search_is_distinct pattern t pairs e = search_distinct pattern t [] pairs e (λ i j n h d. cc)
 
 pub search_fits : (pattern t : ProfiledTerm) (pairs : Pairs) → searched pattern t [] ≡ Some pairs → FitsProfiles t

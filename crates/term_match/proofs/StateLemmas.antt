@@ -10,12 +10,12 @@ use Rattle.lotos_base.specs.Sorting.{Occurs, OccursAmong}
 use Rattle.lotos_base.specs.Substitution.{Substitution, substituted, followed_by, binding}
 use Rattle.lotos_base.proofs.SubstitutionLemmas.{substituted_occurs, substituted_twice, substituted_agree}
 use Rattle.rewriting_theory.specs.Unification.{IsUnifier, OccursInEither}
-use Rattle.sort_terms.specs.ProfiledTerm.{ProfiledTerm, ProfiledTerms, profiled_variable, profiled_node, no_profiled_terms, profiled_term_then, bare, all_bare, head_sort, IsOf, AreOf}
+use Rattle.sort_terms.specs.ProfiledTerm.{ProfiledTerm, ProfiledTerms, profiled_variable, profiled_node, no_profiled_terms, profiled_term_then, bare, all_bare, head_sort, IsOf, AreOf, All}
 use Rattle.term_match.specs.ProfiledInstance.{ProfiledSubstitution, profiled_instance, profiled_instances, profiled_binding, bare_pairs}
 use Rattle.term_match.specs.Matched.{IsPair}
 use Rattle.term_match.specs.Numbers.{AreDistinctNumbers}
 use Rattle.term_match.proofs.DistinctLemmas.{IsAbsent}
-use Rattle.term_match.proofs.MatchLemmas.{All, IsInherited, numbers_of}
+use Rattle.term_match.proofs.MatchLemmas.{IsInherited, numbers_of}
 use Rattle.term_match.proofs.InstanceLemmas.{instance_by_pairs, instance_of}
 use Rattle.term_match.specs.Solving.{one_binding, bound_pairs}
 use Rattle.term_match.proofs.RoomLemmas.{distinct_rest, first_absent}
@@ -34,7 +34,10 @@ one_either n t m r = go (nat_eq n m) refl
         → ((n ≡ m) × ((if b then t else profiled_variable m r) ≡ t))
         ⊎ ((n ≡ m → ⊥) × ((if b then t else profiled_variable m r) ≡ profiled_variable m r))
     go true e = inl ((Decides-eqb n m).0 e, refl)
-    go false e = inr ((λ same. let yes : nat_eq n m ≡ true = (Decides-eqb n m).1 same in let clash : true ≡ false = sym yes ∙ e in cc), refl)
+    go false e = inr (
+      (λ same. let yes : nat_eq n m ≡ true = (Decides-eqb n m).1 same in let clash : true ≡ false = sym yes ∙ e in cc),
+      refl,
+    )
 
 -- ---- Binding one more
 
@@ -307,7 +310,8 @@ value_of_pair {pairs = pairs} is n u at s = go pairs is.distinct at
     go [] distinct there = let none : None ≡ Some (n, u) = there.1 in cc
     go (pair ∷ ps) distinct (zero, e) =
         let same : pair ≡ (n, u) = same_Some pair (n, u) e in
-        here (nat_eq pair.0 n) ((Decides-eqb pair.0 n).1 (ap (λ (p : ℕ × ProfiledTerm). p.0) same)) (ap (λ (p : ℕ × ProfiledTerm). p.1) same)
+        here (nat_eq pair.0 n) ((Decides-eqb pair.0 n).1 (ap (λ (p : ℕ × ProfiledTerm). p.0) same))
+        (ap (λ (p : ℕ × ProfiledTerm). p.1) same)
       where
         here : (b : Bool) → b ≡ true → pair.1 ≡ u → (if b then pair.1 else profiled_binding ps n s) ≡ u
         here true test value = value

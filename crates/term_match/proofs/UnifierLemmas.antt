@@ -117,7 +117,8 @@ record IsAfter (left right : ProfiledTerm) (pairs : Pairs) (n m q : ℕ) : Type 
   absent : IsAbsent m (numbers_of pairs)
   differs : m ≡ n → ⊥
 
-after_one : (left right : ProfiledTerm) (pairs : Pairs) (l r : ProfiledTerm) (n s : ℕ) (t : ProfiledTerm) → IsStep left right pairs l r n s t
+after_one : (left right : ProfiledTerm) (pairs : Pairs) (l r : ProfiledTerm) (n s : ℕ) (t : ProfiledTerm)
+    → IsStep left right pairs l r n s t
     → (k p m q : ℕ) → OccursInEither (bare left) (bare right) k p → IsAbsent k (numbers_of pairs)
     → Occurs m q (bare (one_binding n t k p)) → IsAfter left right pairs n m q
 after_one left right pairs l r n s t step k p m q occurs absent o = go (one_either n t k p)
@@ -201,7 +202,8 @@ step_head : (left right : ProfiledTerm) (pairs : Pairs) (l r : ProfiledTerm) (n 
     → head_sort (profiled_instance (one_binding n t) u) ≡ head_sort u
 step_head left right pairs l r n s t u single step sorted within =
     instance_head (one_binding n t) u (λ m q o. one_sorted n t m q
-    (λ same. single n q s (subst (λ (j : ℕ). OccursInEither (bare left) (bare right) j q) (sym same) (within m q o)) step.occurs ∙ sym sorted))
+    (λ same. single n q s (subst (λ (j : ℕ). OccursInEither (bare left) (bare right) j q) (sym same) (within m q o)) step.occurs
+    ∙ sym sorted))
 
 -- the number of a variable that is left has one sort there
 pub step_single : (left right : ProfiledTerm) (pairs : Pairs) (l r : ProfiledTerm) (n : ℕ) (t u : ProfiledTerm)
@@ -274,7 +276,8 @@ solving_bound left right pairs l r n t single is e =
         → ((v : ProfiledTerm) × IsPair pairs m v × (profiled_instance (one_binding n t) v ≡ u)) ⊎ ((n ≡ m) × (t ≡ u))
         → IsOf signature u
     of_after signature one two s d m u (inl (v, at, value)) =
-        let parts = bound_parts (IsOf signature) (of_inherited signature) l r n s t d (of_left signature one two) (of_right signature one two) in
+        let parts = bound_parts (IsOf signature) (of_inherited signature) l r n s t d (of_left signature one two)
+        (of_right signature one two) in
         subst (λ (w : ProfiledTerm). IsOf signature w) value
         (pairs_instance_of signature ((n, t) ∷ []) v (is.of_signature signature one two m v at) (only parts.1))
       where
@@ -284,7 +287,8 @@ solving_bound left right pairs l r n t single is e =
             (ap (λ (p : ℕ × ProfiledTerm). p.1) (same_Some (n, t) (k, w) f)) h
         only h k w (suc i, f) = cc
     of_after signature one two s d m u (inr (number, value)) =
-        let parts = bound_parts (IsOf signature) (of_inherited signature) l r n s t d (of_left signature one two) (of_right signature one two) in
+        let parts = bound_parts (IsOf signature) (of_inherited signature) l r n s t d (of_left signature one two)
+        (of_right signature one two) in
         subst (λ (w : ProfiledTerm). IsOf signature w) value parts.1
 
 -- ---- The end
@@ -408,7 +412,8 @@ pairs_fit left right pairs l r is =
     pair_at n (p ∷ ps) (inl same) = (p.1, (0, λ i. Some (same i, p.1)))
     pair_at n (p ∷ ps) (inr at) = let found = pair_at n ps at in (found.0, (suc found.1.0, found.1.1))
 
-    either : (n s : ℕ) → OccursInEither (bare left) (bare right) n s → IsIn n (variable_numbers (bare left) ++ variable_numbers (bare right))
+    either : (n s : ℕ) → OccursInEither (bare left) (bare right) n s
+        → IsIn n (variable_numbers (bare left) ++ variable_numbers (bare right))
     either n s (inl o) = in_left n (variable_numbers (bare left)) (variable_numbers (bare right)) (occurs_numbered n s (bare left) o)
     either n s (inr o) = in_right n (variable_numbers (bare left)) (variable_numbers (bare right)) (occurs_numbered n s (bare right) o)
 

@@ -11,8 +11,8 @@ ghost use Rattle.term_match.specs.ProfiledInstance.{profiled_instance, profiled_
 use lotos_base::NoMemory;
 use sort_terms::{Sorted, Term};
 
-/// The term with new numbers for its variables: a pair has an old number and its new one. A variable
-/// whose number has no pair keeps it.
+/// The term with new numbers for its variables: a pair has an old number and its new one. A
+/// variable whose number has no pair keeps it.
 pub fn renumbered(term: &Sorted, numbers: &[(u64, u64)]) -> Result<Sorted, NoMemory>
     ensures plain { IfOk result (λ t. term_in t
         ≡ substituted (renaming (new_number numbers.now)) (term_in term.now)) }

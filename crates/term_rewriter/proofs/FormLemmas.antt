@@ -16,7 +16,7 @@ use Rattle.rewriting_theory.proofs.ChosenLemmas.{variable_stuck, chosen_reached}
 use Rattle.rewriting_theory.proofs.CostLemmas.{costs_are_measures}
 use Rattle.rewriting_theory.proofs.PublicLemmas.{stuck_by_links, stuck_by_steps, normal_chosen, chosen_normal}
 use Rattle.rewriting_theory.proofs.SortedSteps.{reaches_sort}
-use Rattle.sort_terms.specs.ProfiledTerm.{ProfiledTerm, ProfiledTerms, profiled_variable, profiled_node, no_profiled_terms, profiled_term_then, bare, all_bare, head_sort, FitsProfiles, IsOf, AreOf}
+use Rattle.sort_terms.specs.ProfiledTerm.{ProfiledTerm, ProfiledTerms, profiled_variable, profiled_node, no_profiled_terms, profiled_term_then, bare, all_bare, head_sort, FitsProfiles, IsOf, AreOf, All}
 use Rattle.sort_terms.specs.SortedView.{profiled_in}
 use Rattle.sort_terms.specs.TermView.{profiled_of, all_profiled}
 use Rattle.sort_terms.specs.declared.terms.Term.{Term}
@@ -27,7 +27,7 @@ use Rattle.term_match.specs.Matched.{IsPair}
 use Rattle.term_match.specs.ProfiledInstance.{profiled_instances, profiled_binding, bare_pairs}
 use Rattle.term_match.specs.Search.{searched, all_searched}
 use Rattle.term_match.proofs.InstanceLemmas.{instance_by_pairs}
-use Rattle.term_match.proofs.MatchLemmas.{All, AreKept, IsInherited, all_search_keeps, if_through, search_is_match}
+use Rattle.term_match.proofs.MatchLemmas.{AreKept, IsInherited, all_search_keeps, if_through, search_is_match}
 use Rattle.term_match.proofs.StateLemmas.{nothing_put, occurs_sort_of}
 use Rattle.path_order.specs.RuleView.{rule_of}
 use Rattle.path_order.specs.RulesView.{plain_rules_in, signature_in}

@@ -43,7 +43,8 @@ numbered test first (rule ∷ rules) j m is =
     go false passes k e rest = let at = rest k e in (suc at.0, omega (arith, at.1), later at.2)
 
 -- and each rule that passes has its number there
-has_number : (test : Term → Bool) (first : ℕ) (rules : List Rule) (i : ℕ) (rule : Rule) → slice_get rules i ≡ Some rule → test rule.left ≡ true
+has_number : (test : Term → Bool) (first : ℕ) (rules : List Rule) (i : ℕ) (rule : Rule) → slice_get rules i ≡ Some rule
+    → test rule.left ≡ true
     → (j : ℕ) × (slice_get (numbered_where test first rules) j ≡ Some (first + i))
 has_number test first [] i rule is passes = cc
 has_number test first (one ∷ rules) zero rule is passes =

@@ -9,14 +9,13 @@ use Rattle.rewriting_theory.specs.Matching.{Matches}
 use Rattle.rewriting_theory.specs.ChosenForm.{AllChosen, all_chosen, chosen_then, chosen_done, chosen_next}
 use Rattle.rewriting_theory.proofs.CostLemmas.{costs_are_measures}
 use Rattle.rewriting_theory.proofs.PublicLemmas.{normal_chosen}
-use Rattle.sort_terms.specs.ProfiledTerm.{ProfiledTerm, ProfiledTerms, profiled_node, no_profiled_terms, profiled_term_then, bare, all_bare, IsOf, AreOf}
+use Rattle.sort_terms.specs.ProfiledTerm.{ProfiledTerm, ProfiledTerms, profiled_node, no_profiled_terms, profiled_term_then, bare, all_bare, IsOf, AreOf, All}
 use Rattle.sort_terms.specs.SortedView.{profiled_in}
 use Rattle.sort_terms.specs.TermView.{profiled_of, all_profiled}
 use Rattle.sort_terms.specs.declared.terms.Term.{Term}
 use Rattle.term_match.specs.ProfiledInstance.{profiled_binding}
 use Rattle.term_match.specs.Search.{searched}
 use Rattle.term_match.proofs.InstanceLemmas.{instance_of}
-use Rattle.term_match.proofs.MatchLemmas.{All}
 use Rattle.path_order.specs.RulesView.{plain_rules_in, signature_in}
 use Rattle.path_order.specs.declared.rule.Rule.{Rule}
 use Rattle.path_order.specs.declared.rules.Rules.{Rules}

@@ -2,9 +2,8 @@
 use Rattle.std.specs.Prelude.{◌≡◌, ◌<◌, ◌+◌, ℕ}
 use Rattle.lotos_base.specs.Signature.{Operation, IsOperation}
 use Rattle.rewriting_theory.specs.Measure.{choice_cost}
-use Rattle.sort_terms.specs.ProfiledTerm.{ProfiledTerm, ProfiledTerms, profiled_node, bare}
+use Rattle.sort_terms.specs.ProfiledTerm.{ProfiledTerm, ProfiledTerms, profiled_node, bare, All}
 use Rattle.sort_terms.specs.TermView.{profiled_of}
-use Rattle.term_match.proofs.MatchLemmas.{All}
 use Rattle.path_order.specs.RulesView.{plain_rules_in, signature_in}
 use Rattle.path_order.specs.declared.rules.Rules.{Rules}
 use Rattle.path_order.proofs.RulesLemmas.{rules_have_forms}

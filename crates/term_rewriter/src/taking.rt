@@ -57,7 +57,8 @@ fn bound(
     term: Term,
     mut values: Vec<(u64, Term)>,
 ) -> Result<Vec<(u64, Term)>, NoMemory>
-    ensures { IfOk result (λ more. IsTakenAtVariable number (profiled_of term) (owned_pairs values.items)
+    ensures { IfOk result (λ more. IsTakenAtVariable number (profiled_of term)
+        (owned_pairs values.items)
         (owned_pairs more.items)) }
 {
     match place_of(values.as_slice(), number) {

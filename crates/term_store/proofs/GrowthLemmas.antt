@@ -59,7 +59,8 @@ terms_more signature before key after (inr more) cell of have =
 
     go : (n : ℕ) → (n < length before) ⊎ (n ≡ length before) → IsOf signature (get_or (key_terms signature (before ++ key ∷ [])) n nothing)
     go n (inl low) =
-        subst (λ (t : ProfiledTerm). IsOf signature t) (sym (grown_stays signature before (before ++ key ∷ []) n (key ∷ [], refl) low)) (have.of n low)
+        subst (λ (t : ProfiledTerm). IsOf signature t) (sym (grown_stays signature before (before ++ key ∷ []) n (key ∷ [], refl) low))
+        (have.of n low)
     go n (inr end) =
         let many : length terms ≡ length before = (let all = with_length signature [] before in omega (arith, all)) in
         let place : get_or (key_terms signature (before ++ key ∷ [])) n nothing ≡ key_term signature terms key =

@@ -8,38 +8,18 @@ use Rattle.sort_terms.specs.TermSize.{profiled_size, profiled_sizes}
 use Rattle.sort_terms.specs.TermView.{profiled_of, all_profiled, profiled_terms}
 use Rattle.sort_terms.specs.declared.operations.Op.{Op}
 use Rattle.sort_terms.specs.declared.terms.Term.{Term as CodeTerm, Node}
+use Rattle.sort_terms.specs.MadeTerms.{made_of}
+use Rattle.sort_terms.proofs.CopyLemmas.{made_more}
 use Rattle.path_order.specs.RulesView.{signature_in}
 use Rattle.path_order.specs.declared.rules.Rules.{Rules}
 use Rattle.term_store.specs.Cells.{operation_in, operation_at, members, key_terms, AreBelow, HaveTermsOf}
-use Rattle.term_store.specs.Made.{AreMadeOf, all_made, before, made_of, number_in, turns, turns_of, with_made, with_operation}
+use Rattle.term_store.specs.Made.{AreMadeOf, all_made, number_in, turns, turns_of, with_made, with_operation}
 use Rattle.term_store.specs.Numbered.{term_at}
 use Rattle.term_store.specs.declared.reading.Making.{Making}
 use Rattle.term_store.specs.declared.reading.Making.TheVariants.{Term, Operation}
 use Rattle.term_store.proofs.FirstRuleLemmas.{operation_term}
 use Rattle.term_store.proofs.ReadLemmas.{members_list, profile_is}
 use Rattle.term_store.proofs.ValueLemmas.{profiled_of-Node}
-
--- ---- Terms made last come first.
-
-before_last : (ts : List CodeTerm) (t : CodeTerm) (others : List ProfiledTerm)
-    → before (ts ++ t ∷ []) others ≡ profiled_of t ∷ before ts others
-before_last [] t others = refl
-before_last (first ∷ ts) t others = before_last ts t (profiled_of first ∷ others)
-
-pub made_more : (more ts : List CodeTerm) (t : CodeTerm) → more ≡ ts ++ t ∷ [] → made_of more ≡ profiled_of t ∷ made_of ts
-made_more more ts t is = ap made_of is ∙ before_last ts t []
-
--- so many of them, and one more
-pub taken_more : (old now next : List CodeTerm) (taken more : List CodeTerm) (t : CodeTerm)
-    → made_of old ≡ map profiled_of taken ++ made_of now → now ≡ next ++ t ∷ [] → more ≡ taken ++ t ∷ []
-    → made_of old ≡ map profiled_of more ++ made_of next
-taken_more old now next taken more t was is grown =
-    was ∙ ap (λ ts. map profiled_of taken ++ ts) (made_more now next t is) ∙ moved taken
-    ∙ ap (λ ts. map profiled_of ts ++ made_of next) (sym grown)
-  where
-    moved : (ts : List CodeTerm) → map profiled_of ts ++ profiled_of t ∷ made_of next ≡ map profiled_of (ts ++ t ∷ []) ++ made_of next
-    moved [] = refl
-    moved (first ∷ ts) = ap (λ rest. profiled_of first ∷ rest) (moved ts)
 
 -- ---- Lists of what is to be done.
 
@@ -168,7 +148,8 @@ operation_made rules keys n f ns profiles p profile arguments old rest new left 
     ∙ ap (λ o. profiled_node f o (all_profiled arguments.items) ∷ made_of rest)
     (profile_is rules keys n f ns profiles p profile profiled have inside some is same)
     ∙ ap (λ ts. profiled_node f (operation_at s f) (profiled_terms ts) ∷ made_of rest) (sym (taken arguments.items (length ns) many))
-    ∙ ap (λ ts. profiled_node f (operation_at s f) (profiled_terms (take (length ns) (map profiled_of arguments.items ++ made_of rest))) ∷ ts)
+    ∙ ap (λ ts. profiled_node f (operation_at s f) (profiled_terms (take (length ns) (map profiled_of arguments.items ++ made_of rest)))
+    ∷ ts)
     (sym (left_over arguments.items (length ns) many))
     ∙ ap (with_operation s (Some (f, ns))) (sym was)
     ∙ ap (λ o. with_operation s o (made_of old)) some)

@@ -212,7 +212,8 @@ values_stay pairs t before now next n grows below number = record {
   within = number.within;
   term = λ signature of have.
       number.term signature of have
-      ∙ ap (λ (ps : List (ℕ × ProfiledTerm)). profiled_instance (profiled_binding ps) t) (pairs_stay signature before now pairs grows below);
+      ∙ ap (λ (ps : List (ℕ × ProfiledTerm)). profiled_instance (profiled_binding ps) t)
+      (pairs_stay signature before now pairs grows below);
 }
 
 pub numbered_one : (pairs : List (ℕ × ℕ)) (t : ProfiledTerm) (ts later rest : ProfiledTerms) (before now next : List (List ℕ))

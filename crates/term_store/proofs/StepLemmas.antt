@@ -61,7 +61,8 @@ right_made rules before after n number next pairs rule right have inside it is s
     let of : IsOf signature (profiled_of right) =
     subst (λ (t : Term). IsOf signature (profiled_of t)) (sym same) (right_is_of rules number rule is) in
     let there : right ≡ first.rule.right.term = same ∙ ap (λ (r : Rule). r.right.term) (sym one) in
-    let result : bare (by_pairs (numbered_pairs signature before pairs) (profiled_in first.rule.right)) ≡ bare (term_at signature after next) =
+    let result : bare (by_pairs (numbered_pairs signature before pairs) (profiled_in first.rule.right))
+    ≡ bare (term_at signature after next) =
     ap (λ (t : Term). bare (by_pairs (numbered_pairs signature before pairs) (profiled_of t))) (sym there)
     ∙ ap bare (sym (made.term signature of have)) in
     let step = first_step rules (term_at signature before n) number (numbered_pairs signature before pairs) first in

@@ -25,16 +25,19 @@ known_form : (rules : Rules) (keys : List (List ℕ)) (kept : List (Option ℕ))
 known_form rules keys kept n sound known =
     let is : form_or_same kept n ≡ known.0 = ap (number_or n) known.1 in (
       subst (λ (m : ℕ). m < length keys) (sym is) (sound.within n known.0 known.1),
-      subst (λ (m : ℕ). Chosen (plain_rules_in rules) (bare (term_at (signature_in rules) keys n)) (bare (term_at (signature_in rules) keys m)))
+      subst (λ (m : ℕ). Chosen (plain_rules_in rules) (bare (term_at (signature_in rules) keys n))
+          (bare (term_at (signature_in rules) keys m)))
           (sym is)
-          (subst (λ (t : Term). Chosen (plain_rules_in rules) (bare (term_at (signature_in rules) keys n)) t) (sym (sound.chosen n known.0 known.1))
+          (subst (λ (t : Term). Chosen (plain_rules_in rules) (bare (term_at (signature_in rules) keys n)) t)
+          (sym (sound.chosen n known.0 known.1))
           (rules_have_forms rules (bare (term_at (signature_in rules) keys n))).1),
     )
 
 -- those of several terms
 known_forms : (rules : Rules) (keys : List (List ℕ)) (kept : List (Option ℕ)) (ns : List ℕ) → IsSound rules keys kept
     → AreAll (IsKnown kept) ns
-    → AreBelow (length keys) (forms_of kept ns) × AllChosen (plain_rules_in rules) (all_bare (members (key_terms (signature_in rules) keys) ns))
+    → AreBelow (length keys) (forms_of kept ns) × AllChosen (plain_rules_in rules)
+    (all_bare (members (key_terms (signature_in rules) keys) ns))
     (all_bare (members (key_terms (signature_in rules) keys) (forms_of kept ns)))
 known_forms rules keys kept [] sound known = (tt, all_chosen)
 known_forms rules keys kept (n ∷ ns) sound known =

@@ -1,24 +1,14 @@
--- What is still to be done until a term is made: a list of which the last member comes next. Terms that were made stand in a
--- list of which the first member was made last.
+-- What is still to be done until a term is made: a list of which the last member comes next.
 use Rattle.std.specs.Prelude.{◌<◌, ℕ, ◌+◌, ◌*◌, Option, None, Some, List, [], ◌∷◌, drop, length, take}
 use Rattle.std.proofs.Common.{get_or}
 use Rattle.lotos_base.specs.Signature.{Signature}
 use Rattle.sort_terms.specs.ProfiledTerm.{ProfiledTerm, profiled_node}
 use Rattle.sort_terms.specs.TermSize.{profiled_size}
-use Rattle.sort_terms.specs.TermView.{profiled_of, profiled_terms}
-use Rattle.sort_terms.specs.declared.terms.Term.{Term as CodeTerm}
+use Rattle.sort_terms.specs.TermView.{profiled_terms}
 use Rattle.term_store.specs.Cells.{operation_at, operation_in}
 use Rattle.term_store.specs.Numbered.{term_at}
 use Rattle.term_store.specs.declared.reading.Making.{Making}
 use Rattle.term_store.specs.declared.reading.Making.TheVariants.{Term, Operation}
-
--- the terms of a list of the code before others, the last one first
-abbrev pub before : List CodeTerm → List ProfiledTerm → List ProfiledTerm
-before [] others = others
-before (t ∷ ts) others = before ts (profiled_of t ∷ others)
-
-abbrev pub made_of : List CodeTerm → List ProfiledTerm
-made_of ts = before ts []
 
 -- an operation on the terms made last
 abbrev pub with_operation : Signature → Option (ℕ × List ℕ) → List ProfiledTerm → List ProfiledTerm

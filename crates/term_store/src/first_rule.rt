@@ -104,8 +104,8 @@ fn first_operation(rules: &Rules, shared: &SharedTerms, numbers: &[usize]) -> Op
     }
 }
 
-// The first of the rules with these numbers whose left side matches the term, and what its variables
-// have; or none where none of their left sides does.
+// The first of the rules with these numbers whose left side matches the term, and what its
+// variables have; or none where none of their left sides does.
 fn first_among(
     alloc: Global,
     rules: &Rules,

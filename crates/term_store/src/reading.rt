@@ -1,6 +1,7 @@
 //! Terms taken out of those that are kept.
 
 ghost use Rattle.path_order.specs.RulesView.{signature_in};
+ghost use Rattle.sort_terms.specs.MadeTerms.{made_of};
 ghost use Rattle.sort_terms.specs.Operations.{operation_of};
 ghost use Rattle.sort_terms.specs.TermView.{profiled_of};
 ghost use Rattle.std.specs.Prelude.{◌≡◌, ◌+◌, ◌<◌, ◌∷◌, ◌++◌, [], IfOk, OnOk, None, length, map};
@@ -9,7 +10,6 @@ ghost use Rattle.term_store.specs.Cells.{HaveTermsOf, operation_in};
 ghost use Rattle.term_store.specs.Made.{
   AreMadeOf,
   all_made,
-  made_of,
   number_in,
   turns,
   turns_of,
@@ -22,6 +22,7 @@ ghost use Rattle.term_store.specs.declared.reading.Making.TheVariants.{Term as t
 use crate::shared::SharedTerms;
 use lotos_base::NoMemory;
 use path_order::Rules;
+use sort_terms::copying::taken;
 use sort_terms::{Op, Term};
 use std::alloc::Global;
 use std::rc::Rc;
@@ -152,21 +153,6 @@ fn add_terms(numbers: &[usize], left: &mut Vec<Making>) -> Result<(), NoMemory>
         left.push(Making::Term(*number))?;
     }
     Ok(())
-}
-
-// So many of the last terms, the last one first.
-fn taken(alloc: Global, count: usize, made: &mut Vec<Term>) -> Result<Vec<Term>, NoMemory>
-    ensures { IfOk result (λ ts. (length ts.items ≡ count)
-        × (made_of made.old.items ≡ map profiled_of ts.items ++ made_of made.new.items)) }
-{
-    let mut terms = Vec::with_capacity(alloc, count)?;
-    for _index in 0..count {
-        let Some(term) = made.pop() else {
-            return Err(NoMemory);
-        };
-        terms.push(term)?;
-    }
-    Ok(terms)
 }
 
 // The variable with this number among the terms.

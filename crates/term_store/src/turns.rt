@@ -105,8 +105,8 @@ fn add_task(forms: &Forms, tasks: &mut Vec<Task>, number: usize) -> Result<(), N
     }
 }
 
-// Finds the form of an operation, for whose arguments forms are kept: that of the operation on these
-// forms.
+// Finds the form of an operation, for whose arguments forms are kept: that of the operation on
+// these forms.
 fn apply(
     alloc: Global,
     rules: &Rules,

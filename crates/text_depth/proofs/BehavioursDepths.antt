@@ -41,7 +41,8 @@ hidden_is limit token parts m n e =
     let shown : List Meaning = some_names gates ∷ some_operands flat ∷ [] in
     let s : parts ≡ shown = shape2 parts (some_names gates) (some_operands flat) i2.0.1 i3.0.1 e2 e3 n in
     let x : Meaning = alone (hide (place_of word) gates inside) in
-    row limit (word_form token) parts shown x m s i4.2 (ap (λ it. word_form it (map (depth_of limit) shown)) i1.1 ∙ ap (λ it. one_operand (below (place_of word) it)) (grouped_is limit flat inside inside_is))
+    row limit (word_form token) parts shown x m s i4.2 (ap (λ it. word_form it (map (depth_of limit) shown)) i1.1
+    ∙ ap (λ it. one_operand (below (place_of word) it)) (grouped_is limit flat inside inside_is))
 
 pub let_in_is : (limit : ℕ) (token : Option Token) (parts : List Meaning) (m : Meaning) → length parts ≡ 2 → let_in token parts ≡ Some m →
     word_form token (map (depth_of limit) parts) ≡ Some (depth_of limit m)
@@ -60,9 +61,12 @@ let_in_is limit token parts m n e =
     let shown : List Meaning = some_lets values ∷ some_operands flat ∷ [] in
     let s : parts ≡ shown = shape2 parts (some_lets values) (some_operands flat) i2.0.1 i3.0.1 e2 e3 n in
     let x : Meaning = alone (let_be (place_of word) values inside) in
-    row limit (word_form token) parts shown x m s i4.2 (ap (λ it. word_form it (map (depth_of limit) shown)) i1.1 ∙ ap (λ it. one_operand (below (place_of word) (followed (everywhere (first_deeper limit (nodes_in (some_lets values)))) it))) (grouped_is limit flat inside inside_is))
+    row limit (word_form token) parts shown x m s i4.2 (ap (λ it. word_form it (map (depth_of limit) shown)) i1.1
+    ∙ ap (λ it. one_operand (below (place_of word) (followed (everywhere (first_deeper limit (nodes_in (some_lets values)))) it)))
+    (grouped_is limit flat inside inside_is))
 
-pub par_after_word_is : (limit : ℕ) (token : Option Token) (parts : List Meaning) (m : Meaning) → length parts ≡ 3 → par_after_word token parts ≡ Some m →
+pub par_after_word_is : (limit : ℕ) (token : Option Token) (parts : List Meaning) (m : Meaning) → length parts ≡ 3
+    → par_after_word token parts ≡ Some m →
     par_form (map (depth_of limit) parts) ≡ Some (depth_of limit m)
 par_after_word_is limit token parts m n e =
     let i1 = and_then_some token _ m e in
@@ -82,9 +86,11 @@ par_after_word_is limit token parts m n e =
     let shown : List Meaning = some_gate_choices gates ∷ a_sign sign ∷ some_operands flat ∷ [] in
     let s : parts ≡ shown = shape3 parts (some_gate_choices gates) (a_sign sign) (some_operands flat) i2.0.1 i3.0.1 i4.0.1 e2 e3 e4 n in
     let x : Meaning = alone (par_gate (place_of word) gates sign.sign inside) in
-    row limit (par_form) parts shown x m s i5.2 (ap (λ it. one_operand (names_firsts (gate_places gates) it)) (grouped_is limit flat inside inside_is))
+    row limit (par_form) parts shown x m s i5.2 (ap (λ it. one_operand (names_firsts (gate_places gates) it))
+    (grouped_is limit flat inside inside_is))
 
-pub inner_prefixed_is : (limit : ℕ) (token : Option Token) (parts : List Meaning) (m : Meaning) → length parts ≡ 1 → inner_prefixed token parts ≡ Some m →
+pub inner_prefixed_is : (limit : ℕ) (token : Option Token) (parts : List Meaning) (m : Meaning) → length parts ≡ 1
+    → inner_prefixed token parts ≡ Some m →
     inner_prefix token (map (depth_of limit) parts) ≡ Some (depth_of limit m)
 inner_prefixed_is limit token parts m n e =
     let i1 = and_then_some token _ m e in
@@ -95,7 +101,8 @@ inner_prefixed_is limit token parts m n e =
     let shown : List Meaning = some_operands flat ∷ [] in
     let s : parts ≡ shown = shape1 parts (some_operands flat) i2.0.1 e2 n in
     let x : Meaning = prefixed (inner_action (place_of word)) flat in
-    row limit (inner_prefix token) parts shown x m s i2.2 (ap (λ it. inner_prefix it (map (depth_of limit) shown)) i1.1 ∙ ap (λ it. Some (of_flat it (signs_strengths flat.signs))) (inner_first limit (place_of word) flat.operands))
+    row limit (inner_prefix token) parts shown x m s i2.2 (ap (λ it. inner_prefix it (map (depth_of limit) shown)) i1.1
+    ∙ ap (λ it. Some (of_flat it (signs_strengths flat.signs))) (inner_first limit (place_of word) flat.operands))
 
 pub guarded_is : (limit : ℕ) (token : Option Token) (parts : List Meaning) (m : Meaning) → length parts ≡ 2 → guarded token parts ≡ Some m →
     guard_prefix token (map (depth_of limit) parts) ≡ Some (depth_of limit m)
@@ -111,7 +118,8 @@ guarded_is limit token parts m n e =
     let shown : List Meaning = a_premiss test ∷ some_operands flat ∷ [] in
     let s : parts ≡ shown = shape2 parts (a_premiss test) (some_operands flat) i2.0.1 i3.0.1 e2 e3 n in
     let x : Meaning = prefixed (guard (place_of left) test) flat in
-    row limit (guard_prefix token) parts shown x m s i3.2 (ap (λ it. guard_prefix it (map (depth_of limit) shown)) i1.1 ∙ ap (λ it. Some (of_flat it (signs_strengths flat.signs))) (guard_first limit (place_of left) test flat.operands))
+    row limit (guard_prefix token) parts shown x m s i3.2 (ap (λ it. guard_prefix it (map (depth_of limit) shown)) i1.1
+    ∙ ap (λ it. Some (of_flat it (signs_strengths flat.signs))) (guard_first limit (place_of left) test flat.operands))
 
 pub stopped_is : (limit : ℕ) (token : Option Token) (parts : List Meaning) (m : Meaning) → length parts ≡ 1 → stopped token parts ≡ Some m →
     stop_first token (map (depth_of limit) parts) ≡ Some (depth_of limit m)
@@ -157,7 +165,8 @@ bracketed_behaviour_is limit parts m n e =
     let shown : List Meaning = some_operands flat ∷ some_operands tail ∷ [] in
     let s : parts ≡ shown = shape2 parts (some_operands flat) (some_operands tail) i1.0.1 i2.0.1 e1 e2 n in
     let x : Meaning = before_tail inside tail in
-    row limit (bracket_first) parts shown x m s i3.2 (ap (λ it. first_operand it (depth_of limit (some_operands tail))) (grouped_is limit flat inside inside_is))
+    row limit (bracket_first) parts shown x m s i3.2 (ap (λ it. first_operand it (depth_of limit (some_operands tail)))
+    (grouped_is limit flat inside inside_is))
 
 pub no_tail_is : (limit : ℕ) (parts : List Meaning) (m : Meaning) → length parts ≡ 0 → no_tail ≡ Some m →
     together (map (depth_of limit) parts) ≡ Some (depth_of limit m)
@@ -190,7 +199,8 @@ action_without_offers_is limit parts m n e =
     let shown : List Meaning = some_operands flat ∷ [] in
     let s : parts ≡ shown = shape1 parts (some_operands flat) i1.0.1 e1 n in
     let x : Meaning = an_action (record { offers = []; test = None; behind = flat }) in
-    row limit (together) parts shown x m s i1.2 (ap (λ it. Some (of_flat it (signs_strengths flat.signs))) (nothing_first (operands_firsts limit flat.operands)))
+    row limit (together) parts shown x m s i1.2 (ap (λ it. Some (of_flat it (signs_strengths flat.signs)))
+    (nothing_first (operands_firsts limit flat.operands)))
 
 pub offers_before_action_is : (limit : ℕ) (parts : List Meaning) (m : Meaning) → length parts ≡ 2 → offers_before_action parts ≡ Some m →
     terms_before (map (depth_of limit) parts) ≡ Some (depth_of limit m)
@@ -204,7 +214,8 @@ offers_before_action_is limit parts m n e =
     let shown : List Meaning = some_offers offers ∷ an_action end ∷ [] in
     let s : parts ≡ shown = shape2 parts (some_offers offers) (an_action end) i1.0.1 i2.0.1 e1 e2 n in
     let x : Meaning = an_action (record { offers = offers ++ end.offers; test = end.test; behind = end.behind }) in
-    row limit (terms_before) parts shown x m s i2.2 (ap (λ it. Some (of_flat it (signs_strengths end.behind.signs))) (offers_first limit offers end.offers end.test (operands_firsts limit end.behind.operands)))
+    row limit (terms_before) parts shown x m s i2.2 (ap (λ it. Some (of_flat it (signs_strengths end.behind.signs)))
+    (offers_first limit offers end.offers end.test (operands_firsts limit end.behind.operands)))
 
 pub action_with_selection_is : (limit : ℕ) (parts : List Meaning) (m : Meaning) → length parts ≡ 2 → action_with_selection parts ≡ Some m →
     terms_before (map (depth_of limit) parts) ≡ Some (depth_of limit m)
@@ -235,7 +246,8 @@ call_without_name_is limit parts m n e =
     let shown : List Meaning = some_names gates ∷ some_terms values ∷ some_operands tail ∷ [] in
     let s : parts ≡ shown = shape3 parts (some_names gates) (some_terms values) (some_operands tail) i1.0.1 i2.0.1 i3.0.1 e1 e2 e3 n in
     let x : Meaning = a_call (record { gates = gates; values = values; behind = tail }) in
-    row limit (call_end limit) parts shown x m s i3.2 (ap (λ it. first_operand (everywhere it) (depth_of limit (some_operands tail))) (sym (terms_deeper limit values)))
+    row limit (call_end limit) parts shown x m s i3.2 (ap (λ it. first_operand (everywhere it) (depth_of limit (some_operands tail)))
+    (sym (terms_deeper limit values)))
 
 pub offer_of_value_is : (limit : ℕ) (parts : List Meaning) (m : Meaning) → length parts ≡ 1 → offer_of_value parts ≡ Some m →
     closing limit (map (depth_of limit) parts) ≡ Some (depth_of limit m)
@@ -281,7 +293,8 @@ same_exit_values_is limit parts m n e =
     let x : Meaning = some_exit_values values in
     row limit (closing limit) parts shown x m s i1.2 (closes limit shown x refl (simp (append-nil, append_assoc)))
 
-pub any_before_exit_values_is : (limit : ℕ) (parts : List Meaning) (m : Meaning) → length parts ≡ 2 → any_before_exit_values parts ≡ Some m →
+pub any_before_exit_values_is : (limit : ℕ) (parts : List Meaning) (m : Meaning) → length parts ≡ 2
+    → any_before_exit_values parts ≡ Some m →
     closing limit (map (depth_of limit) parts) ≡ Some (depth_of limit m)
 any_before_exit_values_is limit parts m n e =
     let i1 = and_then_some (next_in name_in parts) _ m e in
@@ -295,7 +308,8 @@ any_before_exit_values_is limit parts m n e =
     let x : Meaning = some_exit_values (exit_any sort ∷ more) in
     row limit (closing limit) parts shown x m s i2.2 (closes limit shown x refl (simp (append-nil, append_assoc)))
 
-pub term_before_exit_values_is : (limit : ℕ) (parts : List Meaning) (m : Meaning) → length parts ≡ 2 → term_before_exit_values parts ≡ Some m →
+pub term_before_exit_values_is : (limit : ℕ) (parts : List Meaning) (m : Meaning) → length parts ≡ 2
+    → term_before_exit_values parts ≡ Some m →
     closing limit (map (depth_of limit) parts) ≡ Some (depth_of limit m)
 term_before_exit_values_is limit parts m n e =
     let i1 = and_then_some (next_in term_in parts) _ m e in
@@ -325,7 +339,8 @@ let_before_lets_is limit parts m n e =
     let e4 = taken lets_in some_lets lets_in_is i3.0.1 i4.0 i4.1 in
     let more = i4.0.0 in
     let shown : List Meaning = a_name variable ∷ a_name sort ∷ a_term term ∷ some_lets more ∷ [] in
-    let s : parts ≡ shown = shape4 parts (a_name variable) (a_name sort) (a_term term) (some_lets more) i1.0.1 i2.0.1 i3.0.1 i4.0.1 e1 e2 e3 e4 n in
+    let s : parts ≡ shown = shape4 parts (a_name variable) (a_name sort) (a_term term) (some_lets more) i1.0.1 i2.0.1 i3.0.1 i4.0.1 e1 e2 e3
+    e4 n in
     let x : Meaning = some_lets ((variable_named variable sort, term.term) ∷ more) in
     row limit (closing limit) parts shown x m s i4.2 (closes limit shown x refl (simp (append-nil, append_assoc)))
 
@@ -396,7 +411,8 @@ chosen_is limit parts m n e =
     let x : Meaning = a_behaviour inside in
     row limit (chosen_part) parts shown x m s i2.2 (ap (λ it. Some (of_firsts it)) (grouped_is limit flat inside inside_is))
 
-pub gates_before_gate_choices_is : (limit : ℕ) (parts : List Meaning) (m : Meaning) → length parts ≡ 3 → gates_before_gate_choices parts ≡ Some m →
+pub gates_before_gate_choices_is : (limit : ℕ) (parts : List Meaning) (m : Meaning) → length parts ≡ 3
+    → gates_before_gate_choices parts ≡ Some m →
     around_middle (map (depth_of limit) parts) ≡ Some (depth_of limit m)
 gates_before_gate_choices_is limit parts m n e =
     let i1 = and_then_some (next_in names_in parts) _ m e in
@@ -443,7 +459,8 @@ same_sign_is limit parts m n e =
     let x : Meaning = a_sign sign in
     row limit (together) parts shown x m s i1.2 (refl)
 
-pub enabling_sign_is : (limit : ℕ) (token : Option Token) (parts : List Meaning) (m : Meaning) → length parts ≡ 1 → enabling_sign token parts ≡ Some m →
+pub enabling_sign_is : (limit : ℕ) (token : Option Token) (parts : List Meaning) (m : Meaning) → length parts ≡ 1
+    → enabling_sign token parts ≡ Some m →
     sign_part 0 ≡ Some (depth_of limit m)
 enabling_sign_is limit token parts m n e =
     let i1 = and_then_some token _ m e in
@@ -456,7 +473,8 @@ enabling_sign_is limit token parts m n e =
     let x : Meaning = a_sign (record { place = place_of word; sign = enabling accepted }) in
     row limit ((λ parts. sign_part 0)) parts shown x m s i2.2 (refl)
 
-pub gates_sign_is : (limit : ℕ) (token : Option Token) (parts : List Meaning) (m : Meaning) → length parts ≡ 1 → gates_sign token parts ≡ Some m →
+pub gates_sign_is : (limit : ℕ) (token : Option Token) (parts : List Meaning) (m : Meaning) → length parts ≡ 1
+    → gates_sign token parts ≡ Some m →
     sign_part 2 ≡ Some (depth_of limit m)
 gates_sign_is limit token parts m n e =
     let i1 = and_then_some token _ m e in

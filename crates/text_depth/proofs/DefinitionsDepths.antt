@@ -29,8 +29,15 @@ heading_of_parts_is limit parts m n e =
     let e4 = taken functionality_in a_functionality functionality_in_is i3.0.1 i4.0 i4.1 in
     let functionality = i4.0.0 in
     let shown : List Meaning = a_name name ∷ some_names gates ∷ some_variables parameters ∷ a_functionality functionality ∷ [] in
-    let s : parts ≡ shown = shape4 parts (a_name name) (some_names gates) (some_variables parameters) (a_functionality functionality) i1.0.1 i2.0.1 i3.0.1 i4.0.1 e1 e2 e3 e4 n in
-    let x : Meaning = a_heading (record { place = name.place; name = name.name; gates = gates; parameters = parameters; functionality = functionality }) in
+    let s : parts ≡ shown = shape4 parts (a_name name) (some_names gates) (some_variables parameters) (a_functionality functionality) i1.0.1
+    i2.0.1 i3.0.1 i4.0.1 e1 e2 e3 e4 n in
+    let x : Meaning = a_heading (record {
+      place = name.place;
+      name = name.name;
+      gates = gates;
+      parameters = parameters;
+      functionality = functionality;
+    }) in
     row limit (closing limit) parts shown x m s i4.2 (closes limit shown x refl refl)
 
 pub no_exit_is : (limit : ℕ) (parts : List Meaning) (m : Meaning) → length parts ≡ 0 → no_exit ≡ Some m →

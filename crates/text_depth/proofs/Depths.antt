@@ -25,7 +25,8 @@ use Rattle.text_depth.proofs.FoldedDepths.{depths_hold}
 use Rattle.sentence_trees.specs.LotosGrammar.{IsLotosGrammar}
 
 pub value_is : (limit : ℕ) (text : List ℕ) (g : ContextFree) → IsLotosGrammar g → (tokens : List Token) (tree : Forest) →
-    DerivesSymbols g.rows tree (Part g.start ∷ []) → leaves tree ≡ map kind_of tokens → (found : Meaning) → Derived text g.start tokens found →
+    DerivesSymbols g.rows tree (Part g.start ∷ []) → leaves tree ≡ map kind_of tokens → (found : Meaning)
+    → Derived text g.start tokens found →
     value_of_tree (numbered_row_depth limit) is_kept_kind tree tokens ≡ Some (depth_of limit found)
 value_is limit text g is tokens tree derives leaves_are found derived =
     let other : DerivesSymbols g.rows derived.0 (Part g.start ∷ []) =

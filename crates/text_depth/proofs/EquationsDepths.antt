@@ -37,8 +37,10 @@ group_before_groups_is limit parts m n e =
     let e4 = taken groups_in some_groups groups_in_is i3.0.1 i4.0 i4.1 in
     let groups = i4.0.0 in
     let shown : List Meaning = a_name sort ∷ some_variables variables ∷ some_equations equations ∷ some_groups groups ∷ [] in
-    let s : parts ≡ shown = shape4 parts (a_name sort) (some_variables variables) (some_equations equations) (some_groups groups) i1.0.1 i2.0.1 i3.0.1 i4.0.1 e1 e2 e3 e4 n in
-    let x : Meaning = some_groups (record { place = sort.place; sort = sort.name; variables = variables; equations = equations } ∷ groups) in
+    let s : parts ≡ shown = shape4 parts (a_name sort) (some_variables variables) (some_equations equations) (some_groups groups) i1.0.1
+    i2.0.1 i3.0.1 i4.0.1 e1 e2 e3 e4 n in
+    let x : Meaning = some_groups (record { place = sort.place; sort = sort.name; variables = variables; equations = equations }
+    ∷ groups) in
     row limit (closing limit) parts shown x m s i4.2 (closes limit shown x refl (simp (append-nil, append_assoc)))
 
 pub no_equations_listed_is : (limit : ℕ) (parts : List Meaning) (m : Meaning) → length parts ≡ 0 → no_equations_listed ≡ Some m →
@@ -60,7 +62,8 @@ same_equations_is limit parts m n e =
     let x : Meaning = some_equations equations in
     row limit (closing limit) parts shown x m s i1.2 (closes limit shown x refl (simp (append-nil, append_assoc)))
 
-pub equation_before_equations_is : (limit : ℕ) (parts : List Meaning) (m : Meaning) → length parts ≡ 2 → equation_before_equations parts ≡ Some m →
+pub equation_before_equations_is : (limit : ℕ) (parts : List Meaning) (m : Meaning) → length parts ≡ 2
+    → equation_before_equations parts ≡ Some m →
     closing limit (map (depth_of limit) parts) ≡ Some (depth_of limit m)
 equation_before_equations_is limit parts m n e =
     let i1 = and_then_some (next_in equation_in parts) _ m e in
@@ -118,7 +121,8 @@ some_conclusion_is limit parts m n e =
     let x : Meaning = maybe_conclusion (Some conclusion) in
     row limit (closing limit) parts shown x m s i1.2 (closes limit shown x refl (simp (append-nil, append_assoc)))
 
-pub premiss_before_conclusion_is : (limit : ℕ) (parts : List Meaning) (m : Meaning) → length parts ≡ 2 → premiss_before_conclusion parts ≡ Some m →
+pub premiss_before_conclusion_is : (limit : ℕ) (parts : List Meaning) (m : Meaning) → length parts ≡ 2
+    → premiss_before_conclusion parts ≡ Some m →
     closing limit (map (depth_of limit) parts) ≡ Some (depth_of limit m)
 premiss_before_conclusion_is limit parts m n e =
     let i1 = and_then_some (next_in premiss_in parts) _ m e in
@@ -129,10 +133,16 @@ premiss_before_conclusion_is limit parts m n e =
     let conclusion = i2.0.0 in
     let shown : List Meaning = a_premiss premiss ∷ a_conclusion conclusion ∷ [] in
     let s : parts ≡ shown = shape2 parts (a_premiss premiss) (a_conclusion conclusion) i1.0.1 i2.0.1 e1 e2 n in
-    let x : Meaning = a_conclusion (record { premisses = premiss ∷ conclusion.premisses; arrow = conclusion.arrow; left = conclusion.left; right = conclusion.right }) in
+    let x : Meaning = a_conclusion (record {
+      premisses = premiss ∷ conclusion.premisses;
+      arrow = conclusion.arrow;
+      left = conclusion.left;
+      right = conclusion.right;
+    }) in
     row limit (closing limit) parts shown x m s i2.2 (closes limit shown x refl (simp (append-nil, append_assoc)))
 
-pub conclusion_of_terms_is : (limit : ℕ) (token : Option Token) (parts : List Meaning) (m : Meaning) → length parts ≡ 2 → conclusion_of_terms token parts ≡ Some m →
+pub conclusion_of_terms_is : (limit : ℕ) (token : Option Token) (parts : List Meaning) (m : Meaning) → length parts ≡ 2
+    → conclusion_of_terms token parts ≡ Some m →
     closing limit (map (depth_of limit) parts) ≡ Some (depth_of limit m)
 conclusion_of_terms_is limit token parts m n e =
     let i1 = and_then_some token _ m e in

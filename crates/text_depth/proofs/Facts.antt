@@ -44,7 +44,8 @@ followed_twice None other firsts = refl
 followed_twice (Some place) other firsts = refl
 
 pub everywhere-append : (limit : ℕ) (some others : List TreeNode) →
-    everywhere (first_deeper limit (some ++ others)) ≡ followed (everywhere (first_deeper limit some)) (everywhere (first_deeper limit others))
+    everywhere (first_deeper limit (some ++ others)) ≡ followed (everywhere (first_deeper limit some))
+    (everywhere (first_deeper limit others))
 everywhere-append limit some others =
     ap everywhere (first_deeper-append limit some others) ∙ sym (followed_everywhere (first_deeper limit some) (first_deeper limit others))
 
@@ -115,12 +116,14 @@ pub closes : (limit : ℕ) (shown : List Meaning) (x : Meaning) → all_closable
 closes limit shown x h e = ap (λ it. Some (of_firsts it)) (all_closed limit shown h ∙ ap (λ it. everywhere (first_deeper limit it)) e)
 
 -- the tree of a flat list
-pub grouped_is : (limit : ℕ) (flat : PlainFlat) (tree : WrittenBehaviour) → grouped strength_of joined flat.operands flat.signs ≡ Some tree →
+pub grouped_is : (limit : ℕ) (flat : PlainFlat) (tree : WrittenBehaviour)
+    → grouped strength_of joined flat.operands flat.signs ≡ Some tree →
     grouped_firsts (depth_of limit (some_operands flat)) ≡ behaviour_firsts limit tree
 grouped_is limit flat tree e =
     ap or_no_nodes (sym (firsts_grouped limit flat.operands flat.signs) ∙ ap (option_map (behaviour_firsts limit)) e)
 
-pub closed_flat : (limit : ℕ) (flat : PlainFlat) (tree : WrittenBehaviour) → grouped strength_of joined flat.operands flat.signs ≡ Some tree →
+pub closed_flat : (limit : ℕ) (flat : PlainFlat) (tree : WrittenBehaviour)
+    → grouped strength_of joined flat.operands flat.signs ≡ Some tree →
     closed_part limit (depth_of limit (some_operands flat)) ≡ everywhere (first_deeper limit (behaviour_nodes 1 tree))
 closed_flat limit flat tree e = ap (closed limit) (grouped_is limit flat tree e) ∙ ap everywhere (sym (tells.behaviour limit tree))
 
@@ -138,7 +141,8 @@ pub factors_firsts : (first : WrittenTerm) (more : List (PlacedName × WrittenTe
     fold between (term_firsts first) (map (λ factor. term_firsts factor.1) more) ≡ term_firsts (grouped_left infix_term first more)
 factors_firsts first [] = refl
 factors_firsts first (factor ∷ more) =
-    ap (λ it. fold between (between (term_firsts first) it) (map (λ next. term_firsts next.1) more)) (sym (followed-none (term_firsts factor.1)))
+    ap (λ it. fold between (between (term_firsts first) it) (map (λ next. term_firsts next.1) more))
+    (sym (followed-none (term_firsts factor.1)))
     ∙ factors_firsts (infix_term factor.0 first factor.1) more
 
 -- names that are declared

@@ -39,7 +39,8 @@ same_place (first ∷ list) zero row name all e f =
 same_place (first ∷ list) (suc number) row name all e f =
     same_place list number row name (and_parts (has_arity first) (list_all has_arity list) all).1 e f
 
-row_and_name : (number : ℕ) (row : Production) (name : RowName) → slice_get rows number ≡ Some row → slice_get row_names number ≡ Some name →
+row_and_name : (number : ℕ) (row : Production) (name : RowName) → slice_get rows number ≡ Some row
+    → slice_get row_names number ≡ Some name →
     count_parts row.right ≡ arity name
 unfolding rows row_names
 row_and_name number row name e f = same_place grammar_rows number row name arities e f
@@ -51,7 +52,8 @@ in_front_some value others all e =
     let j = and_then_some value _ all i.2 in
     (j.0, i.0, j.1, i.1, (let same : j.0 ∷ i.0 ≡ all = cc (j.2) in sym same))
 
-numbered_holds : (limit : ℕ) (text : List ℕ) (number : ℕ) (row : Production) (token : Option lexer.Token) (parts : List Meaning) (m : Meaning) →
+numbered_holds : (limit : ℕ) (text : List ℕ) (number : ℕ) (row : Production) (token : Option lexer.Token) (parts : List Meaning)
+    (m : Meaning) →
     slice_get rows number ≡ Some row → length parts ≡ count_parts row.right → numbered_row_means text number token parts ≡ Some m →
     numbered_row_depth limit number token (map (depth_of limit) parts) ≡ Some (depth_of limit m)
 numbered_holds limit text number row token parts m at n e =
@@ -88,7 +90,8 @@ holds limit text (node number below rest) (Part p ∷ symbols) tokens meanings d
     (folded (numbered_row_means text) is_kept_kind rest behind) meanings e in
     let first = split.0 in
     let after = split.1 in
-    let inside = and_then_some (folded (numbered_row_means text) is_kept_kind below own) (numbered_row_means text number token) first split.2 in
+    let inside = and_then_some (folded (numbered_row_means text) is_kept_kind below own) (numbered_row_means text number token) first
+    split.2 in
     let under = holds limit text below derives.0.right own inside.0 derives.3 inside.1 in
     let next = holds limit text rest symbols behind after derives.4 split.3 in
     let here : option_and_then (numbered_row_depth limit number token) (folded (numbered_row_depth limit) is_kept_kind below own)

@@ -9,8 +9,8 @@ use Rattle.syntax_trees.specs.WrittenBehaviour.{WrittenGateChoice, WrittenExitVa
 use Rattle.syntax_trees.specs.WrittenDefinition.{WrittenHeading, WrittenInner, WrittenSpecification}
 use Rattle.syntax_trees.specs.Strength.{PlacedSign}
 use Rattle.lotos_rows.specs.Names.{NamedOperation, PlacedProfile}
-use Rattle.tree_building.specs.Meaning.{PlainStartedTerm, PlainConclusion, PlainAfterTerm, PlainAfterBase, PlainFlat, PlainActionEnd, PlainCallEnd, PlainValueChoiceEnd, PlainGateChoiceEnd, Meaning, a_name, some_names, some_variables, an_operation, some_named_operations, a_profile, maybe_profile, a_term, some_factors, some_terms, some_groups, some_equations, an_equation, a_conclusion, maybe_conclusion, after_term, a_premiss, maybe_term, some_pairs, both_pairs, an_item, some_items, a_body, after_base, some_sections, declared_operations, an_equation_section, some_operands, an_action, a_call, some_offers, some_exit_values, some_lets, some_gate_choices, a_value_choice, a_gate_choice, a_behaviour, a_sign, a_heading, a_functionality, some_inner, a_process, a_word, a_specification, some_order_items}
-use Rattle.tree_building.specs.Parts.{next_in, action_in, after_base_in, after_term_in, behaviour_in, body_in, both_pairs_in, call_in, conclusion_in, declared_operations_in, equation_in, equation_section_in, equations_in, exit_values_in, factors_in, functionality_in, gate_choice_in, gate_choices_in, groups_in, heading_in, inner_in, item_in, items_in, lets_in, maybe_conclusion_in, maybe_profile_in, maybe_term_in, name_in, names_in, offers_in, operands_in, operation_in, operations_in, order_items_in, pairs_in, premiss_in, process_in, profile_in, sections_in, sign_in, specification_in, term_in, terms_in, value_choice_in, variables_in, word_in}
+use Rattle.tree_building.specs.Meaning.{PlainStartedTerm, PlainConclusion, PlainAfterTerm, PlainAfterBase, PlainFlat, PlainActionEnd, PlainCallEnd, PlainValueChoiceEnd, PlainGateChoiceEnd, Meaning, a_name, some_names, some_variables, an_operation, some_named_operations, a_profile, maybe_name, maybe_profile, a_term, some_factors, some_terms, some_groups, some_equations, an_equation, a_conclusion, maybe_conclusion, after_term, a_premiss, maybe_term, some_pairs, both_pairs, an_item, some_items, a_body, after_base, some_sections, declared_operations, an_equation_section, some_operands, an_action, a_call, some_offers, some_exit_values, some_lets, some_gate_choices, a_value_choice, a_gate_choice, a_behaviour, a_sign, a_heading, a_functionality, some_inner, a_process, a_word, a_specification, some_order_items}
+use Rattle.tree_building.specs.Parts.{next_in, action_in, after_base_in, after_term_in, behaviour_in, body_in, both_pairs_in, call_in, conclusion_in, declared_operations_in, equation_in, equation_section_in, equations_in, exit_values_in, factors_in, functionality_in, gate_choice_in, gate_choices_in, groups_in, heading_in, inner_in, item_in, items_in, lets_in, maybe_conclusion_in, maybe_name_in, maybe_profile_in, maybe_term_in, name_in, names_in, offers_in, operands_in, operation_in, operations_in, order_items_in, pairs_in, premiss_in, process_in, profile_in, sections_in, sign_in, specification_in, term_in, terms_in, value_choice_in, variables_in, word_in}
 use Rattle.tree_building.specs.BehavioursMeaning.{or_else}
 
 pub and_then_some : {A B : Type 0} (o : Option A) (k : A → Option B) (b : B) → option_and_then k o ≡ Some b →
@@ -26,7 +26,8 @@ pub or_else_some : {A : Type 0} (one other : Option A) (m : A) → or_else one o
 or_else_some None other m e = inr e
 or_else_some (Some a) other m e = inl e
 
-taken_pair : {A : Type 0} (o : Option A) (rest : List Meaning) (pair : A × List Meaning) → option_map (λ value. (value, rest)) o ≡ Some pair →
+taken_pair : {A : Type 0} (o : Option A) (rest : List Meaning) (pair : A × List Meaning)
+    → option_map (λ value. (value, rest)) o ≡ Some pair →
     (o ≡ Some pair.0) × (rest ≡ pair.1)
 taken_pair None rest pair e = let none : None ≡ Some pair = e in absurd (cc)
 taken_pair (Some a) rest pair e =
@@ -67,24 +68,30 @@ shape3 parts p1 p2 p3 r1 r2 r3 e1 e2 e3 n =
     let count : length parts ≡ length (p1 ∷ p2 ∷ p3 ∷ r3) = ap length whole in
     whole ∙ ap (λ it. p1 ∷ p2 ∷ p3 ∷ it) (shape0 r3 (omega arith))
 
-pub shape4 : (parts : List Meaning) (p1 p2 p3 p4 : Meaning) (r1 r2 r3 r4 : List Meaning) → parts ≡ p1 ∷ r1 → r1 ≡ p2 ∷ r2 → r2 ≡ p3 ∷ r3 → r3 ≡ p4 ∷ r4 →
+pub shape4 : (parts : List Meaning) (p1 p2 p3 p4 : Meaning) (r1 r2 r3 r4 : List Meaning) → parts ≡ p1 ∷ r1 → r1 ≡ p2 ∷ r2 → r2 ≡ p3 ∷ r3
+    → r3 ≡ p4 ∷ r4 →
     length parts ≡ 4 → parts ≡ p1 ∷ p2 ∷ p3 ∷ p4 ∷ []
 shape4 parts p1 p2 p3 p4 r1 r2 r3 r4 e1 e2 e3 e4 n =
-    let whole : parts ≡ p1 ∷ p2 ∷ p3 ∷ p4 ∷ r4 = e1 ∙ ap (λ it. p1 ∷ it) e2 ∙ ap (λ it. p1 ∷ p2 ∷ it) e3 ∙ ap (λ it. p1 ∷ p2 ∷ p3 ∷ it) e4 in
+    let whole : parts ≡ p1 ∷ p2 ∷ p3 ∷ p4 ∷ r4 = e1 ∙ ap (λ it. p1 ∷ it) e2 ∙ ap (λ it. p1 ∷ p2 ∷ it) e3
+    ∙ ap (λ it. p1 ∷ p2 ∷ p3 ∷ it) e4 in
     let count : length parts ≡ length (p1 ∷ p2 ∷ p3 ∷ p4 ∷ r4) = ap length whole in
     whole ∙ ap (λ it. p1 ∷ p2 ∷ p3 ∷ p4 ∷ it) (shape0 r4 (omega arith))
 
-pub shape5 : (parts : List Meaning) (p1 p2 p3 p4 p5 : Meaning) (r1 r2 r3 r4 r5 : List Meaning) → parts ≡ p1 ∷ r1 → r1 ≡ p2 ∷ r2 → r2 ≡ p3 ∷ r3 → r3 ≡ p4 ∷ r4 → r4 ≡ p5 ∷ r5 →
+pub shape5 : (parts : List Meaning) (p1 p2 p3 p4 p5 : Meaning) (r1 r2 r3 r4 r5 : List Meaning) → parts ≡ p1 ∷ r1 → r1 ≡ p2 ∷ r2
+    → r2 ≡ p3 ∷ r3 → r3 ≡ p4 ∷ r4 → r4 ≡ p5 ∷ r5 →
     length parts ≡ 5 → parts ≡ p1 ∷ p2 ∷ p3 ∷ p4 ∷ p5 ∷ []
 shape5 parts p1 p2 p3 p4 p5 r1 r2 r3 r4 r5 e1 e2 e3 e4 e5 n =
-    let whole : parts ≡ p1 ∷ p2 ∷ p3 ∷ p4 ∷ p5 ∷ r5 = e1 ∙ ap (λ it. p1 ∷ it) e2 ∙ ap (λ it. p1 ∷ p2 ∷ it) e3 ∙ ap (λ it. p1 ∷ p2 ∷ p3 ∷ it) e4 ∙ ap (λ it. p1 ∷ p2 ∷ p3 ∷ p4 ∷ it) e5 in
+    let whole : parts ≡ p1 ∷ p2 ∷ p3 ∷ p4 ∷ p5 ∷ r5 = e1 ∙ ap (λ it. p1 ∷ it) e2 ∙ ap (λ it. p1 ∷ p2 ∷ it) e3
+    ∙ ap (λ it. p1 ∷ p2 ∷ p3 ∷ it) e4 ∙ ap (λ it. p1 ∷ p2 ∷ p3 ∷ p4 ∷ it) e5 in
     let count : length parts ≡ length (p1 ∷ p2 ∷ p3 ∷ p4 ∷ p5 ∷ r5) = ap length whole in
     whole ∙ ap (λ it. p1 ∷ p2 ∷ p3 ∷ p4 ∷ p5 ∷ it) (shape0 r5 (omega arith))
 
-pub shape6 : (parts : List Meaning) (p1 p2 p3 p4 p5 p6 : Meaning) (r1 r2 r3 r4 r5 r6 : List Meaning) → parts ≡ p1 ∷ r1 → r1 ≡ p2 ∷ r2 → r2 ≡ p3 ∷ r3 → r3 ≡ p4 ∷ r4 → r4 ≡ p5 ∷ r5 → r5 ≡ p6 ∷ r6 →
+pub shape6 : (parts : List Meaning) (p1 p2 p3 p4 p5 p6 : Meaning) (r1 r2 r3 r4 r5 r6 : List Meaning) → parts ≡ p1 ∷ r1 → r1 ≡ p2 ∷ r2
+    → r2 ≡ p3 ∷ r3 → r3 ≡ p4 ∷ r4 → r4 ≡ p5 ∷ r5 → r5 ≡ p6 ∷ r6 →
     length parts ≡ 6 → parts ≡ p1 ∷ p2 ∷ p3 ∷ p4 ∷ p5 ∷ p6 ∷ []
 shape6 parts p1 p2 p3 p4 p5 p6 r1 r2 r3 r4 r5 r6 e1 e2 e3 e4 e5 e6 n =
-    let whole : parts ≡ p1 ∷ p2 ∷ p3 ∷ p4 ∷ p5 ∷ p6 ∷ r6 = e1 ∙ ap (λ it. p1 ∷ it) e2 ∙ ap (λ it. p1 ∷ p2 ∷ it) e3 ∙ ap (λ it. p1 ∷ p2 ∷ p3 ∷ it) e4 ∙ ap (λ it. p1 ∷ p2 ∷ p3 ∷ p4 ∷ it) e5 ∙ ap (λ it. p1 ∷ p2 ∷ p3 ∷ p4 ∷ p5 ∷ it) e6 in
+    let whole : parts ≡ p1 ∷ p2 ∷ p3 ∷ p4 ∷ p5 ∷ p6 ∷ r6 = e1 ∙ ap (λ it. p1 ∷ it) e2 ∙ ap (λ it. p1 ∷ p2 ∷ it) e3
+    ∙ ap (λ it. p1 ∷ p2 ∷ p3 ∷ it) e4 ∙ ap (λ it. p1 ∷ p2 ∷ p3 ∷ p4 ∷ it) e5 ∙ ap (λ it. p1 ∷ p2 ∷ p3 ∷ p4 ∷ p5 ∷ it) e6 in
     let count : length parts ≡ length (p1 ∷ p2 ∷ p3 ∷ p4 ∷ p5 ∷ p6 ∷ r6) = ap length whole in
     whole ∙ ap (λ it. p1 ∷ p2 ∷ p3 ∷ p4 ∷ p5 ∷ p6 ∷ it) (shape0 r6 (omega arith))
 
@@ -120,7 +127,8 @@ pub conclusion_in_is : (part : Meaning) (value : PlainConclusion) → conclusion
 conclusion_in_is (a_conclusion it) value e = let both : Some it ≡ Some value = e in ap a_conclusion (cc)
 conclusion_in_is _ value e = let none : None ≡ Some value = e in absurd (cc)
 
-pub declared_operations_in_is : (part : Meaning) (value : (List WrittenOperation)) → declared_operations_in part ≡ Some value → part ≡ declared_operations value
+pub declared_operations_in_is : (part : Meaning) (value : (List WrittenOperation)) → declared_operations_in part ≡ Some value
+    → part ≡ declared_operations value
 declared_operations_in_is (declared_operations it) value e = let both : Some it ≡ Some value = e in ap declared_operations (cc)
 declared_operations_in_is _ value e = let none : None ≡ Some value = e in absurd (cc)
 
@@ -128,7 +136,8 @@ pub equation_in_is : (part : Meaning) (value : WrittenEquation) → equation_in 
 equation_in_is (an_equation it) value e = let both : Some it ≡ Some value = e in ap an_equation (cc)
 equation_in_is _ value e = let none : None ≡ Some value = e in absurd (cc)
 
-pub equation_section_in_is : (part : Meaning) (value : WrittenEquations) → equation_section_in part ≡ Some value → part ≡ an_equation_section value
+pub equation_section_in_is : (part : Meaning) (value : WrittenEquations) → equation_section_in part ≡ Some value
+    → part ≡ an_equation_section value
 equation_section_in_is (an_equation_section it) value e = let both : Some it ≡ Some value = e in ap an_equation_section (cc)
 equation_section_in_is _ value e = let none : None ≡ Some value = e in absurd (cc)
 
@@ -136,7 +145,8 @@ pub equations_in_is : (part : Meaning) (value : (List WrittenEquation)) → equa
 equations_in_is (some_equations it) value e = let both : Some it ≡ Some value = e in ap some_equations (cc)
 equations_in_is _ value e = let none : None ≡ Some value = e in absurd (cc)
 
-pub exit_values_in_is : (part : Meaning) (value : (List WrittenExitValue)) → exit_values_in part ≡ Some value → part ≡ some_exit_values value
+pub exit_values_in_is : (part : Meaning) (value : (List WrittenExitValue)) → exit_values_in part ≡ Some value
+    → part ≡ some_exit_values value
 exit_values_in_is (some_exit_values it) value e = let both : Some it ≡ Some value = e in ap some_exit_values (cc)
 exit_values_in_is _ value e = let none : None ≡ Some value = e in absurd (cc)
 
@@ -144,7 +154,8 @@ pub factors_in_is : (part : Meaning) (value : (List (PlacedName × WrittenTerm))
 factors_in_is (some_factors it) value e = let both : Some it ≡ Some value = e in ap some_factors (cc)
 factors_in_is _ value e = let none : None ≡ Some value = e in absurd (cc)
 
-pub functionality_in_is : (part : Meaning) (value : (Option (List PlacedName))) → functionality_in part ≡ Some value → part ≡ a_functionality value
+pub functionality_in_is : (part : Meaning) (value : (Option (List PlacedName))) → functionality_in part ≡ Some value
+    → part ≡ a_functionality value
 functionality_in_is (a_functionality it) value e = let both : Some it ≡ Some value = e in ap a_functionality (cc)
 functionality_in_is _ value e = let none : None ≡ Some value = e in absurd (cc)
 
@@ -152,7 +163,8 @@ pub gate_choice_in_is : (part : Meaning) (value : PlainGateChoiceEnd) → gate_c
 gate_choice_in_is (a_gate_choice it) value e = let both : Some it ≡ Some value = e in ap a_gate_choice (cc)
 gate_choice_in_is _ value e = let none : None ≡ Some value = e in absurd (cc)
 
-pub gate_choices_in_is : (part : Meaning) (value : (List WrittenGateChoice)) → gate_choices_in part ≡ Some value → part ≡ some_gate_choices value
+pub gate_choices_in_is : (part : Meaning) (value : (List WrittenGateChoice)) → gate_choices_in part ≡ Some value
+    → part ≡ some_gate_choices value
 gate_choices_in_is (some_gate_choices it) value e = let both : Some it ≡ Some value = e in ap some_gate_choices (cc)
 gate_choices_in_is _ value e = let none : None ≡ Some value = e in absurd (cc)
 
@@ -180,11 +192,17 @@ pub lets_in_is : (part : Meaning) (value : (List (WrittenVariable × WrittenTerm
 lets_in_is (some_lets it) value e = let both : Some it ≡ Some value = e in ap some_lets (cc)
 lets_in_is _ value e = let none : None ≡ Some value = e in absurd (cc)
 
-pub maybe_conclusion_in_is : (part : Meaning) (value : (Option PlainConclusion)) → maybe_conclusion_in part ≡ Some value → part ≡ maybe_conclusion value
+pub maybe_conclusion_in_is : (part : Meaning) (value : (Option PlainConclusion)) → maybe_conclusion_in part ≡ Some value
+    → part ≡ maybe_conclusion value
 maybe_conclusion_in_is (maybe_conclusion it) value e = let both : Some it ≡ Some value = e in ap maybe_conclusion (cc)
 maybe_conclusion_in_is _ value e = let none : None ≡ Some value = e in absurd (cc)
 
-pub maybe_profile_in_is : (part : Meaning) (value : (Option PlacedProfile)) → maybe_profile_in part ≡ Some value → part ≡ maybe_profile value
+pub maybe_name_in_is : (part : Meaning) (value : (Option PlacedName)) → maybe_name_in part ≡ Some value → part ≡ maybe_name value
+maybe_name_in_is (maybe_name it) value e = let both : Some it ≡ Some value = e in ap maybe_name (cc)
+maybe_name_in_is _ value e = let none : None ≡ Some value = e in absurd (cc)
+
+pub maybe_profile_in_is : (part : Meaning) (value : (Option PlacedProfile)) → maybe_profile_in part ≡ Some value
+    → part ≡ maybe_profile value
 maybe_profile_in_is (maybe_profile it) value e = let both : Some it ≡ Some value = e in ap maybe_profile (cc)
 maybe_profile_in_is _ value e = let none : None ≡ Some value = e in absurd (cc)
 
@@ -212,7 +230,8 @@ pub operation_in_is : (part : Meaning) (value : NamedOperation) → operation_in
 operation_in_is (an_operation it) value e = let both : Some it ≡ Some value = e in ap an_operation (cc)
 operation_in_is _ value e = let none : None ≡ Some value = e in absurd (cc)
 
-pub operations_in_is : (part : Meaning) (value : (List NamedOperation)) → operations_in part ≡ Some value → part ≡ some_named_operations value
+pub operations_in_is : (part : Meaning) (value : (List NamedOperation)) → operations_in part ≡ Some value
+    → part ≡ some_named_operations value
 operations_in_is (some_named_operations it) value e = let both : Some it ≡ Some value = e in ap some_named_operations (cc)
 operations_in_is _ value e = let none : None ≡ Some value = e in absurd (cc)
 
@@ -244,7 +263,8 @@ pub sign_in_is : (part : Meaning) (value : PlacedSign) → sign_in part ≡ Some
 sign_in_is (a_sign it) value e = let both : Some it ≡ Some value = e in ap a_sign (cc)
 sign_in_is _ value e = let none : None ≡ Some value = e in absurd (cc)
 
-pub specification_in_is : (part : Meaning) (value : WrittenSpecification) → specification_in part ≡ Some value → part ≡ a_specification value
+pub specification_in_is : (part : Meaning) (value : WrittenSpecification) → specification_in part ≡ Some value
+    → part ≡ a_specification value
 specification_in_is (a_specification it) value e = let both : Some it ≡ Some value = e in ap a_specification (cc)
 specification_in_is _ value e = let none : None ≡ Some value = e in absurd (cc)
 

@@ -88,7 +88,8 @@ same_variables_is limit parts m n e =
     let x : Meaning = some_variables variables in
     row limit (together) parts shown x m s i1.2 (refl)
 
-pub variables_before_variables_is : (limit : ℕ) (parts : List Meaning) (m : Meaning) → length parts ≡ 3 → variables_before_variables parts ≡ Some m →
+pub variables_before_variables_is : (limit : ℕ) (parts : List Meaning) (m : Meaning) → length parts ≡ 3
+    → variables_before_variables parts ≡ Some m →
     around_middle (map (depth_of limit) parts) ≡ Some (depth_of limit m)
 variables_before_variables_is limit parts m n e =
     let i1 = and_then_some (next_in names_in parts) _ m e in

@@ -43,7 +43,8 @@ pub found_first : (limit : ℕ) (parts rest : List DepthPart) (part : DepthPart)
     is_some found ≡ true → everywhere (option_map text_place_of found) ≡ closed_part limit part →
     everywhere (option_map text_place_of found) ≡ closed_parts limit parts
 found_first limit parts rest part found e s f =
-    sym (found_stays found (closed_parts limit rest) s) ∙ ap (λ it. followed it (closed_parts limit rest)) f ∙ sym (ap (closed_parts limit) e)
+    sym (found_stays found (closed_parts limit rest) s) ∙ ap (λ it. followed it (closed_parts limit rest)) f
+    ∙ sym (ap (closed_parts limit) e)
 
 none_stays : (found : Option code.Place) (others : Firsts) → is_some found ≡ false →
     others ≡ followed (everywhere (option_map text_place_of found)) others

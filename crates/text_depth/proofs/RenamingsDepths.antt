@@ -42,7 +42,8 @@ same_pairs_is limit parts m n e =
     let x : Meaning = some_pairs pairs in
     row limit (closing limit) parts shown x m s i1.2 (closes limit shown x refl refl)
 
-pub sort_pair_before_pairs_is : (limit : ℕ) (parts : List Meaning) (m : Meaning) → length parts ≡ 3 → sort_pair_before_pairs parts ≡ Some m →
+pub sort_pair_before_pairs_is : (limit : ℕ) (parts : List Meaning) (m : Meaning) → length parts ≡ 3
+    → sort_pair_before_pairs parts ≡ Some m →
     closing limit (map (depth_of limit) parts) ≡ Some (depth_of limit m)
 sort_pair_before_pairs_is limit parts m n e =
     let i1 = and_then_some (next_in name_in parts) _ m e in
@@ -59,7 +60,8 @@ sort_pair_before_pairs_is limit parts m n e =
     let x : Meaning = some_pairs (pair_for given replaced ∷ more) in
     row limit (closing limit) parts shown x m s i3.2 (closes limit shown x refl refl)
 
-pub operation_pair_before_pairs_is : (limit : ℕ) (parts : List Meaning) (m : Meaning) → length parts ≡ 3 → operation_pair_before_pairs parts ≡ Some m →
+pub operation_pair_before_pairs_is : (limit : ℕ) (parts : List Meaning) (m : Meaning) → length parts ≡ 3
+    → operation_pair_before_pairs parts ≡ Some m →
     closing limit (map (depth_of limit) parts) ≡ Some (depth_of limit m)
 operation_pair_before_pairs_is limit parts m n e =
     let i1 = and_then_some (next_in operation_in parts) _ m e in

@@ -34,7 +34,7 @@ use Rattle.text_depth.proofs.BehavioursDepths.{action_with_selection_is, action_
 use Rattle.text_depth.proofs.TermsDepths.{applied_factor_is, bracketed_factor_is, factor_before_factors_is, no_factors_is, no_terms_is, same_terms_is, term_before_terms_is, term_of_factors_is}
 use Rattle.text_depth.proofs.EquationsDepths.{conclusion_after_term_is, conclusion_of_terms_is, equals_after_term_is, equation_before_equations_is, equation_of_term_is, group_before_groups_is, no_conclusion_is, no_equations_listed_is, no_groups_is, no_right_side_is, premiss_before_conclusion_is, premiss_of_term_is, same_equations_is, some_conclusion_is, some_right_side_is}
 use Rattle.text_depth.proofs.RenamingsDepths.{no_pairs_is, operation_pair_before_pairs_is, pairs_of_both_is, same_pairs_is, sort_pair_before_pairs_is}
-use Rattle.text_depth.proofs.StartsDepths.{a_behaviour_word_is, item_before_order_is, no_order_items_is, no_profile_is, some_profile_is, specification_of_parts_is}
+use Rattle.text_depth.proofs.StartsDepths.{a_behaviour_word_is, item_before_order_is, no_order_items_is, no_profile_is, some_profile_is, no_status_is, some_status_is, specification_of_parts_is}
 
 abbrev pub names_arity : NamesRow → ℕ
 names_arity name_row.Name = 0
@@ -60,7 +60,8 @@ names_arity name_row.PrefixOperation = 1
 names_arity name_row.InfixOperation = 1
 names_arity name_row.Profile = 2
 
-names_hold : (limit : ℕ) (text : List ℕ) (row : NamesRow) (token : Option Token) (parts : List Meaning) (m : Meaning) → length parts ≡ names_arity row →
+names_hold : (limit : ℕ) (text : List ℕ) (row : NamesRow) (token : Option Token) (parts : List Meaning) (m : Meaning)
+    → length parts ≡ names_arity row →
     names_row_means text row token parts ≡ Some m → names_row_depth limit row token (map (depth_of limit) parts) ≡ Some (depth_of limit m)
 names_hold limit text name_row.Name token parts m n e = token_named_is limit text token m e
 names_hold limit text name_row.Names token parts m n e = name_before_names_is limit parts m n e
@@ -187,7 +188,8 @@ equations_arity equation_row.Premiss = 2
 equations_arity equation_row.NoPremissRight = 0
 equations_arity equation_row.PremissRight = 1
 
-equations_hold : (limit : ℕ) (row : EquationsRow) (token : Option Token) (parts : List Meaning) (m : Meaning) → length parts ≡ equations_arity row →
+equations_hold : (limit : ℕ) (row : EquationsRow) (token : Option Token) (parts : List Meaning) (m : Meaning)
+    → length parts ≡ equations_arity row →
     equations_row_means row token parts ≡ Some m → equations_row_depth limit row (map (depth_of limit) parts) ≡ Some (depth_of limit m)
 equations_hold limit equation_row.NoVariablesForAll token parts m n e = no_variables_is limit parts m n e
 equations_hold limit equation_row.VariablesForAll token parts m n e = same_variables_is limit parts m n e
@@ -223,7 +225,8 @@ renamings_arity renaming_row.NoMoreOperationPairs = 0
 renamings_arity renaming_row.MoreOperationPairsAfterComma = 1
 renamings_arity renaming_row.MoreOperationPairs = 1
 
-renamings_hold : (limit : ℕ) (row : RenamingsRow) (token : Option Token) (parts : List Meaning) (m : Meaning) → length parts ≡ renamings_arity row →
+renamings_hold : (limit : ℕ) (row : RenamingsRow) (token : Option Token) (parts : List Meaning) (m : Meaning)
+    → length parts ≡ renamings_arity row →
     renamings_row_means row token parts ≡ Some m → closing limit (map (depth_of limit) parts) ≡ Some (depth_of limit m)
 renamings_hold limit renaming_row.Renames token parts m n e = pairs_of_both_is limit parts m n e
 renamings_hold limit renaming_row.NoSortRenames token parts m n e = no_pairs_is limit parts m n e
@@ -285,8 +288,10 @@ behaviours_arity behaviour_row.GateSynchronisation = 1
 behaviours_arity behaviour_row.NoAccept = 0
 behaviours_arity behaviour_row.Accept = 1
 
-behaviours_hold : (limit : ℕ) (row : BehavioursRow) (token : Option Token) (parts : List Meaning) (m : Meaning) → length parts ≡ behaviours_arity row →
-    behaviours_row_means row token parts ≡ Some m → behaviours_row_depth limit row token (map (depth_of limit) parts) ≡ Some (depth_of limit m)
+behaviours_hold : (limit : ℕ) (row : BehavioursRow) (token : Option Token) (parts : List Meaning) (m : Meaning)
+    → length parts ≡ behaviours_arity row →
+    behaviours_row_means row token parts ≡ Some m → behaviours_row_depth limit row token (map (depth_of limit) parts)
+    ≡ Some (depth_of limit m)
 behaviours_hold limit behaviour_row.Hide token parts m n e = hidden_is limit token parts m n e
 behaviours_hold limit behaviour_row.Let token parts m n e = let_in_is limit token parts m n e
 behaviours_hold limit behaviour_row.Choice token parts m n e = choice_after_word_is limit token parts m n e
@@ -347,7 +352,8 @@ definitions_arity definition_row.InnerItem = 2
 definitions_arity definition_row.InnerProcess = 2
 definitions_arity definition_row.Process = 3
 
-definitions_hold : (limit : ℕ) (row : DefinitionsRow) (token : Option Token) (parts : List Meaning) (m : Meaning) → length parts ≡ definitions_arity row →
+definitions_hold : (limit : ℕ) (row : DefinitionsRow) (token : Option Token) (parts : List Meaning) (m : Meaning)
+    → length parts ≡ definitions_arity row →
     definitions_row_means row token parts ≡ Some m → definitions_row_depth limit row (map (depth_of limit) parts) ≡ Some (depth_of limit m)
 definitions_hold limit definition_row.Heading token parts m n e = heading_of_parts_is limit parts m n e
 definitions_hold limit definition_row.NoParameters token parts m n e = no_variables_is limit parts m n e
@@ -369,7 +375,8 @@ specification_arity specification_row.Items = 2
 specification_arity specification_row.BehaviourWord = 0
 specification_arity specification_row.BehaviorWord = 0
 
-specification_hold : (limit : ℕ) (row : SpecificationRow) (token : Option Token) (parts : List Meaning) (m : Meaning) → length parts ≡ specification_arity row →
+specification_hold : (limit : ℕ) (row : SpecificationRow) (token : Option Token) (parts : List Meaning) (m : Meaning)
+    → length parts ≡ specification_arity row →
     specification_row_means row token parts ≡ Some m → closing limit (map (depth_of limit) parts) ≡ Some (depth_of limit m)
 specification_hold limit specification_row.NoItems token parts m n e = no_items_is limit parts m n e
 specification_hold limit specification_row.Items token parts m n e = item_before_items_is limit parts m n e
@@ -380,11 +387,13 @@ abbrev pub starts_arity : StartsRow → ℕ
 starts_arity start_row.Spec = 5
 starts_arity start_row.Typetext = 1
 starts_arity start_row.NoOrder = 0
-starts_arity start_row.Order = 3
+starts_arity start_row.Order = 4
 starts_arity start_row.NoOptionalProfile = 0
 starts_arity start_row.OptionalProfile = 1
 starts_arity start_row.NoTerms = 0
 starts_arity start_row.Terms = 1
+starts_arity start_row.NoOptionalStatus = 0
+starts_arity start_row.OptionalStatus = 1
 
 starts_hold : (limit : ℕ) (row : StartsRow) (token : Option Token) (parts : List Meaning) (m : Meaning) → length parts ≡ starts_arity row →
     starts_row_means row token parts ≡ Some m → starts_row_depth limit row (map (depth_of limit) parts) ≡ Some (depth_of limit m)
@@ -396,6 +405,8 @@ starts_hold limit start_row.NoOptionalProfile token parts m n e = no_profile_is 
 starts_hold limit start_row.OptionalProfile token parts m n e = some_profile_is limit parts m n e
 starts_hold limit start_row.NoTerms token parts m n e = no_terms_is limit parts m n e
 starts_hold limit start_row.Terms token parts m n e = same_terms_is limit parts m n e
+starts_hold limit start_row.NoOptionalStatus token parts m n e = no_status_is limit parts m n e
+starts_hold limit start_row.OptionalStatus token parts m n e = some_status_is limit parts m n e
 
 abbrev pub arity : RowName → ℕ
 arity (of_subject.Names row) = names_arity row
@@ -408,7 +419,8 @@ arity (of_subject.Definitions row) = definitions_arity row
 arity (of_subject.Specification row) = specification_arity row
 arity (of_subject.Starts row) = starts_arity row
 
-pub row_holds : (limit : ℕ) (text : List ℕ) (name : RowName) (token : Option Token) (parts : List Meaning) (m : Meaning) → length parts ≡ arity name →
+pub row_holds : (limit : ℕ) (text : List ℕ) (name : RowName) (token : Option Token) (parts : List Meaning) (m : Meaning)
+    → length parts ≡ arity name →
     row_means text name token parts ≡ Some m → row_depth limit name token (map (depth_of limit) parts) ≡ Some (depth_of limit m)
 row_holds limit text (of_subject.Names row) token parts m n e = names_hold limit text row token parts m n e
 row_holds limit text (of_subject.Terms row) token parts m n e = terms_hold limit row token parts m n e

@@ -70,7 +70,8 @@ applied_factor_is limit parts m n e =
     let x : Meaning = a_term (record { start = name.place; term = with_sorts mark (applied name arguments) }) in
     row limit (applied_name) parts shown x m s i3.2 (ap (λ it. Some (of_firsts it)) (sym (applied_firsts name mark arguments)))
 
-pub bracketed_factor_is : (limit : ℕ) (token : Option Token) (parts : List Meaning) (m : Meaning) → length parts ≡ 2 → bracketed_factor token parts ≡ Some m →
+pub bracketed_factor_is : (limit : ℕ) (token : Option Token) (parts : List Meaning) (m : Meaning) → length parts ≡ 2
+    → bracketed_factor token parts ≡ Some m →
     bracketed_term (map (depth_of limit) parts) ≡ Some (depth_of limit m)
 bracketed_factor_is limit token parts m n e =
     let i1 = and_then_some token _ m e in

@@ -15,7 +15,8 @@ use Rattle.text_depth.specs.RowDepth.{closing}
 use Rattle.text_depth.proofs.Inversions.{and_then_some, taken, shape0, shape1, shape2, shape4, shape6, after_base_in_is, body_in_is, both_pairs_in_is, declared_operations_in_is, equation_section_in_is, groups_in_is, item_in_is, items_in_is, name_in_is, names_in_is, operation_in_is, operations_in_is, profile_in_is, sections_in_is, variables_in_is}
 use Rattle.text_depth.proofs.Facts.{row, closes, body_nodes}
 
-pub library_item_is : (limit : ℕ) (token : Option Token) (parts : List Meaning) (m : Meaning) → length parts ≡ 1 → library_item token parts ≡ Some m →
+pub library_item_is : (limit : ℕ) (token : Option Token) (parts : List Meaning) (m : Meaning) → length parts ≡ 1
+    → library_item token parts ≡ Some m →
     closing limit (map (depth_of limit) parts) ≡ Some (depth_of limit m)
 library_item_is limit token parts m n e =
     let i1 = and_then_some token _ m e in
@@ -78,7 +79,8 @@ renaming_after_base_is limit parts m n e =
     let x : Meaning = after_base (renamed pairs) in
     row limit (closing limit) parts shown x m s i1.2 (closes limit shown x refl refl)
 
-pub actualisation_after_base_is : (limit : ℕ) (parts : List Meaning) (m : Meaning) → length parts ≡ 2 → actualisation_after_base parts ≡ Some m →
+pub actualisation_after_base_is : (limit : ℕ) (parts : List Meaning) (m : Meaning) → length parts ≡ 2
+    → actualisation_after_base parts ≡ Some m →
     closing limit (map (depth_of limit) parts) ≡ Some (depth_of limit m)
 actualisation_after_base_is limit parts m n e =
     let i1 = and_then_some (next_in names_in parts) _ m e in
@@ -127,9 +129,19 @@ sections_of_parts_is limit parts m n e =
     let i6 = and_then_some (next_in equation_section_in i5.0.1) _ m i5.2 in
     let e6 = taken equation_section_in an_equation_section equation_section_in_is i5.0.1 i6.0 i6.1 in
     let equations = i6.0.0 in
-    let shown : List Meaning = some_names formal_sorts ∷ declared_operations formal_operations ∷ an_equation_section formal_equations ∷ some_names sorts ∷ declared_operations operations ∷ an_equation_section equations ∷ [] in
-    let s : parts ≡ shown = shape6 parts (some_names formal_sorts) (declared_operations formal_operations) (an_equation_section formal_equations) (some_names sorts) (declared_operations operations) (an_equation_section equations) i1.0.1 i2.0.1 i3.0.1 i4.0.1 i5.0.1 i6.0.1 e1 e2 e3 e4 e5 e6 n in
-    let x : Meaning = some_sections (record { formal_sorts = formal_sorts; formal_operations = formal_operations; formal_equations = formal_equations; sorts = sorts; operations = operations; equations = equations }) in
+    let shown : List Meaning = some_names formal_sorts ∷ declared_operations formal_operations ∷ an_equation_section formal_equations
+    ∷ some_names sorts ∷ declared_operations operations ∷ an_equation_section equations ∷ [] in
+    let s : parts ≡ shown = shape6 parts (some_names formal_sorts) (declared_operations formal_operations)
+    (an_equation_section formal_equations) (some_names sorts) (declared_operations operations) (an_equation_section equations) i1.0.1
+    i2.0.1 i3.0.1 i4.0.1 i5.0.1 i6.0.1 e1 e2 e3 e4 e5 e6 n in
+    let x : Meaning = some_sections (record {
+      formal_sorts = formal_sorts;
+      formal_operations = formal_operations;
+      formal_equations = formal_equations;
+      sorts = sorts;
+      operations = operations;
+      equations = equations;
+    }) in
     row limit (closing limit) parts shown x m s i6.2 (closes limit shown x refl (simp (append-nil, append_assoc)))
 
 pub no_operations_declared_is : (limit : ℕ) (parts : List Meaning) (m : Meaning) → length parts ≡ 0 → no_operations_declared ≡ Some m →
@@ -140,7 +152,8 @@ no_operations_declared_is limit parts m n e =
     let x : Meaning = declared_operations [] in
     row limit (closing limit) parts shown x m s e (closes limit shown x refl refl)
 
-pub same_operations_declared_is : (limit : ℕ) (parts : List Meaning) (m : Meaning) → length parts ≡ 1 → same_operations_declared parts ≡ Some m →
+pub same_operations_declared_is : (limit : ℕ) (parts : List Meaning) (m : Meaning) → length parts ≡ 1
+    → same_operations_declared parts ≡ Some m →
     closing limit (map (depth_of limit) parts) ≡ Some (depth_of limit m)
 same_operations_declared_is limit parts m n e =
     let i1 = and_then_some (next_in declared_operations_in parts) _ m e in
@@ -167,7 +180,8 @@ line_before_lines_is limit parts m n e =
     let e4 = taken declared_operations_in declared_operations declared_operations_in_is i3.0.1 i4.0 i4.1 in
     let others = i4.0.0 in
     let shown : List Meaning = an_operation first ∷ some_named_operations more ∷ a_profile profile ∷ declared_operations others ∷ [] in
-    let s : parts ≡ shown = shape4 parts (an_operation first) (some_named_operations more) (a_profile profile) (declared_operations others) i1.0.1 i2.0.1 i3.0.1 i4.0.1 e1 e2 e3 e4 n in
+    let s : parts ≡ shown = shape4 parts (an_operation first) (some_named_operations more) (a_profile profile) (declared_operations others)
+    i1.0.1 i2.0.1 i3.0.1 i4.0.1 e1 e2 e3 e4 n in
     let x : Meaning = declared_operations (operations_of_profile (first ∷ more) profile ++ others) in
     row limit (closing limit) parts shown x m s i4.2 (closes limit shown x refl refl)
 
@@ -179,7 +193,8 @@ no_more_operations_is limit parts m n e =
     let x : Meaning = some_named_operations [] in
     row limit (closing limit) parts shown x m s e (closes limit shown x refl refl)
 
-pub operation_before_operations_is : (limit : ℕ) (parts : List Meaning) (m : Meaning) → length parts ≡ 2 → operation_before_operations parts ≡ Some m →
+pub operation_before_operations_is : (limit : ℕ) (parts : List Meaning) (m : Meaning) → length parts ≡ 2
+    → operation_before_operations parts ≡ Some m →
     closing limit (map (depth_of limit) parts) ≡ Some (depth_of limit m)
 operation_before_operations_is limit parts m n e =
     let i1 = and_then_some (next_in operation_in parts) _ m e in

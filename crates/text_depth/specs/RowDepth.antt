@@ -106,7 +106,8 @@ one_operand operand = Some (of_flat (operand ∷ []) [])
 
 -- a word, names or values, and a behaviour
 abbrev pub word_form : Option Token → List DepthPart → Option DepthPart
-word_form token (before ∷ inside ∷ others) = at_token token (λ place. one_operand (below place (followed before.firsts (grouped_firsts inside))))
+word_form token (before ∷ inside ∷ others) = at_token token
+    (λ place. one_operand (below place (followed before.firsts (grouped_firsts inside))))
 word_form token _ = None
 
 -- `choice`: names, and the rest of it

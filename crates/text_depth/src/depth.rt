@@ -39,7 +39,10 @@ fn depth(
 ) -> Result<Option<Place>, AllocError>
     requires lotos { IsLotosGrammar grammar.now }
     requires derivation { IsLeftmostDerivation grammar.now rows.now (map kind_of tokens.now) }
-    ensures { IfOk result (λ deep. (text : List ℕ) (found : Meaning) → Derived text grammar.now.start tokens.now found → everywhere (option_map text_place_of deep) ≡ closed_part node_limit (depth_of node_limit found)) }
+    ensures { IfOk result (λ deep. (text : List ℕ) (found : Meaning)
+        → Derived text grammar.now.start tokens.now found
+        → everywhere (option_map text_place_of deep)
+        ≡ closed_part node_limit (depth_of node_limit found)) }
 {
     let rows = Vec::from_slice(alloc, rows)?;
     let actions = Depths { limit: NODE_LIMIT };
@@ -49,14 +52,17 @@ fn depth(
     }
 }
 
-/// The first node of a specification in text order that is deeper than 500, from the rows of the derivation of its tokens.
+/// The first node of a specification in text order that is deeper than 500, from the rows of the
+/// derivation of its tokens.
 pub fn specification_depth(
     alloc: Global,
     tokens: &[Token],
     rows: &[u32],
 ) -> Result<Option<Place>, AllocError>
     requires { IsLeftmostDerivation (grammar_from starts.SPEC) rows.now (map kind_of tokens.now) }
-    ensures { IfOk result (λ deep. (text : List ℕ) (tree : WrittenSpecification) → IsWrittenSpecification text tokens.now tree → option_map text_place_of deep ≡ first_deeper node_limit (nodes_of_specification tree)) }
+    ensures { IfOk result (λ deep. (text : List ℕ) (tree : WrittenSpecification)
+        → IsWrittenSpecification text tokens.now tree
+        → option_map text_place_of deep ≡ first_deeper node_limit (nodes_of_specification tree)) }
 {
     let deep = depth(alloc, &specification_grammar(), tokens, rows);
     deep
@@ -69,7 +75,9 @@ pub fn items_depth(
     rows: &[u32],
 ) -> Result<Option<Place>, AllocError>
     requires { IsLeftmostDerivation (grammar_from starts.TYPETEXT) rows.now (map kind_of tokens.now) }
-    ensures { IfOk result (λ deep. (text : List ℕ) (items : List WrittenItem) → AreItems text tokens.now items → option_map text_place_of deep ≡ first_deeper node_limit (nodes_of_items items)) }
+    ensures { IfOk result (λ deep. (text : List ℕ) (items : List WrittenItem)
+        → AreItems text tokens.now items → option_map text_place_of deep
+        ≡ first_deeper node_limit (nodes_of_items items)) }
 {
     let deep = depth(alloc, &types_grammar(), tokens, rows);
     deep
@@ -82,7 +90,9 @@ pub fn terms_depth(
     rows: &[u32],
 ) -> Result<Option<Place>, AllocError>
     requires { IsLeftmostDerivation (grammar_from starts.TERMS) rows.now (map kind_of tokens.now) }
-    ensures { IfOk result (λ deep. (text : List ℕ) (terms : List WrittenTerm) → AreOptionalTerms text tokens.now terms → option_map text_place_of deep ≡ first_deeper node_limit (nodes_of_terms terms)) }
+    ensures { IfOk result (λ deep. (text : List ℕ) (terms : List WrittenTerm)
+        → AreOptionalTerms text tokens.now terms
+        → option_map text_place_of deep ≡ first_deeper node_limit (nodes_of_terms terms)) }
 {
     let deep = depth(alloc, &terms_grammar(), tokens, rows);
     deep

@@ -32,7 +32,8 @@ pub fn token_name(alloc: Global, token: Option<Token>) -> Kept
 
 /// A term of its first factor and those behind it, which are held from the last to the first.
 fn factors(first: FirstNodes, mut behind: Vec<FirstNodes>) -> Result<FirstNodes, AllocError>
-    ensures { IfOk result (λ term. firsts_of term ≡ fold between (firsts_of first) (from_last firsts_of behind.items)) }
+    ensures { IfOk result (λ term. firsts_of term
+        ≡ fold between (firsts_of first) (from_last firsts_of behind.items)) }
 {
     let mut left = first;
     while let Some(next) = behind.pop() {
@@ -43,7 +44,8 @@ fn factors(first: FirstNodes, mut behind: Vec<FirstNodes>) -> Result<FirstNodes,
 
 /// Two lists with one name between them.
 pub fn around_middle(alloc: Global, parts: &mut Vec<KeptPart>) -> Kept
-    ensures { IfOk result (λ kept. option_map kept_of kept ≡ around_middle (from_last kept_of parts.old.items)) }
+    ensures { IfOk result (λ kept. option_map kept_of kept
+        ≡ around_middle (from_last kept_of parts.old.items)) }
 {
     let Some(first) = parts.pop() else {
         return Ok(None);
@@ -59,7 +61,8 @@ pub fn around_middle(alloc: Global, parts: &mut Vec<KeptPart>) -> Kept
 
 /// A term of its factors.
 pub fn left_grouped(alloc: Global, parts: &mut Vec<KeptPart>) -> Kept
-    ensures { IfOk result (λ kept. option_map kept_of kept ≡ left_grouped (from_last kept_of parts.old.items)) }
+    ensures { IfOk result (λ kept. option_map kept_of kept
+        ≡ left_grouped (from_last kept_of parts.old.items)) }
 {
     let Some(first) = parts.pop() else {
         return Ok(None);
@@ -73,7 +76,8 @@ pub fn left_grouped(alloc: Global, parts: &mut Vec<KeptPart>) -> Kept
 
 /// An operation, a factor, and more of them.
 pub fn factor_first(alloc: Global, parts: &mut Vec<KeptPart>) -> Kept
-    ensures { IfOk result (λ kept. option_map kept_of kept ≡ factor_first (from_last kept_of parts.old.items)) }
+    ensures { IfOk result (λ kept. option_map kept_of kept
+        ≡ factor_first (from_last kept_of parts.old.items)) }
 {
     let Some(_) = parts.pop() else {
         return Ok(None);
@@ -91,7 +95,8 @@ pub fn factor_first(alloc: Global, parts: &mut Vec<KeptPart>) -> Kept
 
 /// A name with its arguments.
 pub fn applied_name(alloc: Global, parts: &mut Vec<KeptPart>) -> Kept
-    ensures { IfOk result (λ kept. option_map kept_of kept ≡ applied_name (from_last kept_of parts.old.items)) }
+    ensures { IfOk result (λ kept. option_map kept_of kept
+        ≡ applied_name (from_last kept_of parts.old.items)) }
 {
     let Some(mut name) = parts.pop() else {
         return Ok(None);
@@ -111,7 +116,8 @@ pub fn applied_name(alloc: Global, parts: &mut Vec<KeptPart>) -> Kept
 
 /// A term in brackets.
 pub fn bracketed_term(alloc: Global, parts: &mut Vec<KeptPart>) -> Kept
-    ensures { IfOk result (λ kept. option_map kept_of kept ≡ bracketed_term (from_last kept_of parts.old.items)) }
+    ensures { IfOk result (λ kept. option_map kept_of kept
+        ≡ bracketed_term (from_last kept_of parts.old.items)) }
 {
     let Some(inside) = parts.pop() else {
         return Ok(None);
@@ -133,7 +139,8 @@ fn one_operand(alloc: Global, operand: FirstNodes) -> Kept
 
 /// A word, names or values, and a behaviour.
 pub fn word_form(alloc: Global, token: Option<Token>, parts: &mut Vec<KeptPart>) -> Kept
-    ensures { IfOk result (λ kept. option_map kept_of kept ≡ word_form token (from_last kept_of parts.old.items)) }
+    ensures { IfOk result (λ kept. option_map kept_of kept
+        ≡ word_form token (from_last kept_of parts.old.items)) }
 {
     let Some(before) = parts.pop() else {
         return Ok(None);
@@ -149,10 +156,11 @@ pub fn word_form(alloc: Global, token: Option<Token>, parts: &mut Vec<KeptPart>)
     one_operand(alloc, form)
 }
 
-/// Names each of which is a node below the one before, and what stands behind them. The names are held from the last to the
-/// first.
+/// Names each of which is a node below the one before, and what stands behind them. The names are
+/// held from the last to the first.
 fn names_first(names: Vec<Place>, inside: FirstNodes) -> Result<FirstNodes, AllocError>
-    ensures { IfOk result (λ firsts. firsts_of firsts ≡ names_firsts (from_last text_place_of names.items) (firsts_of inside)) }
+    ensures { IfOk result (λ firsts. firsts_of firsts
+        ≡ names_firsts (from_last text_place_of names.items) (firsts_of inside)) }
 {
     let mut names = turned(names);
     let mut firsts = inside;
@@ -165,7 +173,8 @@ fn names_first(names: Vec<Place>, inside: FirstNodes) -> Result<FirstNodes, Allo
 /// `choice`: names, and the rest of it.
 #[tactic(auto, using(tree_building::proofs::FromLast::from_last_more, tree_building::proofs::FromLast::from_last_none, crate::proofs::PartLists::names_firsts_append))]
 pub fn choice_form(alloc: Global, parts: &mut Vec<KeptPart>) -> Kept
-    ensures { IfOk result (λ kept. option_map kept_of kept ≡ choice_form (from_last kept_of parts.old.items)) }
+    ensures { IfOk result (λ kept. option_map kept_of kept
+        ≡ choice_form (from_last kept_of parts.old.items)) }
 {
     let Some(names) = parts.pop() else {
         return Ok(None);
@@ -186,7 +195,8 @@ pub fn choice_form(alloc: Global, parts: &mut Vec<KeptPart>) -> Kept
 
 /// `par`: gates, the sign, and a behaviour.
 pub fn par_form(alloc: Global, parts: &mut Vec<KeptPart>) -> Kept
-    ensures { IfOk result (λ kept. option_map kept_of kept ≡ par_form (from_last kept_of parts.old.items)) }
+    ensures { IfOk result (λ kept. option_map kept_of kept
+        ≡ par_form (from_last kept_of parts.old.items)) }
 {
     let Some(gates) = parts.pop() else {
         return Ok(None);
@@ -204,7 +214,8 @@ pub fn par_form(alloc: Global, parts: &mut Vec<KeptPart>) -> Kept
 
 /// A node in front of the first operand.
 fn put_below(place: Place, operands: &mut Vec<FirstNodes>) -> Result<(), AllocError>
-    ensures { OnOk result (from_last firsts_of operands.new.items ≡ below_first (text_place_of place) (from_last firsts_of operands.old.items)) }
+    ensures { OnOk result (from_last firsts_of operands.new.items
+        ≡ below_first (text_place_of place) (from_last firsts_of operands.old.items)) }
 {
     if let Some(first) = operands.pop() {
         operands.push(first.below(place)?)?;
@@ -214,7 +225,8 @@ fn put_below(place: Place, operands: &mut Vec<FirstNodes>) -> Result<(), AllocEr
 
 /// A node in front of a flat list.
 fn in_front(alloc: Global, place: Place, mut flat: KeptPart) -> Kept
-    ensures { IfOk result (λ kept. option_map kept_of kept ≡ in_front (text_place_of place) (kept_of flat)) }
+    ensures { IfOk result (λ kept. option_map kept_of kept
+        ≡ in_front (text_place_of place) (kept_of flat)) }
 {
     put_below(place, &mut flat.operands)?;
     Ok(Some(KeptPart::of_flat(alloc, flat.operands, flat.strengths)))
@@ -222,7 +234,8 @@ fn in_front(alloc: Global, place: Place, mut flat: KeptPart) -> Kept
 
 /// Terms in front of the first operand.
 fn put_before(terms: FirstNodes, operands: &mut Vec<FirstNodes>) -> Result<(), AllocError>
-    ensures { OnOk result (from_last firsts_of operands.new.items ≡ before_first_operand (firsts_of terms) (from_last firsts_of operands.old.items)) }
+    ensures { OnOk result (from_last firsts_of operands.new.items
+        ≡ before_first_operand (firsts_of terms) (from_last firsts_of operands.old.items)) }
 {
     if let Some(first) = operands.pop() {
         operands.push(terms.followed(first)?)?;
@@ -236,7 +249,9 @@ fn with_terms_before(
     terms: FirstNodes,
     mut flat: KeptPart,
 ) -> Result<KeptPart, AllocError>
-    ensures { IfOk result (λ kept. kept_of kept ≡ of_flat (before_first_operand (firsts_of terms) (kept_of flat).operands) (kept_of flat).strengths) }
+    ensures { IfOk result (λ kept. kept_of kept
+        ≡ of_flat (before_first_operand (firsts_of terms) (kept_of flat).operands)
+        (kept_of flat).strengths) }
 {
     put_before(terms, &mut flat.operands)?;
     Ok(KeptPart::of_flat(alloc, flat.operands, flat.strengths))
@@ -244,7 +259,8 @@ fn with_terms_before(
 
 /// `i` in front of a flat list.
 pub fn inner_prefix(alloc: Global, token: Option<Token>, parts: &mut Vec<KeptPart>) -> Kept
-    ensures { IfOk result (λ kept. option_map kept_of kept ≡ inner_prefix token (from_last kept_of parts.old.items)) }
+    ensures { IfOk result (λ kept. option_map kept_of kept
+        ≡ inner_prefix token (from_last kept_of parts.old.items)) }
 {
     let Some(flat) = parts.pop() else {
         return Ok(None);
@@ -257,7 +273,8 @@ pub fn inner_prefix(alloc: Global, token: Option<Token>, parts: &mut Vec<KeptPar
 
 /// A premiss in front of a flat list, or offers in front of an action.
 pub fn terms_before(alloc: Global, parts: &mut Vec<KeptPart>) -> Kept
-    ensures { IfOk result (λ kept. option_map kept_of kept ≡ terms_before (from_last kept_of parts.old.items)) }
+    ensures { IfOk result (λ kept. option_map kept_of kept
+        ≡ terms_before (from_last kept_of parts.old.items)) }
 {
     let Some(terms) = parts.pop() else {
         return Ok(None);
@@ -270,7 +287,8 @@ pub fn terms_before(alloc: Global, parts: &mut Vec<KeptPart>) -> Kept
 
 /// A guard.
 pub fn guard_prefix(alloc: Global, token: Option<Token>, parts: &mut Vec<KeptPart>) -> Kept
-    ensures { IfOk result (λ kept. option_map kept_of kept ≡ guard_prefix token (from_last kept_of parts.old.items)) }
+    ensures { IfOk result (λ kept. option_map kept_of kept
+        ≡ guard_prefix token (from_last kept_of parts.old.items)) }
 {
     let Some(test) = parts.pop() else {
         return Ok(None);
@@ -287,7 +305,8 @@ pub fn guard_prefix(alloc: Global, token: Option<Token>, parts: &mut Vec<KeptPar
 
 /// A gate or a process, and what stands behind it.
 pub fn named_first(alloc: Global, parts: &mut Vec<KeptPart>) -> Kept
-    ensures { IfOk result (λ kept. option_map kept_of kept ≡ named_first (from_last kept_of parts.old.items)) }
+    ensures { IfOk result (λ kept. option_map kept_of kept
+        ≡ named_first (from_last kept_of parts.old.items)) }
 {
     let Some(mut name) = parts.pop() else {
         return Ok(None);
@@ -303,7 +322,8 @@ pub fn named_first(alloc: Global, parts: &mut Vec<KeptPart>) -> Kept
 
 /// An operand in front of a tail.
 fn first_operand(alloc: Global, operand: FirstNodes, tail: KeptPart) -> Kept
-    ensures { IfOk result (λ kept. option_map kept_of kept ≡ first_operand (firsts_of operand) (kept_of tail)) }
+    ensures { IfOk result (λ kept. option_map kept_of kept
+        ≡ first_operand (firsts_of operand) (kept_of tail)) }
 {
     let mut operands = tail.operands;
     operands.push(operand)?;
@@ -312,7 +332,8 @@ fn first_operand(alloc: Global, operand: FirstNodes, tail: KeptPart) -> Kept
 
 /// A call without its name.
 pub fn call_end(alloc: Global, parts: &mut Vec<KeptPart>, limit: usize) -> Kept
-    ensures { IfOk result (λ kept. option_map kept_of kept ≡ call_end limit (from_last kept_of parts.old.items)) }
+    ensures { IfOk result (λ kept. option_map kept_of kept
+        ≡ call_end limit (from_last kept_of parts.old.items)) }
 {
     let Some(_) = parts.pop() else {
         return Ok(None);
@@ -329,7 +350,8 @@ pub fn call_end(alloc: Global, parts: &mut Vec<KeptPart>, limit: usize) -> Kept
 
 /// `stop`.
 pub fn stop_first(alloc: Global, token: Option<Token>, parts: &mut Vec<KeptPart>) -> Kept
-    ensures { IfOk result (λ kept. option_map kept_of kept ≡ stop_first token (from_last kept_of parts.old.items)) }
+    ensures { IfOk result (λ kept. option_map kept_of kept
+        ≡ stop_first token (from_last kept_of parts.old.items)) }
 {
     let Some(tail) = parts.pop() else {
         return Ok(None);
@@ -343,7 +365,8 @@ pub fn stop_first(alloc: Global, token: Option<Token>, parts: &mut Vec<KeptPart>
 
 /// `exit`.
 pub fn exit_first(alloc: Global, token: Option<Token>, parts: &mut Vec<KeptPart>) -> Kept
-    ensures { IfOk result (λ kept. option_map kept_of kept ≡ exit_first token (from_last kept_of parts.old.items)) }
+    ensures { IfOk result (λ kept. option_map kept_of kept
+        ≡ exit_first token (from_last kept_of parts.old.items)) }
 {
     let Some(values) = parts.pop() else {
         return Ok(None);
@@ -360,7 +383,8 @@ pub fn exit_first(alloc: Global, token: Option<Token>, parts: &mut Vec<KeptPart>
 
 /// A behaviour in brackets.
 pub fn bracket_first(alloc: Global, parts: &mut Vec<KeptPart>) -> Kept
-    ensures { IfOk result (λ kept. option_map kept_of kept ≡ bracket_first (from_last kept_of parts.old.items)) }
+    ensures { IfOk result (λ kept. option_map kept_of kept
+        ≡ bracket_first (from_last kept_of parts.old.items)) }
 {
     let Some(inside) = parts.pop() else {
         return Ok(None);
@@ -374,7 +398,8 @@ pub fn bracket_first(alloc: Global, parts: &mut Vec<KeptPart>) -> Kept
 
 /// The end of a choice: a sort or gates, more names, and the behaviour.
 pub fn end_of_choice(alloc: Global, parts: &mut Vec<KeptPart>) -> Kept
-    ensures { IfOk result (λ kept. option_map kept_of kept ≡ end_of_choice (from_last kept_of parts.old.items)) }
+    ensures { IfOk result (λ kept. option_map kept_of kept
+        ≡ end_of_choice (from_last kept_of parts.old.items)) }
 {
     let Some(_) = parts.pop() else {
         return Ok(None);
@@ -395,7 +420,8 @@ pub fn end_of_choice(alloc: Global, parts: &mut Vec<KeptPart>) -> Kept
 
 /// A whole behaviour.
 pub fn chosen_part(alloc: Global, parts: &mut Vec<KeptPart>) -> Kept
-    ensures { IfOk result (λ kept. option_map kept_of kept ≡ chosen_part (from_last kept_of parts.old.items)) }
+    ensures { IfOk result (λ kept. option_map kept_of kept
+        ≡ chosen_part (from_last kept_of parts.old.items)) }
 {
     let Some(inside) = parts.pop() else {
         return Ok(None);

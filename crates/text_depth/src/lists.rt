@@ -17,7 +17,8 @@ pub type Kept = Result<Option<KeptPart>, AllocError>;
 
 /// The first node that is too deep in a part whose trees count from their own roots.
 pub fn closed_part(alloc: Global, part: KeptPart, limit: usize) -> Result<Option<Place>, AllocError>
-    ensures { IfOk result (λ place. everywhere (option_map text_place_of place) ≡ closed_part limit (kept_of part)) }
+    ensures { IfOk result (λ place. everywhere (option_map text_place_of place)
+        ≡ closed_part limit (kept_of part)) }
 {
     let KeptPart {
         names: _,
@@ -36,7 +37,8 @@ fn closed_parts(
     mut parts: Vec<KeptPart>,
     limit: usize,
 ) -> Result<Option<Place>, AllocError>
-    ensures { IfOk result (λ place. everywhere (option_map text_place_of place) ≡ closed_parts limit (from_last kept_of parts.items)) }
+    ensures { IfOk result (λ place. everywhere (option_map text_place_of place)
+        ≡ closed_parts limit (from_last kept_of parts.items)) }
 {
     while let Some(part) = parts.pop() {
         let found = closed_part(alloc, part, limit)?;
@@ -49,7 +51,8 @@ fn closed_parts(
 
 /// Parts each of which counts from its own root.
 pub fn closing(alloc: Global, parts: Vec<KeptPart>, limit: usize) -> Kept
-    ensures { IfOk result (λ kept. option_map kept_of kept ≡ closing limit (from_last kept_of parts.items)) }
+    ensures { IfOk result (λ kept. option_map kept_of kept
+        ≡ closing limit (from_last kept_of parts.items)) }
 {
     let found = closed_parts(alloc, parts, limit)?;
     Ok(Some(KeptPart::of_firsts(alloc, FirstNodes::everywhere(alloc, found))))
@@ -95,7 +98,8 @@ fn joined_parts(alloc: Global, mut parts: Vec<KeptPart>) -> Result<KeptPart, All
 
 /// Lists one behind the other.
 pub fn together(alloc: Global, parts: Vec<KeptPart>) -> Kept
-    ensures { IfOk result (λ kept. option_map kept_of kept ≡ together (from_last kept_of parts.items)) }
+    ensures { IfOk result (λ kept. option_map kept_of kept
+        ≡ together (from_last kept_of parts.items)) }
 {
     Ok(Some(joined_parts(alloc, parts)?))
 }

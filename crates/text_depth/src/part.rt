@@ -66,7 +66,8 @@ impl KeptPart {
     /// Of a flat list.
     #[tactic(auto, using(tree_building::proofs::FromLast::from_last_none))]
     pub fn of_flat(alloc: Global, operands: Vec<FirstNodes>, strengths: Vec<u8>) -> KeptPart
-        ensures { kept_of result ≡ of_flat (from_last firsts_of operands.items) (from_last (λ strength. strength) strengths.items) }
+        ensures { kept_of result ≡ of_flat (from_last firsts_of operands.items)
+            (from_last (λ strength. strength) strengths.items) }
     {
         KeptPart {
             names: Vec::new(alloc),
@@ -83,7 +84,9 @@ pub fn grouped_firsts(
     operands: Vec<FirstNodes>,
     strengths: Vec<u8>,
 ) -> Result<FirstNodes, AllocError>
-    ensures { IfOk result (λ firsts. firsts_of firsts ≡ or_no_nodes (grouped (λ strength. strength) (λ strength. between) (from_last firsts_of operands.items) (from_last (λ strength. strength) strengths.items))) }
+    ensures { IfOk result (λ firsts. firsts_of firsts
+        ≡ or_no_nodes (grouped (λ strength. strength) (λ strength. between)
+        (from_last firsts_of operands.items) (from_last (λ strength. strength) strengths.items))) }
 {
     if operands.len() != strengths.len() + 1 {
         return Ok(FirstNodes::everywhere(alloc, None));

@@ -37,7 +37,8 @@ fn names_row(
     token: Option<Token>,
     mut parts: Vec<KeptPart>,
 ) -> Kept
-    ensures { IfOk result (λ kept. option_map kept_of kept ≡ names_row_depth limit row token (from_last kept_of parts.items)) }
+    ensures { IfOk result (λ kept. option_map kept_of kept
+        ≡ names_row_depth limit row token (from_last kept_of parts.items)) }
 {
     match row {
         NamesRow::Name | NamesRow::DigitName | NamesRow::SignName => {
@@ -53,7 +54,8 @@ fn names_row(
 
 /// What a row of terms keeps.
 fn terms_row(alloc: Global, row: TermsRow, token: Option<Token>, mut parts: Vec<KeptPart>) -> Kept
-    ensures { IfOk result (λ kept. option_map kept_of kept ≡ terms_row_depth row token (from_last kept_of parts.items)) }
+    ensures { IfOk result (λ kept. option_map kept_of kept
+        ≡ terms_row_depth row token (from_last kept_of parts.items)) }
 {
     match row {
         TermsRow::Term => forms::left_grouped(alloc, &mut parts),
@@ -66,7 +68,8 @@ fn terms_row(alloc: Global, row: TermsRow, token: Option<Token>, mut parts: Vec<
 
 /// What a row of types keeps.
 fn types_row(alloc: Global, limit: usize, row: TypesRow, parts: Vec<KeptPart>) -> Kept
-    ensures { IfOk result (λ kept. option_map kept_of kept ≡ types_row_depth limit row (from_last kept_of parts.items)) }
+    ensures { IfOk result (λ kept. option_map kept_of kept
+        ≡ types_row_depth limit row (from_last kept_of parts.items)) }
 {
     match row {
         TypesRow::NoFormalSorts | TypesRow::FormalSorts | TypesRow::NoSorts | TypesRow::Sorts => {
@@ -78,7 +81,8 @@ fn types_row(alloc: Global, limit: usize, row: TypesRow, parts: Vec<KeptPart>) -
 
 /// What a row of equations keeps.
 fn equations_row(alloc: Global, limit: usize, row: EquationsRow, parts: Vec<KeptPart>) -> Kept
-    ensures { IfOk result (λ kept. option_map kept_of kept ≡ equations_row_depth limit row (from_last kept_of parts.items)) }
+    ensures { IfOk result (λ kept. option_map kept_of kept
+        ≡ equations_row_depth limit row (from_last kept_of parts.items)) }
 {
     match row {
         EquationsRow::NoVariablesForAll | EquationsRow::VariablesForAll => together(alloc, parts),
@@ -88,7 +92,8 @@ fn equations_row(alloc: Global, limit: usize, row: EquationsRow, parts: Vec<Kept
 
 /// What a row of definitions keeps.
 fn definitions_row(alloc: Global, limit: usize, row: DefinitionsRow, parts: Vec<KeptPart>) -> Kept
-    ensures { IfOk result (λ kept. option_map kept_of kept ≡ definitions_row_depth limit row (from_last kept_of parts.items)) }
+    ensures { IfOk result (λ kept. option_map kept_of kept
+        ≡ definitions_row_depth limit row (from_last kept_of parts.items)) }
 {
     match row {
         DefinitionsRow::NoParameters
@@ -101,7 +106,8 @@ fn definitions_row(alloc: Global, limit: usize, row: DefinitionsRow, parts: Vec<
 
 /// What a row of the four texts keeps.
 fn starts_row(alloc: Global, limit: usize, row: StartsRow, parts: Vec<KeptPart>) -> Kept
-    ensures { IfOk result (λ kept. option_map kept_of kept ≡ starts_row_depth limit row (from_last kept_of parts.items)) }
+    ensures { IfOk result (λ kept. option_map kept_of kept
+        ≡ starts_row_depth limit row (from_last kept_of parts.items)) }
 {
     match row {
         StartsRow::NoTerms | StartsRow::Terms => together(alloc, parts),
@@ -117,7 +123,8 @@ fn behaviours_row(
     token: Option<Token>,
     mut parts: Vec<KeptPart>,
 ) -> Kept
-    ensures { IfOk result (λ kept. option_map kept_of kept ≡ behaviours_row_depth limit row token (from_last kept_of parts.items)) }
+    ensures { IfOk result (λ kept. option_map kept_of kept
+        ≡ behaviours_row_depth limit row token (from_last kept_of parts.items)) }
 {
     match row {
         BehavioursRow::Hide | BehavioursRow::Let => forms::word_form(alloc, token, &mut parts),
@@ -165,7 +172,8 @@ fn keep_row(
     token: Option<Token>,
     parts: Vec<KeptPart>,
 ) -> Kept
-    ensures { IfOk result (λ kept. option_map kept_of kept ≡ row_depth limit row token (from_last kept_of parts.items)) }
+    ensures { IfOk result (λ kept. option_map kept_of kept
+        ≡ row_depth limit row token (from_last kept_of parts.items)) }
 {
     match row {
         RowName::Names(row) => names_row(alloc, limit, row, token, parts),
@@ -214,7 +222,8 @@ impl Actions for Depths {
         token: Option<Token>,
         parts: Vec<KeptPart>,
     ) -> Result<Option<KeptPart>, AllocError>
-        ensures { IfOk result (λ built. option_map kept_of built ≡ numbered_row_depth self.now.limit row token (from_last kept_of parts.items)) }
+        ensures { IfOk result (λ built. option_map kept_of built
+            ≡ numbered_row_depth self.now.limit row token (from_last kept_of parts.items)) }
     {
         match row_name(row) {
             Some(name) => keep_row(alloc, self.limit, name, token, parts),

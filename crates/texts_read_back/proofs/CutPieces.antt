@@ -45,9 +45,12 @@ pub cut_one : (number : ℕ) (before bytes rest : List ℕ) (kind : ℕ) → 0 <
     → IsCut number before bytes rest (token_at number (behind_bytes before) (lexeme_of kind (length bytes)) ∷ [])
 cut_one number before bytes rest kind some there closed =
     cut-token number (lexeme_of kind (length bytes)) false (behind_bytes before) (bytes ++ rest) span there
-    ∙ ap (λ (o : Bool). with_token token (cut number 0 o (behind_all (take (length bytes) (bytes ++ rest)) (behind_bytes before)) (drop (length bytes) (bytes ++ rest)))) closed
-    ∙ ap (λ (taken : List ℕ). with_token token (cut number 0 false (behind_all taken (behind_bytes before)) (drop (length bytes) (bytes ++ rest)))) (take-append_seam bytes rest)
-    ∙ ap (λ (left : List ℕ). with_token token (cut number 0 false (behind_all bytes (behind_bytes before)) left)) (drop-append_seam bytes rest)
+    ∙ ap (λ (o : Bool). with_token token (cut number 0 o (behind_all (take (length bytes) (bytes ++ rest)) (behind_bytes before))
+    (drop (length bytes) (bytes ++ rest)))) closed
+    ∙ ap (λ (taken : List ℕ). with_token token (cut number 0 false (behind_all taken (behind_bytes before))
+    (drop (length bytes) (bytes ++ rest)))) (take-append_seam bytes rest)
+    ∙ ap (λ (left : List ℕ). with_token token (cut number 0 false (behind_all bytes (behind_bytes before)) left))
+    (drop-append_seam bytes rest)
     ∙ ap (λ (position : Position). with_token token (cut number 0 false position rest)) (sym (behind_joined before bytes start))
   where
     token : Token
@@ -77,7 +80,8 @@ offset_behind_all (byte ∷ bytes) position =
     ∙ (let here : (behind byte position).offset ≡ position.offset + 1 = offset_behind byte position in omega (arith, here))
 
 offset_there : (before : List ℕ) → (behind_bytes before).offset ≡ length before
-offset_there before = let moved : (behind_all before start).offset ≡ 0 + length before = offset_behind_all before start in omega (arith, moved)
+offset_there before = let moved : (behind_all before start).offset ≡ 0 + length before =
+    offset_behind_all before start in omega (arith, moved)
 
 pub spelled_there : (number : ℕ) (text before bytes rest : List ℕ) (kind : ℕ) → text ≡ before ++ (bytes ++ rest)
     → spelled text (token_at number (behind_bytes before) (lexeme_of kind (length bytes))) ≡ bytes

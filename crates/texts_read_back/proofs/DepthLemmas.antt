@@ -63,7 +63,8 @@ mutual
   term_shallow signature limit (node f no_terms) depth (written head (written_then w ws)) writes within = absurd writes.3
   term_shallow signature limit (node f (term_then t ts)) depth (written head no_written) writes within = absurd writes.3
   term_shallow signature limit (node f (term_then t ts)) depth (written head (written_then w ws)) writes within =
-      let below : (depth + 1) + max (term_depth t) (depth_among ts) ≤ suc limit = one_less depth (depth_among (term_then t ts)) limit within in
+      let below : (depth + 1) + max (term_depth t) (depth_among ts) ≤ suc limit =
+      one_less depth (depth_among (term_then t ts)) limit within in
       shallow_before limit depth head.place head.form (term_nodes (depth + 1) w) (terms_nodes (depth + 1) ws)
       (at_most depth (depth_among (term_then t ts)) limit within)
       (term_shallow signature limit t (depth + 1) w writes.3.0 (max_left (term_depth t) (depth_among ts) (suc limit) (depth + 1) below))

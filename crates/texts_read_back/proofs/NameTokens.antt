@@ -146,7 +146,8 @@ run_found (b ∷ bs) rest is apart =
 
 no_word : (b : ℕ) (bytes : List ℕ) → is_ascii_alphabetic b ≡ false → word (b ∷ bytes) ≡ None
 no_word b bytes is =
-    ap (λ (t : Bool). if t then Some (lexeme_of (unwrap_or (word_kind_in reserved_words (take (word_length (b ∷ bytes)) (b ∷ bytes))) NAME) (word_length (b ∷ bytes))) else None)
+    ap (λ (t : Bool). if t then Some (lexeme_of (unwrap_or (word_kind_in reserved_words (take (word_length (b ∷ bytes)) (b ∷ bytes))) NAME)
+    (word_length (b ∷ bytes))) else None)
     is
 
 no_digit_name : (b : ℕ) (bytes : List ℕ) → is_ascii_digit b ≡ false → digit_name (b ∷ bytes) ≡ None
@@ -189,7 +190,8 @@ below_letters b lower upper digit past = by (nat_le lower b) refl
 digit_no_letter : (b : ℕ) → is_ascii_digit b ≡ true → is_ascii_alphabetic b ≡ false
 digit_no_letter b is =
     let small : nat_le b 57 ≡ true = (and_parts (nat_le 48 b) (nat_le b 57) is).1 in
-    neither (is_in_range 65 90 b) (is_in_range 97 122 b) (below_letters b 65 90 small (omega arith)) (below_letters b 97 122 small (omega arith))
+    neither (is_in_range 65 90 b) (is_in_range 97 122 b) (below_letters b 65 90 small (omega arith))
+    (below_letters b 97 122 small (omega arith))
   where
     neither : (upper lower : Bool) → upper ≡ false → lower ≡ false → (upper || lower) ≡ false
     neither true lower h k = h
@@ -207,7 +209,8 @@ sign_no_operator b is =
 
 -- ---- The token of a name
 
-word_lexeme : (name rest : List ℕ) → IsWordSpelling name → IsApart rest → lexeme_at false (name ++ rest) ≡ Some (lexeme_of NAME (length name))
+word_lexeme : (name rest : List ℕ) → IsWordSpelling name → IsApart rest
+    → lexeme_at false (name ++ rest) ≡ Some (lexeme_of NAME (length name))
 word_lexeme name rest is apart = or_first (word (name ++ rest)) _ (lexeme_of NAME (length name)) (word_found name rest is apart)
 
 digit_lexeme : (b : ℕ) (bs rest : List ℕ) → IsDigitSpelling (b ∷ bs) → IsApart rest

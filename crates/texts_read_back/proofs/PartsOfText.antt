@@ -117,7 +117,8 @@ sort_stands number text name is before rest there apart_rest = record {
 
     of_is_cut : IsCut number before (codes " of ") (name ++ rest) (of_token ∷ [])
     of_is_cut =
-        cut_joined number before (codes " ") (codes "of ") (name ++ rest) [] (of_token ∷ []) (cut_blank number before (codes "of " ++ (name ++ rest)))
+        cut_joined number before (codes " ") (codes "of ") (name ++ rest) [] (of_token ∷ [])
+        (cut_blank number before (codes "of " ++ (name ++ rest)))
         (cut_joined number (before ++ codes " ") (codes "of") (codes " ") (name ++ rest) (of_token ∷ []) []
         (of_cut number (before ++ codes " ") (name ++ rest))
         (cut_blank number ((before ++ codes " ") ++ codes "of") (name ++ rest)))

@@ -54,7 +54,8 @@ marked_is signature f operation sort ts w placed is_there twin found is_named un
     is_head = record {
       named = un.named;
       formed = un.formed;
-      marked = subst (λ (sorts : List PlacedName). IsMarkOf signature operation (sorts ++ placed ∷ [])) (sym un.bare) (mark twin found is_named);
+      marked = subst (λ (sorts : List PlacedName). IsMarkOf signature operation (sorts ++ placed ∷ [])) (sym un.bare)
+          (mark twin found is_named);
     }
 
 -- ---- Phrases
@@ -137,14 +138,16 @@ module _ (number : ℕ) (text : List ℕ) (signature : Signature) where
       → StandsAnywhere number text bytes (IsBase text) (IsUnmarked signature operation ts)
       → StandsAnywhere number text (bytes ++ (codes " of " ++ sort.name)) (IsFactor text) (IsWrittenAs signature (node f ts))
   marked_stands f operation sort ts bytes is_there twin found spelling stands before rest there apart_rest =
-      joined part.tokens part.thing part.is_cut part.is_one part.fitting behind.tokens behind.thing behind.is_cut behind.is_one behind.fitting
+      joined part.tokens part.thing part.is_cut part.is_one part.fitting behind.tokens behind.thing behind.is_cut behind.is_one
+      behind.fitting
     where
       part : Stands number before bytes ((codes " of " ++ sort.name) ++ rest) (IsBase text) (IsUnmarked signature operation ts)
       part =
           stands before ((codes " of " ++ sort.name) ++ rest) (first_part text before bytes (codes " of " ++ sort.name) rest there)
           (apart 32 ((codes "of " ++ sort.name) ++ rest) refl refl)
 
-      behind : Stands number (before ++ bytes) (codes " of " ++ sort.name) rest (IsSortBehind text) (λ (placed : PlacedName). placed.name ≡ sort.name)
+      behind : Stands number (before ++ bytes) (codes " of " ++ sort.name) rest (IsSortBehind text)
+          (λ (placed : PlacedName). placed.name ≡ sort.name)
       behind =
           sort_stands number text sort.name spelling (before ++ bytes) rest
           (second_part text before bytes (codes " of " ++ sort.name) rest there) apart_rest

@@ -31,7 +31,8 @@ use Rattle.texts_read_back.proofs.TermPhrases.{list_stands, terms_stand}
 use Rattle.texts_read_back.proofs.DepthLemmas.{list_shallow}
 
 -- the values as the arguments of an operation
-values_sorted : (signature : Signature) (sorts : List ℕ) (ts : List Term) → AreValues signature sorts ts → HaveSorts signature (terms_of ts) sorts
+values_sorted : (signature : Signature) (sorts : List ℕ) (ts : List Term) → AreValues signature sorts ts
+    → HaveSorts signature (terms_of ts) sorts
 values_sorted signature [] [] values = tt
 values_sorted signature [] (t ∷ ts) values = absurd values
 values_sorted signature (s ∷ ss) [] values = absurd values
@@ -65,7 +66,8 @@ record IsListed (signature : Signature) (number : ℕ) (text : List ℕ) (ts : L
   sentence : AreOptionalTerms text tokens terms
   writes : AreWrittenAs signature (terms_of ts) (written_terms terms)
 
-whole_cut : (number : ℕ) (text : List ℕ) (tokens : List Token) → IsCut number [] text [] tokens → tokens_of number text ≡ lexed.Tokens tokens
+whole_cut : (number : ℕ) (text : List ℕ) (tokens : List Token) → IsCut number [] text [] tokens
+    → tokens_of number text ≡ lexed.Tokens tokens
 whole_cut number text tokens is =
     ap (λ (bytes : List ℕ). cut number 0 false start bytes) (sym (append-nil text)) ∙ is ∙ with_tokens-Tokens tokens
 
@@ -86,7 +88,8 @@ listed signature well spelled number sorts (t ∷ ts) values = subst (λ (all : 
     same : text ≡ commas (term_texts signature (t ∷ ts))
     same = ap commas (texts_same signature (t ∷ ts))
 
-    part : Stands number [] text [] (AreTerms text) (λ (ws : List WrittenTerm). AreWrittenAs signature (terms_of (t ∷ ts)) (written_terms ws))
+    part : Stands number [] text [] (AreTerms text) (λ (ws : List WrittenTerm).
+        AreWrittenAs signature (terms_of (t ∷ ts)) (written_terms ws))
     part =
         list_stands number text signature well spelled [] t (terms_of ts)
         (terms_stand number text signature well spelled [] (terms_of (t ∷ ts)) sorts (values_sorted signature sorts (t ∷ ts) values)

@@ -123,10 +123,12 @@ pub samples_read_back : SampleTextsAreReadBack
 samples_read_back = record {
   well_formed = sample_fine;
   names = sample_names;
-  star_apart = term_texts_read_back sample_signature sample_fine sample_names 0 0 (f (star a)) (f_sorted (star a) (star_sorted a a_sorted)) (omega arith);
+  star_apart = term_texts_read_back sample_signature sample_fine sample_names 0 0 (f (star a)) (f_sorted (star a) (star_sorted a a_sorted))
+      (omega arith);
   twins_apart =
       term_texts_read_back sample_signature sample_fine sample_names 0 0 (plus a (plus (minus a a) small_d))
-      (plus_sorted a (plus (minus a a) small_d) a_sorted (plus_sorted (minus a a) small_d (minus_sorted a a a_sorted a_sorted) small_d_sorted))
+      (plus_sorted a (plus (minus a a) small_d) a_sorted (plus_sorted (minus a a) small_d (minus_sorted a a a_sorted a_sorted)
+      small_d_sorted))
       (omega arith);
   listed =
       term_lists_read_back sample_signature sample_fine sample_names 0 (0 ∷ 1 ∷ []) (small_d ∷ capital_d ∷ [])

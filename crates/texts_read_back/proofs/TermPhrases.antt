@@ -172,7 +172,8 @@ module _ (number : ℕ) (text : List ℕ) (signature : Signature) (well : IsWell
       bytes : List ℕ
       bytes = round listed
 
-      part : Stands number before operation.name (bytes ++ rest) (IsOperationName text) (λ (placed : PlacedName). placed.name ≡ operation.name)
+      part : Stands number before operation.name (bytes ++ rest) (IsOperationName text)
+          (λ (placed : PlacedName). placed.name ≡ operation.name)
       part =
           name_stands number text operation.name spelling before (bytes ++ rest) (first_part text before operation.name bytes rest there)
           (apart 40 ((spaced 42 listed ++ codes ")") ++ rest) refl refl)
@@ -231,8 +232,10 @@ module _ (number : ℕ) (text : List ℕ) (signature : Signature) (well : IsWell
           first before (operator ++ (right ++ rest)) (first_part text before left operator (right ++ rest) at_first)
           (apart 32 ((operation.name ++ codes " ") ++ (right ++ rest)) refl refl)
 
-      o : Stands number (before ++ left) operator (right ++ rest) (IsOperationName text) (λ (placed : PlacedName). placed.name ≡ operation.name)
-      o = operator_stands operation.name spelling (before ++ left) (right ++ rest) (second_part text before left operator (right ++ rest) at_first)
+      o : Stands number (before ++ left) operator (right ++ rest) (IsOperationName text)
+          (λ (placed : PlacedName). placed.name ≡ operation.name)
+      o = operator_stands operation.name spelling (before ++ left) (right ++ rest)
+          (second_part text before left operator (right ++ rest) at_first)
 
       r : Stands number (before ++ (left ++ operator)) right rest (IsFactor text) (IsWrittenAs signature u)
       r = second (before ++ (left ++ operator)) rest (second_part text before (left ++ operator) right rest there) apart_rest
@@ -251,7 +254,8 @@ module _ (number : ℕ) (text : List ℕ) (signature : Signature) (well : IsWell
         → StandsAnywhere number text bytes (IsBase text) (IsUnmarked signature operation ts)
         → StandsAnywhere number text (bytes ++ of_shown signature operation true) (IsFactor text) (IsWrittenAs signature (node f ts))
     sorted_stands ts bytes twin stands =
-        subst (λ (o : Option Sort). StandsAnywhere number text (bytes ++ (codes " of " ++ sort_name o)) (IsFactor text) (IsWrittenAs signature (node f ts)))
+        subst (λ (o : Option Sort). StandsAnywhere number text (bytes ++ (codes " of " ++ sort_name o)) (IsFactor text)
+        (IsWrittenAs signature (node f ts)))
         (sym sort.1)
         (marked_stands number text signature f operation sort.0 ts bytes is_there (twin_of twin) sort.1
         (spelled.sorts operation.result sort.0 sort.1) stands)
@@ -319,7 +323,8 @@ module _ (number : ℕ) (text : List ℕ) (signature : Signature) (well : IsWell
         by infix_form form =
             let two = has_two signature ts operation.arguments sorted (spelled.infix_operations f operation is_there form) in
             subst (λ (xs : Terms). AllStand xs
-            → PhraseStands number text signature (node f xs) (application_phrase signature operation infix_form (phrases_of signature names xs)))
+            → PhraseStands number text signature (node f xs) (application_phrase signature operation infix_form
+            (phrases_of signature names xs)))
             (sym two.2) (infix_stands two.0 two.1 form) all
 
   -- ---- All terms
@@ -329,7 +334,8 @@ module _ (number : ℕ) (text : List ℕ) (signature : Signature) (well : IsWell
         → PhraseStands number text signature t (phrase_of signature names t)
     term_stands (variable n s) sort sorted ground = absurd ground
     term_stands (node f ts) sort sorted ground =
-        subst (λ (o : Option Operation). PhraseStands number text signature (node f ts) (node_phrase signature o (phrases_of signature names ts)))
+        subst (λ (o : Option Operation). PhraseStands number text signature (node f ts)
+        (node_phrase signature o (phrases_of signature names ts)))
         (sym sorted.1)
         (application_stands f sorted.0 sorted.1 ts sorted.3 (terms_stand ts sorted.0.arguments sorted.3 ground))
 

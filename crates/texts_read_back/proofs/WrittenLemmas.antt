@@ -156,7 +156,8 @@ listed signature w ws t ts s ss first rest = record {
     terms no_terms others reads = absurd reads
     terms (term_then u us) [] reads = absurd reads
     terms (term_then u us) (o ∷ os) reads =
-        ap (λ (v : Term). term_then v us) (first.only_term u o reads.0) ∙ ap (λ (vs : Terms). term_then t vs) (rest.only_terms us os reads.1)
+        ap (λ (v : Term). term_then v us) (first.only_term u o reads.0)
+        ∙ ap (λ (vs : Terms). term_then t vs) (rest.only_terms us os reads.1)
 
     sorts : (us : Terms) (others : List ℕ) → AllRead signature [] (written_then w ws) us others → others ≡ s ∷ ss
     sorts no_terms others reads = absurd reads
@@ -200,7 +201,8 @@ mutual
   one_reading_each signature well (term_then t ts) [] ws sorted writes = absurd sorted
   one_reading_each signature well (term_then t ts) (s ∷ ss) no_written sorted writes = absurd writes
   one_reading_each signature well (term_then t ts) (s ∷ ss) (written_then w ws) sorted writes =
-      listed signature w ws t ts s ss (one_reading signature well t s w sorted.0 writes.0) (one_reading_each signature well ts ss ws sorted.1 writes.1)
+      listed signature w ws t ts s ss (one_reading signature well t s w sorted.0 writes.0)
+      (one_reading_each signature well ts ss ws sorted.1 writes.1)
 
 -- ---- The laws
 

@@ -39,7 +39,8 @@ row_begins test (row ∷ rows) (suc k) kind bytes none found =
 abbrev pub Apart : (ℕ → Bool) → (ℕ → Bool) → Type 0
 Apart test other = (byte : ℕ) → test byte ≡ true → other byte ≡ false
 
-pub both_begin : (test other : ℕ → Bool) → Apart test other → (bytes : List ℕ) → first_is test bytes ≡ true → first_is other bytes ≡ true → ⊥
+pub both_begin : (test other : ℕ → Bool) → Apart test other → (bytes : List ℕ) → first_is test bytes ≡ true → first_is other bytes ≡ true
+    → ⊥
 both_begin test other apart [] is also = cc is
 both_begin test other apart (byte ∷ rest) is also = let no = apart byte is in cc (no, also)
 
@@ -98,7 +99,8 @@ pub fails : (b : Bool) → b ≡ true → b ≡ false → ⊥
 fails b is not_so = cc (is, not_so)
 
 -- the test of each byte of a list
-pub each_in : (bytes : List ℕ) (test : ℕ → Bool) → list_all test bytes ≡ true → (b : ℕ) → list_any (λ x. x == b) bytes ≡ true → test b ≡ true
+pub each_in : (bytes : List ℕ) (test : ℕ → Bool) → list_all test bytes ≡ true → (b : ℕ) → list_any (λ x. x == b) bytes ≡ true
+    → test b ≡ true
 each_in [] test all b is = cc
 each_in (x ∷ xs) test all b is = by (x == b) refl (test x) refl all is (λ rest found. each_in xs test rest b found)
   where

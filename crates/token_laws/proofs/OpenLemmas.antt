@@ -65,7 +65,8 @@ still_open before part leaves opened = record {
   opened = ap (λ (ps : List Part). ps ++ (part ∷ [])) opened.opened
       ∙ append_assoc opened.before (a_token GATES_OPEN (codes "|[") ∷ opened.after) (part ∷ []);
   still = list_all-append has_no_bracket opened.after (part ∷ [])
-      ∙ both (list_all has_no_bracket opened.after) (has_no_bracket part && true) opened.still (both (has_no_bracket part) true leaves.0 refl);
+      ∙ both (list_all has_no_bracket opened.after) (has_no_bracket part && true) opened.still
+      (both (has_no_bracket part) true leaves.0 refl);
 }
 
 open_before : (before : List Part) (part : Part) → Leaves part → IsOpen (before ++ (part ∷ [])) → IsOpen before
@@ -84,7 +85,8 @@ open_before before part leaves opened =
           ∙ (ap (list_all has_no_bracket) (sym ends) ∙ opened.still))).0;
     }
 
-left_so : (open_list : Bool) (before : List Part) (part : Part) → Leaves part → Tells open_list before → Tells open_list (before ++ (part ∷ []))
+left_so : (open_list : Bool) (before : List Part) (part : Part) → Leaves part → Tells open_list before
+    → Tells open_list (before ++ (part ∷ []))
 left_so true before part leaves told = still_open before part leaves told
 left_so false before part leaves told = λ opened. told (open_before before part leaves opened)
 

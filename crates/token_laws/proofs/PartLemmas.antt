@@ -203,7 +203,8 @@ same_front (a ∷ as_) (b ∷ bs) left right long same =
     let first : a ≡ b = cc same in
     (ap (λ (x : ℕ). x ∷ as_) first ∙ ap (λ (xs : List ℕ). b ∷ xs) rest.0, rest.1)
 
-pub same_part : (one other : Part) (left right : List ℕ) → piece_of one ≡ piece_of other → part_bytes one ++ left ≡ part_bytes other ++ right
+pub same_part : (one other : Part) (left right : List ℕ) → piece_of one ≡ piece_of other
+    → part_bytes one ++ left ≡ part_bytes other ++ right
     → (one ≡ other) × (left ≡ right)
 same_part one other left right alike same =
     let both = same_front (part_bytes one) (part_bytes other) left right (same_pieces one other left right alike same) same in

@@ -19,9 +19,11 @@ pub map_reverse : {A B : Type 0} (f : A → B) (list : List A) → map f (revers
 unfolding from_last
 map_reverse f [] = refl
 map_reverse f (x ∷ xs) =
-    ap (map f) (reverse_cons x xs) ∙ (map-append f (reverse xs) (x ∷ []) ∙ (ap (λ ys. ys ++ f x ∷ []) (map_reverse f xs) ∙ sym (reverse_cons (f x) (map f xs))))
+    ap (map f) (reverse_cons x xs) ∙ (map-append f (reverse xs) (x ∷ [])
+    ∙ (ap (λ ys. ys ++ f x ∷ []) (map_reverse f xs) ∙ sym (reverse_cons (f x) (map f xs))))
 
 -- a list behind which another is put
-pub from_last_append : {A B : Type 0} (f : A → B) (list others : List A) → from_last f (list ++ others) ≡ from_last f others ++ from_last f list
+pub from_last_append : {A B : Type 0} (f : A → B) (list others : List A)
+    → from_last f (list ++ others) ≡ from_last f others ++ from_last f list
 unfolding from_last
 from_last_append f list others = ap reverse (map-append f list others) ∙ reverse-append (map f list) (map f others)

@@ -16,7 +16,8 @@ pub made : (place : Place) (name : Name) (form : Form) (args : Vec Written Globa
     written_term_of (roll-Written (record { place = place; name = name; form = form; args = args; sorts = sorts }))
     ≡ written (record { place = text_place_of place; name = spelling name; form = form_of form; sorts = map placed_name_of sorts.items })
     (written_terms (map written_term_of args.items))
-made place name form args sorts = fold-roll-Written WrittenTerm written_node_of (record { place = place; name = name; form = form; args = args; sorts = sorts })
+made place name form args sorts = fold-roll-Written WrittenTerm written_node_of
+    (record { place = place; name = name; form = form; args = args; sorts = sorts })
 
 -- a term that is taken apart
 pub opened : (term : Written) → written_term_of term

@@ -66,7 +66,8 @@ choice_after_word token parts =
 -- "par" gate_choices parallel behaviour
 abbrev pub par_after_word : Option Token → List Meaning → Option Meaning
 par_after_word token parts =
-    option_and_then (λ word. with_next gate_choices_in parts (λ gates parts. with_next sign_in parts (λ sign parts. with_next operands_in parts (λ flat parts.
+    option_and_then (λ word. with_next gate_choices_in parts
+    (λ gates parts. with_next sign_in parts (λ sign parts. with_next operands_in parts (λ flat parts.
     with_grouped flat (λ inside. Some (alone (par_gate (place_of word) gates sign.sign inside))))))) token
 
 -- "i" ";" behaviour
@@ -96,7 +97,8 @@ name_first parts = with_next name_in parts (λ name parts. or_else (action_of_ga
 
 -- "stop" behaviour_tail
 abbrev pub stopped : Option Token → List Meaning → Option Meaning
-stopped token parts = option_and_then (λ word. with_next operands_in parts (λ tail parts. Some (before_tail (stop (place_of word)) tail))) token
+stopped token parts = option_and_then (λ word. with_next operands_in parts (λ tail parts. Some (before_tail (stop (place_of word)) tail)))
+    token
 
 -- "exit" exit_values behaviour_tail
 abbrev pub exited : Option Token → List Meaning → Option Meaning
@@ -107,7 +109,8 @@ exited token parts =
 -- "(" behaviour ")" behaviour_tail
 abbrev pub bracketed_behaviour : List Meaning → Option Meaning
 bracketed_behaviour parts =
-    with_next operands_in parts (λ flat parts. with_next operands_in parts (λ tail parts. with_grouped flat (λ inside. Some (before_tail inside tail))))
+    with_next operands_in parts (λ flat parts. with_next operands_in parts
+    (λ tail parts. with_grouped flat (λ inside. Some (before_tail inside tail))))
 
 abbrev pub no_tail : Option Meaning
 no_tail = Some (some_operands (record { operands = []; signs = [] }))
@@ -120,7 +123,8 @@ sign_before_behaviour parts =
 
 -- ";" behaviour
 abbrev pub action_without_offers : List Meaning → Option Meaning
-action_without_offers parts = with_next operands_in parts (λ flat parts. Some (an_action (record { offers = []; test = None; behind = flat })))
+action_without_offers parts = with_next operands_in parts
+    (λ flat parts. Some (an_action (record { offers = []; test = None; behind = flat })))
 
 -- offer after_offer
 abbrev pub offers_before_action : List Meaning → Option Meaning
@@ -147,7 +151,8 @@ offer_of_value parts = with_next term_in parts (λ term parts. Some (some_offers
 -- "?" names ":" name
 abbrev pub offers_of_variables : List Meaning → Option Meaning
 offers_of_variables parts =
-    with_next names_in parts (λ names parts. with_next name_in parts (λ sort parts. Some (some_offers (map offer_variable (variables_of_sort names sort)))))
+    with_next names_in parts (λ names parts. with_next name_in parts
+    (λ sort parts. Some (some_offers (map offer_variable (variables_of_sort names sort)))))
 
 abbrev pub no_exit_values : Option Meaning
 no_exit_values = Some (some_exit_values [])
@@ -163,12 +168,14 @@ any_before_exit_values parts =
 -- term more_exit_values
 abbrev pub term_before_exit_values : List Meaning → Option Meaning
 term_before_exit_values parts =
-    with_next term_in parts (λ term parts. with_next exit_values_in parts (λ more parts. Some (some_exit_values (exit_term term.term ∷ more))))
+    with_next term_in parts (λ term parts. with_next exit_values_in parts
+    (λ more parts. Some (some_exit_values (exit_term term.term ∷ more))))
 
 -- name ":" name "=" term more_lets
 abbrev pub let_before_lets : List Meaning → Option Meaning
 let_before_lets parts =
-    with_next name_in parts (λ variable parts. with_next name_in parts (λ sort parts. with_next term_in parts (λ term parts. with_next lets_in parts (λ more parts.
+    with_next name_in parts (λ variable parts. with_next name_in parts
+    (λ sort parts. with_next term_in parts (λ term parts. with_next lets_in parts (λ more parts.
     Some (some_lets ((variable_named variable sort, term.term) ∷ more))))))
 
 abbrev pub no_lets : Option Meaning
@@ -215,9 +222,11 @@ same_sign parts = with_next sign_in parts (λ sign parts. Some (a_sign sign))
 -- ">>" accept
 abbrev pub enabling_sign : Option Token → List Meaning → Option Meaning
 enabling_sign token parts =
-    option_and_then (λ token. with_next variables_in parts (λ accepted parts. Some (a_sign (record { place = place_of token; sign = enabling accepted })))) token
+    option_and_then (λ token. with_next variables_in parts
+    (λ accepted parts. Some (a_sign (record { place = place_of token; sign = enabling accepted })))) token
 
 -- "|[" optional_names "]|"
 abbrev pub gates_sign : Option Token → List Meaning → Option Meaning
 gates_sign token parts =
-    option_and_then (λ token. with_next names_in parts (λ gates parts. Some (a_sign (record { place = place_of token; sign = synchronising gates })))) token
+    option_and_then (λ token. with_next names_in parts (λ gates parts.
+    Some (a_sign (record { place = place_of token; sign = synchronising gates })))) token

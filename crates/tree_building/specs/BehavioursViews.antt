@@ -22,7 +22,11 @@ abbrev pub flat_of : Flat → PlainFlat
 flat_of flat = record { operands = from_last behaviour_of flat.operands.items; signs = from_last placed_sign_of flat.signs.items }
 
 abbrev pub action_end_of : ActionEnd → PlainActionEnd
-action_end_of end = record { offers = from_last offer_of end.offers.items; test = option_map premiss_of end.test; behind = flat_of end.behind }
+action_end_of end = record {
+  offers = from_last offer_of end.offers.items;
+  test = option_map premiss_of end.test;
+  behind = flat_of end.behind;
+}
 
 abbrev pub call_end_of : CallEnd → PlainCallEnd
 call_end_of end = record {

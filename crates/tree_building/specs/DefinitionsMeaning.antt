@@ -10,7 +10,13 @@ abbrev pub heading_of_parts : List Meaning → Option Meaning
 heading_of_parts parts =
     with_next name_in parts (λ name parts. with_next names_in parts (λ gates parts. with_next variables_in parts (λ parameters parts.
     with_next functionality_in parts (λ functionality parts.
-    Some (a_heading (record { place = name.place; name = name.name; gates = gates; parameters = parameters; functionality = functionality }))))))
+    Some (a_heading (record {
+      place = name.place;
+      name = name.name;
+      gates = gates;
+      parameters = parameters;
+      functionality = functionality;
+    }))))))
 
 abbrev pub no_exit : Option Meaning
 no_exit = Some (a_functionality None)
@@ -27,7 +33,8 @@ same_inner parts = with_next inner_in parts (λ inner parts. Some (some_inner in
 
 -- item inner
 abbrev pub item_before_inner : List Meaning → Option Meaning
-item_before_inner parts = with_next item_in parts (λ item parts. with_next inner_in parts (λ more parts. Some (some_inner (inner_item item ∷ more))))
+item_before_inner parts = with_next item_in parts (λ item parts.
+    with_next inner_in parts (λ more parts. Some (some_inner (inner_item item ∷ more))))
 
 -- process inner
 abbrev pub process_before_inner : List Meaning → Option Meaning

@@ -71,6 +71,7 @@ pub data Meaning : Type 0 where
   some_named_operations : List NamedOperation → Meaning
   a_profile : PlacedProfile → Meaning
   maybe_profile : Option PlacedProfile → Meaning
+  maybe_name : Option PlacedName → Meaning
   a_term : PlainStartedTerm → Meaning
   some_factors : List (PlacedName × WrittenTerm) → Meaning
   some_terms : List WrittenTerm → Meaning

@@ -5,7 +5,7 @@ use Rattle.syntax_trees.specs.TreeViews.{variable_of, group_of, equation_of, pre
 use Rattle.tree_building.specs.declared.value.Value.{Value}
 use Rattle.tree_building.specs.declared.value.Value.TheVariants as value
 use Rattle.lotos_rows.specs.HandedOn.{from_last}
-use Rattle.tree_building.specs.Meaning.{Meaning, a_name, some_names, some_variables, an_operation, some_named_operations, a_profile, maybe_profile, a_term, some_factors, some_terms, some_groups, some_equations, an_equation, a_conclusion, maybe_conclusion, after_term, a_premiss, maybe_term, some_pairs, both_pairs, an_item, some_items, a_body, after_base, some_sections, declared_operations, an_equation_section, some_operands, an_action, a_call, some_offers, some_exit_values, some_lets, some_gate_choices, a_value_choice, a_gate_choice, a_behaviour, a_sign, a_heading, a_functionality, some_inner, a_process, a_word, a_specification, some_order_items}
+use Rattle.tree_building.specs.Meaning.{Meaning, a_name, some_names, some_variables, an_operation, some_named_operations, a_profile, maybe_profile, maybe_name, a_term, some_factors, some_terms, some_groups, some_equations, an_equation, a_conclusion, maybe_conclusion, after_term, a_premiss, maybe_term, some_pairs, both_pairs, an_item, some_items, a_body, after_base, some_sections, declared_operations, an_equation_section, some_operands, an_action, a_call, some_offers, some_exit_values, some_lets, some_gate_choices, a_value_choice, a_gate_choice, a_behaviour, a_sign, a_heading, a_functionality, some_inner, a_process, a_word, a_specification, some_order_items}
 use Rattle.tree_building.specs.NamesViews.{named_operation_of, profile_of}
 use Rattle.tree_building.specs.TermsViews.{started_term_of, factor_of}
 use Rattle.tree_building.specs.EquationsViews.{conclusion_of, after_term_of}
@@ -22,6 +22,7 @@ meaning (value.Operation x) = an_operation (named_operation_of x)
 meaning (value.NamedOperations x) = some_named_operations (from_last named_operation_of x.items)
 meaning (value.Profile x) = a_profile (profile_of x)
 meaning (value.MaybeProfile x) = maybe_profile (option_map profile_of x)
+meaning (value.MaybeName x) = maybe_name (option_map placed_name_of x)
 meaning (value.Term x) = a_term (started_term_of x)
 meaning (value.Factors x) = some_factors (from_last factor_of x.items)
 meaning (value.Terms x) = some_terms (from_last written_term_of x.items)

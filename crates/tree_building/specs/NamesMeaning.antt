@@ -48,4 +48,5 @@ infix_operation parts = with_next name_in parts (λ name parts. Some (an_operati
 -- ":" optional_names "->" name
 abbrev pub profile_of_names : List Meaning → Option Meaning
 profile_of_names parts =
-    with_next names_in parts (λ arguments parts. with_next name_in parts (λ result parts. Some (a_profile (record { arguments = arguments; result = result }))))
+    with_next names_in parts (λ arguments parts. with_next name_in parts
+    (λ result parts. Some (a_profile (record { arguments = arguments; result = result }))))

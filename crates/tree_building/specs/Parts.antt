@@ -8,7 +8,7 @@ use Rattle.syntax_trees.specs.WrittenBehaviour.{WrittenGateChoice, WrittenExitVa
 use Rattle.syntax_trees.specs.WrittenDefinition.{WrittenHeading, WrittenInner, WrittenSpecification}
 use Rattle.syntax_trees.specs.Strength.{PlacedSign}
 use Rattle.lotos_rows.specs.Names.{NamedOperation, PlacedProfile}
-use Rattle.tree_building.specs.Meaning.{PlainStartedTerm, PlainConclusion, PlainAfterTerm, PlainAfterBase, PlainFlat, PlainActionEnd, PlainCallEnd, PlainValueChoiceEnd, PlainGateChoiceEnd, Meaning, a_name, some_names, some_variables, an_operation, some_named_operations, a_profile, maybe_profile, a_term, some_factors, some_terms, some_groups, some_equations, an_equation, a_conclusion, maybe_conclusion, after_term, a_premiss, maybe_term, some_pairs, both_pairs, an_item, some_items, a_body, after_base, some_sections, declared_operations, an_equation_section, some_operands, an_action, a_call, some_offers, some_exit_values, some_lets, some_gate_choices, a_value_choice, a_gate_choice, a_behaviour, a_sign, a_heading, a_functionality, some_inner, a_process, a_word, a_specification, some_order_items}
+use Rattle.tree_building.specs.Meaning.{PlainStartedTerm, PlainConclusion, PlainAfterTerm, PlainAfterBase, PlainFlat, PlainActionEnd, PlainCallEnd, PlainValueChoiceEnd, PlainGateChoiceEnd, Meaning, a_name, some_names, some_variables, an_operation, some_named_operations, a_profile, maybe_profile, maybe_name, a_term, some_factors, some_terms, some_groups, some_equations, an_equation, a_conclusion, maybe_conclusion, after_term, a_premiss, maybe_term, some_pairs, both_pairs, an_item, some_items, a_body, after_base, some_sections, declared_operations, an_equation_section, some_operands, an_action, a_call, some_offers, some_exit_values, some_lets, some_gate_choices, a_value_choice, a_gate_choice, a_behaviour, a_sign, a_heading, a_functionality, some_inner, a_process, a_word, a_specification, some_order_items}
 
 -- the first of the parts, where `found` says what it is, and those behind it
 abbrev pub next_in : {A : Type 0} → (Meaning → Option A) → List Meaning → Option (A × List Meaning)
@@ -46,6 +46,10 @@ profile_in _ = None
 abbrev pub maybe_profile_in : Meaning → Option (Option PlacedProfile)
 maybe_profile_in (maybe_profile value) = Some value
 maybe_profile_in _ = None
+
+abbrev pub maybe_name_in : Meaning → Option (Option PlacedName)
+maybe_name_in (maybe_name value) = Some value
+maybe_name_in _ = None
 
 abbrev pub term_in : Meaning → Option PlainStartedTerm
 term_in (a_term value) = Some value

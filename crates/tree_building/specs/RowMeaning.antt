@@ -32,7 +32,7 @@ use Rattle.tree_building.specs.RenamingsMeaning.{pairs_of_both, no_pairs, same_p
 use Rattle.tree_building.specs.TypesMeaning.{library_item, type_item, named_body, sections_body, renaming_after_base, actualisation_after_base, extension_after_base, sections_of_parts, no_operations_declared, same_operations_declared, line_before_lines, no_more_operations, operation_before_operations, no_equation_section, equation_section, no_items, same_items, item_before_items}
 use Rattle.tree_building.specs.BehavioursMeaning.{hidden, let_in, choice_after_word, par_after_word, inner_prefixed, guarded, name_first, stopped, exited, bracketed_behaviour, no_tail, sign_before_behaviour, action_without_offers, offers_before_action, action_with_selection, call_without_name, offer_of_value, offers_of_variables, no_exit_values, same_exit_values, any_before_exit_values, term_before_exit_values, let_before_lets, no_lets, same_lets, value_choice_end, gate_choice_end, chosen, gates_before_gate_choices, no_gate_choices, same_gate_choices, sign_of_token, same_sign, enabling_sign, gates_sign}
 use Rattle.tree_building.specs.DefinitionsMeaning.{heading_of_parts, no_exit, exit_of_sorts, nothing_inner, same_inner, item_before_inner, process_before_inner, process_of_parts}
-use Rattle.tree_building.specs.StartsMeaning.{a_behaviour_word, specification_of_parts, no_order_items, item_before_order, no_profile, some_profile}
+use Rattle.tree_building.specs.StartsMeaning.{a_behaviour_word, specification_of_parts, no_order_items, item_before_order, no_profile, some_profile, no_status, some_status}
 
 -- rows of names and lists of them
 abbrev pub names_row_means : List ℕ → NamesRow → Option Token → List Meaning → Option Meaning
@@ -218,6 +218,8 @@ starts_row_means start_row.NoOptionalProfile token parts = no_profile
 starts_row_means start_row.OptionalProfile token parts = some_profile parts
 starts_row_means start_row.NoTerms token parts = no_terms
 starts_row_means start_row.Terms token parts = same_terms parts
+starts_row_means start_row.NoOptionalStatus token parts = no_status
+starts_row_means start_row.OptionalStatus token parts = some_status parts
 
 -- a row by its name
 abbrev pub row_means : List ℕ → RowName → Option Token → List Meaning → Option Meaning

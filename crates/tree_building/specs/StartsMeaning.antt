@@ -1,8 +1,8 @@
 -- What the rows of the four texts mean, from what their parts mean.
 use Rattle.std.specs.Prelude.{ℕ, List, [], ◌∷◌, Option, Some, None, option_map, option_and_then}
 use Rattle.lotos_rows.specs.Starts.{profile_by_name}
-use Rattle.tree_building.specs.Meaning.{Meaning, maybe_profile, a_word, a_specification, some_order_items}
-use Rattle.tree_building.specs.Parts.{with_next, operation_in, profile_in, maybe_profile_in, items_in, operands_in, heading_in, inner_in, word_in, order_items_in}
+use Rattle.tree_building.specs.Meaning.{Meaning, maybe_profile, maybe_name, a_word, a_specification, some_order_items}
+use Rattle.tree_building.specs.Parts.{with_next, name_in, operation_in, profile_in, maybe_profile_in, maybe_name_in, items_in, operands_in, heading_in, inner_in, word_in, order_items_in}
 use Rattle.tree_building.specs.BehavioursMeaning.{with_grouped}
 
 abbrev pub a_behaviour_word : Option Meaning
@@ -18,19 +18,27 @@ specification_of_parts parts =
 abbrev pub no_order_items : Option Meaning
 no_order_items = Some (some_order_items [])
 
--- operation optional_profile ";" order
+-- operation optional_profile optional_status ";" order
 abbrev pub item_before_order : List Meaning → Option Meaning
 item_before_order parts =
-    with_next operation_in parts (λ operation parts. with_next maybe_profile_in parts (λ profile parts. with_next order_items_in parts (λ more parts.
+    with_next operation_in parts (λ operation parts. with_next maybe_profile_in parts (λ profile parts.
+    with_next maybe_name_in parts (λ status parts. with_next order_items_in parts (λ more parts.
     Some (some_order_items (record {
       place = operation.name.place;
       name = operation.name.name;
       form = operation.form;
       profile = option_map profile_by_name profile;
-    } ∷ more)))))
+      status = status;
+    } ∷ more))))))
 
 abbrev pub no_profile : Option Meaning
 no_profile = Some (maybe_profile None)
 
 abbrev pub some_profile : List Meaning → Option Meaning
 some_profile parts = with_next profile_in parts (λ profile parts. Some (maybe_profile (Some profile)))
+
+abbrev pub no_status : Option Meaning
+no_status = Some (maybe_name None)
+
+abbrev pub some_status : List Meaning → Option Meaning
+some_status parts = with_next name_in parts (λ status parts. Some (maybe_name (Some status)))

@@ -48,4 +48,5 @@ same_terms parts = with_next terms_in parts (λ terms parts. Some (some_terms te
 
 -- term more_terms
 abbrev pub term_before_terms : List Meaning → Option Meaning
-term_before_terms parts = with_next term_in parts (λ first parts. with_next terms_in parts (λ more parts. Some (some_terms (first.term ∷ more))))
+term_before_terms parts = with_next term_in parts (λ first parts.
+    with_next terms_in parts (λ more parts. Some (some_terms (first.term ∷ more))))

@@ -10,7 +10,8 @@ use Rattle.tree_building.specs.Parts.{with_next, name_in, names_in, variables_in
 
 -- "library" names "endlib"
 abbrev pub library_item : Option Token → List Meaning → Option Meaning
-library_item token parts = option_and_then (λ word. with_next names_in parts (λ names parts. Some (an_item (libraries (place_of word) names)))) token
+library_item token parts = option_and_then (λ word. with_next names_in parts
+    (λ names parts. Some (an_item (libraries (place_of word) names)))) token
 
 -- "type" name "is" body "endtype"
 abbrev pub type_item : List Meaning → Option Meaning
@@ -25,7 +26,8 @@ body_from base (extended imports sections) = extends (base ∷ imports) sections
 
 -- name after_base
 abbrev pub named_body : List Meaning → Option Meaning
-named_body parts = with_next name_in parts (λ base parts. with_next after_base_in parts (λ after parts. Some (a_body (body_from base after))))
+named_body parts = with_next name_in parts (λ base parts.
+    with_next after_base_in parts (λ after parts. Some (a_body (body_from base after))))
 
 abbrev pub sections_body : List Meaning → Option Meaning
 sections_body parts = with_next sections_in parts (λ sections parts. Some (a_body (extends [] sections)))
@@ -41,7 +43,8 @@ actualisation_after_base parts =
 -- more_names sections
 abbrev pub extension_after_base : List Meaning → Option Meaning
 extension_after_base parts =
-    with_next names_in parts (λ imports parts. with_next sections_in parts (λ sections parts. Some (after_base (extended imports sections))))
+    with_next names_in parts (λ imports parts. with_next sections_in parts
+    (λ sections parts. Some (after_base (extended imports sections))))
 
 -- formal_sorts formal_operations formal_equations sorts operations equations
 abbrev pub sections_of_parts : List Meaning → Option Meaning

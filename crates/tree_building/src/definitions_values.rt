@@ -1,5 +1,5 @@
-//! What the parts of definitions of processes and headings are built into. Lists are held from the last member to the first
-//! until they enter a tree.
+//! What the parts of definitions of processes and headings are built into. Lists are held from the
+//! last member to the first until they enter a tree.
 
 ghost use Rattle.std.specs.Prelude.{List, Option, option_map};
 ghost use Rattle.lotos_base.specs.WrittenTerm.{PlacedName};

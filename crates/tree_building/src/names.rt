@@ -50,7 +50,8 @@ fn name_of(alloc: Global, text: &[u8], token: Token) -> Result<Named, AllocError
 
 /// The variable that a name of a sort is.
 pub fn variable_of_sort(alloc: Global, name: Named, sort: &Named) -> Result<VarText, AllocError>
-    ensures { IfOk result (λ variable. variable_of variable ≡ variable_named (placed_name_of name) (placed_name_of sort.now)) }
+    ensures { IfOk result (λ variable. variable_of variable
+        ≡ variable_named (placed_name_of name) (placed_name_of sort.now)) }
 {
     Ok(VarText {
         place: name.0,
@@ -87,7 +88,8 @@ pub fn add_variables(
     variables: &mut Vec<VarText>,
 ) -> Result<(), AllocError>
     ensures { OnOk result (from_last variable_of variables.new.items
-        ≡ variables_of_sort (from_last placed_name_of names.items) (placed_name_of sort.now) ++ from_last variable_of variables.old.items) }
+        ≡ variables_of_sort (from_last placed_name_of names.items) (placed_name_of sort.now)
+        ++ from_last variable_of variables.old.items) }
 {
     for name in names {
         variables.push(variable_of_sort(alloc, name, sort)?)?;
@@ -114,7 +116,8 @@ fn the_names(parts: &mut Vec<Value>) -> Option<Value>
 /// A list of the name that the part is.
 #[tactic(auto, using(crate::proofs::FromLast::from_last_more, crate::proofs::FromLast::from_last_none))]
 pub fn one_name(alloc: Global, parts: &mut Vec<Value>) -> Built
-    ensures { IfOk result (λ built. option_map meaning built ≡ name_alone (from_last meaning parts.old.items)) }
+    ensures { IfOk result (λ built. option_map meaning built
+        ≡ name_alone (from_last meaning parts.old.items)) }
 {
     let Some(name) = take::<Named>(parts) else {
         return Ok(None);
@@ -126,7 +129,8 @@ pub fn one_name(alloc: Global, parts: &mut Vec<Value>) -> Built
 
 #[tactic(auto, using(crate::proofs::FromLast::from_last_more))]
 fn joined_names(parts: &mut Vec<Value>) -> Built
-    ensures { IfOk result (λ built. option_map meaning built ≡ name_before_names (from_last meaning parts.old.items)) }
+    ensures { IfOk result (λ built. option_map meaning built
+        ≡ name_before_names (from_last meaning parts.old.items)) }
 {
     let Some(name) = take::<Named>(parts) else {
         return Ok(None);
@@ -139,7 +143,8 @@ fn joined_names(parts: &mut Vec<Value>) -> Built
 }
 
 fn joined_variables(alloc: Global, parts: &mut Vec<Value>) -> Built
-    ensures { IfOk result (λ built. option_map meaning built ≡ variables_before_variables (from_last meaning parts.old.items)) }
+    ensures { IfOk result (λ built. option_map meaning built
+        ≡ variables_before_variables (from_last meaning parts.old.items)) }
 {
     let Some(names) = take::<Vec<Named>>(parts) else {
         return Ok(None);
@@ -195,7 +200,8 @@ pub fn build(
     token: Option<Token>,
     parts: &mut Vec<Value>,
 ) -> Built
-    ensures { IfOk result (λ built. option_map meaning built ≡ names_row_means text.now row token (from_last meaning parts.old.items)) }
+    ensures { IfOk result (λ built. option_map meaning built
+        ≡ names_row_means text.now row token (from_last meaning parts.old.items)) }
 {
     match row {
         NamesRow::Name | NamesRow::DigitName | NamesRow::SignName => token_name(alloc, text, token),

@@ -1,5 +1,5 @@
-//! What the parts of names and lists of them are built into. Lists are held from the last member to the first
-//! until they enter a tree.
+//! What the parts of names and lists of them are built into. Lists are held from the last member to
+//! the first until they enter a tree.
 
 ghost use Rattle.std.specs.Prelude.{List, Option, option_map};
 ghost use Rattle.lotos_base.specs.WrittenTerm.{PlacedName};
@@ -8,7 +8,7 @@ ghost use Rattle.lotos_rows.specs.Names.{NamedOperation, PlacedProfile};
 ghost use Rattle.lotos_base.specs.WrittenView.{placed_name_of};
 ghost use Rattle.syntax_trees.specs.TreeViews.{variable_of};
 ghost use Rattle.lotos_rows.specs.HandedOn.{from_last};
-ghost use Rattle.tree_building.specs.Parts.{name_in, names_in, variables_in, operation_in, operations_in, profile_in, maybe_profile_in};
+ghost use Rattle.tree_building.specs.Parts.{name_in, names_in, variables_in, operation_in, operations_in, profile_in, maybe_profile_in, maybe_name_in};
 ghost use Rattle.tree_building.specs.NamesViews.{named_operation_of, profile_of};
 
 use crate::value::{Part, Value, of_another_kind};
@@ -140,6 +140,22 @@ impl Part for Option<OpProfile> {
     fn of(value: Value) -> Option<Self> {
         match value {
             Value::MaybeProfile(value) => Some(value),
+            other => of_another_kind(other),
+        }
+    }
+}
+
+/// A name, or none.
+impl Part for Option<Named> {
+    ghost Plain = { Option PlacedName };
+
+    ghost plain = { λ x. option_map placed_name_of x };
+
+    ghost found = { maybe_name_in };
+
+    fn of(value: Value) -> Option<Self> {
+        match value {
+            Value::MaybeName(value) => Some(value),
             other => of_another_kind(other),
         }
     }

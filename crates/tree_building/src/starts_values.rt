@@ -1,5 +1,5 @@
-//! What the parts of the four texts are built into. Lists are held from the last member to the first
-//! until they enter a tree.
+//! What the parts of the four texts are built into. Lists are held from the last member to the
+//! first until they enter a tree.
 
 ghost use Rattle.std.specs.Prelude.{List};
 ghost use Rattle.lotos_base.specs.WrittenTerm.{ListedOperation};

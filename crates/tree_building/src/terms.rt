@@ -41,7 +41,8 @@ fn infix(
     })
 }
 
-/// A first factor and those behind it, which are held from the last to the first, grouped to the left.
+/// A first factor and those behind it, which are held from the last to the first, grouped to the
+/// left.
 #[tactic(auto, using(crate::proofs::FromLast::from_last_more, crate::proofs::FromLast::from_last_none))]
 fn grouped(
     alloc: Global,
@@ -61,7 +62,8 @@ fn grouped(
 /// An operation or a variable before its arguments, which are held from the last to the first.
 #[tactic(auto, using(crate::proofs::FromLast::map_reverse))]
 fn application(alloc: Global, name: Named, args: Vec<Written>) -> Written
-    ensures { written_term_of result ≡ applied (placed_name_of name) (from_last written_term_of args.items) }
+    ensures { written_term_of result ≡ applied (placed_name_of name)
+        (from_last written_term_of args.items) }
 {
     Written {
         place: name.0,
@@ -74,7 +76,8 @@ fn application(alloc: Global, name: Named, args: Vec<Written>) -> Written
 
 /// The term with the sorts of further `of`s put on it.
 fn marked(term: Written, mark: Vec<Named>) -> Result<Written, AllocError>
-    ensures { IfOk result (λ it. written_term_of it ≡ with_sorts (from_last placed_name_of mark.items) (written_term_of term)) }
+    ensures { IfOk result (λ it. written_term_of it
+        ≡ with_sorts (from_last placed_name_of mark.items) (written_term_of term)) }
 {
     let Written {
         place,
@@ -94,7 +97,8 @@ fn marked(term: Written, mark: Vec<Named>) -> Result<Written, AllocError>
 }
 
 fn whole_term(alloc: Global, parts: &mut Vec<Value>) -> Built
-    ensures { IfOk result (λ built. option_map meaning built ≡ term_of_factors (from_last meaning parts.old.items)) }
+    ensures { IfOk result (λ built. option_map meaning built
+        ≡ term_of_factors (from_last meaning parts.old.items)) }
 {
     let Some(first) = take::<StartedTerm>(parts) else {
         return Ok(None);
@@ -110,7 +114,8 @@ fn whole_term(alloc: Global, parts: &mut Vec<Value>) -> Built
 
 #[tactic(auto, using(crate::proofs::FromLast::from_last_more))]
 fn joined_factors(parts: &mut Vec<Value>) -> Built
-    ensures { IfOk result (λ built. option_map meaning built ≡ factor_before_factors (from_last meaning parts.old.items)) }
+    ensures { IfOk result (λ built. option_map meaning built
+        ≡ factor_before_factors (from_last meaning parts.old.items)) }
 {
     let Some(operation) = take::<Named>(parts) else {
         return Ok(None);
@@ -126,7 +131,8 @@ fn joined_factors(parts: &mut Vec<Value>) -> Built
 }
 
 fn factor_of_operation(alloc: Global, parts: &mut Vec<Value>) -> Built
-    ensures { IfOk result (λ built. option_map meaning built ≡ applied_factor (from_last meaning parts.old.items)) }
+    ensures { IfOk result (λ built. option_map meaning built
+        ≡ applied_factor (from_last meaning parts.old.items)) }
 {
     let Some(name) = take::<Named>(parts) else {
         return Ok(None);
@@ -143,7 +149,8 @@ fn factor_of_operation(alloc: Global, parts: &mut Vec<Value>) -> Built
 }
 
 fn factor_in_brackets(token: Option<Token>, parts: &mut Vec<Value>) -> Built
-    ensures { IfOk result (λ built. option_map meaning built ≡ bracketed_factor token (from_last meaning parts.old.items)) }
+    ensures { IfOk result (λ built. option_map meaning built
+        ≡ bracketed_factor token (from_last meaning parts.old.items)) }
 {
     let Some(left) = token else {
         return Ok(None);
@@ -162,7 +169,8 @@ fn factor_in_brackets(token: Option<Token>, parts: &mut Vec<Value>) -> Built
 
 #[tactic(auto, using(crate::proofs::FromLast::from_last_more))]
 fn joined_terms(parts: &mut Vec<Value>) -> Built
-    ensures { IfOk result (λ built. option_map meaning built ≡ term_before_terms (from_last meaning parts.old.items)) }
+    ensures { IfOk result (λ built. option_map meaning built
+        ≡ term_before_terms (from_last meaning parts.old.items)) }
 {
     let Some(first) = take::<StartedTerm>(parts) else {
         return Ok(None);
@@ -177,7 +185,8 @@ fn joined_terms(parts: &mut Vec<Value>) -> Built
 /// What a row of terms builds from its token and its parts.
 #[tactic(auto, using(crate::proofs::FromLast::from_last_none))]
 pub fn build(alloc: Global, row: TermsRow, token: Option<Token>, parts: &mut Vec<Value>) -> Built
-    ensures { IfOk result (λ built. option_map meaning built ≡ terms_row_means row token (from_last meaning parts.old.items)) }
+    ensures { IfOk result (λ built. option_map meaning built
+        ≡ terms_row_means row token (from_last meaning parts.old.items)) }
 {
     match row {
         TermsRow::Term => whole_term(alloc, parts),

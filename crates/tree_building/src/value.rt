@@ -20,7 +20,8 @@ use syntax_trees::{
     OfferText, OpText, PairText, ProcessText, Sign, SpecText, TestText, VarText,
 };
 
-/// What a part of a derivation is built into. What is large is held behind a pointer, since each row moves its parts.
+/// What a part of a derivation is built into. What is large is held behind a pointer, since each
+/// row moves its parts.
 #[derive(Drop)]
 pub enum Value {
     /// A name.
@@ -37,6 +38,8 @@ pub enum Value {
     Profile(OpProfile),
     /// The sorts of an operation, or none.
     MaybeProfile(Option<OpProfile>),
+    /// A name, or none.
+    MaybeName(Option<Named>),
     /// A term, and the place of its first token.
     Term(StartedTerm),
     /// Factors, each with the operation before it.
@@ -128,7 +131,8 @@ pub trait Part: Sized + Drop {
         ensures { option_map plain result ≡ found (meaning value) };
 }
 
-/// No part, where a value is of another kind. The value is dropped here, so that no match on a value has to drop each kind.
+/// No part, where a value is of another kind. The value is dropped here, so that no match on a
+/// value has to drop each kind.
 pub fn of_another_kind<T>(_other: Value) -> Option<T>
     ensures { result ≡ None }
 {

@@ -116,11 +116,14 @@ pub comes_to : (a : Actualising) (base p new : Presentation) (sorts operations :
     (map (equation_image (number_in sorts) (number_in operations)) (equations_in base.equations))
     → presentation_of new ≡ actualisation a
 comes_to a base p new sorts operations is same_sorts same_ops same_marks same_op_marks came =
-    ap (λ (xs : List Sort). parts xs (operations_in new.ops) (equations_in new.equations) (marks_in new.formal_sorts) (marks_in new.formal_ops))
+    ap (λ (xs : List Sort). parts xs (operations_in new.ops) (equations_in new.equations) (marks_in new.formal_sorts)
+    (marks_in new.formal_ops))
     (ap (λ l. sorts_in l) same_sorts ∙ is.sorts_are)
-    ∙ ap (λ (xs : List Operation). parts (actualised_sorts a) xs (equations_in new.equations) (marks_in new.formal_sorts) (marks_in new.formal_ops))
+    ∙ ap (λ (xs : List Operation). parts (actualised_sorts a) xs (equations_in new.equations) (marks_in new.formal_sorts)
+    (marks_in new.formal_ops))
     (ap (λ l. operations_in l) same_ops ∙ is.operations_are)
-    ∙ ap (λ (xs : List Equation). parts (actualised_sorts a) (actualised_operations a) xs (marks_in new.formal_sorts) (marks_in new.formal_ops))
+    ∙ ap (λ (xs : List Equation). parts (actualised_sorts a) (actualised_operations a) xs (marks_in new.formal_sorts)
+    (marks_in new.formal_ops))
     (equations_come a base p sorts operations (equations_in new.equations) is came)
     ∙ ap (λ (xs : List ℕ). parts (actualised_sorts a) (actualised_operations a) (actualised_equations a) xs (marks_in new.formal_ops))
     (ap (λ m. marks_in m) same_marks ∙ is.formal_sorts_are)

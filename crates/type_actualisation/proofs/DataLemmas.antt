@@ -86,7 +86,8 @@ no_other_equations a e at =
     first_appearances.equations.adds_nothing a.actual.equations
     (map (equation_image (actualised_sort a) (actualised_operation a)) a.base.presentation.equations) e at
 
-pub actualised_data : (a : Actualising) → HasActuals a → IsWellFormedData (data_of a.base.presentation) → IsWellFormedData (data_of a.actual)
+pub actualised_data : (a : Actualising) → HasActuals a → IsWellFormedData (data_of a.base.presentation)
+    → IsWellFormedData (data_of a.actual)
     → all_differ are_one_sort (actualisation a).signature.sorts ≡ true
     → all_differ are_one_operation (actualisation a).signature.operations ≡ true → IsWellFormedData (data_of (actualisation a))
 actualised_data a has base actual sorts operations = record {

@@ -149,5 +149,7 @@ actual_profile a formal form o h =
     let arguments : Bool = bytes_eq o.arguments (map (actualised_sort a) formal.arguments) in
     let result : Bool = nat_eq o.result (actualised_sort a formal.result) in
     let parts = and_parts named (arguments && result) h in
-    let both = and_parts arguments result parts.1 in
-    ((bytes_eq-Decides o.arguments (map (actualised_sort a) formal.arguments)).0 both.0, eqb-true o.result (actualised_sort a formal.result) both.1)
+    let both = and_parts arguments result parts.1 in (
+      (bytes_eq-Decides o.arguments (map (actualised_sort a) formal.arguments)).0 both.0,
+      eqb-true o.result (actualised_sort a formal.result) both.1,
+    )

@@ -21,7 +21,8 @@ use tree_building::value::{Value, held, take};
 
 #[tactic(auto, using(tree_building::proofs::FromLast::from_last_more, tree_building::proofs::FromLast::map_reverse))]
 fn joined_groups(parts: &mut Vec<Value>) -> Built
-    ensures { IfOk result (λ built. option_map meaning built ≡ group_before_groups (from_last meaning parts.old.items)) }
+    ensures { IfOk result (λ built. option_map meaning built
+        ≡ group_before_groups (from_last meaning parts.old.items)) }
 {
     let Some(sort) = take::<Named>(parts) else {
         return Ok(None);
@@ -46,7 +47,8 @@ fn joined_groups(parts: &mut Vec<Value>) -> Built
 
 #[tactic(auto, using(tree_building::proofs::FromLast::from_last_more))]
 fn joined_equations(parts: &mut Vec<Value>) -> Built
-    ensures { IfOk result (λ built. option_map meaning built ≡ equation_before_equations (from_last meaning parts.old.items)) }
+    ensures { IfOk result (λ built. option_map meaning built
+        ≡ equation_before_equations (from_last meaning parts.old.items)) }
 {
     let Some(equation) = take::<EqText>(parts) else {
         return Ok(None);
@@ -67,7 +69,8 @@ fn conditional_equation(
     conclusion: Conclusion,
 ) -> Built
     ensures { IfOk result (λ built. option_map meaning built
-        ≡ equation_from (started_term_of first) (option_map written_term_of right) (Some (conclusion_of conclusion))) }
+        ≡ equation_from (started_term_of first) (option_map written_term_of right)
+        (Some (conclusion_of conclusion))) }
 {
     let mut premisses = conclusion.premisses;
     premisses.push(TestText {
@@ -88,7 +91,8 @@ fn conditional_equation(
 
 /// The equation of two terms.
 fn plain_equation(alloc: Global, first: StartedTerm, right: Option<Written>) -> Built
-    ensures { IfOk result (λ built. option_map meaning built ≡ equation_from (started_term_of first) (option_map written_term_of right) None) }
+    ensures { IfOk result (λ built. option_map meaning built
+        ≡ equation_from (started_term_of first) (option_map written_term_of right) None) }
 {
     let Some(right) = right else {
         return Ok(None);
@@ -104,7 +108,8 @@ fn plain_equation(alloc: Global, first: StartedTerm, right: Option<Written>) -> 
 }
 
 fn whole_equation(alloc: Global, parts: &mut Vec<Value>) -> Built
-    ensures { IfOk result (λ built. option_map meaning built ≡ equation_of_term (from_last meaning parts.old.items)) }
+    ensures { IfOk result (λ built. option_map meaning built
+        ≡ equation_of_term (from_last meaning parts.old.items)) }
 {
     let Some(first) = take::<StartedTerm>(parts) else {
         return Ok(None);
@@ -120,7 +125,8 @@ fn whole_equation(alloc: Global, parts: &mut Vec<Value>) -> Built
 }
 
 fn right_side_of_pair(alloc: Global, parts: &mut Vec<Value>) -> Built
-    ensures { IfOk result (λ built. option_map meaning built ≡ equals_after_term (from_last meaning parts.old.items)) }
+    ensures { IfOk result (λ built. option_map meaning built
+        ≡ equals_after_term (from_last meaning parts.old.items)) }
 {
     let Some(right) = take::<StartedTerm>(parts) else {
         return Ok(None);
@@ -136,7 +142,8 @@ fn right_side_of_pair(alloc: Global, parts: &mut Vec<Value>) -> Built
 }
 
 fn conclusion_at_once(alloc: Global, parts: &mut Vec<Value>) -> Built
-    ensures { IfOk result (λ built. option_map meaning built ≡ conclusion_after_term (from_last meaning parts.old.items)) }
+    ensures { IfOk result (λ built. option_map meaning built
+        ≡ conclusion_after_term (from_last meaning parts.old.items)) }
 {
     let Some(conclusion) = take::<Conclusion>(parts) else {
         return Ok(None);
@@ -157,7 +164,8 @@ fn with_conclusion(parts: &mut Vec<Value>) -> Option<Value>
 
 #[tactic(auto, using(tree_building::proofs::FromLast::from_last_more))]
 fn joined_premisses(parts: &mut Vec<Value>) -> Built
-    ensures { IfOk result (λ built. option_map meaning built ≡ premiss_before_conclusion (from_last meaning parts.old.items)) }
+    ensures { IfOk result (λ built. option_map meaning built
+        ≡ premiss_before_conclusion (from_last meaning parts.old.items)) }
 {
     let Some(premiss) = take::<TestText>(parts) else {
         return Ok(None);
@@ -176,7 +184,8 @@ fn joined_premisses(parts: &mut Vec<Value>) -> Built
 
 #[tactic(auto, using(tree_building::proofs::FromLast::from_last_none))]
 fn conclusion(alloc: Global, token: Option<Token>, parts: &mut Vec<Value>) -> Built
-    ensures { IfOk result (λ built. option_map meaning built ≡ conclusion_of_terms token (from_last meaning parts.old.items)) }
+    ensures { IfOk result (λ built. option_map meaning built
+        ≡ conclusion_of_terms token (from_last meaning parts.old.items)) }
 {
     let Some(arrow) = token else {
         return Ok(None);
@@ -195,7 +204,8 @@ fn conclusion(alloc: Global, token: Option<Token>, parts: &mut Vec<Value>) -> Bu
 }
 
 fn premiss(alloc: Global, parts: &mut Vec<Value>) -> Built
-    ensures { IfOk result (λ built. option_map meaning built ≡ premiss_of_term (from_last meaning parts.old.items)) }
+    ensures { IfOk result (λ built. option_map meaning built
+        ≡ premiss_of_term (from_last meaning parts.old.items)) }
 {
     let Some(left) = take::<StartedTerm>(parts) else {
         return Ok(None);
@@ -226,7 +236,8 @@ pub fn build(
     token: Option<Token>,
     parts: &mut Vec<Value>,
 ) -> Built
-    ensures { IfOk result (λ built. option_map meaning built ≡ equations_row_means row token (from_last meaning parts.old.items)) }
+    ensures { IfOk result (λ built. option_map meaning built
+        ≡ equations_row_means row token (from_last meaning parts.old.items)) }
 {
     match row {
         EquationsRow::NoVariablesForAll => Ok(Some(Value::Variables(Vec::new(alloc)))),

@@ -45,7 +45,8 @@ fn the_pairs(parts: &mut Vec<Value>) -> Option<Value>
 
 #[tactic(auto, using(tree_building::proofs::FromLast::from_last_more))]
 fn joined_sort_pairs(parts: &mut Vec<Value>) -> Built
-    ensures { IfOk result (λ built. option_map meaning built ≡ sort_pair_before_pairs (from_last meaning parts.old.items)) }
+    ensures { IfOk result (λ built. option_map meaning built
+        ≡ sort_pair_before_pairs (from_last meaning parts.old.items)) }
 {
     let Some(given) = take::<Named>(parts) else {
         return Ok(None);
@@ -62,7 +63,8 @@ fn joined_sort_pairs(parts: &mut Vec<Value>) -> Built
 
 #[tactic(auto, using(tree_building::proofs::FromLast::from_last_more))]
 fn joined_operation_pairs(parts: &mut Vec<Value>) -> Built
-    ensures { IfOk result (λ built. option_map meaning built ≡ operation_pair_before_pairs (from_last meaning parts.old.items)) }
+    ensures { IfOk result (λ built. option_map meaning built
+        ≡ operation_pair_before_pairs (from_last meaning parts.old.items)) }
 {
     let Some(given) = take::<NamedOp>(parts) else {
         return Ok(None);
@@ -80,7 +82,8 @@ fn joined_operation_pairs(parts: &mut Vec<Value>) -> Built
 /// What a row of renamings builds from its parts.
 #[tactic(auto, using(tree_building::proofs::FromLast::from_last_none))]
 pub fn build(alloc: Global, row: RenamingsRow, parts: &mut Vec<Value>) -> Built
-    ensures { IfOk result (λ built. option_map meaning built ≡ renamings_row_means row None (from_last meaning parts.old.items)) }
+    ensures { IfOk result (λ built. option_map meaning built
+        ≡ renamings_row_means row None (from_last meaning parts.old.items)) }
 {
     match row {
         RenamingsRow::Renames => Ok(pairs_of_both_kinds(parts)),

@@ -28,7 +28,8 @@ use tree_building::value::{Value, held, take};
 
 #[tactic(auto, using(tree_building::proofs::FromLast::map_reverse))]
 fn library(alloc: Global, token: Option<Token>, parts: &mut Vec<Value>) -> Built
-    ensures { IfOk result (λ built. option_map meaning built ≡ library_item token (from_last meaning parts.old.items)) }
+    ensures { IfOk result (λ built. option_map meaning built
+        ≡ library_item token (from_last meaning parts.old.items)) }
 {
     let Some(word) = token else {
         return Ok(None);
@@ -46,7 +47,8 @@ fn library(alloc: Global, token: Option<Token>, parts: &mut Vec<Value>) -> Built
 /// A type with its name and its body.
 #[tactic(auto, using(tree_building::proofs::FromLast::map_reverse))]
 fn declared(name: Named, body: TypeBody) -> ItemText
-    ensures { item_of result ≡ type_declared (text_place_of name.0) (spelling name.1) (type_body_of body) }
+    ensures { item_of result ≡ type_declared (text_place_of name.0) (spelling name.1)
+        (type_body_of body) }
 {
     let place = name.0;
     let name = name.1;
@@ -82,7 +84,8 @@ fn declared(name: Named, body: TypeBody) -> ItemText
 }
 
 fn type_with_name(alloc: Global, parts: &mut Vec<Value>) -> Built
-    ensures { IfOk result (λ built. option_map meaning built ≡ type_item (from_last meaning parts.old.items)) }
+    ensures { IfOk result (λ built. option_map meaning built
+        ≡ type_item (from_last meaning parts.old.items)) }
 {
     let Some(name) = take::<Named>(parts) else {
         return Ok(None);
@@ -96,7 +99,8 @@ fn type_with_name(alloc: Global, parts: &mut Vec<Value>) -> Built
 /// The body of a first name and what stands behind it.
 #[tactic(auto, using(tree_building::proofs::FromLast::from_last_more))]
 fn body_of_base(base: Named, after: AfterBase) -> Result<TypeBody, AllocError>
-    ensures { IfOk result (λ body. type_body_of body ≡ body_from (placed_name_of base) (after_base_of after)) }
+    ensures { IfOk result (λ body. type_body_of body
+        ≡ body_from (placed_name_of base) (after_base_of after)) }
 {
     match after {
         AfterBase::Renamed(pairs) => Ok(TypeBody::Renames(base, pairs)),
@@ -109,7 +113,8 @@ fn body_of_base(base: Named, after: AfterBase) -> Result<TypeBody, AllocError>
 }
 
 fn body_with_name(parts: &mut Vec<Value>) -> Built
-    ensures { IfOk result (λ built. option_map meaning built ≡ named_body (from_last meaning parts.old.items)) }
+    ensures { IfOk result (λ built. option_map meaning built
+        ≡ named_body (from_last meaning parts.old.items)) }
 {
     let Some(base) = take::<Named>(parts) else {
         return Ok(None);
@@ -136,7 +141,8 @@ fn renamed(parts: &mut Vec<Value>) -> Option<Value>
 }
 
 fn actualised(parts: &mut Vec<Value>) -> Option<Value>
-    ensures { option_map meaning result ≡ actualisation_after_base (from_last meaning parts.old.items) }
+    ensures { option_map meaning result ≡ actualisation_after_base
+        (from_last meaning parts.old.items) }
 {
     let actuals = take::<Vec<Named>>(parts)?;
     let pairs = take::<BothPairs>(parts)?;
@@ -153,7 +159,8 @@ fn extended(parts: &mut Vec<Value>) -> Option<Value>
 
 #[tactic(auto, using(tree_building::proofs::FromLast::map_reverse))]
 fn sections(parts: &mut Vec<Value>) -> Option<Sections>
-    ensures { option_map (λ it. some_sections (sections_of it)) result ≡ sections_of_parts (from_last meaning parts.old.items) }
+    ensures { option_map (λ it. some_sections (sections_of it)) result
+        ≡ sections_of_parts (from_last meaning parts.old.items) }
 {
     let formal_sorts = take::<Vec<Named>>(parts)?;
     let formal_ops = take::<Vec<OpText>>(parts)?;
@@ -172,7 +179,8 @@ fn sections(parts: &mut Vec<Value>) -> Option<Sections>
 }
 
 fn all_sections(alloc: Global, parts: &mut Vec<Value>) -> Built
-    ensures { IfOk result (λ built. option_map meaning built ≡ sections_of_parts (from_last meaning parts.old.items)) }
+    ensures { IfOk result (λ built. option_map meaning built
+        ≡ sections_of_parts (from_last meaning parts.old.items)) }
 {
     match sections(parts) {
         Some(sections) => Ok(Some(Value::Sections(held(alloc, sections)?))),
@@ -186,7 +194,8 @@ fn operation_of_profile(
     operation: NamedOp,
     profile: &OpProfile,
 ) -> Result<OpText, AllocError>
-    ensures { IfOk result (λ it. operation_of it ∷ [] ≡ operations_of_profile (named_operation_of operation ∷ []) (profile_of profile.now)) }
+    ensures { IfOk result (λ it. operation_of it ∷ []
+        ≡ operations_of_profile (named_operation_of operation ∷ []) (profile_of profile.now)) }
 {
     Ok(OpText {
         place: operation.name.0,
@@ -206,7 +215,8 @@ fn add_operations(
     operations: &mut Vec<OpText>,
 ) -> Result<(), AllocError>
     ensures { OnOk result (from_last operation_of operations.new.items
-        ≡ operations_of_profile (from_last named_operation_of names.items) (profile_of profile.now) ++ from_last operation_of operations.old.items) }
+        ≡ operations_of_profile (from_last named_operation_of names.items) (profile_of profile.now)
+        ++ from_last operation_of operations.old.items) }
 {
     for operation in names {
         operations.push(operation_of_profile(alloc, operation, profile)?)?;
@@ -216,7 +226,8 @@ fn add_operations(
 
 #[tactic(auto, using(tree_building::proofs::FromLast::from_last_more))]
 fn joined_lines(alloc: Global, parts: &mut Vec<Value>) -> Built
-    ensures { IfOk result (λ built. option_map meaning built ≡ line_before_lines (from_last meaning parts.old.items)) }
+    ensures { IfOk result (λ built. option_map meaning built
+        ≡ line_before_lines (from_last meaning parts.old.items)) }
 {
     let Some(first) = take::<NamedOp>(parts) else {
         return Ok(None);
@@ -237,7 +248,8 @@ fn joined_lines(alloc: Global, parts: &mut Vec<Value>) -> Built
 
 #[tactic(auto, using(tree_building::proofs::FromLast::from_last_more))]
 fn joined_operation_names(parts: &mut Vec<Value>) -> Built
-    ensures { IfOk result (λ built. option_map meaning built ≡ operation_before_operations (from_last meaning parts.old.items)) }
+    ensures { IfOk result (λ built. option_map meaning built
+        ≡ operation_before_operations (from_last meaning parts.old.items)) }
 {
     let Some(first) = take::<NamedOp>(parts) else {
         return Ok(None);
@@ -273,7 +285,8 @@ fn section_of_equations(parts: &mut Vec<Value>) -> Option<Value>
 /// An item before items.
 #[tactic(auto, using(tree_building::proofs::FromLast::from_last_more))]
 pub fn joined_items(parts: &mut Vec<Value>) -> Built
-    ensures { IfOk result (λ built. option_map meaning built ≡ item_before_items (from_last meaning parts.old.items)) }
+    ensures { IfOk result (λ built. option_map meaning built
+        ≡ item_before_items (from_last meaning parts.old.items)) }
 {
     let Some(first) = take::<ItemText>(parts) else {
         return Ok(None);
@@ -288,7 +301,8 @@ pub fn joined_items(parts: &mut Vec<Value>) -> Built
 /// What a row of types builds from its token and its parts.
 #[tactic(auto, using(tree_building::proofs::FromLast::from_last_none))]
 pub fn build(alloc: Global, row: TypesRow, token: Option<Token>, parts: &mut Vec<Value>) -> Built
-    ensures { IfOk result (λ built. option_map meaning built ≡ types_row_means row token (from_last meaning parts.old.items)) }
+    ensures { IfOk result (λ built. option_map meaning built
+        ≡ types_row_means row token (from_last meaning parts.old.items)) }
 {
     match row {
         TypesRow::LibraryItem => library(alloc, token, parts),

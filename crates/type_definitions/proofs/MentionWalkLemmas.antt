@@ -311,7 +311,8 @@ runs_next graph p order stack f position m w next is unseen all r =
     (λ k above below. w.done (get_or ms k 0) (next.passed k above below)) from_position in
     runs_back graph stack f order two.0 all (two.1.0, whole, two.1.2) two.2
 
-pub goes_next : (graph : List (List ℕ)) (p : List Progress) (order : List ℕ) (stack : List Frame) (f : Frame) (position m : ℕ) (stack' : List Frame)
+pub goes_next : (graph : List (List ℕ)) (p : List Progress) (order : List ℕ) (stack : List Frame) (f : Frame) (position m : ℕ)
+    (stack' : List Frame)
     → IsWithin graph → IsTypeWalk graph p order (stack ++ f ∷ []) → IsNextMention (mentioned_by graph f.number) p f.next position
     → get_or (mentioned_by graph f.number) position 0 ≡ m → progress_at p m ≡ Unseen
     → stack' ≡ (stack ++ with_next f position ∷ []) ++ first_frame_of m ∷ []
@@ -426,7 +427,8 @@ pub step_done : (graph : List (List ℕ)) (p : List Progress) (order : List ℕ)
 step_done graph p order stack f ms order' is w none more =
     goes_done graph p order stack f order' w (subst (λ (xs : List ℕ). HasNoNext xs p f.next) is none) more
 
-pub step_next : (graph : List (List ℕ)) (p : List Progress) (order : List ℕ) (stack : List Frame) (f : Frame) (ms : List ℕ) (position : ℕ) (stack' : List Frame)
+pub step_next : (graph : List (List ℕ)) (p : List Progress) (order : List ℕ) (stack : List Frame) (f : Frame) (ms : List ℕ) (position : ℕ)
+    (stack' : List Frame)
     → ms ≡ mentioned_by graph f.number → IsWithin graph → IsTypeWalk graph p order (stack ++ f ∷ []) → IsNextMention ms p f.next position
     → ¬ (progress_at p (get_or ms position 0) ≡ Open)
     → stack' ≡ (stack ++ with_next f position ∷ []) ++ first_frame_of (get_or ms position 0) ∷ []

@@ -87,7 +87,8 @@ adds_nothing : {A : Type 0} (same : A → A → Bool) (kept xs : List A) (i : �
     → IsIn kept x ⊎ IsIn xs x
 adds_nothing same kept [] i x found = inl (i, found)
 adds_nothing {A = A} same kept (z ∷ xs) i x found =
-    go (list_any (same z) kept) found (λ (more : List A) (f : slice_get (with_new same more xs) i ≡ Some x). adds_nothing same more xs i x f)
+    go (list_any (same z) kept) found (λ (more : List A) (f : slice_get (with_new same more xs) i ≡ Some x).
+    adds_nothing same more xs i x f)
   where
     later : IsIn xs x → IsIn (z ∷ xs) x
     later at = (suc at.0, at.1)

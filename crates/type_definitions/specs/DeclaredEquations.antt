@@ -230,7 +230,8 @@ pub data GiveAll : Presentation → List EquationQuestion → Presentation → T
 
 -- the first question with a fault has this one
 pub data HasFirstFault (type_name : List ℕ) : Presentation → List EquationQuestion → TypeFault → Type 0 where
-  at_once : (p : Presentation) (a : EquationQuestion) (asked : List EquationQuestion) (fault : TypeFault) → QuestionHasFault p type_name a fault
+  at_once : (p : Presentation) (a : EquationQuestion) (asked : List EquationQuestion) (fault : TypeFault)
+      → QuestionHasFault p type_name a fault
       → HasFirstFault type_name p (a ∷ asked) fault
   further_on : (p q : Presentation) (a : EquationQuestion) (asked : List EquationQuestion) (fault : TypeFault) → GivesPresentation p a q
       → HasFirstFault type_name q asked fault → HasFirstFault type_name p (a ∷ asked) fault

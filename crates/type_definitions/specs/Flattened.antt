@@ -104,4 +104,5 @@ pub record IsFaultOfUnion (types : List DeclaredType) (fault : TypeFault) : Type
 -- This is the first fault of flattening the types: that of a type, or that of the union behind all of them.
 abbrev pub IsFlatteningFault : List DeclaredType → TypeFault → Type 0
 IsFlatteningFault types fault =
-    ((order : List ℕ) × IsFlatteningOrder (mention_graph types) order × HasFaultyType [] (types_at types order) fault) ⊎ IsFaultOfUnion types fault
+    ((order : List ℕ) × IsFlatteningOrder (mention_graph types) order × HasFaultyType [] (types_at types order) fault) ⊎ IsFaultOfUnion
+    types fault

@@ -1,6 +1,7 @@
 //! Definitions of presentations and of what flattening the types of a text gives or refuses
 //! (ISO 8807:1989, data part), the faults as the code answers them, images of terms, operations and
-//! equations under new numbers, and the order in which types that mention one another are flattened.
+//! equations under new numbers, and the order in which types that mention one another are
+//! flattened.
 #![tactic(auto)]
 
 pub mod cycles;

@@ -97,7 +97,8 @@ fn first_frame(
 ) -> Result<Vec<Frame>, NoMemory>
     requires is_type { root < length (graph_of graph.now) }
     requires walk { IsTypeWalk (graph_of graph.now) progress.old order.now.items [] }
-    ensures { IfOk result (λ stack. WalkStarts (graph_of graph.now) progress.new order.now.items root
+    ensures { IfOk result (λ stack. WalkStarts (graph_of graph.now) progress.new order.now.items
+        root
         stack.items) }
 {
     let mut stack = Vec::new(alloc);

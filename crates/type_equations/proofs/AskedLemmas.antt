@@ -68,7 +68,8 @@ pub faulty_here : (type_name : List ℕ) (p : Presentation) (xs : List VarText) 
     → GiveAll p (asked_of_variables (variables_of (take i xs))) p → is_sort_name p.signature (spelling x.sort) ≡ false
     → HasFirstFault type_name p (asked_of_variables (variables_of xs)) (unknown_sort (text_place_of x.sort_place) (Some (spelling x.sort)))
 faulty_here type_name p xs i x within is before none =
-    subst (λ (asked : List EquationQuestion). HasFirstFault type_name p asked (unknown_sort (text_place_of x.sort_place) (Some (spelling x.sort))))
+    subst (λ (asked : List EquationQuestion). HasFirstFault type_name p asked
+    (unknown_sort (text_place_of x.sort_place) (Some (spelling x.sort))))
     (sym take_whole)
     (fault_later type_name p p (asked_of_variables (variables_of (take i xs)))
     (asked_for (written_of x) ∷ asked_of_variables (variables_of (drop (i + 1) xs)))
@@ -91,7 +92,8 @@ as_many p first [] = refl
 as_many p first (v ∷ vs) = ap (λ (n : ℕ). suc n) (as_many p (suc first) vs)
 
 -- a variable comes into scope
-pub scope_more : (p : Presentation) (xs : List VarText) (i : ℕ) (x : VarText) (old now new : List Variable) (start number : ℕ) (v : Variable)
+pub scope_more : (p : Presentation) (xs : List VarText) (i : ℕ) (x : VarText) (old now new : List Variable) (start number : ℕ)
+    (v : Variable)
     → i < length xs → x ≡ get_or xs i x → now ≡ old ++ scope_from p start (variables_of (take i xs))
     → start ≡ length old → number ≡ length now → new ≡ now ++ v ∷ []
     → v ≡ record { name = spelling x.name; number = number; sort = sort_numbered p (spelling x.sort) }

@@ -20,7 +20,8 @@ give_all_same p q [] (none_asked _) = refl
 give_all_same p q (a ∷ asked) (next_gives _ s _ _ _ one rest) = give_all_same s q asked rest ∙ gives_same p s a one
 
 -- the fault of the first questions
-pub fault_first : (type_name : List ℕ) (p : Presentation) (xs ys : List EquationQuestion) (fault : TypeFault) → HasFirstFault type_name p xs fault
+pub fault_first : (type_name : List ℕ) (p : Presentation) (xs ys : List EquationQuestion) (fault : TypeFault)
+    → HasFirstFault type_name p xs fault
     → HasFirstFault type_name p (xs ++ ys) fault
 fault_first type_name p [] ys fault found = elim found [ ]
 fault_first type_name p (a ∷ xs) ys fault (at_once _ _ _ _ here) = at_once p a (xs ++ ys) fault here
@@ -31,15 +32,18 @@ fault_first type_name p (a ∷ xs) ys fault (further_on _ q _ _ _ one rest) =
 
 -- one more
 pub given_next : {A B : Type 0} (f : A → B) (g : B → EquationQuestion) (p q r : Presentation) (xs : List A) (i : ℕ) (x : A) → i < length xs
-    → x ≡ get_or xs i x → GiveAll p (map g (map f (take i xs))) q → GivesPresentation q (g (f x)) r → GiveAll p (map g (map f (take (i + 1) xs))) r
+    → x ≡ get_or xs i x → GiveAll p (map g (map f (take i xs))) q → GivesPresentation q (g (f x)) r
+    → GiveAll p (map g (map f (take (i + 1) xs))) r
 given_next {B = B} f g p q r xs i x within is before one =
     subst (λ (qs : List EquationQuestion). GiveAll p qs r)
     (sym (ap (λ (ys : List B). map g ys) (so_far f xs i x within is) ∙ map-append g (map f (take i xs)) (f x ∷ [])))
     (give_append p q r (map g (map f (take i xs))) (g (f x) ∷ []) before (next_gives q r r (g (f x)) [] one (none_asked r)))
 
 -- the next one has a fault
-pub fault_next : {A B : Type 0} (f : A → B) (g : B → EquationQuestion) (type_name : List ℕ) (p q : Presentation) (xs : List A) (i : ℕ) (x : A)
-    (fault : TypeFault) → i < length xs → x ≡ get_or xs i x → GiveAll p (map g (map f (take i xs))) q → QuestionHasFault q type_name (g (f x)) fault
+pub fault_next : {A B : Type 0} (f : A → B) (g : B → EquationQuestion) (type_name : List ℕ) (p q : Presentation) (xs : List A) (i : ℕ)
+    (x : A)
+    (fault : TypeFault) → i < length xs → x ≡ get_or xs i x → GiveAll p (map g (map f (take i xs))) q
+    → QuestionHasFault q type_name (g (f x)) fault
     → HasFirstFault type_name p (map g (map f xs)) fault
 fault_next {A = A} {B = B} f g type_name p q xs i x fault within is before here =
     subst (λ (qs : List EquationQuestion). HasFirstFault type_name p qs fault) (sym whole)
@@ -54,7 +58,8 @@ fault_next {A = A} {B = B} f g type_name p q xs i x fault within is before here 
 
 -- ---- Groups of a section.
 
-pub groups_next : {A B : Type 0} (f : A → B) (g : B → List EquationQuestion) (p q r : Presentation) (xs : List A) (i : ℕ) (x : A) → i < length xs
+pub groups_next : {A B : Type 0} (f : A → B) (g : B → List EquationQuestion) (p q r : Presentation) (xs : List A) (i : ℕ) (x : A)
+    → i < length xs
     → x ≡ get_or xs i x → GiveAll p (flat_map g (map f (take i xs))) q → GiveAll q (g (f x)) r
     → GiveAll p (flat_map g (map f (take (i + 1) xs))) r
 groups_next {B = B} f g p q r xs i x within is before one =
@@ -63,7 +68,8 @@ groups_next {B = B} f g p q r xs i x within is before one =
     ∙ ap (λ (qs : List EquationQuestion). flat_map g (map f (take i xs)) ++ qs) (append-nil (g (f x)))))
     (give_append p q r (flat_map g (map f (take i xs))) (g (f x)) before one)
 
-pub groups_fault : {A B : Type 0} (f : A → B) (g : B → List EquationQuestion) (type_name : List ℕ) (p q : Presentation) (xs : List A) (i : ℕ) (x : A)
+pub groups_fault : {A B : Type 0} (f : A → B) (g : B → List EquationQuestion) (type_name : List ℕ) (p q : Presentation) (xs : List A)
+    (i : ℕ) (x : A)
     (fault : TypeFault) → i < length xs → x ≡ get_or xs i x → GiveAll p (flat_map g (map f (take i xs))) q
     → HasFirstFault type_name q (g (f x)) fault → HasFirstFault type_name p (flat_map g (map f xs)) fault
 groups_fault {A = A} {B = B} f g type_name p q xs i x fault within is before here =

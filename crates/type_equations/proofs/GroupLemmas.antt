@@ -22,7 +22,8 @@ pub group_given : (is_formal : Bool) (written : List WrittenVariable) (g : Group
     → GiveAll p (map (question_in is_formal written (group_of g)) (map equation_of (take i items))) q
     → GiveAll p (asked_of_group is_formal written (group_of g)) q
 group_given is_formal written g p q items i are all sorts given =
-    give_append p p q (sorts_asked (group_of g)) (map (question_in is_formal written (group_of g)) (map equation_of g.equations.items)) sorts
+    give_append p p q (sorts_asked (group_of g)) (map (question_in is_formal written (group_of g)) (map equation_of g.equations.items))
+    sorts
     (subst (λ (es : List EqText). GiveAll p (map (question_in is_formal written (group_of g)) (map equation_of es)) q)
     (take_whole items i all ∙ are) given)
 
@@ -30,7 +31,8 @@ pub group_sorts_fault : (is_formal : Bool) (written : List WrittenVariable) (g :
     (fault : TypeFault) → HasFirstFault type_name p (sorts_asked (group_of g)) fault
     → HasFirstFault type_name p (asked_of_group is_formal written (group_of g)) fault
 group_sorts_fault is_formal written g type_name p fault found =
-    fault_first type_name p (sorts_asked (group_of g)) (map (question_in is_formal written (group_of g)) (map equation_of g.equations.items))
+    fault_first type_name p (sorts_asked (group_of g)) (map (question_in is_formal written (group_of g))
+    (map equation_of g.equations.items))
     fault found
 
 pub group_fault : (is_formal : Bool) (written : List WrittenVariable) (g : GroupText) (type_name : List ℕ) (p : Presentation)
@@ -38,7 +40,8 @@ pub group_fault : (is_formal : Bool) (written : List WrittenVariable) (g : Group
     → HasFirstFault type_name p (map (question_in is_formal written (group_of g)) (map equation_of items)) fault
     → HasFirstFault type_name p (asked_of_group is_formal written (group_of g)) fault
 group_fault is_formal written g type_name p items fault are sorts found =
-    fault_later type_name p p (sorts_asked (group_of g)) (map (question_in is_formal written (group_of g)) (map equation_of g.equations.items))
+    fault_later type_name p p (sorts_asked (group_of g)) (map (question_in is_formal written (group_of g))
+    (map equation_of g.equations.items))
     fault sorts
     (subst (λ (es : List EqText). HasFirstFault type_name p (map (question_in is_formal written (group_of g)) (map equation_of es)) fault)
     are found)

@@ -18,7 +18,8 @@ use Rattle.type_equations.specs.ScopeFor.{IsScopeFor, sorts_asked}
 use Rattle.type_equations.specs.declared.equation_scope.EquationScope.{EquationScope}
 use Rattle.type_equations.proofs.AskedLemmas.{give_both, sorts_there}
 
-pub scope_given : (p : Presentation) (variables : List WrittenVariable) (g : GroupText) (scope : EquationScope) {signature : Signature} {sort : ℕ}
+pub scope_given : (p : Presentation) (variables : List WrittenVariable) (g : GroupText) (scope : EquationScope) {signature : Signature}
+    {sort : ℕ}
     → p.signature ≡ signature → GiveAll p (asked_of_variables variables) p → is_sort_name p.signature (spelling g.sort) ≡ true
     → sort ≡ sort_numbered p (spelling g.sort) → GiveAll p (asked_of_variables (variables_of g.variables.items)) p
     → scope.sort ≡ sort → map variable_of scope.variables.now ≡ scope_from p 0 (variables ++ variables_of g.variables.items)

@@ -119,7 +119,8 @@ made_over p asked scope place left right e is sides made =
     over_scope p asked scope place left right is =
         ap (λ (vs : List Variable). equation_of_sides place vs (term_in left) (term_in right)) is.variables_are
 
-pub grown_with_sides : (p q : Presentation) (asked : AskedEquation) (scope : EquationScope) (place : Place) (left right : Sorted) (e : Equation)
+pub grown_with_sides : (p q : Presentation) (asked : AskedEquation) (scope : EquationScope) (place : Place) (left right : Sorted)
+    (e : Equation)
     → IsScopeFor p asked.variables asked.sort scope → asked.equation.place ≡ place
     → e ≡ equation_of_sides place (map variable_of scope.variables.now) (term_in left) (term_in right)
     → q ≡ with_equation p e → q ≡ with_sides p asked (term_in left) (term_in right)
@@ -151,7 +152,8 @@ section_is p signature s old new texts section none are is same added = record {
 -- ---- An equation of the type's own.
 
 pub premised_here : (p : Presentation) (type_name : List ℕ) (asked : AskedEquation) (e : EqText) (arrow : CodePlace)
-    → asked.equation ≡ equation_of e → e.arrow ≡ Some arrow → QuestionHasFault p type_name (own_asked asked) (premised (text_place_of arrow))
+    → asked.equation ≡ equation_of e → e.arrow ≡ Some arrow
+    → QuestionHasFault p type_name (own_asked asked) (premised (text_place_of arrow))
 premised_here p type_name asked e arrow is there =
     own_has_premisses asked (text_place_of arrow)
     (ap (λ (d : WrittenEquation). d.arrow) is ∙ ap (λ (o : Option CodePlace). option_map text_place_of o) there)

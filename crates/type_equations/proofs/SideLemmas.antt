@@ -44,7 +44,8 @@ of_expected_sort signature variables side sort reading read = go (unknown_in sig
 
 -- ---- Sides and their faults.
 
-pub side_read : (p : Presentation) (asked : AskedEquation) (signature : Signature) (variables : List Variable) (sort : ℕ) (side : WrittenTerm)
+pub side_read : (p : Presentation) (asked : AskedEquation) (signature : Signature) (variables : List Variable) (sort : ℕ)
+    (side : WrittenTerm)
     (reading : SortedTerm) → p.signature ≡ signature → variables ≡ scope_of p asked → sort ≡ sort_numbered p asked.sort
     → ReadingIs signature variables side (Some sort) (answered reading) → IsSide p asked side reading.term
 side_read p asked signature variables sort side reading over scope at read = (
@@ -55,7 +56,8 @@ side_read p asked signature variables sort side reading over scope at read = (
 )
 
 pub side_refused : (p : Presentation) (asked : AskedEquation) (signature : Signature) (variables : List Variable) (sort : ℕ)
-    (side : WrittenTerm) (refusal : ReadingRefusal) → p.signature ≡ signature → variables ≡ scope_of p asked → sort ≡ sort_numbered p asked.sort
+    (side : WrittenTerm) (refusal : ReadingRefusal) → p.signature ≡ signature → variables ≡ scope_of p asked
+    → sort ≡ sort_numbered p asked.sort
     → ReadingIs signature variables side (Some sort) (refused refusal) → IsSideFault p asked side (fault_of refusal)
 side_refused p asked signature variables sort side refusal over scope at read = (
   refusal,

@@ -15,7 +15,8 @@ AreNumberedByPosition scope = (i : ℕ) (v : Variable) → slice_get scope i ≡
 
 -- readings of two sides at one sort make a well-formed equation over the signature
 abbrev pub SidesMakeAnEquation : Type 0
-SidesMakeAnEquation = (signature : Signature) (scope : List Variable) (place : Place) (one other : WrittenTerm) (left right : Term) (sort : ℕ)
+SidesMakeAnEquation = (signature : Signature) (scope : List Variable) (place : Place) (one other : WrittenTerm) (left right : Term)
+    (sort : ℕ)
     → IsScopeOver signature scope → AreNumberedByPosition scope → Reads signature scope one left sort
     → Reads signature scope other right sort → IsEquationOver signature (equation_of_sides place scope left right)
 

@@ -82,8 +82,8 @@ impl<'a> EquationScope<'a> {
     ghost use Rattle.type_equations.specs.ScopeFor.{IsScopeFor, sorts_asked};
 
     /// The scope of a group, whose variables come behind those of the section: it is that of the
-    /// section where the group has none, and else it is put where there is room. It is refused at the
-    /// first name of no sort: that of the sides, then those of its variables.
+    /// section where the group has none, and else it is put where there is room. It is refused at
+    /// the first name of no sort: that of the sides, then those of its variables.
     pub fn of_group(
         alloc: Global,
         reader: &Reader<'_>,

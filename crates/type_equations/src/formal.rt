@@ -90,7 +90,8 @@ fn check_equation(
         × (p.signature ≡ signature_read reader.now)
         × IsScopeFor p asked.variables asked.sort scope.now }
     ensures { (p : PlainPresentation) (asked : AskedEquation)
-        → p.signature ≡ signature_read reader.now → IsScopeFor p asked.variables asked.sort scope.now
+        → p.signature ≡ signature_read reader.now
+        → IsScopeFor p asked.variables asked.sort scope.now
         → IsTruth p truth → asked.equation ≡ equation_of equation.now → MatchResult result
         (λ _. GivesPresentation p (formal_asked asked) p)
         (λ fault. HoldsOfFault fault (λ f. (type_name : List ℕ)

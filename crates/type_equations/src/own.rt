@@ -81,7 +81,8 @@ fn add_group(
         section.now.variables.items }
     ensures given { (written : List WrittenVariable)
         → IsSectionFor (presentation_of presentation.old) written (signature_read reader.now)
-        section.now.variables.items → MatchResult result (λ _. GiveAll (presentation_of presentation.old)
+        section.now.variables.items → MatchResult result
+        (λ _. GiveAll (presentation_of presentation.old)
         (asked_of_group false written (group_of group.now)) (presentation_of presentation.new))
         (λ fault. HoldsOfFault fault (HasFirstFault (spelling type_name.now)
         (presentation_of presentation.old) (asked_of_group false written (group_of group.now)))) }

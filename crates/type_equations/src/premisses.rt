@@ -33,7 +33,8 @@ pub fn check_premisses(
         × (p.signature ≡ signature_read reader.now)
         × IsScopeFor p asked.variables asked.sort scope.now }
     ensures { (p : PlainPresentation) (asked : AskedEquation)
-        → p.signature ≡ signature_read reader.now → IsScopeFor p asked.variables asked.sort scope.now
+        → p.signature ≡ signature_read reader.now
+        → IsScopeFor p asked.variables asked.sort scope.now
         → IsTruth p truth → MatchResult result
         (λ _. AreReadPremisses p asked (map premiss_of premisses.now))
         (λ fault. HoldsOfFault fault (IsFirstPremissFault p asked
@@ -56,7 +57,8 @@ fn check_premiss(
         × (p.signature ≡ signature_read reader.now)
         × IsScopeFor p asked.variables asked.sort scope.now }
     ensures { (p : PlainPresentation) (asked : AskedEquation)
-        → p.signature ≡ signature_read reader.now → IsScopeFor p asked.variables asked.sort scope.now
+        → p.signature ≡ signature_read reader.now
+        → IsScopeFor p asked.variables asked.sort scope.now
         → IsTruth p truth → MatchResult result
         (λ _. IsReadPremiss p asked (premiss_of premiss.now).left (premiss_of premiss.now).right)
         (λ fault. HoldsOfFault fault (IsPremissFault p asked (premiss_of premiss.now).left
@@ -82,7 +84,8 @@ fn check_single(
         × (p.signature ≡ signature_read reader.now)
         × IsScopeFor p asked.variables asked.sort scope.now }
     ensures { (p : PlainPresentation) (asked : AskedEquation)
-        → p.signature ≡ signature_read reader.now → IsScopeFor p asked.variables asked.sort scope.now
+        → p.signature ≡ signature_read reader.now
+        → IsScopeFor p asked.variables asked.sort scope.now
         → IsTruth p truth → MatchResult result
         (λ _. IsReadPremiss p asked (premiss_of premiss.now).left None)
         (λ fault. HoldsOfFault fault (IsPremissFault p asked (premiss_of premiss.now).left

@@ -26,7 +26,8 @@ pub fn read_sides(
         × (p.signature ≡ signature_read reader.now)
         × IsScopeFor p asked.variables asked.sort scope.now }
     ensures { (p : PlainPresentation) (asked : AskedEquation)
-        → p.signature ≡ signature_read reader.now → IsScopeFor p asked.variables asked.sort scope.now
+        → p.signature ≡ signature_read reader.now
+        → IsScopeFor p asked.variables asked.sort scope.now
         → asked.equation ≡ equation_of equation.now → MatchResult result
         (λ sides. IsSide p asked asked.equation.left (term_in sides.0)
         × IsSide p asked asked.equation.right (term_in sides.1)

@@ -189,4 +189,5 @@ pub actualisation_fine : (a : Actualising) → IsFine a.base.presentation → Is
     → IsFine (actualisation a)
 actualisation_fine a base actual none =
     let is = faultless a none in
-    actualised_data a is.actuals base actual (actualised_sorts_differ a actual is.sorts) (actualised_operations_differ a actual is.operations)
+    actualised_data a is.actuals base actual (actualised_sorts_differ a actual is.sorts)
+    (actualised_operations_differ a actual is.operations)

@@ -30,7 +30,8 @@ abbrev IsAnswered : {A : Type 0} → ReadingOutcome A → Type 0
 IsAnswered (answered x) = Unit {0}
 IsAnswered (refused refusal) = ⊥
 
-refusals_once : {A : Type 0} (one other : ReadingRefusal) → ◌≡◌ {A = ReadingOutcome A} (refused one) (refused other) → fault_of one ≡ fault_of other
+refusals_once : {A : Type 0} (one other : ReadingRefusal) → ◌≡◌ {A = ReadingOutcome A} (refused one) (refused other)
+    → fault_of one ≡ fault_of other
 refusals_once {A} one other same = ap (λ (o : ReadingOutcome A). fault_of (refusal_in one o)) same
 
 module _ (p : Presentation) (asked : AskedEquation) where
@@ -47,7 +48,8 @@ module _ (p : Presentation) (asked : AskedEquation) where
   side_once : (w : WrittenTerm) (t u : Term) → IsSide p asked w t → IsSide p asked w u → t ≡ u
   side_once w t u is also =
       sym is.2
-      ∙ ap (λ (o : ReadingOutcome SortedTerm). (answer_in is.0 o).term) (read_once w (Some (sort_numbered p asked.sort)) (answered is.0) (answered also.0) is.1 also.1)
+      ∙ ap (λ (o : ReadingOutcome SortedTerm). (answer_in is.0 o).term)
+      (read_once w (Some (sort_numbered p asked.sort)) (answered is.0) (answered also.0) is.1 also.1)
       ∙ also.2
 
   not_side : (w : WrittenTerm) (t : Term) (fault : TypeFault) → IsSide p asked w t → IsSideFault p asked w fault → ⊥
@@ -57,7 +59,8 @@ module _ (p : Presentation) (asked : AskedEquation) where
   side_fault_once : (w : WrittenTerm) (fault other : TypeFault) → IsSideFault p asked w fault → IsSideFault p asked w other
       → fault ≡ other
   side_fault_once w fault other is also =
-      sym is.2 ∙ refusals_once is.0 also.0 (read_once w (Some (sort_numbered p asked.sort)) (refused is.0) (refused also.0) is.1 also.1) ∙ also.2
+      sym is.2 ∙ refusals_once is.0 also.0 (read_once w (Some (sort_numbered p asked.sort)) (refused is.0) (refused also.0) is.1 also.1)
+      ∙ also.2
 
   -- ---- Both sides
 
@@ -131,7 +134,8 @@ gives_once (formal_is_read asked left right is also are) (formal_is_read _ _ _ _
 gives_once {p = p} (own_is_read asked left right none is also small) (own_is_read _ one two _ is_one is_two _) =
     sides_once p asked left right one two is also is_one is_two
 
-not_faulty : {p q : Presentation} {type_name : List ℕ} {a : EquationQuestion} {fault : TypeFault} → GivesPresentation p a q → QuestionHasFault p type_name a fault → ⊥
+not_faulty : {p q : Presentation} {type_name : List ℕ} {a : EquationQuestion} {fault : TypeFault} → GivesPresentation p a q
+    → QuestionHasFault p type_name a fault → ⊥
 not_faulty (sort_is_there place name there) (sort_is_unknown _ _ not) = both_ways _ not there
 not_faulty {p = p} (formal_is_read asked left right is also are) (formal_side _ fault not) = not_sides p asked left right fault is also not
 not_faulty {p = p} (formal_is_read asked left right is also are) (formal_premiss _ one two fault is_one is_two not) =

@@ -18,7 +18,8 @@ pub nothing_clashes : (place : Place) (name : List ℕ) (p : Presentation) → p
     → (has_sort_clash p ≡ false) × (has_operation_clash p ≡ false)
 nothing_clashes place name p none =
     let sorts = none_first (fault_if (has_sort_clash p) (double_sort place name))
-    (first_fault (fault_if (has_operation_clash p) (double_operation place name)) (fault_if (is_too_large p) (too_large place name))) none in
+    (first_fault (fault_if (has_operation_clash p) (double_operation place name)) (fault_if (is_too_large p) (too_large place name)))
+    none in
     let operations = none_first (fault_if (has_operation_clash p) (double_operation place name))
     (fault_if (is_too_large p) (too_large place name)) sorts.1 in (
       not_past (has_sort_clash p) (double_sort place name) sorts.0,

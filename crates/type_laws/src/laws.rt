@@ -1,4 +1,5 @@
-//! The laws of the outcomes of flattening. Each function carries one as its contract and does nothing.
+//! The laws of the outcomes of flattening. Each function carries one as its contract and does
+//! nothing.
 
 ghost use Rattle.type_laws.specs.FlatteningOutcomes.{
   EquationsAreDecided,

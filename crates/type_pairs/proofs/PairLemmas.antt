@@ -90,7 +90,8 @@ at_first name (pair ∷ pairs) = go (one_name pair.replaced.name name) (at_first
     go false rest = rest
 
 -- a pair behind a reference
-pub seen : (found : Option (Bor PairText)) → option_map (λ (p : Bor PairText). pair_of p.now) found ≡ option_map pair_of (option_copied found)
+pub seen : (found : Option (Bor PairText)) → option_map (λ (p : Bor PairText). pair_of p.now) found
+    ≡ option_map pair_of (option_copied found)
 seen None = refl
 seen (Some p) = refl
 

@@ -53,7 +53,8 @@ over_larger old new e larger h = record {
   sort = h.sort;
   left_sort = sorted_in_larger old new e.left h.sort larger h.left_sort;
   right_sort = sorted_in_larger old new e.right h.sort larger h.right_sort;
-  variable_sorts = λ n s declared. let old_sort : s < length old.sorts = h.variable_sorts n s declared in omega (arith, larger.sorts, old_sort);
+  variable_sorts = λ n s declared. let old_sort : s < length old.sorts =
+      h.variable_sorts n s declared in omega (arith, larger.sorts, old_sort);
   numbers = h.numbers;
   left_declared = h.left_declared;
   right_declared = h.right_declared;
@@ -115,7 +116,8 @@ grown {A = A} same clash alike turned old new x clashes is differ apart = go (li
     go : (b : Bool) → list_any (same x) old ≡ b → Grown clash old new x (clashes || nat_eq (length new) (length old))
     go true there =
         let unchanged : new ≡ old = is ∙ ap (λ (b : Bool). if b then old else old ++ x ∷ []) there in
-        let as_long : nat_eq (length new) (length old) ≡ true = eq-eqb (length new) (length old) (ap (λ (xs : List A). length xs) unchanged) in
+        let as_long : nat_eq (length new) (length old) ≡ true =
+        eq-eqb (length new) (length old) (ap (λ (xs : List A). length xs) unchanged) in
         let second : (clashes || nat_eq (length new) (length old)) ≡ true =
         ap (λ (b : Bool). clashes || b) as_long ∙ or_last clashes in
         let clashing : list_any (clash x) old ≡ true = list_any-weaker (same x) (clash x) (λ y h. alike x y h) old there in record {

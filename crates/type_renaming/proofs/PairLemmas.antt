@@ -158,10 +158,12 @@ operation_not_given type_name pairs earlier o own given apart = go (pair_for pai
         → are_one_operation (renamed_operation type_name pairs earlier) (renamed_operation type_name pairs o) ≡ false
     go None is e =
         ap (λ (r : Operation). are_one_operation r (renamed_operation type_name pairs o)) (unpaired_operation type_name pairs earlier is)
-        ∙ ap (λ (r : Operation). are_one_operation earlier r) (unpaired_operation type_name pairs o own) ∙ operations_turned earlier o ∙ apart
+        ∙ ap (λ (r : Operation). are_one_operation earlier r) (unpaired_operation type_name pairs o own) ∙ operations_turned earlier o
+        ∙ apart
     go (Some q) is e =
         ap (λ (r : Option WrittenPair). are_one_operation (operation_under type_name r earlier) (renamed_operation type_name pairs o)) is
-        ∙ ap (λ (r : Operation). are_one_operation (operation_under type_name (Some q) earlier) r) (unpaired_operation type_name pairs o own)
+        ∙ ap (λ (r : Operation). are_one_operation (operation_under type_name (Some q) earlier) r)
+        (unpaired_operation type_name pairs o own)
         ∙ under_pair type_name q earlier o ∙ either (have_one_profile earlier o) q e
 
 pub operations_alike : (type_name : List ℕ) (pairs : WrittenPairs) (o : Operation) → pair_for pairs.operation_pairs o.name ≡ None
@@ -171,5 +173,6 @@ pub operations_alike : (type_name : List ℕ) (pairs : WrittenPairs) (o : Operat
 operations_alike type_name pairs o own earlier none one =
     operations_turned o earlier
     ∙ ap (λ (r : Operation). are_one_operation r o) (sym (unpaired_operation type_name pairs earlier none))
-    ∙ ap (λ (r : Operation). are_one_operation (renamed_operation type_name pairs earlier) r) (sym (unpaired_operation type_name pairs o own))
+    ∙ ap (λ (r : Operation). are_one_operation (renamed_operation type_name pairs earlier) r)
+    (sym (unpaired_operation type_name pairs o own))
     ∙ one

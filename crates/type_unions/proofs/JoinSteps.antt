@@ -160,7 +160,8 @@ sound_together p q sorts operations one other old coming new fine all no_sorts n
     (all_maps p q sorts operations one other new all) fine.second_sides))
     (union_data p q fine.first fine.second (not-false _ no_sorts) (not-false _ no_operations))
 
-pub both_together : (p q : Presentation) (sorts operations : List ℕ) (old coming : List CodeEquation) (new : CodePresentation) (clashes : Clashes)
+pub both_together : (p q : Presentation) (sorts operations : List ℕ) (old coming : List CodeEquation) (new : CodePresentation)
+    (clashes : Clashes)
     → AreFine p q sorts operations old coming new
     → AllCame p q sorts operations clashes.sorts clashes.ops new → IsJoining p q new clashes
 both_together p q sorts operations old coming new clashes fine all =
@@ -195,7 +196,8 @@ sound_in_one p sound = record {
 
 -- ---- What it comes to.
 
-pub sorts_refused : (p : Presentation) (m : Mentioned) (new : CodePresentation) (clashes : Clashes) (fault : CodeFault) → IsJoining p m.presentation new clashes
+pub sorts_refused : (p : Presentation) (m : Mentioned) (new : CodePresentation) (clashes : Clashes) (fault : CodeFault)
+    → IsJoining p m.presentation new clashes
     → clashes.sorts ≡ true → HoldsOfFault fault (λ (f : TypeFault). f ≡ double_sort m.at.place m.at.name) → IsJoinFault p m fault
 sorts_refused p m new clashes fault joining told holds = record {
   found = holds_weaker (λ (f : TypeFault). f ≡ double_sort m.at.place m.at.name)
@@ -203,7 +205,8 @@ sorts_refused p m new clashes fault joining told holds = record {
       (λ (f : TypeFault) is. sorts_first p m (joining.sorts_told ∙ told) ∙ ap (λ (g : TypeFault). Some g) (sym is)) holds;
 }
 
-pub operations_refused : (p : Presentation) (m : Mentioned) (new : CodePresentation) (clashes : Clashes) (fault : CodeFault) → IsJoining p m.presentation new clashes
+pub operations_refused : (p : Presentation) (m : Mentioned) (new : CodePresentation) (clashes : Clashes) (fault : CodeFault)
+    → IsJoining p m.presentation new clashes
     → clashes.sorts ≡ false → clashes.ops ≡ true
     → HoldsOfFault fault (λ (f : TypeFault). f ≡ double_operation m.at.place m.at.name) → IsJoinFault p m fault
 operations_refused p m new clashes fault joining apart told holds = record {
@@ -215,7 +218,8 @@ operations_refused p m new clashes fault joining apart told holds = record {
 }
 
 -- how large the two are
-large_as : (p : Presentation) (m : Mentioned) (new : CodePresentation) (clashes : Clashes) (large : Bool) → IsJoining p m.presentation new clashes
+large_as : (p : Presentation) (m : Mentioned) (new : CodePresentation) (clashes : Clashes) (large : Bool)
+    → IsJoining p m.presentation new clashes
     → large ≡ is_too_large (presentation_of new) → is_too_large (with_mentioned p m) ≡ large
 large_as p m new clashes large joining is =
     let both : presentation_of new ≡ with_mentioned p m = joining.joined_both in
@@ -234,7 +238,8 @@ size_refused p m new clashes large fault joining one other is told holds = recor
       holds;
 }
 
-pub all_joined : (p : Presentation) (m : Mentioned) (new : CodePresentation) (clashes : Clashes) (large : Bool) → IsJoining p m.presentation new clashes
+pub all_joined : (p : Presentation) (m : Mentioned) (new : CodePresentation) (clashes : Clashes) (large : Bool)
+    → IsJoining p m.presentation new clashes
     → clashes.sorts ≡ false → clashes.ops ≡ false → large ≡ is_too_large (presentation_of new) → large ≡ false
     → IsJoined p m new
 all_joined p m new clashes large joining one other is told = record {

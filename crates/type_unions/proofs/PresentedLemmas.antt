@@ -34,12 +34,14 @@ by_position types (Some n) = presentation_at (slice_get types n)
 pub named_by_position : (types : List Mentioned) (name : List ℕ)
     → presentation_named types name ≡ by_position types (position_of_name (names_of types) name)
 named_by_position [] name = refl
-named_by_position (t ∷ ts) name = go (one_name t.at.name name) (list_any (λ n. one_name n name) (names_of ts)) refl (named_by_position ts name)
+named_by_position (t ∷ ts) name = go (one_name t.at.name name) (list_any (λ n. one_name n name) (names_of ts)) refl
+    (named_by_position ts name)
   where
     go : (b c : Bool) → list_any (λ n. one_name n name) (names_of ts) ≡ c
         → presentation_named ts name ≡ by_position ts (position_of_name (names_of ts) name)
         → (if b then t.presentation else presentation_named ts name)
-        ≡ by_position (t ∷ ts) (if b || c then Some (if b then 0 else suc (first_position (λ (n : List ℕ). one_name n name) (names_of ts))) else None)
+        ≡ by_position (t ∷ ts) (if b || c then Some (if b then 0 else suc (first_position (λ (n : List ℕ). one_name n name) (names_of ts)))
+        else None)
     go true c is later = refl
     go false true is later =
         later

@@ -6,4 +6,14 @@ pub mod SearchLemmas
 pub mod TableLemmas
 pub mod ClassLemmas
 pub mod ListLemmas
+pub mod TrialLemmas
+pub mod CodeLemmas
+pub mod ValuesLemmas
+pub mod TupleLemmas
 pub mod TupleOrderLemmas
+pub mod SiftLemmas
+pub mod TupleCodeLemmas
+pub mod InstanceLemmas
+pub mod FoundLemmas
+pub mod ChoiceLemmas
+pub mod LabelLemmas

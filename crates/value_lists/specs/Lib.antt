@@ -3,4 +3,10 @@ pub mod ValueList
 pub mod ListLaws
 pub mod RootTest
 pub mod Search
+pub mod FaultMeaning
+pub mod TrialView
+pub mod FoundView
 pub mod Tuples
+pub mod TupleNumbers
+pub mod InstanceList
+pub mod Tried

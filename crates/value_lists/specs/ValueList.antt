@@ -1,5 +1,5 @@
 -- Values: the ground terms that cannot be reduced; and the lists of them up to a size.
-use Rattle.std.specs.Prelude.{◌↔◌, ◌≤◌, ◌<◌, ℕ, List, length}
+use Rattle.std.specs.Prelude.{◌↔◌, ◌≤◌, ◌<◌, ℕ, List, [], ◌∷◌, length}
 use Rattle.std.specs.List.{AllPairs, Contains}
 use Rattle.lotos_base.specs.Signature.{Signature}
 use Rattle.lotos_base.specs.Sorting.{IsGroundOf}
@@ -23,6 +23,14 @@ pub record ListsInOrder (Wanted : Term → Type 0) (terms : List Term) : Type 0 
 -- The list of the values of the sort with at most so many operations.
 abbrev pub IsValueList : Signature → (Term → Type 0) → ℕ → ℕ → List Term → Type 0
 IsValueList signature Irreducible limit sort terms = ListsInOrder (IsValueWithin signature Irreducible limit sort) terms
+
+-- For each of the sorts there is the list of its values.
+abbrev pub AreValueLists : Signature → (Term → Type 0) → ℕ → List ℕ → List (List Term) → Type 0
+AreValueLists signature Irreducible limit [] [] = Unit {0}
+AreValueLists signature Irreducible limit [] (list ∷ lists) = ⊥
+AreValueLists signature Irreducible limit (sort ∷ sorts) [] = ⊥
+AreValueLists signature Irreducible limit (sort ∷ sorts) (list ∷ lists) =
+    IsValueList signature Irreducible limit sort list × AreValueLists signature Irreducible limit sorts lists
 
 -- The list of the values with at most so many operations, of all sorts.
 abbrev pub IsWholeList : Signature → (Term → Type 0) → ℕ → List Term → Type 0

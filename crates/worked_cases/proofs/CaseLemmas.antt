@@ -42,18 +42,21 @@ one_entry P known e (suc k, at) h = absurd (cc at)
 -- 2 is not below 2, and 1 is.
 pub two_not_below_two : Equal sample_data (less two two) truth → ⊥
 two_not_below_two e =
-    let same : falsehood ≡ truth = sample_is_canon.decides (less two two) truth bool_sort (ground_in sample_signature bool_sort (less two two) refl) (ground_in sample_signature bool_sort truth refl) e in
+    let same : falsehood ≡ truth = sample_is_canon.decides (less two two) truth bool_sort
+    (ground_in sample_signature bool_sort (less two two) refl) (ground_in sample_signature bool_sort truth refl) e in
     absurd (cc same)
 
 -- 0 is not 1.
 pub nought_not_one : Equal sample_data nought one → ⊥
 nought_not_one e =
-    let same : nought ≡ one = sample_is_canon.decides nought one nat_sort (ground_in sample_signature nat_sort nought refl) (ground_in sample_signature nat_sort one refl) e in
+    let same : nought ≡ one = sample_is_canon.decides nought one nat_sort (ground_in sample_signature nat_sort nought refl)
+    (ground_in sample_signature nat_sort one refl) e in
     absurd (cc same)
 
 -- `Succ(0) + 0` is 1.
 pub sum_is_one : Equal sample_data (plus one nought) one
-sum_is_one = canon_tells sample_data sample_canon (plus one nought) one nat_sort sample_is_canon (ground_in sample_signature nat_sort (plus one nought) refl) (ground_in sample_signature nat_sort one refl) refl
+sum_is_one = canon_tells sample_data sample_canon (plus one nought) one nat_sort sample_is_canon
+    (ground_in sample_signature nat_sort (plus one nought) refl) (ground_in sample_signature nat_sort one refl) refl
 
 -- `true` is no number, and 0 is one.
 pub truth_not_sorted : HasSort sample_signature truth nat_sort → ⊥
@@ -68,7 +71,8 @@ sort_of_nought sort h =
     let wanted : h.0.result ≡ sort = h.2 in
     omega arith
 
-pub sum_ground : (t u : Term) → IsGroundOf sample_signature nat_sort t → IsGroundOf sample_signature nat_sort u → IsGroundOf sample_signature nat_sort (plus t u)
+pub sum_ground : (t u : Term) → IsGroundOf sample_signature nat_sort t → IsGroundOf sample_signature nat_sort u
+    → IsGroundOf sample_signature nat_sort (plus t u)
 sum_ground t u h k = record { ground = (h.ground, (k.ground, tt)); sorted = (_, refl, refl, (h.sorted, (k.sorted, tt))) }
 
 -- How often `Succ` stands at the head of a term.
@@ -82,6 +86,7 @@ succ_ground t h = record { ground = (h.ground, tt); sorted = (_, refl, refl, (h.
 -- No number is two greater than itself.
 pub not_two_greater : (t : Term) → IsGroundOf sample_signature nat_sort t → Equal sample_data (succ (succ t)) t → ⊥
 not_two_greater t h e =
-    let same : succ (succ (sample_canon t)) ≡ sample_canon t = sample_is_canon.decides (succ (succ t)) t nat_sort (succ_ground (succ t) (succ_ground t h)) h e in
+    let same : succ (succ (sample_canon t)) ≡ sample_canon t =
+    sample_is_canon.decides (succ (succ t)) t nat_sort (succ_ground (succ t) (succ_ground t h)) h e in
     let counted : suc (suc (successors (sample_canon t))) ≡ successors (sample_canon t) = ap successors same in
     omega arith

@@ -28,8 +28,10 @@ no_argument_in i s e = cc
 
 is_well_formed : IsWellFormedSignature two_constants.signature
 is_well_formed = record {
-  results = λ f o e. each_member (λ (o : Operation). IsSort two_constants.signature o.result) two_constants.signature.operations f o (sort_in, (sort_in, tt)) e;
-  arguments = λ f i s o e d. each_member (λ (o : Operation). (i s : ℕ) → slice_get o.arguments i ≡ Some s → IsSort two_constants.signature s) two_constants.signature.operations f o (no_argument_in, (no_argument_in, tt)) e i s d;
+  results = λ f o e. each_member (λ (o : Operation). IsSort two_constants.signature o.result) two_constants.signature.operations f o
+      (sort_in, (sort_in, tt)) e;
+  arguments = λ f i s o e d. each_member (λ (o : Operation). (i s : ℕ) → slice_get o.arguments i ≡ Some s
+      → IsSort two_constants.signature s) two_constants.signature.operations f o (no_argument_in, (no_argument_in, tt)) e i s d;
   sort_names = λ i j s t e d a. one_named (λ (s : Sort). s.name) two_constants.signature.sorts i j s t refl e d a;
   profiles = λ f g o p e d name form arguments result. one_named (λ (o : Operation). o.name) two_constants.signature.operations f g o p
       refl e d name;
@@ -47,7 +49,8 @@ pub exact_three : Exact two_constants as_given [] three_actions three_entries
 exact_three = exact_list two_constants as_given with_three_actions three_actions 4 _ three_entries are_over refl
     (entry_then (settled _ refl refl) (entry_then (settled _ refl refl) (entry_then (settled _ refl refl) none_left)))
 
-pub with_second : Derives two_constants [] three_actions (record { shape = right_side (left_side act); leaves = second_constant ∷ [] }) (gate_event 0 (second_constant ∷ [])) stop
+pub with_second : Derives two_constants [] three_actions (record { shape = right_side (left_side act); leaves = second_constant ∷ [] })
+    (gate_event 0 (second_constant ∷ [])) stop
 with_second = record {
   asked = [];
   sorts = 0 ∷ [];
@@ -57,7 +60,9 @@ with_second = record {
 }
 
 -- The first shape has the label `g !c` whatever the leaves are.
-pub not_by_first : (leaves : List Term) (target : Behaviour) → Derives two_constants [] three_actions (record { shape = left_side act; leaves = leaves }) (gate_event 0 (second_constant ∷ [])) target → ⊥
+pub not_by_first : (leaves : List Term) (target : Behaviour)
+    → Derives two_constants [] three_actions (record { shape = left_side act; leaves = leaves }) (gate_event 0 (second_constant ∷ []))
+    target → ⊥
 not_by_first leaves target d =
     let same : first_constant ∷ [] ≡ second_constant ∷ [] = ap (λ (m : Move). label_values m.label) (some_value d.move) in
     absurd (cc same)

@@ -21,13 +21,13 @@ use Rattle.termination_theory.specs.PathOrder.{IsGreater}
 use Rattle.termination_theory.specs.OrderTest.{is_greater}
 use Rattle.termination_theory.specs.Orientation.{AreOriented}
 use Rattle.termination_theory.specs.OrderCases.{later_above, with_right}
-use Rattle.termination_theory.specs.OrientationCases.{constant, on_one, to_the_right, copied_rules}
+use Rattle.termination_theory.specs.OrientationCases.{constant, on_one, to_the_right, to_the_left, copied_rules}
 use Rattle.termination_theory.proofs.CaseLemmas.{is}
 use Rattle.termination_theory.proofs.CaseTests.{chosen_within, chosen_found}
 use Rattle.termination_theory.proofs.OrientationLemmas.{oriented_well_formed}
 use Rattle.termination_theory.proofs.TerminationLemmas.{rewriting_ends}
 use Rattle.worked_cases.specs.Samples.{var, two_results, one_rule, twice, meets, never_both, from_the_right}
-use Rattle.worked_cases.specs.PairCases.{two_results_pairs, TwoResultCases, sums_pairs, SumCases, copies_pairs, CopyCases, OneRuleCases, twice_pairs, TwiceCases, meets_pairs, MeetCases, ApartCases, RightStatusCases}
+use Rattle.worked_cases.specs.PairCases.{two_results_pairs, TwoResultCases, sums_pairs, SumCases, copies_pairs, CopyCases, OneRuleCases, twice_pairs, TwiceCases, meets_pairs, MeetCases, ApartCases, left_sums_pairs, RightStatusCases}
 use Rattle.worked_cases.proofs.PairTests.{pairs_within, pairs_found}
 
 -- the computed pairs are the critical pairs
@@ -146,6 +146,9 @@ never_both_listed = listed 10 never_both [] refl
 from_the_right_listed : AreCriticalPairs from_the_right []
 from_the_right_listed = listed 10 from_the_right [] refl
 
+left_sums_listed : AreCriticalPairs to_the_left left_sums_pairs
+left_sums_listed = listed 10 to_the_left left_sums_pairs refl
+
 pub two_result_cases : TwoResultCases
 two_result_cases =
     let refutes = refutation later_above two_results _ _ (constant 1) (constant 2) two_results_listed refl
@@ -189,4 +192,6 @@ pub right_status_cases : RightStatusCases
 right_status_cases = record {
   pairs = from_the_right_listed;
   confluent = confluent 20 (with_right 2) from_the_right [] from_the_right_listed refl refl;
+  sums = left_sums_listed;
+  sums_confluent = confluent 20 (with_right 2) to_the_left left_sums_pairs left_sums_listed refl refl;
 }

@@ -163,8 +163,10 @@ mutual
   instances values (variable n r) s h g = same_term (values n r)
   instances values (node f ts) s h g =
       equal_then
-      (instance_applied values s f (sample_canons ts) (h.0, h.1, h.2, all_sorted ts h.0.arguments h.3) (λ n s o. g n s (all_occurring n s ts o)))
-      (equal_under sample_data f (all_substituted values (sample_canons ts)) (all_substituted values ts) (all_instances values ts h.0.arguments h.3 g))
+      (instance_applied values s f (sample_canons ts) (h.0, h.1, h.2, all_sorted ts h.0.arguments h.3)
+      (λ n s o. g n s (all_occurring n s ts o)))
+      (equal_under sample_data f (all_substituted values (sample_canons ts)) (all_substituted values ts)
+      (all_instances values ts h.0.arguments h.3 g))
 
   all_instances : (values : Substitution) (ts : Terms) (ss : List ℕ) → HaveSorts sample_signature ts ss
       → GroundsAmong values ts
@@ -202,7 +204,8 @@ canon_equation : (equation : Equation) (values : Substitution) → IsEquation sa
     → IsGroundInstance sample_signature equation values
     → sample_canon (substituted values equation.left) ≡ sample_canon (substituted values equation.right)
 canon_equation equation values is instance =
-    each_member (λ (e : Equation). sample_canon (substituted values e.left) ≡ sample_canon (substituted values e.right)) sample_data.equations is.0 equation
+    each_member (λ (e : Equation). sample_canon (substituted values e.left) ≡ sample_canon (substituted values e.right))
+    sample_data.equations is.0 equation
     (refl, (refl, (refl, (refl, (refl, tt))))) is.1
 
 congruence : IsCongruence sample_data (λ t. Unit {0}) (λ t u. sample_canon t ≡ sample_canon u)

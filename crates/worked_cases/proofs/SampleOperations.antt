@@ -210,7 +210,8 @@ instance_sum values t u h k =
     (λ u equal k.
     let number = below_succ (substituted values u) k in
     equal_then
-    (equal_under sample_data 1 (term_then (substituted values (sum_of t u)) no_terms) (term_then (substituted values (plus t u)) no_terms) (equal number, tt))
+    (equal_under sample_data 1 (term_then (substituted values (sum_of t u)) no_terms) (term_then (substituted values (plus t u)) no_terms)
+    (equal number, tt))
     (equal_back (sum_with_succ_holds (substituted values t) (substituted values u) h number)))
     (λ u is k. same_term (substituted values (plus t u)))
     u k

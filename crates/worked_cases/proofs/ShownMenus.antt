@@ -32,7 +32,8 @@ drafts_of lines = map (λ (l : FittingShape). l.draft) lines
 abbrev AllSolved : List FittingShape → Type 0
 AllSolved lines = Every (λ (l : FittingShape). SolvesTo sample_canon l.draft l.entry) lines
 
-one_solved : (draft : Draft) (drafts : List Draft) (entries : List Entry) (outcome : Option Entry) → SolvesTo sample_canon draft outcome → AllSolveTo sample_canon drafts entries → AllSolveTo sample_canon (draft ∷ drafts) (cons_option outcome entries)
+one_solved : (draft : Draft) (drafts : List Draft) (entries : List Entry) (outcome : Option Entry) → SolvesTo sample_canon draft outcome
+    → AllSolveTo sample_canon drafts entries → AllSolveTo sample_canon (draft ∷ drafts) (cons_option outcome entries)
 one_solved draft drafts entries None solves rest = nothing_then solves rest
 one_solved draft drafts entries (Some entry) solves rest = entry_then solves rest
 
@@ -44,7 +45,8 @@ module _ (processes : List Process) (b : Behaviour) where
   abbrev Listed : List Draft → Type 0
   Listed drafts = Every (λ (d : Draft). draft_of sample_data sample_canon processes d.shape b ≡ Some d) drafts
 
-  all_listed : (drafts : List Draft) → ((d : Draft) → IsAmong d drafts → draft_of sample_data sample_canon processes d.shape b ≡ Some d) → Listed drafts
+  all_listed : (drafts : List Draft) → ((d : Draft) → IsAmong d drafts → draft_of sample_data sample_canon processes d.shape b ≡ Some d)
+      → Listed drafts
   all_listed [] h = tt
   all_listed (d ∷ drafts) h = (h d (inl refl), all_listed drafts (λ e a. h e (inr a)))
 
@@ -58,7 +60,9 @@ module _ (processes : List Process) (b : Behaviour) where
   among_shapes (l ∷ lines) d (inl same) = inl (ap (λ (e : Draft). e.shape) same)
   among_shapes (l ∷ lines) d (inr a) = inr (among_shapes lines d a)
 
-  pub over_sample : specification_passes sample_signature (sample_specification processes) ≡ true → behaviour_passes sample_signature (sample_specification processes) b ≡ true → AreOver sample_data sample_canon (sample_specification processes) b
+  pub over_sample : specification_passes sample_signature (sample_specification processes) ≡ true
+      → behaviour_passes sample_signature (sample_specification processes) b ≡ true
+      → AreOver sample_data sample_canon (sample_specification processes) b
   over_sample specification_ok behaviour_ok = record {
     signature = sample_signature_is_well_formed;
     is_canon = sample_is_canon;
@@ -74,13 +78,15 @@ module _ (processes : List Process) (b : Behaviour) where
       let over : AreOver sample_data sample_canon (sample_specification processes) b = over_sample specification_ok behaviour_ok in
       record {
         over = over;
-        drafts = listed_lines lines (all_listed (drafts_of lines) (sound_drafts sample_data sample_canon processes b depth (drafts_of lines) list));
+        drafts = listed_lines lines (all_listed (drafts_of lines)
+            (sound_drafts sample_data sample_canon processes b depth (drafts_of lines) list));
         no_other = λ shape fits.
             let d : Draft = fits.0 in
             subst (λ (s : Shape). IsAmong s (shapes_of lines)) (shape_of_draft sample_data sample_canon processes shape b d fits.1)
             (among_shapes lines d (complete_drafts sample_data sample_canon processes b depth (drafts_of lines) list shape d fits.1));
         solved = solved;
-        exact = exact_list sample_data sample_canon (sample_specification processes) b depth (drafts_of lines) (entries_of lines) over list (lines_solved lines solved);
+        exact = exact_list sample_data sample_canon (sample_specification processes) b depth (drafts_of lines) (entries_of lines) over list
+            (lines_solved lines solved);
       }
 
   -- The setting of a step with values in canonical form.
@@ -88,7 +94,9 @@ module _ (processes : List Process) (b : Behaviour) where
   kept_setting = record { signature = sample_signature; represent = sample_canon; processes = processes }
 
   -- A step is shown by its move and by tests of the leaves and of what is asked.
-  pub steps : (shape : Shape) (leaves : List Term) (label : Label) (target : Behaviour) (asked : List Test) (sorts : List ℕ) → sample_move processes b shape leaves ≡ move label target asked sorts → values_pass sample_signature sorts leaves ≡ true → all_hold sample_signature sample_canon asked ≡ true → Steps processes b shape leaves label target
+  pub steps : (shape : Shape) (leaves : List Term) (label : Label) (target : Behaviour) (asked : List Test) (sorts : List ℕ)
+      → sample_move processes b shape leaves ≡ move label target asked sorts → values_pass sample_signature sorts leaves ≡ true
+      → all_hold sample_signature sample_canon asked ≡ true → Steps processes b shape leaves label target
   steps shape leaves label target asked sorts moves values tests = record {
     asked = asked;
     sorts = sorts;
@@ -97,7 +105,9 @@ module _ (processes : List Process) (b : Behaviour) where
     holds = tests_hold sample_data sample_canon sample_is_canon asked tests;
   }
 
-  pub kept_steps : (shape : Shape) (leaves : List Term) (label : Label) (target : Behaviour) (asked : List Test) (sorts : List ℕ) → move_of kept_setting (leaves_in leaves) shape 0 b ≡ move label target asked sorts → values_pass sample_signature sorts leaves ≡ true → all_hold sample_signature sample_canon asked ≡ true → KeptSteps processes b shape leaves label target
+  pub kept_steps : (shape : Shape) (leaves : List Term) (label : Label) (target : Behaviour) (asked : List Test) (sorts : List ℕ)
+      → move_of kept_setting (leaves_in leaves) shape 0 b ≡ move label target asked sorts → values_pass sample_signature sorts leaves ≡ true
+      → all_hold sample_signature sample_canon asked ≡ true → KeptSteps processes b shape leaves label target
   kept_steps shape leaves label target asked sorts moves values tests = record {
     asked = asked;
     sorts = sorts;
@@ -111,8 +121,16 @@ module _ (processes : List Process) (b : Behaviour) where
       → Transition sample_data processes b label target → (d : Derivation) × HasEntry sample_data (entries_of lines) d label
   entry_of_transition lines m label target t =
       let f : Found sample_data processes b label target = found sample_data processes t in
-      let d : Derivation = record { shape = f.shape; leaves = f.leaves } in
-      (d, m.exact.complete d label target (record { asked = f.asked; sorts = f.sorts; move = f.moves (leaves_in f.leaves) 0 (Supplies-leaves_in f.leaves); leaves = f.sorted; holds = f.holds }))
+      let d : Derivation = record { shape = f.shape; leaves = f.leaves } in (
+        d,
+        m.exact.complete d label target (record {
+          asked = f.asked;
+          sorts = f.sorts;
+          move = f.moves (leaves_in f.leaves) 0 (Supplies-leaves_in f.leaves);
+          leaves = f.sorted;
+          holds = f.holds;
+        }),
+      )
 
   -- Where no entry has an instance, there is no transition.
   pub no_transition : (lines : List FittingShape) → HasMenu processes b lines

@@ -17,12 +17,19 @@ abbrev pub empty_sort : ℕ
 empty_sort = 2
 
 abbrev pub operation_of : List ℕ → Form → List ℕ → ℕ → Operation
-operation_of name form arguments result = record { name = name; form = form; arguments = arguments; result = result; origin = codes "Sample" }
+operation_of name form arguments result = record {
+  name = name;
+  form = form;
+  arguments = arguments;
+  result = result;
+  origin = codes "Sample";
+}
 
 -- The operations: `0`, `Succ`, `true`, `lt`, `+` and `false`.
 abbrev pub sample_signature : Signature
 sample_signature = record {
-  sorts = record { name = codes "Bool"; origin = codes "Sample" } ∷ record { name = codes "Nat"; origin = codes "Sample" } ∷ record { name = codes "Empty"; origin = codes "Sample" } ∷ [];
+  sorts = record { name = codes "Bool"; origin = codes "Sample" } ∷ record { name = codes "Nat"; origin = codes "Sample" }
+      ∷ record { name = codes "Empty"; origin = codes "Sample" } ∷ [];
   operations =
       operation_of (codes "0") prefix_form [] 1
       ∷ operation_of (codes "Succ") prefix_form (1 ∷ []) 1
@@ -72,7 +79,12 @@ abbrev pub declared_y : Variable
 declared_y = record { name = codes "y"; number = 1; sort = 1 }
 
 abbrev pub on_line : ℕ → List Variable → Term → Term → Equation
-on_line line variables left right = record { place = record { text = 0; line = line; column = 1 }; variables = variables; left = left; right = right }
+on_line line variables left right = record {
+  place = record { text = 0; line = line; column = 1 };
+  variables = variables;
+  left = left;
+  right = right;
+}
 
 -- `x + 0 = x`
 abbrev pub sum_with_nought : Equation

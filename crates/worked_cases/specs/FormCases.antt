@@ -50,7 +50,8 @@ pub record ATargetStaysRelabelled : Type 0 where
   pub call_menu : HasMenu (one_side_waits ∷ []) relabelled_call (event_line (relabelled act) (gate_event gate_a []) ∷ [])
   pub of_a_call : Steps (one_side_waits ∷ []) relabelled_call (relabelled act) [] (gate_event gate_a []) (call 0 (gate_a ∷ gate_b ∷ []) [])
   pub relabelling_menu : HasMenu [] relabelled_twice (event_line (relabelled act) (gate_event gate_h []) ∷ [])
-  pub of_a_relabelling : Steps [] relabelled_twice (relabelled act) [] (gate_event gate_h []) (relabel ((gate_y, gate_h) ∷ (gate_b, gate_h) ∷ []) (event gate_y stop))
+  pub of_a_relabelling : Steps [] relabelled_twice (relabelled act) [] (gate_event gate_h [])
+      (relabel ((gate_y, gate_h) ∷ (gate_b, gate_h) ∷ []) (event gate_y stop))
   pub stop_menu : HasMenu [] relabelled_once (event_line (relabelled act) (gate_event gate_a []) ∷ [])
   pub of_stop : Steps [] relabelled_once (relabelled act) [] (gate_event gate_a []) stop
 
@@ -67,7 +68,8 @@ passed_on = offering gate_g (give nought ∷ give one ∷ []) stop
 -- Both sides of a parallel end together, with equal values, and the right side of `>>` gets these.
 pub record BothSidesEndTogether : Type 0 where
   pub sides : HasMenu [] both_ending (
-      gives (draft (both_sides quit quit) (exit_event (nought ∷ nat 0 ∷ [])) (nat 0 ∷ nat 1 ∷ []) (test_of nought (nat 1) ∷ test_of (nat 0) one ∷ []))
+      gives (draft (both_sides quit quit) (exit_event (nought ∷ nat 0 ∷ [])) (nat 0 ∷ nat 1 ∷ [])
+      (test_of nought (nat 1) ∷ test_of (nat 0) one ∷ []))
       (entry (both_sides quit quit) (exit_event (nought ∷ one ∷ [])) [] (one ∷ nought ∷ []) [])
       ∷ []
       )
@@ -92,14 +94,17 @@ disabled_by_an_end = disable (event gate_a stop) (exit_with [])
 
 -- A disabling stays while its left side goes on, is gone after its left side ended, and is gone once it began.
 pub record ADisablingEndsWithItsLeftSide : Type 0 where
-  pub menu : HasMenu [] disabled (event_line (left_side act) (gate_event gate_a []) ∷ event_line (right_side act) (gate_event gate_b []) ∷ [])
+  pub menu : HasMenu [] disabled (event_line (left_side act) (gate_event gate_a []) ∷ event_line (right_side act) (gate_event gate_b [])
+      ∷ [])
   pub goes_on : Steps [] disabled (left_side act) [] (gate_event gate_a []) disabled_after_a
   pub begins : Steps [] disabled (right_side act) [] (gate_event gate_b []) stop
-  pub next : HasMenu [] disabled_after_a (event_line (left_side quit) (exit_event []) ∷ event_line (right_side act) (gate_event gate_b []) ∷ [])
+  pub next : HasMenu [] disabled_after_a (event_line (left_side quit) (exit_event []) ∷ event_line (right_side act) (gate_event gate_b [])
+      ∷ [])
   pub ends : Steps [] disabled_after_a (left_side quit) [] (exit_event []) stop
   pub still_begins : Steps [] disabled_after_a (right_side act) [] (gate_event gate_b []) stop
   pub last : HasMenu [] stop []
-  pub end_menu : HasMenu [] disabled_by_an_end (event_line (left_side act) (gate_event gate_a []) ∷ event_line (right_side quit) (exit_event []) ∷ [])
+  pub end_menu : HasMenu [] disabled_by_an_end (event_line (left_side act) (gate_event gate_a [])
+      ∷ event_line (right_side quit) (exit_event []) ∷ [])
   pub ends_by_the_right : Steps [] disabled_by_an_end (right_side quit) [] (exit_event []) stop
 
 -- `hide g in (g ?x:Nat; h !x; stop)`, and what it becomes with 1
@@ -129,7 +134,8 @@ meeting_at_b = parallel (at_gates (gate_b ∷ [])) (event gate_a stop) (event ga
 pub record SidesMeetAtTheirGates : Type 0 where
   pub everywhere_menu : HasMenu [] meeting_everywhere (event_line (both_sides act act) (gate_event gate_a []) ∷ [])
   pub everywhere : Steps [] meeting_everywhere (both_sides act act) [] (gate_event gate_a []) (parallel all_gates stop stop)
-  pub nowhere_menu : HasMenu [] meeting_nowhere (event_line (left_side act) (gate_event gate_a []) ∷ event_line (right_side act) (gate_event gate_a []) ∷ [])
+  pub nowhere_menu : HasMenu [] meeting_nowhere (event_line (left_side act) (gate_event gate_a [])
+      ∷ event_line (right_side act) (gate_event gate_a []) ∷ [])
   pub nowhere : Steps [] meeting_nowhere (left_side act) [] (gate_event gate_a []) (parallel no_gates stop (event gate_a stop))
   pub at_b_menu : HasMenu [] meeting_at_b (event_line (left_side act) (gate_event gate_a []) ∷ [])
   pub at_b : Steps [] meeting_at_b (left_side act) [] (gate_event gate_a []) (parallel (at_gates (gate_b ∷ [])) stop (event gate_b stop))
@@ -143,7 +149,10 @@ at_one_gate = choose_gate gate_z (gate_a ∷ gate_b ∷ []) (event gate_z stop)
 
 -- A gate `par` has the moves of its relabelled copies side by side, and a gate choice those of one by position.
 pub record GatesAreListed : Type 0 where
-  pub par_menu : HasMenu [] in_parallel (event_line (left_side (relabelled act)) (gate_event gate_a []) ∷ event_line (right_side (relabelled act)) (gate_event gate_b []) ∷ [])
-  pub step : Steps [] in_parallel (left_side (relabelled act)) [] (gate_event gate_a []) (parallel no_gates stop (relabel ((gate_z, gate_b) ∷ []) (event gate_z stop)))
-  pub choice_menu : HasMenu [] at_one_gate (event_line (at_gate 0 act) (gate_event gate_a []) ∷ event_line (at_gate 1 act) (gate_event gate_b []) ∷ [])
+  pub par_menu : HasMenu [] in_parallel (event_line (left_side (relabelled act)) (gate_event gate_a [])
+      ∷ event_line (right_side (relabelled act)) (gate_event gate_b []) ∷ [])
+  pub step : Steps [] in_parallel (left_side (relabelled act)) [] (gate_event gate_a [])
+      (parallel no_gates stop (relabel ((gate_z, gate_b) ∷ []) (event gate_z stop)))
+  pub choice_menu : HasMenu [] at_one_gate (event_line (at_gate 0 act) (gate_event gate_a [])
+      ∷ event_line (at_gate 1 act) (gate_event gate_b []) ∷ [])
   pub chosen : Steps [] at_one_gate (at_gate 1 act) [] (gate_event gate_b []) stop

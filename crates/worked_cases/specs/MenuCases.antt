@@ -35,7 +35,8 @@ second_constant = node 1 no_terms
 abbrev pub three_actions : Behaviour
 three_actions =
     choice (action 0 (give first_constant ∷ []) None stop)
-    (choice (action 0 (ask (record { name = codes "x"; number = 0; sort = 0 }) ∷ []) None stop) (action 0 (give first_constant ∷ []) None stop))
+    (choice (action 0 (ask (record { name = codes "x"; number = 0; sort = 0 }) ∷ []) None stop)
+    (action 0 (give first_constant ∷ []) None stop))
 
 -- a specification of that behaviour
 abbrev pub with_three_actions : Specification
@@ -62,5 +63,8 @@ three_entries =
 pub record EqualLabelsStayInTheMenu : Type 0 where
   pub over : AreOver two_constants as_given with_three_actions three_actions
   pub exact : Exact two_constants as_given [] three_actions three_entries
-  pub with_d : Derives two_constants [] three_actions (record { shape = right_side (left_side act); leaves = second_constant ∷ [] }) (gate_event 0 (second_constant ∷ [])) stop
-  pub not_by_the_first : (leaves : List Term) (target : Behaviour) → Derives two_constants [] three_actions (record { shape = left_side act; leaves = leaves }) (gate_event 0 (second_constant ∷ [])) target → ⊥
+  pub with_d : Derives two_constants [] three_actions (record { shape = right_side (left_side act); leaves = second_constant ∷ [] })
+      (gate_event 0 (second_constant ∷ [])) stop
+  pub not_by_the_first : (leaves : List Term) (target : Behaviour)
+      → Derives two_constants [] three_actions (record { shape = left_side act; leaves = leaves }) (gate_event 0 (second_constant ∷ []))
+      target → ⊥

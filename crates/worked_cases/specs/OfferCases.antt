@@ -40,7 +40,8 @@ below_two_entry = entry act (gate_event gate_g (nat 0 ∷ [])) (nat_sort ∷ [])
 -- A selection predicate is kept as a condition, which 1 meets and 2 does not, and is asked of the chosen value, which
 -- the rest then has.
 pub record APredicateIsKept : Type 0 where
-  pub menu : HasMenu [] below_two (gives (draft act (gate_event gate_g (nat 0 ∷ [])) (nat 0 ∷ []) (test_of (less (nat 0) two) truth ∷ [])) below_two_entry ∷ [])
+  pub menu : HasMenu [] below_two (gives (draft act (gate_event gate_g (nat 0 ∷ [])) (nat 0 ∷ []) (test_of (less (nat 0) two) truth ∷ []))
+      below_two_entry ∷ [])
   pub one_meets : Meets sample_data below_two_entry (one ∷ [])
   pub two_does_not : Meets sample_data below_two_entry (two ∷ []) → ⊥
   pub step : Steps [] below_two act (one ∷ []) (gate_event gate_g (one ∷ [])) with_one
@@ -49,7 +50,8 @@ pub record APredicateIsKept : Type 0 where
 
 -- `g ?x:Nat; stop |[g]| g !Succ(0) + 0; stop`
 abbrev pub matched : Behaviour
-matched = parallel (at_gates (gate_g ∷ [])) (offering gate_g (ask (nat_variable 0) ∷ []) stop) (offering gate_g (give (plus one nought) ∷ []) stop)
+matched = parallel (at_gates (gate_g ∷ [])) (offering gate_g (ask (nat_variable 0) ∷ []) stop)
+    (offering gate_g (give (plus one nought) ∷ []) stop)
 
 -- A match gives the variable its value, in canonical form. Neither side moves alone.
 pub record AMatchGivesTheValue : Type 0 where
@@ -69,7 +71,8 @@ mismatched =
 
 abbrev pub mismatched_lines : List FittingShape
 mismatched_lines =
-    gives_nothing (draft (both_sides act act) (gate_event gate_g (nat 0 ∷ [])) (nat 0 ∷ []) (test_of (nat 0) nought ∷ test_of (nat 0) one ∷ []))
+    gives_nothing (draft (both_sides act act) (gate_event gate_g (nat 0 ∷ [])) (nat 0 ∷ [])
+    (test_of (nat 0) nought ∷ test_of (nat 0) one ∷ []))
     ∷ []
 
 -- A selection predicate is still asked after a match has given its variable a value. Here nothing meets both.
@@ -77,15 +80,18 @@ pub record APredicateOutlivesAMatch : Type 0 where
   pub menu : HasMenu [] mismatched mismatched_lines
   pub asked :
       sample_move [] mismatched (both_sides act act) (one ∷ [])
-      ≡ move (gate_event gate_g (one ∷ [])) (parallel (at_gates (gate_g ∷ [])) stop stop) (test_of one nought ∷ test_of one (plus one nought) ∷ []) (nat_sort ∷ [])
+      ≡ move (gate_event gate_g (one ∷ [])) (parallel (at_gates (gate_g ∷ [])) stop stop)
+      (test_of one nought ∷ test_of one (plus one nought) ∷ []) (nat_sort ∷ [])
   pub no_transition : (label : Label) (target : Behaviour) → Transition sample_data [] mismatched label target → ⊥
 
 -- `choice x:E [] g !x; stop` over a sort without terms
 abbrev pub over_nothing : Behaviour
-over_nothing = choose_value (record { name = codes "x"; number = 0; sort = empty_sort }) (offering gate_g (give (variable 0 empty_sort) ∷ []) stop)
+over_nothing = choose_value (record { name = codes "x"; number = 0; sort = empty_sort })
+    (offering gate_g (give (variable 0 empty_sort) ∷ []) stop)
 
 abbrev pub over_nothing_entry : Entry
-over_nothing_entry = entry (with_value act) (gate_event gate_g (variable 0 empty_sort ∷ [])) (empty_sort ∷ []) (variable 0 empty_sort ∷ []) []
+over_nothing_entry = entry (with_value act) (gate_event gate_g (variable 0 empty_sort ∷ [])) (empty_sort ∷ []) (variable 0 empty_sort ∷ [])
+    []
 
 abbrev pub over_nothing_lines : List FittingShape
 over_nothing_lines =
@@ -107,7 +113,8 @@ chasing =
 
 abbrev pub chasing_entry : Entry
 chasing_entry =
-    entry (both_sides (with_value act) (with_value act)) (gate_event gate_g (succ (nat 0) ∷ succ (succ (nat 0)) ∷ [])) (nat_sort ∷ []) (succ (nat 0) ∷ nat 0 ∷ [])
+    entry (both_sides (with_value act) (with_value act)) (gate_event gate_g (succ (nat 0) ∷ succ (succ (nat 0)) ∷ [])) (nat_sort ∷ [])
+    (succ (nat 0) ∷ nat 0 ∷ [])
     (test_of (succ (succ (nat 0))) (nat 0) ∷ [])
 
 abbrev pub chasing_lines : List FittingShape
@@ -121,7 +128,8 @@ chasing_lines =
 -- the draft of this entry, whose variable is a leaf at another number
 abbrev pub solved_before : Draft
 solved_before =
-    draft (both_sides (with_value act) (with_value act)) (gate_event gate_g (succ (nat 0) ∷ succ (succ (nat 0)) ∷ [])) (succ (nat 0) ∷ nat 0 ∷ [])
+    draft (both_sides (with_value act) (with_value act)) (gate_event gate_g (succ (nat 0) ∷ succ (succ (nat 0)) ∷ []))
+    (succ (nat 0) ∷ nat 0 ∷ [])
     (test_of (succ (succ (nat 0))) (nat 0) ∷ [])
 
 -- A condition that nobody meets is kept where it is not closed. Solving what is solved changes nothing.
@@ -131,7 +139,8 @@ pub record AnUnsolvableConditionIsKept : Type 0 where
   pub no_instance : (values : List Term) → Meets sample_data chasing_entry values → ⊥
   pub asked :
       sample_move [] chasing (both_sides (with_value act) (with_value act)) (one ∷ nought ∷ [])
-      ≡ move (gate_event gate_g (one ∷ two ∷ [])) (parallel (at_gates (gate_g ∷ [])) stop stop) (test_of one one ∷ test_of two nought ∷ []) (nat_sort ∷ nat_sort ∷ [])
+      ≡ move (gate_event gate_g (one ∷ two ∷ [])) (parallel (at_gates (gate_g ∷ [])) stop stop) (test_of one one ∷ test_of two nought ∷ [])
+      (nat_sort ∷ nat_sort ∷ [])
   pub no_transition : (label : Label) (target : Behaviour) → Transition sample_data [] chasing label target → ⊥
 
 -- `(choice x:Nat [] choice z:Nat [] g !x !Succ(z); stop) |[g]| (choice y:Nat [] choice w:Nat [] g !y !Succ(w); stop)`
@@ -150,7 +159,8 @@ pub record TheEarlierVariableStays : Type 0 where
       gives
       (draft two_bare_shape (gate_event gate_g (nat 0 ∷ succ (nat 1) ∷ [])) (nat 0 ∷ nat 1 ∷ nat 2 ∷ nat 3 ∷ [])
       (test_of (nat 0) (nat 2) ∷ test_of (succ (nat 1)) (succ (nat 3)) ∷ []))
-      (entry two_bare_shape (gate_event gate_g (nat 0 ∷ succ (nat 1) ∷ [])) (nat_sort ∷ nat_sort ∷ nat_sort ∷ []) (nat 0 ∷ nat 1 ∷ nat 0 ∷ nat 2 ∷ [])
+      (entry two_bare_shape (gate_event gate_g (nat 0 ∷ succ (nat 1) ∷ [])) (nat_sort ∷ nat_sort ∷ nat_sort ∷ [])
+      (nat 0 ∷ nat 1 ∷ nat 0 ∷ nat 2 ∷ [])
       (test_of (succ (nat 1)) (succ (nat 2)) ∷ []))
       ∷ []
       )
@@ -164,11 +174,13 @@ abbrev pub guarded_choice : Behaviour
 guarded_choice = choose_value (nat_variable 0) (guard (test_of (nat 0) nought) (offering gate_g (give (nat 0) ∷ []) stop))
 
 abbrev pub bound_twice : Behaviour
-bound_twice = let_be ((nat_variable 0, one) ∷ []) (offering gate_g (ask (nat_variable 0) ∷ give (nat 0) ∷ []) (offering gate_h (give (nat 0) ∷ []) stop))
+bound_twice = let_be ((nat_variable 0, one) ∷ []) (offering gate_g (ask (nat_variable 0) ∷ give (nat 0) ∷ [])
+    (offering gate_h (give (nat 0) ∷ []) stop))
 
 -- `let x:Nat = Succ(0) in (exit(Succ(Succ(0))) >> accept x:Nat in g !x; stop)`; `let x:Nat = Succ(0) in choice x:Nat [] g !x; stop`
 abbrev pub accepted_again : Behaviour
-accepted_again = let_be ((nat_variable 0, one) ∷ []) (enable (exit_with (exit_value two ∷ [])) (nat_variable 0 ∷ []) (offering gate_g (give (nat 0) ∷ []) stop))
+accepted_again = let_be ((nat_variable 0, one) ∷ []) (enable (exit_with (exit_value two ∷ [])) (nat_variable 0 ∷ [])
+    (offering gate_g (give (nat 0) ∷ []) stop))
 
 abbrev pub chosen_again : Behaviour
 chosen_again = let_be ((nat_variable 0, one) ∷ []) (choose_value (nat_variable 0) (offering gate_g (give (nat 0) ∷ []) stop))
@@ -182,9 +194,11 @@ pub record ValuesAreBound : Type 0 where
       (entry (with_value (guarded act)) (gate_event gate_g (nought ∷ [])) [] (nought ∷ []) [])
       ∷ []
       )
-  pub scope_menu : HasMenu [] bound_twice (as_it_is (let_bound act) (gate_event gate_g (nat 0 ∷ one ∷ [])) (nat_sort ∷ []) (nat 0 ∷ []) [] ∷ [])
+  pub scope_menu : HasMenu [] bound_twice (as_it_is (let_bound act) (gate_event gate_g (nat 0 ∷ one ∷ [])) (nat_sort ∷ []) (nat 0 ∷ []) []
+      ∷ [])
   pub scope : Steps [] bound_twice (let_bound act) (two ∷ []) (gate_event gate_g (two ∷ one ∷ [])) (offering gate_h (give two ∷ []) stop)
   pub accept_menu : HasMenu [] accepted_again (event_line (let_bound (enabled quit)) inner_event ∷ [])
   pub accept : Steps [] accepted_again (let_bound (enabled quit)) [] inner_event (offering gate_g (give two ∷ []) stop)
-  pub choice_menu : HasMenu [] chosen_again (as_it_is (let_bound (with_value act)) (gate_event gate_g (nat 0 ∷ [])) (nat_sort ∷ []) (nat 0 ∷ []) [] ∷ [])
+  pub choice_menu : HasMenu [] chosen_again (as_it_is (let_bound (with_value act)) (gate_event gate_g (nat 0 ∷ [])) (nat_sort ∷ [])
+      (nat 0 ∷ []) [] ∷ [])
   pub choice_scope : Steps [] chosen_again (let_bound (with_value act)) (two ∷ []) (gate_event gate_g (two ∷ [])) stop

@@ -6,7 +6,7 @@ use Rattle.rewriting_theory.specs.ChosenForm.{Chosen}
 use Rattle.rewriting_theory.specs.CriticalPair.{CriticalPair}
 use Rattle.rewriting_theory.specs.PairList.{AreCriticalPairs, IsFirstUnjoined}
 use Rattle.rewriting_theory.specs.PairListLaws.{RewritesToTwo}
-use Rattle.termination_theory.specs.OrientationCases.{constant, on_one, on_two, add, zero_term, to_the_right, copied_rules}
+use Rattle.termination_theory.specs.OrientationCases.{constant, on_one, on_two, add, zero_term, to_the_right, to_the_left, copied_rules}
 use Rattle.worked_cases.specs.Samples.{var, pair_of, two_results, one_rule, twice, meets, never_both, from_the_right}
 
 -- f(a) = b and f(x) = c overlap at the root, in both orders; f(a) has the two results b and c
@@ -90,7 +90,24 @@ pub record ApartCases : Type 0 where
   pub pairs : AreCriticalPairs never_both []
   pub confluent : AreConfluent never_both
 
+-- the sums once more, compared from the right: x + (y + z) = (x + y) + z, x + 0 = x and 0 + x = x have seven pairs, which
+-- all join
+abbrev pub left_sums_pairs : List CriticalPair
+left_sums_pairs =
+    pair_of 0 0 (1 ∷ []) (add (var 0) (add (var 1) (add (var 2) (var 3))))
+    (add (add (var 0) (var 1)) (add (var 2) (var 3)))
+    (add (var 0) (add (add (var 1) (var 2)) (var 3)))
+    ∷ pair_of 0 1 (1 ∷ []) (add (var 0) (add (var 1) zero_term)) (add (add (var 0) (var 1)) zero_term) (add (var 0) (var 1))
+    ∷ pair_of 0 2 [] (add zero_term (add (var 0) (var 1))) (add (add zero_term (var 0)) (var 1)) (add (var 0) (var 1))
+    ∷ pair_of 0 2 (1 ∷ []) (add (var 0) (add zero_term (var 1))) (add (add (var 0) zero_term) (var 1)) (add (var 0) (var 1))
+    ∷ pair_of 1 2 [] (add zero_term zero_term) zero_term zero_term
+    ∷ pair_of 2 0 [] (add zero_term (add (var 0) (var 1))) (add (var 0) (var 1)) (add (add zero_term (var 0)) (var 1))
+    ∷ pair_of 2 1 [] (add zero_term zero_term) zero_term zero_term
+    ∷ []
+
 -- f(x, s(y)) = f(y, y), which only a right status orients, overlaps nothing
 pub record RightStatusCases : Type 0 where
   pub pairs : AreCriticalPairs from_the_right []
   pub confluent : AreConfluent from_the_right
+  pub sums : AreCriticalPairs to_the_left left_sums_pairs
+  pub sums_confluent : AreConfluent to_the_left

@@ -19,7 +19,13 @@ abbrev pub draft : Shape → Label → List Term → List Test → Draft
 draft shape label leaves conditions = record { shape = shape; label = label; leaves = leaves; conditions = conditions }
 
 abbrev pub entry : Shape → Label → List ℕ → List Term → List Test → Entry
-entry shape label variables leaves conditions = record { shape = shape; label = label; variables = variables; leaves = leaves; conditions = conditions }
+entry shape label variables leaves conditions = record {
+  shape = shape;
+  label = label;
+  variables = variables;
+  leaves = leaves;
+  conditions = conditions;
+}
 
 abbrev pub move : Label → Behaviour → List Test → List ℕ → Option Move
 move label target asked sorts = Some (record { label = label; target = target; asked = asked; sorts = sorts })
@@ -37,7 +43,8 @@ gives_nothing draft = record { draft = draft; entry = None }
 
 -- Where solving has nothing to do, the entry has the draft's label, leaves and conditions.
 abbrev pub as_it_is : Shape → Label → List ℕ → List Term → List Test → FittingShape
-as_it_is shape label variables leaves conditions = gives (draft shape label leaves conditions) (entry shape label variables leaves conditions)
+as_it_is shape label variables leaves conditions = gives (draft shape label leaves conditions)
+    (entry shape label variables leaves conditions)
 
 -- The same for a shape without leaves and conditions.
 abbrev pub event_line : Shape → Label → FittingShape
@@ -76,7 +83,8 @@ Steps processes b shape leaves label target = Derives sample_data processes b (r
 
 -- The same with bound values and the values of the label in canonical form.
 abbrev pub KeptSteps : List Process → Behaviour → Shape → List Term → Label → Behaviour → Type 0
-KeptSteps processes b shape leaves label target = DerivesCanonically sample_data sample_canon processes b (record { shape = shape; leaves = leaves }) label target
+KeptSteps processes b shape leaves label target = DerivesCanonically sample_data sample_canon processes b
+    (record { shape = shape; leaves = leaves }) label target
 
 -- The move of a shape with these leaves, values as they are given. What it asks need not hold.
 abbrev pub sample_move : List Process → Behaviour → Shape → List Term → Option Move

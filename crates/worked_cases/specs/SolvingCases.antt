@@ -37,7 +37,8 @@ pub record SidesAndGuardsStandInOrder : Type 0 where
       sample_move [] asking_on_both_sides (both_sides act act) (one ∷ two ∷ [])
       ≡ move (gate_event gate_g (one ∷ [])) (parallel (at_gates (gate_g ∷ [])) stop stop)
       (test_of one nought ∷ test_of two one ∷ test_of one two ∷ []) (nat_sort ∷ nat_sort ∷ [])
-  pub places : Steps [] uneven_sides (both_sides act act) [] (gate_event gate_a []) (parallel (at_gates (gate_a ∷ [])) (event gate_b stop) stop)
+  pub places : Steps [] uneven_sides (both_sides act act) [] (gate_event gate_a [])
+      (parallel (at_gates (gate_a ∷ [])) (event gate_b stop) stop)
   pub ended : Steps [] two_ends (both_sides quit quit) [] (exit_event []) (parallel no_gates stop stop)
 
 -- `choice x:Nat [] [x = Succ(0)] -> g !x + x; stop`, the same without the offer and with the sides of the test turned,
@@ -80,7 +81,8 @@ pub record EachConditionIsTried : Type 0 where
       )
   pub canonical_leaves : HasMenu [] one_after_the_other (
       gives
-      (draft (with_value twice_shape) (gate_event gate_g []) (nat 0 ∷ nat 1 ∷ []) (test_of (nat 0) (plus (nat 1) (nat 1)) ∷ test_of (nat 1) one ∷ []))
+      (draft (with_value twice_shape) (gate_event gate_g []) (nat 0 ∷ nat 1 ∷ [])
+      (test_of (nat 0) (plus (nat 1) (nat 1)) ∷ test_of (nat 1) one ∷ []))
       (entry (with_value twice_shape) (gate_event gate_g []) [] (two ∷ one ∷ []) [])
       ∷ []
       )

@@ -32,8 +32,10 @@ pub record InnerEventsHappenAlone : Type 0 where
   pub left_menu : HasMenu [] inner_on_the_left (event_line (left_side inner_step) inner_event ∷ [])
   pub left : Steps [] inner_on_the_left (left_side inner_step) [] inner_event (parallel all_gates (event gate_a stop) (event gate_b stop))
   pub right_menu : HasMenu [] inner_on_the_right (event_line (right_side inner_step) inner_event ∷ [])
-  pub right : Steps [] inner_on_the_right (right_side inner_step) [] inner_event (parallel all_gates (event gate_b stop) (event gate_a stop))
-  pub not_both : HasMenu [] inner_on_both (event_line (left_side inner_step) inner_event ∷ event_line (right_side inner_step) inner_event ∷ [])
+  pub right : Steps [] inner_on_the_right (right_side inner_step) [] inner_event
+      (parallel all_gates (event gate_b stop) (event gate_a stop))
+  pub not_both : HasMenu [] inner_on_both (event_line (left_side inner_step) inner_event ∷ event_line (right_side inner_step) inner_event
+      ∷ [])
   pub another_gate_menu : HasMenu [] hiding_another (event_line (hidden act) (gate_event gate_b []) ∷ [])
   pub another_gate : Steps [] hiding_another (hidden act) [] (gate_event gate_b []) (hide (gate_a ∷ []) stop)
   pub an_end_menu : HasMenu [] hiding_an_end (event_line (hidden quit) (exit_event []) ∷ [])
@@ -57,10 +59,12 @@ abbrev pub one_value_more : Behaviour
 one_value_more = parallel (at_gates (gate_g ∷ [])) (event gate_g stop) (offering gate_g (give nought ∷ []) stop)
 
 abbrev pub one_result_more : Behaviour
-one_result_more = enable (exit_with (exit_value nought ∷ exit_value one ∷ [])) (nat_variable 0 ∷ []) (offering gate_g (give (nat 0) ∷ []) stop)
+one_result_more = enable (exit_with (exit_value nought ∷ exit_value one ∷ [])) (nat_variable 0 ∷ [])
+    (offering gate_g (give (nat 0) ∷ []) stop)
 
 abbrev pub one_variable_more : Behaviour
-one_variable_more = enable (exit_with (exit_value nought ∷ [])) (nat_variable 0 ∷ nat_variable 1 ∷ []) (offering gate_g (give (nat 0) ∷ []) stop)
+one_variable_more = enable (exit_with (exit_value nought ∷ [])) (nat_variable 0 ∷ nat_variable 1 ∷ [])
+    (offering gate_g (give (nat 0) ∷ []) stop)
 
 abbrev pub another_result : Behaviour
 another_result = enable (exit_with (exit_value truth ∷ [])) (nat_variable 0 ∷ []) (offering gate_g (give (nat 0) ∷ []) stop)
@@ -96,7 +100,8 @@ pub record CopiesAreNestedToTheRight : Type 0 where
       )
   pub third :
       Steps [] three_copies (right_side (right_side (relabelled act))) [] (gate_event gate_g [])
-      (parallel no_gates (relabel ((gate_z, gate_a) ∷ []) (event gate_z stop)) (parallel no_gates (relabel ((gate_z, gate_b) ∷ []) (event gate_z stop)) stop))
+      (parallel no_gates (relabel ((gate_z, gate_a) ∷ []) (event gate_z stop))
+      (parallel no_gates (relabel ((gate_z, gate_b) ∷ []) (event gate_z stop)) stop))
   pub one : HasMenu [] one_copy (event_line (relabelled act) (gate_event gate_a []) ∷ [])
   pub meeting : HasMenu [] meeting_copies (event_line (both_sides (relabelled act) (relabelled act)) (gate_event gate_a []) ∷ [])
   pub alone : Steps [] one_copy (relabelled act) [] (gate_event gate_a []) stop
@@ -104,7 +109,8 @@ pub record CopiesAreNestedToTheRight : Type 0 where
 -- `let x = Succ(0) in let x = x + 0 in g !x; stop` and `let x = Succ(0) in g ?x:Nat [x = 0]; stop`, where all x have one
 -- number
 abbrev pub let_below_let : Behaviour
-let_below_let = let_be ((nat_variable 0, one) ∷ []) (let_be ((nat_variable 0, plus (nat 0) nought) ∷ []) (offering gate_g (give (nat 0) ∷ []) stop))
+let_below_let = let_be ((nat_variable 0, one) ∷ []) (let_be ((nat_variable 0, plus (nat 0) nought) ∷ [])
+    (offering gate_g (give (nat 0) ∷ []) stop))
 
 abbrev pub tested_below_let : Behaviour
 tested_below_let = let_be ((nat_variable 0, one) ∷ []) (action gate_g (ask (nat_variable 0) ∷ []) (Some (test_of (nat 0) nought)) stop)
@@ -118,12 +124,14 @@ pub record InnerBindersHideOuterOnes : Type 0 where
       (entry (let_bound act) (gate_event gate_g (nought ∷ [])) [] (nought ∷ []) [])
       ∷ []
       )
-  pub of_a_question : sample_move [] tested_below_let (let_bound act) (two ∷ []) ≡ move (gate_event gate_g (two ∷ [])) stop (test_of two nought ∷ []) (nat_sort ∷ [])
+  pub of_a_question : sample_move [] tested_below_let (let_bound act) (two ∷ [])
+      ≡ move (gate_event gate_g (two ∷ [])) stop (test_of two nought ∷ []) (nat_sort ∷ [])
 
 -- `relabel h for y, g for b in (b; relabel b for y in (y; stop))` and
 -- `choice z in [a, b] [] z; z; stop`
 abbrev pub relabelled_at_one_formal : Behaviour
-relabelled_at_one_formal = relabel ((gate_y, gate_h) ∷ (gate_b, gate_g) ∷ []) (event gate_b (relabel ((gate_y, gate_b) ∷ []) (event gate_y stop)))
+relabelled_at_one_formal = relabel ((gate_y, gate_h) ∷ (gate_b, gate_g) ∷ [])
+    (event gate_b (relabel ((gate_y, gate_b) ∷ []) (event gate_y stop)))
 
 abbrev pub at_one_gate_twice : Behaviour
 at_one_gate_twice = choose_gate gate_z (gate_a ∷ gate_b ∷ []) (event gate_z (event gate_z stop))
@@ -131,8 +139,10 @@ at_one_gate_twice = choose_gate gate_z (gate_a ∷ gate_b ∷ []) (event gate_z 
 -- Of two relabellings the inner one counts at a formal gate of both, and the target of a gate choice stays relabelled.
 pub record RelabellingsGoOn : Type 0 where
   pub composed_menu : HasMenu [] relabelled_at_one_formal (event_line (relabelled act) (gate_event gate_g []) ∷ [])
-  pub composed : Steps [] relabelled_at_one_formal (relabelled act) [] (gate_event gate_g []) (relabel ((gate_y, gate_g) ∷ (gate_b, gate_g) ∷ []) (event gate_y stop))
-  pub chosen_menu : HasMenu [] at_one_gate_twice (event_line (at_gate 0 act) (gate_event gate_a []) ∷ event_line (at_gate 1 act) (gate_event gate_b []) ∷ [])
+  pub composed : Steps [] relabelled_at_one_formal (relabelled act) [] (gate_event gate_g [])
+      (relabel ((gate_y, gate_g) ∷ (gate_b, gate_g) ∷ []) (event gate_y stop))
+  pub chosen_menu : HasMenu [] at_one_gate_twice (event_line (at_gate 0 act) (gate_event gate_a [])
+      ∷ event_line (at_gate 1 act) (gate_event gate_b []) ∷ [])
   pub chosen : Steps [] at_one_gate_twice (at_gate 0 act) [] (gate_event gate_a []) (relabel ((gate_z, gate_a) ∷ []) (event gate_z stop))
 
 -- `b; stop |[a, b]| stop` and `hide a, b in (b; stop)`

@@ -21,11 +21,15 @@ a_choice_and_a_question = choose_value (nat_variable 0) (offering gate_g (give (
 
 -- Leaves stand in order, that of a value choice first. They are as many as the move wants, of the sorts that it wants.
 pub record LeavesStandInOrder : Type 0 where
-  pub results_menu : HasMenu [] two_open_results (as_it_is quit (exit_event (nat 0 ∷ variable 1 bool_sort ∷ [])) (nat_sort ∷ bool_sort ∷ []) (nat 0 ∷ variable 1 bool_sort ∷ []) [] ∷ [])
+  pub results_menu : HasMenu [] two_open_results (as_it_is quit (exit_event (nat 0 ∷ variable 1 bool_sort ∷ [])) (nat_sort ∷ bool_sort ∷ [])
+      (nat 0 ∷ variable 1 bool_sort ∷ []) [] ∷ [])
   pub results : Steps [] two_open_results quit (nought ∷ truth ∷ []) (exit_event (nought ∷ truth ∷ [])) stop
-  pub questions_menu : HasMenu [] two_questions (as_it_is act (gate_event gate_g (nat 0 ∷ nat 1 ∷ [])) (nat_sort ∷ nat_sort ∷ []) (nat 0 ∷ nat 1 ∷ []) [] ∷ [])
-  pub questions : Steps [] two_questions act (nought ∷ one ∷ []) (gate_event gate_g (nought ∷ one ∷ [])) (offering gate_h (give nought ∷ give one ∷ []) stop)
-  pub choice_menu : HasMenu [] a_choice_and_a_question (as_it_is (with_value act) (gate_event gate_g (nat 0 ∷ nat 1 ∷ [])) (nat_sort ∷ nat_sort ∷ []) (nat 0 ∷ nat 1 ∷ []) [] ∷ [])
+  pub questions_menu : HasMenu [] two_questions (as_it_is act (gate_event gate_g (nat 0 ∷ nat 1 ∷ [])) (nat_sort ∷ nat_sort ∷ [])
+      (nat 0 ∷ nat 1 ∷ []) [] ∷ [])
+  pub questions : Steps [] two_questions act (nought ∷ one ∷ []) (gate_event gate_g (nought ∷ one ∷ []))
+      (offering gate_h (give nought ∷ give one ∷ []) stop)
+  pub choice_menu : HasMenu [] a_choice_and_a_question (as_it_is (with_value act) (gate_event gate_g (nat 0 ∷ nat 1 ∷ []))
+      (nat_sort ∷ nat_sort ∷ []) (nat 0 ∷ nat 1 ∷ []) [] ∷ [])
   pub choice_first : Steps [] a_choice_and_a_question (with_value act) (nought ∷ one ∷ []) (gate_event gate_g (nought ∷ one ∷ [])) stop
   pub not_fewer : (label : Label) (target : Behaviour) → Steps [] two_questions act (nought ∷ []) label target → ⊥
   pub not_more : (label : Label) (target : Behaviour) → Steps [] two_questions act (nought ∷ one ∷ two ∷ []) label target → ⊥

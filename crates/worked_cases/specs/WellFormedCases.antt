@@ -27,7 +27,8 @@ pub record WhatIsNotWellFormed : Type 0 where
   pub unknown_question : IsWellFormedCase [] (offering gate_g (ask (record { name = codes "x"; number = 0; sort = no_sort }) ∷ []) stop) → ⊥
   pub unknown_result : IsWellFormedCase [] (exit_with (any_of no_sort ∷ [])) → ⊥
   -- the innermost variable with a number counts, here one of sort Nat
-  pub hidden_variable : IsWellFormedCase [] (let_be ((record { name = codes "x"; number = 0; sort = bool_sort }, truth) ∷ []) (choose_value (nat_variable 0) (exit_with (exit_value (variable 0 bool_sort) ∷ [])))) → ⊥
+  pub hidden_variable : IsWellFormedCase [] (let_be ((record { name = codes "x"; number = 0; sort = bool_sort }, truth) ∷ [])
+      (choose_value (nat_variable 0) (exit_with (exit_value (variable 0 bool_sort) ∷ [])))) → ⊥
   pub offer_in_its_own_scope : IsWellFormedCase [] (offering gate_g (ask (nat_variable 0) ∷ give (nat 0) ∷ []) stop) → ⊥
   pub let_in_its_own_scope : IsWellFormedCase [] (let_be ((nat_variable 0, nat 0) ∷ []) stop) → ⊥
   pub let_of_another_sort : IsWellFormedCase [] (let_be ((nat_variable 0, truth) ∷ []) stop) → ⊥
@@ -40,5 +41,7 @@ pub record WhatIsNotWellFormed : Type 0 where
   pub fewer_values : IsWellFormedCase (counting ∷ []) (call 0 (gate_a ∷ []) []) → ⊥
   pub value_of_another_sort : IsWellFormedCase (counting ∷ []) (call 0 (gate_a ∷ []) (truth ∷ [])) → ⊥
   pub no_functionality : IsSpecification sample_signature (record (sample_specification []) { exit = Some (no_sort ∷ []) }) → ⊥
-  pub process_with_one_gate_twice : IsSpecification sample_signature (sample_specification (record counting { gates = gate_x ∷ gate_x ∷ [] } ∷ [])) → ⊥
-  pub parameter_twice : IsSpecification sample_signature (sample_specification (record counting { parameters = nat_variable 0 ∷ nat_variable 0 ∷ [] } ∷ [])) → ⊥
+  pub process_with_one_gate_twice : IsSpecification sample_signature
+      (sample_specification (record counting { gates = gate_x ∷ gate_x ∷ [] } ∷ [])) → ⊥
+  pub parameter_twice : IsSpecification sample_signature (sample_specification
+      (record counting { parameters = nat_variable 0 ∷ nat_variable 0 ∷ [] } ∷ [])) → ⊥

@@ -1,4 +1,5 @@
-//! Worked cases. Each function carries what the definitions say of one case as its contract and does nothing.
+//! Worked cases. Each function carries what the definitions say of one case as its contract and
+//! does nothing.
 
 ghost use Rattle.worked_cases.specs.MenuCases.{EqualLabelsStayInTheMenu};
 ghost use Rattle.worked_cases.specs.SampleLaws.{SampleFormsAreACanon};

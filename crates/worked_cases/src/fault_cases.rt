@@ -1,5 +1,5 @@
-//! Worked cases on faults of derivations. Each function carries what the definitions say of one case as its contract and
-//! does nothing.
+//! Worked cases on faults of derivations. Each function carries what the definitions say of one
+//! case as its contract and does nothing.
 
 ghost use Rattle.worked_cases.specs.FaultCases.{OneNodeHasOneFault, EarlierNodesComeFirst, TheFirstPairThatDiffersCounts, LabelsAreLookedAtLast};
 

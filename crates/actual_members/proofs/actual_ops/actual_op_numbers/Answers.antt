@@ -20,7 +20,8 @@ use Rattle.actual_members.proofs.actual_ops.actual_op_numbers.Goals as goal
 
 pub loop-number-init : goal.loop-number-init
 loop-number-init c = λ a base ops pairs each.
-    looked_none (formal_operation_fault a) a.base.presentation.formal_operations (actual_operation a) a.base.presentation.signature.operations _ _
+    looked_none (formal_operation_fault a) a.base.presentation.formal_operations (actual_operation a)
+    a.base.presentation.signature.operations _ _
     (c.ops-coming.ensures ∙ ap (λ (p : Presentation). p.signature.operations) (sym base.presentation_is))
     c.in_ok-numbers.ensures.items
 
@@ -41,17 +42,21 @@ actual_of_op-requires c = (
 
 pub loop-number-preserved : goal.loop-number-preserved
 loop-number-preserved c = λ a base ops pairs each.
-    let marked = c.has-is_formal.ensures ∙ ap (λ (p : Presentation). is_marked p.formal_operations c.loop-number.number) (sym base.presentation_is) in
+    let marked = c.has-is_formal.ensures ∙ ap (λ (p : Presentation). is_marked p.formal_operations c.loop-number.number)
+    (sym base.presentation_is) in
     looked_next (operation_lacks_actual a) (formal_operation_fault a) a.base.presentation.formal_operations (actual_operation a)
     a.base.presentation.signature.operations c.loop-number.number _ _ c.loop-number.numbers.items c.push.new.self.items
-    (operation_of c.index-coming-number.result.value) c.in_ok-found.found (refl, (λ x xs. refl)) (c.loop-number.invariant a base ops pairs each)
+    (operation_of c.index-coming-number.result.value) c.in_ok-found.found (refl, (λ x xs. refl))
+    (c.loop-number.invariant a base ops pairs each)
     (next_of (λ op. operation_of op.value) c.ops-coming.result.now c.loop-number.number c.index-coming-number.result c.loop-number-test.true
     c.index-coming-number.is)
-    (turned_actual a c.has-is_formal.result _ c.deref.result.now c.index-coming-number.result.value c.in_ok-found.found marked c.deref.ensures
+    (turned_actual a c.has-is_formal.result _ c.deref.result.now c.index-coming-number.result.value c.in_ok-found.found marked
+    c.deref.ensures
     (c.in_ok-found.ensures a base.at_is (record {
       pairs_are = pairs;
       sorts_are = each;
-      profiles_are = profiles_there (λ op. operation_of op.value) c.in_ok-profiles.profiles c.ops.result.now _ _ c.ops.ensures ops c.in_ok-profiles.ensures;
+      profiles_are = profiles_there (λ op. operation_of op.value) c.in_ok-profiles.profiles c.ops.result.now _ _ c.ops.ensures ops
+          c.in_ok-profiles.ensures;
       differ = ap (λ (os : List Operation). all_differ are_one_operation os) ops ∙ c.requires.differ;
     })))
     c.in_ok-push.ensures.items
@@ -60,11 +65,13 @@ pub returns-in_err-found : goal.returns-in_err-found
 returns-in_err-found c =
     let e = err_from_is_err_and c.from_residual-in_err-found.result c.from_residual-in_err-found.ensures.1 in
     rw (e.1, e.2) (λ a base ops pairs each.
-    let marked = c.has-is_formal.ensures ∙ ap (λ (p : Presentation). is_marked p.formal_operations c.loop-number.number) (sym base.presentation_is) in
+    let marked = c.has-is_formal.ensures ∙ ap (λ (p : Presentation). is_marked p.formal_operations c.loop-number.number)
+    (sym base.presentation_is) in
     holds_weaker _ _ c.in_err-found.field-0.0
     (λ f lacks.
     looked_fault (operation_lacks_actual a) (formal_operation_fault a) a.base.presentation.formal_operations (actual_operation a)
-    a.base.presentation.signature.operations c.loop-number.number _ _ c.loop-number.numbers.items (operation_of c.index-coming-number.result.value) f
+    a.base.presentation.signature.operations c.loop-number.number _ _ c.loop-number.numbers.items
+    (operation_of c.index-coming-number.result.value) f
     (refl, (λ x xs. refl)) (c.loop-number.invariant a base ops pairs each)
     (next_of (λ op. operation_of op.value) c.ops-coming.result.now c.loop-number.number c.index-coming-number.result c.loop-number-test.true
     c.index-coming-number.is)
@@ -72,7 +79,8 @@ returns-in_err-found c =
     (c.in_err-found.ensures a base.at_is (record {
       pairs_are = pairs;
       sorts_are = each;
-      profiles_are = profiles_there (λ op. operation_of op.value) c.in_ok-profiles.profiles c.ops.result.now _ _ c.ops.ensures ops c.in_ok-profiles.ensures;
+      profiles_are = profiles_there (λ op. operation_of op.value) c.in_ok-profiles.profiles c.ops.result.now _ _ c.ops.ensures ops
+          c.in_ok-profiles.ensures;
       differ = ap (λ (os : List Operation). all_differ are_one_operation os) ops ∙ c.requires.differ;
     })))
 

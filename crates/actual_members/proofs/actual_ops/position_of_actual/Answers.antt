@@ -46,7 +46,8 @@ pub overflow_cast-result : goal.overflow_cast-result
 overflow_cast-result c =
     let here = rw c.in-Some.is at c.in_ok-same.ensures in
     let small : c.in-Some.position < 2 ^ 32 =
-    position_small c.requires.0 (operation_of c.in_ok-sought.sought) c.in-Some.position (2 ^ 32) (here c.requires.0 c.requires.1 c.requires.2)
+    position_small c.requires.0 (operation_of c.in_ok-sought.sought) c.in-Some.position (2 ^ 32)
+    (here c.requires.0 c.requires.1 c.requires.2)
     c.requires.3 in
     omega (arith, small)
 

@@ -33,7 +33,8 @@ actual_of_sort-requires c = names_few c.in_ok-names.names c.sorts.result.now _ c
 
 pub loop-number-preserved : goal.loop-number-preserved
 loop-number-preserved c = λ a base sorts pairs.
-    let marked = c.has-is_formal.ensures ∙ ap (λ (p : Presentation). is_marked p.formal_sorts c.loop-number.number) (sym base.presentation_is) in
+    let marked = c.has-is_formal.ensures ∙ ap (λ (p : Presentation). is_marked p.formal_sorts c.loop-number.number)
+    (sym base.presentation_is) in
     looked_next (sort_lacks_actual a) (formal_sort_fault a) a.base.presentation.formal_sorts (actual_sort a)
     a.base.presentation.signature.sorts c.loop-number.number _ _ c.loop-number.numbers.items c.push.new.self.items
     (sort_of c.index-coming-number.result) c.in_ok-found.found (refl, (λ x xs. refl)) (c.loop-number.invariant a base sorts pairs)
@@ -55,7 +56,8 @@ pub returns-in_err-found : goal.returns-in_err-found
 returns-in_err-found c =
     let e = err_from_is_err_and c.from_residual-in_err-found.result c.from_residual-in_err-found.ensures.1 in
     rw (e.1, e.2) (λ a base sorts pairs.
-    let marked = c.has-is_formal.ensures ∙ ap (λ (p : Presentation). is_marked p.formal_sorts c.loop-number.number) (sym base.presentation_is) in
+    let marked = c.has-is_formal.ensures ∙ ap (λ (p : Presentation). is_marked p.formal_sorts c.loop-number.number)
+    (sym base.presentation_is) in
     holds_weaker _ _ c.in_err-found.field-0.0
     (λ f lacks.
     looked_fault (sort_lacks_actual a) (formal_sort_fault a) a.base.presentation.formal_sorts (actual_sort a)

@@ -25,7 +25,8 @@ overflow_cast-number c =
 
 pub add_if-requires : goal.add_if-requires
 add_if-requires c =
-    count_small (λ op. operation_of op.value) (λ (o : Operation). o.name) (marks_in c.args.base.now.formal_ops) c.ops-ops.result.now c.loop-number.number
+    count_small (λ op. operation_of op.value) (λ (o : Operation). o.name) (marks_in c.args.base.now.formal_ops) c.ops-ops.result.now
+    c.loop-number.number
     c.loop-number.count (2 ^ 32) c.loop-number-test.true
     (few_members (λ op. operation_of op.value) c.ops-ops.result.now _ c.ops-ops.ensures
     (within_limits (presentation_of c.args.base.now) c.requires.within).operations)
@@ -33,7 +34,8 @@ add_if-requires c =
 
 pub loop-number-preserved : goal.loop-number-preserved
 loop-number-preserved c =
-    names_next (λ op. operation_of op.value) (λ (o : Operation). o.name) (marks_in c.args.base.now.formal_ops) c.ops-ops.result.now c.loop-number.number
+    names_next (λ op. operation_of op.value) (λ (o : Operation). o.name) (marks_in c.args.base.now.formal_ops) c.ops-ops.result.now
+    c.loop-number.number
     c.index-ops-number.result (spelling c.deref.result.now.name) c.has-is_formal.result c.add_if.new.names c.in_ok-many.many
     c.loop-number-test.true c.index-ops-number.is c.has-is_formal.ensures
     (ap (λ o. spelling o.name) c.deref.ensures)
@@ -42,6 +44,7 @@ loop-number-preserved c =
 pub returns : goal.returns
 returns c =
     let all : c.loop-number.number ≡ length c.ops-ops.result.now = omega arith in
-    subst (λ (ss : List Operation). HasNames c.loop-number.names (map (λ (o : Operation). o.name) (marked_from (marks_in c.args.base.now.formal_ops) 0 ss)))
+    subst (λ (ss : List Operation). HasNames c.loop-number.names
+    (map (λ (o : Operation). o.name) (marked_from (marks_in c.args.base.now.formal_ops) 0 ss)))
     (ap (λ xs. map (λ op. operation_of op.value) xs) (take_whole c.ops-ops.result.now c.loop-number.number all) ∙ c.ops-ops.ensures)
     c.loop-number.invariant.0

@@ -42,6 +42,7 @@ loop-number-preserved c =
 pub returns : goal.returns
 returns c =
     let all : c.loop-number.number ≡ length c.sorts-sorts.result.now = omega arith in
-    subst (λ (ss : List Sort). HasNames c.loop-number.names (map (λ (s : Sort). s.name) (marked_from (marks_in c.args.base.now.formal_sorts) 0 ss)))
+    subst (λ (ss : List Sort). HasNames c.loop-number.names
+    (map (λ (s : Sort). s.name) (marked_from (marks_in c.args.base.now.formal_sorts) 0 ss)))
     (ap (λ (xs : List CodeSort). map sort_of xs) (take_whole c.sorts-sorts.result.now c.loop-number.number all) ∙ c.sorts-sorts.ensures)
     c.loop-number.invariant.0

@@ -42,7 +42,8 @@ returns-clause-came c = λ a of.
     (operation_of c.in_ok-shared.shared.value) pair old new of c.in_ok-pair.ensures
     (ap operation_of c.in_ok-shared.ensures.ok ∙ c.in_ok-image.ensures)
     (has_image operation_kind (placed_name_of c.args.source.now.mention.now)
-    (record { image = operation_of c.in_ok-shared.shared.value; pair = pair }) old new c.in_ok-added.added.number c.in_ok-added.added.clashes
+    (record { image = operation_of c.in_ok-shared.shared.value; pair = pair }) old new c.in_ok-added.added.number
+    c.in_ok-added.added.clashes
     c.is_past_limit-is_too_many.result c.in_ok-added.ensures.members c.in_ok-added.ensures.number c.in_ok-note.ensures.numbers
     c.in_ok-note.ensures.makers c.in_ok-added.ensures.clashes c.in_ok-note.ensures.clash c.is_past_limit-is_too_many.ensures
     c.in_ok-note.ensures.too_many)

@@ -23,6 +23,7 @@ returns c =
     (λ built told.
     told others
     ∙ sym (ap (λ (parts : List Meaning). or_else (choice_of_values place names parts) (choice_of_gates place names parts)) parts_are)
-    ∙ ap (option_and_then (λ (pair : List PlacedName × List Meaning). or_else (choice_of_values place pair.0 pair.1) (choice_of_gates place pair.0 pair.1)))
+    ∙ ap (option_and_then (λ (pair : List PlacedName × List Meaning).
+    or_else (choice_of_values place pair.0 pair.1) (choice_of_gates place pair.0 pair.1)))
     c.in-Some.ensures)
     c.chosen_over.ensures

@@ -9,4 +9,5 @@ use Rattle.behaviour_building.proofs.declarations.add_gate_choices.Given as goal
 abbrev pub invariant-loop-name : goal.invariant-loop-name
 invariant-loop-name l =
     from_last gate_choice_of l.gates.items
-    ≡ gate_choices_among (from_last placed_name_of l.yielded) (map placed_name_of l.among.items) ++ from_last gate_choice_of l.initial.gates.items
+    ≡ gate_choices_among (from_last placed_name_of l.yielded) (map placed_name_of l.among.items)
+    ++ from_last gate_choice_of l.initial.gates.items

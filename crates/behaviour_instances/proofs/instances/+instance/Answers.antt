@@ -48,12 +48,14 @@ instance-action_instance-requires t c = (
 pub instance-returns-in-Action-clause-same : goal.instance-returns-in-Action-clause-same
 instance-returns-in-Action-clause-same t c =
     IfOk-weaker c.action_instance.result _ _
-    (λ made e. e ∙ ap (λ (b : Beh). with_values (binding (environment_of c.args.environment.now.items)) (behaviour_of b)) (sym c.in-Action.is)) c.action_instance.ensures.same
+    (λ made e. e ∙ ap (λ (b : Beh). with_values (binding (environment_of c.args.environment.now.items)) (behaviour_of b))
+    (sym c.in-Action.is)) c.action_instance.ensures.same
 
 pub instance-returns-in-Action-clause-terms : goal.instance-returns-in-Action-clause-terms
 instance-returns-in-Action-clause-terms t c =
     IfOk-weaker c.action_instance.result _ _
-    (λ made e. e ∙ ap (instance_profiles (profiled_binding (profiled_pairs c.args.environment.now.items))) (sym c.in-Action.is)) c.action_instance.ensures.terms
+    (λ made e. e ∙ ap (instance_profiles (profiled_binding (profiled_pairs c.args.environment.now.items))) (sym c.in-Action.is))
+    c.action_instance.ensures.terms
 
 pub instance-inner_instance-requires : goal.instance-inner_instance-requires
 instance-inner_instance-requires t c = (
@@ -64,12 +66,14 @@ instance-inner_instance-requires t c = (
 pub instance-returns-in-Inner-clause-same : goal.instance-returns-in-Inner-clause-same
 instance-returns-in-Inner-clause-same t c =
     IfOk-weaker c.inner_instance.result _ _
-    (λ made e. e ∙ ap (λ (b : Beh). with_values (binding (environment_of c.args.environment.now.items)) (behaviour_of b)) (sym c.in-Inner.is)) c.inner_instance.ensures.same
+    (λ made e. e ∙ ap (λ (b : Beh). with_values (binding (environment_of c.args.environment.now.items)) (behaviour_of b))
+    (sym c.in-Inner.is)) c.inner_instance.ensures.same
 
 pub instance-returns-in-Inner-clause-terms : goal.instance-returns-in-Inner-clause-terms
 instance-returns-in-Inner-clause-terms t c =
     IfOk-weaker c.inner_instance.result _ _
-    (λ made e. e ∙ ap (instance_profiles (profiled_binding (profiled_pairs c.args.environment.now.items))) (sym c.in-Inner.is)) c.inner_instance.ensures.terms
+    (λ made e. e ∙ ap (instance_profiles (profiled_binding (profiled_pairs c.args.environment.now.items))) (sym c.in-Inner.is))
+    c.inner_instance.ensures.terms
 
 pub instance-guard_instance-requires : goal.instance-guard_instance-requires
 instance-guard_instance-requires t c = (
@@ -80,12 +84,14 @@ instance-guard_instance-requires t c = (
 pub instance-returns-in-Guard-clause-same : goal.instance-returns-in-Guard-clause-same
 instance-returns-in-Guard-clause-same t c =
     IfOk-weaker c.guard_instance.result _ _
-    (λ made e. e ∙ ap (λ (b : Beh). with_values (binding (environment_of c.args.environment.now.items)) (behaviour_of b)) (sym c.in-Guard.is)) c.guard_instance.ensures.same
+    (λ made e. e ∙ ap (λ (b : Beh). with_values (binding (environment_of c.args.environment.now.items)) (behaviour_of b))
+    (sym c.in-Guard.is)) c.guard_instance.ensures.same
 
 pub instance-returns-in-Guard-clause-terms : goal.instance-returns-in-Guard-clause-terms
 instance-returns-in-Guard-clause-terms t c =
     IfOk-weaker c.guard_instance.result _ _
-    (λ made e. e ∙ ap (instance_profiles (profiled_binding (profiled_pairs c.args.environment.now.items))) (sym c.in-Guard.is)) c.guard_instance.ensures.terms
+    (λ made e. e ∙ ap (instance_profiles (profiled_binding (profiled_pairs c.args.environment.now.items))) (sym c.in-Guard.is))
+    c.guard_instance.ensures.terms
 
 pub instance-choice_instance-requires : goal.instance-choice_instance-requires
 instance-choice_instance-requires t c = (
@@ -96,12 +102,14 @@ instance-choice_instance-requires t c = (
 pub instance-returns-in-Choice-clause-same : goal.instance-returns-in-Choice-clause-same
 instance-returns-in-Choice-clause-same t c =
     IfOk-weaker c.choice_instance.result _ _
-    (λ made e. e ∙ ap (λ (b : Beh). with_values (binding (environment_of c.args.environment.now.items)) (behaviour_of b)) (sym c.in-Choice.is)) c.choice_instance.ensures.same
+    (λ made e. e ∙ ap (λ (b : Beh). with_values (binding (environment_of c.args.environment.now.items)) (behaviour_of b))
+    (sym c.in-Choice.is)) c.choice_instance.ensures.same
 
 pub instance-returns-in-Choice-clause-terms : goal.instance-returns-in-Choice-clause-terms
 instance-returns-in-Choice-clause-terms t c =
     IfOk-weaker c.choice_instance.result _ _
-    (λ made e. e ∙ ap (instance_profiles (profiled_binding (profiled_pairs c.args.environment.now.items))) (sym c.in-Choice.is)) c.choice_instance.ensures.terms
+    (λ made e. e ∙ ap (instance_profiles (profiled_binding (profiled_pairs c.args.environment.now.items))) (sym c.in-Choice.is))
+    c.choice_instance.ensures.terms
 
 pub instance-parallel_instance-requires : goal.instance-parallel_instance-requires
 instance-parallel_instance-requires t c = (
@@ -112,12 +120,14 @@ instance-parallel_instance-requires t c = (
 pub instance-returns-in-Parallel-clause-same : goal.instance-returns-in-Parallel-clause-same
 instance-returns-in-Parallel-clause-same t c =
     IfOk-weaker c.parallel_instance.result _ _
-    (λ made e. e ∙ ap (λ (b : Beh). with_values (binding (environment_of c.args.environment.now.items)) (behaviour_of b)) (sym c.in-Parallel.is)) c.parallel_instance.ensures.same
+    (λ made e. e ∙ ap (λ (b : Beh). with_values (binding (environment_of c.args.environment.now.items)) (behaviour_of b))
+    (sym c.in-Parallel.is)) c.parallel_instance.ensures.same
 
 pub instance-returns-in-Parallel-clause-terms : goal.instance-returns-in-Parallel-clause-terms
 instance-returns-in-Parallel-clause-terms t c =
     IfOk-weaker c.parallel_instance.result _ _
-    (λ made e. e ∙ ap (instance_profiles (profiled_binding (profiled_pairs c.args.environment.now.items))) (sym c.in-Parallel.is)) c.parallel_instance.ensures.terms
+    (λ made e. e ∙ ap (instance_profiles (profiled_binding (profiled_pairs c.args.environment.now.items))) (sym c.in-Parallel.is))
+    c.parallel_instance.ensures.terms
 
 pub instance-hide_instance-requires : goal.instance-hide_instance-requires
 instance-hide_instance-requires t c = (
@@ -128,12 +138,14 @@ instance-hide_instance-requires t c = (
 pub instance-returns-in-Hide-clause-same : goal.instance-returns-in-Hide-clause-same
 instance-returns-in-Hide-clause-same t c =
     IfOk-weaker c.hide_instance.result _ _
-    (λ made e. e ∙ ap (λ (b : Beh). with_values (binding (environment_of c.args.environment.now.items)) (behaviour_of b)) (sym c.in-Hide.is)) c.hide_instance.ensures.same
+    (λ made e. e ∙ ap (λ (b : Beh). with_values (binding (environment_of c.args.environment.now.items)) (behaviour_of b))
+    (sym c.in-Hide.is)) c.hide_instance.ensures.same
 
 pub instance-returns-in-Hide-clause-terms : goal.instance-returns-in-Hide-clause-terms
 instance-returns-in-Hide-clause-terms t c =
     IfOk-weaker c.hide_instance.result _ _
-    (λ made e. e ∙ ap (instance_profiles (profiled_binding (profiled_pairs c.args.environment.now.items))) (sym c.in-Hide.is)) c.hide_instance.ensures.terms
+    (λ made e. e ∙ ap (instance_profiles (profiled_binding (profiled_pairs c.args.environment.now.items))) (sym c.in-Hide.is))
+    c.hide_instance.ensures.terms
 
 pub instance-enable_instance-requires : goal.instance-enable_instance-requires
 instance-enable_instance-requires t c = (
@@ -144,12 +156,14 @@ instance-enable_instance-requires t c = (
 pub instance-returns-in-Enable-clause-same : goal.instance-returns-in-Enable-clause-same
 instance-returns-in-Enable-clause-same t c =
     IfOk-weaker c.enable_instance.result _ _
-    (λ made e. e ∙ ap (λ (b : Beh). with_values (binding (environment_of c.args.environment.now.items)) (behaviour_of b)) (sym c.in-Enable.is)) c.enable_instance.ensures.same
+    (λ made e. e ∙ ap (λ (b : Beh). with_values (binding (environment_of c.args.environment.now.items)) (behaviour_of b))
+    (sym c.in-Enable.is)) c.enable_instance.ensures.same
 
 pub instance-returns-in-Enable-clause-terms : goal.instance-returns-in-Enable-clause-terms
 instance-returns-in-Enable-clause-terms t c =
     IfOk-weaker c.enable_instance.result _ _
-    (λ made e. e ∙ ap (instance_profiles (profiled_binding (profiled_pairs c.args.environment.now.items))) (sym c.in-Enable.is)) c.enable_instance.ensures.terms
+    (λ made e. e ∙ ap (instance_profiles (profiled_binding (profiled_pairs c.args.environment.now.items))) (sym c.in-Enable.is))
+    c.enable_instance.ensures.terms
 
 pub instance-disable_instance-requires : goal.instance-disable_instance-requires
 instance-disable_instance-requires t c = (
@@ -160,12 +174,14 @@ instance-disable_instance-requires t c = (
 pub instance-returns-in-Disable-clause-same : goal.instance-returns-in-Disable-clause-same
 instance-returns-in-Disable-clause-same t c =
     IfOk-weaker c.disable_instance.result _ _
-    (λ made e. e ∙ ap (λ (b : Beh). with_values (binding (environment_of c.args.environment.now.items)) (behaviour_of b)) (sym c.in-Disable.is)) c.disable_instance.ensures.same
+    (λ made e. e ∙ ap (λ (b : Beh). with_values (binding (environment_of c.args.environment.now.items)) (behaviour_of b))
+    (sym c.in-Disable.is)) c.disable_instance.ensures.same
 
 pub instance-returns-in-Disable-clause-terms : goal.instance-returns-in-Disable-clause-terms
 instance-returns-in-Disable-clause-terms t c =
     IfOk-weaker c.disable_instance.result _ _
-    (λ made e. e ∙ ap (instance_profiles (profiled_binding (profiled_pairs c.args.environment.now.items))) (sym c.in-Disable.is)) c.disable_instance.ensures.terms
+    (λ made e. e ∙ ap (instance_profiles (profiled_binding (profiled_pairs c.args.environment.now.items))) (sym c.in-Disable.is))
+    c.disable_instance.ensures.terms
 
 pub instance-let_instance-requires : goal.instance-let_instance-requires
 instance-let_instance-requires t c = (
@@ -176,12 +192,14 @@ instance-let_instance-requires t c = (
 pub instance-returns-in-Let-clause-same : goal.instance-returns-in-Let-clause-same
 instance-returns-in-Let-clause-same t c =
     IfOk-weaker c.let_instance.result _ _
-    (λ made e. e ∙ ap (λ (b : Beh). with_values (binding (environment_of c.args.environment.now.items)) (behaviour_of b)) (sym c.in-Let.is)) c.let_instance.ensures.same
+    (λ made e. e ∙ ap (λ (b : Beh). with_values (binding (environment_of c.args.environment.now.items)) (behaviour_of b)) (sym c.in-Let.is))
+    c.let_instance.ensures.same
 
 pub instance-returns-in-Let-clause-terms : goal.instance-returns-in-Let-clause-terms
 instance-returns-in-Let-clause-terms t c =
     IfOk-weaker c.let_instance.result _ _
-    (λ made e. e ∙ ap (instance_profiles (profiled_binding (profiled_pairs c.args.environment.now.items))) (sym c.in-Let.is)) c.let_instance.ensures.terms
+    (λ made e. e ∙ ap (instance_profiles (profiled_binding (profiled_pairs c.args.environment.now.items))) (sym c.in-Let.is))
+    c.let_instance.ensures.terms
 
 pub instance-value_instance-requires : goal.instance-value_instance-requires
 instance-value_instance-requires t c = (
@@ -192,12 +210,14 @@ instance-value_instance-requires t c = (
 pub instance-returns-in-ChooseValue-clause-same : goal.instance-returns-in-ChooseValue-clause-same
 instance-returns-in-ChooseValue-clause-same t c =
     IfOk-weaker c.value_instance.result _ _
-    (λ made e. e ∙ ap (λ (b : Beh). with_values (binding (environment_of c.args.environment.now.items)) (behaviour_of b)) (sym c.in-ChooseValue.is)) c.value_instance.ensures.same
+    (λ made e. e ∙ ap (λ (b : Beh). with_values (binding (environment_of c.args.environment.now.items)) (behaviour_of b))
+    (sym c.in-ChooseValue.is)) c.value_instance.ensures.same
 
 pub instance-returns-in-ChooseValue-clause-terms : goal.instance-returns-in-ChooseValue-clause-terms
 instance-returns-in-ChooseValue-clause-terms t c =
     IfOk-weaker c.value_instance.result _ _
-    (λ made e. e ∙ ap (instance_profiles (profiled_binding (profiled_pairs c.args.environment.now.items))) (sym c.in-ChooseValue.is)) c.value_instance.ensures.terms
+    (λ made e. e ∙ ap (instance_profiles (profiled_binding (profiled_pairs c.args.environment.now.items))) (sym c.in-ChooseValue.is))
+    c.value_instance.ensures.terms
 
 pub instance-gate_instance-requires : goal.instance-gate_instance-requires
 instance-gate_instance-requires t c = (
@@ -208,12 +228,14 @@ instance-gate_instance-requires t c = (
 pub instance-returns-in-ChooseGate-clause-same : goal.instance-returns-in-ChooseGate-clause-same
 instance-returns-in-ChooseGate-clause-same t c =
     IfOk-weaker c.gate_instance.result _ _
-    (λ made e. e ∙ ap (λ (b : Beh). with_values (binding (environment_of c.args.environment.now.items)) (behaviour_of b)) (sym c.in-ChooseGate.is)) c.gate_instance.ensures.same
+    (λ made e. e ∙ ap (λ (b : Beh). with_values (binding (environment_of c.args.environment.now.items)) (behaviour_of b))
+    (sym c.in-ChooseGate.is)) c.gate_instance.ensures.same
 
 pub instance-returns-in-ChooseGate-clause-terms : goal.instance-returns-in-ChooseGate-clause-terms
 instance-returns-in-ChooseGate-clause-terms t c =
     IfOk-weaker c.gate_instance.result _ _
-    (λ made e. e ∙ ap (instance_profiles (profiled_binding (profiled_pairs c.args.environment.now.items))) (sym c.in-ChooseGate.is)) c.gate_instance.ensures.terms
+    (λ made e. e ∙ ap (instance_profiles (profiled_binding (profiled_pairs c.args.environment.now.items))) (sym c.in-ChooseGate.is))
+    c.gate_instance.ensures.terms
 
 pub instance-par_instance-requires : goal.instance-par_instance-requires
 instance-par_instance-requires t c = (
@@ -224,12 +246,14 @@ instance-par_instance-requires t c = (
 pub instance-returns-in-ParGate-clause-same : goal.instance-returns-in-ParGate-clause-same
 instance-returns-in-ParGate-clause-same t c =
     IfOk-weaker c.par_instance.result _ _
-    (λ made e. e ∙ ap (λ (b : Beh). with_values (binding (environment_of c.args.environment.now.items)) (behaviour_of b)) (sym c.in-ParGate.is)) c.par_instance.ensures.same
+    (λ made e. e ∙ ap (λ (b : Beh). with_values (binding (environment_of c.args.environment.now.items)) (behaviour_of b))
+    (sym c.in-ParGate.is)) c.par_instance.ensures.same
 
 pub instance-returns-in-ParGate-clause-terms : goal.instance-returns-in-ParGate-clause-terms
 instance-returns-in-ParGate-clause-terms t c =
     IfOk-weaker c.par_instance.result _ _
-    (λ made e. e ∙ ap (instance_profiles (profiled_binding (profiled_pairs c.args.environment.now.items))) (sym c.in-ParGate.is)) c.par_instance.ensures.terms
+    (λ made e. e ∙ ap (instance_profiles (profiled_binding (profiled_pairs c.args.environment.now.items))) (sym c.in-ParGate.is))
+    c.par_instance.ensures.terms
 
 pub instance-call_instance-requires : goal.instance-call_instance-requires
 instance-call_instance-requires t c =
@@ -238,12 +262,14 @@ instance-call_instance-requires t c =
 pub instance-returns-in-Call-clause-same : goal.instance-returns-in-Call-clause-same
 instance-returns-in-Call-clause-same t c =
     IfOk-weaker c.call_instance.result _ _
-    (λ made e. e ∙ ap (λ (b : Beh). with_values (binding (environment_of c.args.environment.now.items)) (behaviour_of b)) (sym c.in-Call.is)) c.call_instance.ensures.same
+    (λ made e. e ∙ ap (λ (b : Beh). with_values (binding (environment_of c.args.environment.now.items)) (behaviour_of b))
+    (sym c.in-Call.is)) c.call_instance.ensures.same
 
 pub instance-returns-in-Call-clause-terms : goal.instance-returns-in-Call-clause-terms
 instance-returns-in-Call-clause-terms t c =
     IfOk-weaker c.call_instance.result _ _
-    (λ made e. e ∙ ap (instance_profiles (profiled_binding (profiled_pairs c.args.environment.now.items))) (sym c.in-Call.is)) c.call_instance.ensures.terms
+    (λ made e. e ∙ ap (instance_profiles (profiled_binding (profiled_pairs c.args.environment.now.items))) (sym c.in-Call.is))
+    c.call_instance.ensures.terms
 
 pub shared_instance-instance-requires : goal.shared_instance-instance-requires
 shared_instance-instance-requires t c = (
@@ -266,8 +292,10 @@ both_instances-shared_instance-requires t c =
     (left_below (weight (behaviour_of c.args.left.now.value)) (weight (behaviour_of c.args.right.now.value)) _ c.decreases, c.requires.left)
 
 pub both_instances-shared_instance-requires-2 : goal.both_instances-shared_instance-requires-2
-both_instances-shared_instance-requires-2 t c =
-    (right_below (weight (behaviour_of c.args.left.now.value)) (weight (behaviour_of c.args.right.now.value)) _ c.decreases, c.requires.right)
+both_instances-shared_instance-requires-2 t c = (
+  right_below (weight (behaviour_of c.args.left.now.value)) (weight (behaviour_of c.args.right.now.value)) _ c.decreases,
+  c.requires.right,
+)
 
 pub inner_instance-shared_instance-requires : goal.inner_instance-shared_instance-requires
 inner_instance-shared_instance-requires t c =
@@ -369,7 +397,8 @@ par_instance-shared_instance-requires t c =
 
 pub par_instance-returns-clause-same : goal.par_instance-returns-clause-same
 par_instance-returns-clause-same t c =
-    same_three (par_gate c.args.gate) _ _ _ _ _ _ (c.in_ok-gates.ensures.items ∙ c.deref.ensures.value) c.in_ok-meet.ensures c.in_ok-next.ensures.same
+    same_three (par_gate c.args.gate) _ _ _ _ _ _ (c.in_ok-gates.ensures.items ∙ c.deref.ensures.value) c.in_ok-meet.ensures
+    c.in_ok-next.ensures.same
 
 pub par_instance-returns-clause-terms : goal.par_instance-returns-clause-terms
 par_instance-returns-clause-terms t c =
@@ -378,28 +407,34 @@ par_instance-returns-clause-terms t c =
 pub enable_instance-inside_instance-requires : goal.enable_instance-inside_instance-requires
 enable_instance-inside_instance-requires t c = (
   right_part (weight (behaviour_of c.args.left.now.value)) (weight (behaviour_of c.args.right.now.value)) _ c.decreases,
-  suits_below (numbers_of (variables_of c.args.variables.now.items)) c.in_ok-inner.inner.items c.args.environment.now.items _ c.in_ok-inner.ensures.profiled
+  suits_below (numbers_of (variables_of c.args.variables.now.items)) c.in_ok-inner.inner.items c.args.environment.now.items _
+      c.in_ok-inner.ensures.profiled
       (λ n s o. c.requires n s (inr o)),
 )
 
 pub enable_instance-shared_instance-requires : goal.enable_instance-shared_instance-requires
-enable_instance-shared_instance-requires t c =
-    (left_part (weight (behaviour_of c.args.left.now.value)) (weight (behaviour_of c.args.right.now.value)) _ c.decreases, λ n s o. c.requires n s (inl o))
+enable_instance-shared_instance-requires t c = (
+  left_part (weight (behaviour_of c.args.left.now.value)) (weight (behaviour_of c.args.right.now.value)) _ c.decreases,
+  λ n s o. c.requires n s (inl o),
+)
 
 pub enable_instance-returns-clause-same : goal.enable_instance-returns-clause-same
 enable_instance-returns-clause-same t c =
     same_three enable _ _ _ _ _ _ c.in_ok-left.ensures.same c.in_ok-variables.ensures
-    (inside_same (numbers_of (variables_of c.args.variables.now.items)) c.in_ok-inner.inner.items c.args.environment.now.items _ _ c.in_ok-inner.ensures.plain c.in_ok-right.ensures)
+    (inside_same (numbers_of (variables_of c.args.variables.now.items)) c.in_ok-inner.inner.items c.args.environment.now.items _ _
+    c.in_ok-inner.ensures.plain c.in_ok-right.ensures)
 
 pub enable_instance-returns-clause-terms : goal.enable_instance-returns-clause-terms
 enable_instance-returns-clause-terms t c =
     same_two (λ (x y : List ProfiledTerm). x ++ y) _ _ _ _ c.in_ok-left.ensures.terms
-    (inside_terms (numbers_of (variables_of c.args.variables.now.items)) c.in_ok-inner.inner.items c.args.environment.now.items _ _ c.in_ok-inner.ensures.profiled c.in_ok-right.ensures)
+    (inside_terms (numbers_of (variables_of c.args.variables.now.items)) c.in_ok-inner.inner.items c.args.environment.now.items _ _
+    c.in_ok-inner.ensures.profiled c.in_ok-right.ensures)
 
 pub let_instance-inside_instance-requires : goal.let_instance-inside_instance-requires
 let_instance-inside_instance-requires t c = (
   inside_part (weight (behaviour_of c.args.next.now.value)) _ c.decreases,
-  suits_below (numbers_of (let_variables (map let_of c.args.bindings.now.items))) c.in_ok-inner.inner.items c.args.environment.now.items _ c.in_ok-inner.ensures.profiled
+  suits_below (numbers_of (let_variables (map let_of c.args.bindings.now.items))) c.in_ok-inner.inner.items c.args.environment.now.items _
+      c.in_ok-inner.ensures.profiled
       (λ n s o. c.requires n s (inr o)),
 )
 
@@ -410,12 +445,14 @@ let_instance-placed_bindings-requires t c =
 pub let_instance-returns-clause-same : goal.let_instance-returns-clause-same
 let_instance-returns-clause-same t c =
     same_two let_be _ _ _ _ c.in_ok-bindings.ensures.same
-    (inside_same (numbers_of (let_variables (map let_of c.args.bindings.now.items))) c.in_ok-inner.inner.items c.args.environment.now.items _ _ c.in_ok-inner.ensures.plain c.in_ok-next.ensures)
+    (inside_same (numbers_of (let_variables (map let_of c.args.bindings.now.items))) c.in_ok-inner.inner.items c.args.environment.now.items
+    _ _ c.in_ok-inner.ensures.plain c.in_ok-next.ensures)
 
 pub let_instance-returns-clause-terms : goal.let_instance-returns-clause-terms
 let_instance-returns-clause-terms t c =
     same_two (λ (x y : List ProfiledTerm). x ++ y) _ _ _ _ c.in_ok-bindings.ensures.terms
-    (inside_terms (numbers_of (let_variables (map let_of c.args.bindings.now.items))) c.in_ok-inner.inner.items c.args.environment.now.items _ _ c.in_ok-inner.ensures.profiled c.in_ok-next.ensures)
+    (inside_terms (numbers_of (let_variables (map let_of c.args.bindings.now.items))) c.in_ok-inner.inner.items c.args.environment.now.items
+    _ _ c.in_ok-inner.ensures.profiled c.in_ok-next.ensures)
 
 pub value_instance-inside_instance-requires : goal.value_instance-inside_instance-requires
 value_instance-inside_instance-requires t c = (
@@ -427,11 +464,13 @@ value_instance-inside_instance-requires t c = (
 pub value_instance-returns-clause-same : goal.value_instance-returns-clause-same
 value_instance-returns-clause-same t c =
     same_two choose_value _ _ _ _ c.in_ok-variable.ensures
-    (inside_same (c.args.variable.now.number ∷ []) c.in_ok-inner.inner.items c.args.environment.now.items _ _ c.in_ok-inner.ensures.plain c.in_ok-next.ensures)
+    (inside_same (c.args.variable.now.number ∷ []) c.in_ok-inner.inner.items c.args.environment.now.items _ _ c.in_ok-inner.ensures.plain
+    c.in_ok-next.ensures)
 
 pub value_instance-returns-clause-terms : goal.value_instance-returns-clause-terms
 value_instance-returns-clause-terms t c =
-    inside_terms (c.args.variable.now.number ∷ []) c.in_ok-inner.inner.items c.args.environment.now.items _ _ c.in_ok-inner.ensures.profiled c.in_ok-next.ensures
+    inside_terms (c.args.variable.now.number ∷ []) c.in_ok-inner.inner.items c.args.environment.now.items _ _ c.in_ok-inner.ensures.profiled
+    c.in_ok-next.ensures
 
 pub action_instance-action_below-requires : goal.action_instance-action_below-requires
 action_instance-action_below-requires t c = (
@@ -442,7 +481,8 @@ action_instance-action_below-requires t c = (
 pub action_below-shared_instance-requires : goal.action_below-shared_instance-requires
 action_below-shared_instance-requires t c = (
   below_inside (weight (behaviour_of c.args.next.now.value)) _ c.decreases,
-  suits_below (numbers_of (asked_variables (map offer_of c.args.offers.now.items))) c.args.inner.now.items c.args.environment.now.items _ c.requires.profiled
+  suits_below (numbers_of (asked_variables (map offer_of c.args.offers.now.items))) c.args.inner.now.items c.args.environment.now.items _
+      c.requires.profiled
       (λ n s o. c.requires.suited n s (inr (o.0, inr o.1))),
 )
 
@@ -452,7 +492,8 @@ action_below-placed_head-requires-clause-offers t c =
 
 pub action_below-placed_head-requires-clause-test : goal.action_below-placed_head-requires-clause-test
 action_below-placed_head-requires-clause-test t c =
-    suits_below (numbers_of (asked_variables (map offer_of c.args.offers.now.items))) c.args.inner.now.items c.args.environment.now.items _ c.requires.profiled
+    suits_below (numbers_of (asked_variables (map offer_of c.args.offers.now.items))) c.args.inner.now.items c.args.environment.now.items _
+    c.requires.profiled
     (λ n s o. c.requires.suited n s (inr (o.0, inl o.1)))
 
 pub action_below-returns-clause-same : goal.action_below-returns-clause-same
@@ -460,7 +501,8 @@ action_below-returns-clause-same t c =
     same_three (action c.args.gate) _ _ _ _ _ _ c.in_ok-head.ensures.offers
     (c.in_ok-head.ensures.test
     ∙ ap (λ (values : Substitution). option_map (test_with values) (option_map test_of c.args.test.now)) c.requires.plain)
-    (inside_same (numbers_of (asked_variables (map offer_of c.args.offers.now.items))) c.args.inner.now.items c.args.environment.now.items _ _ c.requires.plain c.in_ok-next.ensures)
+    (inside_same (numbers_of (asked_variables (map offer_of c.args.offers.now.items))) c.args.inner.now.items c.args.environment.now.items _
+    _ c.requires.plain c.in_ok-next.ensures)
 
 pub action_below-returns-clause-terms : goal.action_below-returns-clause-terms
 action_below-returns-clause-terms t c =
@@ -468,4 +510,5 @@ action_below-returns-clause-terms t c =
     (same_two (λ (x y : List ProfiledTerm). x ++ y) _ _ _ _ (ap joined c.in_ok-head.ensures.offered)
     (c.in_ok-head.ensures.tested
     ∙ ap (λ (values : ProfiledSubstitution). terms_placed values (option_profiles c.args.test.now)) c.requires.profiled))
-    (inside_terms (numbers_of (asked_variables (map offer_of c.args.offers.now.items))) c.args.inner.now.items c.args.environment.now.items _ _ c.requires.profiled c.in_ok-next.ensures)
+    (inside_terms (numbers_of (asked_variables (map offer_of c.args.offers.now.items))) c.args.inner.now.items c.args.environment.now.items
+    _ _ c.requires.profiled c.in_ok-next.ensures)

@@ -28,7 +28,9 @@ other_represent data_ canon represent other specification b over f g d label tar
     (same_beside data_ base (plain represent (leaves_in d.leaves)) (plain other (leaves_in d.leaves)) _ specification.processes [] b
     (low_nothing data_ base) le_b over.closed) label target moves
 
-kept : (data_ : Data) (canon : Term → Term) (specification : Specification) (b : Behaviour) → AreOver data_ canon specification b → (d : Derivation) (label : Label) (target : Behaviour) → Derives data_ specification.processes b d label target → CanonicalForDerived data_ canon specification.processes b d label target
+kept : (data_ : Data) (canon : Term → Term) (specification : Specification) (b : Behaviour) → AreOver data_ canon specification b
+    → (d : Derivation) (label : Label) (target : Behaviour) → Derives data_ specification.processes b d label target
+    → CanonicalForDerived data_ canon specification.processes b d label target
 kept data_ canon specification b over d label target derives =
     let base : ℕ = first_apart specification.processes b in
     let a : Another data_ base as_given canon specification.processes b d label target =
@@ -42,7 +44,9 @@ kept data_ canon specification b over d label target derives =
       targets = alike_behaviours data_ base canon as_given (leaves_in d.leaves) (leaves_in d.leaves) (turned_beside data_ base a.targets);
     }
 
-derived : (data_ : Data) (canon : Term → Term) (specification : Specification) (b : Behaviour) → AreOver data_ canon specification b → (d : Derivation) (label : Label) (target : Behaviour) → DerivesCanonically data_ canon specification.processes b d label target → DerivedForCanonical data_ canon specification.processes b d label target
+derived : (data_ : Data) (canon : Term → Term) (specification : Specification) (b : Behaviour) → AreOver data_ canon specification b
+    → (d : Derivation) (label : Label) (target : Behaviour) → DerivesCanonically data_ canon specification.processes b d label target
+    → DerivedForCanonical data_ canon specification.processes b d label target
 derived data_ canon specification b over d label target keeps =
     let base : ℕ = first_apart specification.processes b in
     let a : Another data_ base canon as_given specification.processes b d label target =

@@ -27,7 +27,9 @@ other_run data_ canon represent other specification b over f g ds target run =
     (same_beside data_ base (plain represent variable) (plain other variable) _ specification.processes [] b
     (low_nothing data_ base) le_b over.closed) run
 
-kept : (data_ : Data) (canon : Term → Term) (specification : Specification) (b : Behaviour) → AreOver data_ canon specification b → (ds : List Derivation) (target : Behaviour) → Reaches data_ as_given specification.processes b ds target → (other : Behaviour) × Reaches data_ canon specification.processes b ds other × Alike data_ other target
+kept : (data_ : Data) (canon : Term → Term) (specification : Specification) (b : Behaviour) → AreOver data_ canon specification b
+    → (ds : List Derivation) (target : Behaviour) → Reaches data_ as_given specification.processes b ds target → (other : Behaviour)
+    × Reaches data_ canon specification.processes b ds other × Alike data_ other target
 kept data_ canon specification b over ds target run =
     let base : ℕ = first_apart specification.processes b in
     let a : AnotherRun data_ base as_given canon specification.processes b ds target =
@@ -35,7 +37,9 @@ kept data_ canon specification b over ds target run =
     (canon_represents data_ canon over.is_canon) ds target run in
     (a.last, a.run, alike_behaviours data_ base canon as_given variable variable (turned_beside data_ base a.targets))
 
-derived : (data_ : Data) (canon : Term → Term) (specification : Specification) (b : Behaviour) → AreOver data_ canon specification b → (ds : List Derivation) (target : Behaviour) → Reaches data_ canon specification.processes b ds target → (other : Behaviour) × Reaches data_ as_given specification.processes b ds other × Alike data_ target other
+derived : (data_ : Data) (canon : Term → Term) (specification : Specification) (b : Behaviour) → AreOver data_ canon specification b
+    → (ds : List Derivation) (target : Behaviour) → Reaches data_ canon specification.processes b ds target → (other : Behaviour)
+    × Reaches data_ as_given specification.processes b ds other × Alike data_ target other
 derived data_ canon specification b over ds target run =
     let base : ℕ = first_apart specification.processes b in
     let a : AnotherRun data_ base canon as_given specification.processes b ds target =

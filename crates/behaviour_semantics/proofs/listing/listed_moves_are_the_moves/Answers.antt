@@ -12,7 +12,8 @@ pub returns : goal.returns
 returns c = record {
   sound = λ setting leaves depth next b moves e x among.
       Every-among (λ (y : ShapedMove). move_of setting leaves y.shape next b ≡ Some y.move) moves x
-      (subst (EachOf (λ (y : ShapedMove). move_of setting leaves y.shape next b ≡ Some y.move)) e (are_moves setting leaves depth next b)) among;
+      (subst (EachOf (λ (y : ShapedMove). move_of setting leaves y.shape next b ≡ Some y.move)) e (are_moves setting leaves depth next b))
+      among;
   complete = λ setting leaves depth next b moves e x is.
       subst (Within x) e (listed setting leaves depth x.shape next b x.move is);
   rising = shapes_rise;

@@ -4,4 +4,5 @@ use Rattle.behaviour_semantics.proofs.OrderLemmas.{entries_within}
 
 pub returns : goal.returns
 returns c = λ data_ canon processes b menu other exact exact'.
-    same_members menu other exact.rising exact'.rising (entries_within data_ canon processes b menu other exact exact') (entries_within data_ canon processes b other menu exact' exact)
+    same_members menu other exact.rising exact'.rising (entries_within data_ canon processes b menu other exact exact')
+    (entries_within data_ canon processes b other menu exact' exact)

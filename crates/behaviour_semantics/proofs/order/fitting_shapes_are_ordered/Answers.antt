@@ -9,7 +9,8 @@ use Rattle.behaviour_semantics.specs.Draft.{Fits, first_apart, leaves_from, draf
 use Rattle.behaviour_semantics.proofs.ComparableLemmas.{Ordered, comparable}
 use Rattle.behaviour_semantics.proofs.order.fitting_shapes_are_ordered.Goals as goal
 
-ordered : (data_ : Data) (canon : Term → Term) (processes : List Process) (b : Behaviour) (s t : Shape) → Fits data_ canon processes b s → Fits data_ canon processes b t → Ordered s t
+ordered : (data_ : Data) (canon : Term → Term) (processes : List Process) (b : Behaviour) (s t : Shape) → Fits data_ canon processes b s
+    → Fits data_ canon processes b t → Ordered s t
 ordered data_ canon processes b s t f g =
     let base : ℕ = first_apart processes b in
     let setting : Setting = record { signature = data_.signature; represent = canon; processes = processes } in

@@ -6,5 +6,8 @@ pub returns : goal.returns
 returns c = record {
   gates = gate_under-then;
   labels = label_under-then;
-  transitions = λ data_ processes first second b label. (to_one data_ processes first second b label, to_two data_ processes first second b label);
+  transitions = λ data_ processes first second b label. (
+    to_one data_ processes first second b label,
+    to_two data_ processes first second b label,
+  );
 }

@@ -26,7 +26,9 @@ run_over data_ canon represent specification keeps over (one_move {b = b} {next 
 pub returns : goal.returns
 returns c = record {
   derived = λ data_ canon specification b over. closed_move data_ specification as_given over.well_formed (λ t s h. h) b over.closed;
-  kept = λ data_ canon specification b over. closed_move data_ specification canon over.well_formed (λ t s h. canon_ground data_ canon t s over.is_canon h) b over.closed;
+  kept = λ data_ canon specification b over. closed_move data_ specification canon over.well_formed
+      (λ t s h. canon_ground data_ canon t s over.is_canon h) b over.closed;
   reached_as_given = λ data_ canon specification b over ds target. run_over data_ canon as_given specification (λ t s h. h) over;
-  reached = λ data_ canon specification b over ds target. run_over data_ canon canon specification (λ t s h. canon_ground data_ canon t s over.is_canon h) over;
+  reached = λ data_ canon specification b over ds target.
+      run_over data_ canon canon specification (λ t s h. canon_ground data_ canon t s over.is_canon h) over;
 }

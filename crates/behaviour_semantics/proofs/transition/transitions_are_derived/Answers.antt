@@ -10,16 +10,25 @@ use Rattle.behaviour_semantics.proofs.RuleToMove.{Found, found}
 use Rattle.behaviour_semantics.proofs.MoveToRule.{rules_of}
 use Rattle.behaviour_semantics.proofs.transition.transitions_are_derived.Goals as goal
 
-derived : (data_ : Data) (processes : List Process) (b : Behaviour) (label : Label) (target : Behaviour) → Transition data_ processes b label target → (d : Derivation) × Derives data_ processes b d label target
+derived : (data_ : Data) (processes : List Process) (b : Behaviour) (label : Label) (target : Behaviour)
+    → Transition data_ processes b label target → (d : Derivation) × Derives data_ processes b d label target
 derived data_ processes b label target t =
     let f : Found data_ processes b label target = found data_ processes t in (
       record { shape = f.shape; leaves = f.leaves },
-      record { asked = f.asked; sorts = f.sorts; move = f.moves (leaves_in f.leaves) 0 (Supplies-leaves_in f.leaves); leaves = f.sorted; holds = f.holds },
+      record {
+        asked = f.asked;
+        sorts = f.sorts;
+        move = f.moves (leaves_in f.leaves) 0 (Supplies-leaves_in f.leaves);
+        leaves = f.sorted;
+        holds = f.holds;
+      },
     )
 
-made : (data_ : Data) (processes : List Process) (b : Behaviour) (label : Label) (target : Behaviour) → ((d : Derivation) × Derives data_ processes b d label target) → Transition data_ processes b label target
+made : (data_ : Data) (processes : List Process) (b : Behaviour) (label : Label) (target : Behaviour)
+    → ((d : Derivation) × Derives data_ processes b d label target) → Transition data_ processes b label target
 made data_ processes b label target (d, m) =
-    rules_of data_ processes (leaves_in d.leaves) d.shape 0 b (record { label = label; target = target; asked = m.asked; sorts = m.sorts }) m.move
+    rules_of data_ processes (leaves_in d.leaves) d.shape 0 b (record { label = label; target = target; asked = m.asked; sorts = m.sorts })
+    m.move
     (Supplied-leaves_in data_.signature m.sorts d.leaves m.leaves) m.holds
 
 pub returns : goal.returns

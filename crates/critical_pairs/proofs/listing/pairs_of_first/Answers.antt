@@ -61,9 +61,11 @@ loop-second-preserved c =
           second_more c.args.rules.now c.args.first rule c.loop-second.next c.in-Some.second (map node_place_of c.as_slice.result.now)
           (paths_in c.as_slice-in-Some.result.now) c.next_candidate.result c.args.found.items c.loop-second.found.items
           c.in_ok-found.found.items is
-          (sym (places_of_rule c.args.rules.now c.args.first c.index-list-first.result rule c.as_slice.result.now c.requires.first at are is))
+          (sym (places_of_rule c.args.rules.now c.args.first c.index-list-first.result rule c.as_slice.result.now c.requires.first at are
+          is))
           (places_paths c.as_slice-in-Some.result.now rule.left
-          (places_of_rule c.args.rules.now c.args.first c.index-list-first.result rule c.as_slice-in-Some.result.now c.requires.first at also is))
+          (places_of_rule c.args.rules.now c.args.first c.index-list-first.result rule c.as_slice-in-Some.result.now c.requires.first at
+          also is))
           c.in-Some.is c.next_candidate.ensures (c.loop-second.invariant.listed rule is) c.in_ok-found.ensures;
     }
 

@@ -8,6 +8,6 @@ pub returns-in-Some : goal.returns-in-Some
 returns-in-Some c =
     rw c.in-Step.is
     (on_ok_weaker c.push_step_refused.result
-    (step_added c.in-Step.line (step_refusal_of c.in-Step.why) c.in-Some.code.now c.args.into.now.items
+    (step_added c.args.name.now c.in-Step.line (step_refusal_of c.in-Step.why) c.in-Some.code.now c.args.into.now.items
     c.push_step_refused.new.into.items (sym c.in-Some.ensures))
     c.push_step_refused.ensures)

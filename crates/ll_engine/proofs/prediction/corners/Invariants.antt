@@ -6,4 +6,5 @@ use Rattle.ll_engine.proofs.prediction.corners.Given as goal
 
 abbrev pub invariant-loop-cell : goal.invariant-loop-cell
 invariant-loop-cell l =
-    l.bits.items ≡ map (λ cell. has_corner l.rows (is_marked l.nullable) (related l.first) l.first.tokens (cell / l.width) (cell % l.width)) (range_with_len 0 l.cell)
+    l.bits.items ≡ map (λ cell. has_corner l.rows (is_marked l.nullable) (related l.first) l.first.tokens (cell / l.width) (cell % l.width))
+    (range_with_len 0 l.cell)

@@ -7,4 +7,5 @@ use Rattle.ll_engine.proofs.table.table.Given as goal
 abbrev pub invariant-loop-cell : goal.invariant-loop-cell
 invariant-loop-cell l =
     (length l.table.items ≡ l.cell)
-    × AreEntries (is_candidate (is_marked l.nullable) (related l.first) (related l.follow) l.first.tokens) l.rows l.first.tokens l.table.items l.cell
+    × AreEntries (is_candidate (is_marked l.nullable) (related l.first) (related l.follow) l.first.tokens) l.rows l.first.tokens
+    l.table.items l.cell

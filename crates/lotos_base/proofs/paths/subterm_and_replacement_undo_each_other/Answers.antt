@@ -12,4 +12,7 @@ pub returns-clause-twice : goal.returns-clause-twice
 returns-clause-twice c = put_at_twice
 
 pub returns-clause-possible : goal.returns-clause-possible
-returns-clause-possible c = λ path part t. ((λ put. subterm_possible path part t put.0 put.1), (λ found. put_at_possible path part t found.0 found.1))
+returns-clause-possible c = λ path part t. (
+  (λ put. subterm_possible path part t put.0 put.1),
+  (λ found. put_at_possible path part t found.0 found.1),
+)

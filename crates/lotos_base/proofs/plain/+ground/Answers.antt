@@ -16,4 +16,5 @@ are_ground-returns-then-not-is_ground t c = (
 
 pub are_ground-loop-term-preserved : goal.are_ground-loop-term-preserved
 are_ground-loop-term-preserved t c =
-    ground_more c.deref-term-items.result.now c.loop-term.term-index c.term-item.result c.loop-term-test.true c.term-item.is c.loop-term.invariant (c.is_ground.ensures.0 c.if-not-is_ground.false)
+    ground_more c.deref-term-items.result.now c.loop-term.term-index c.term-item.result c.loop-term-test.true c.term-item.is
+    c.loop-term.invariant (c.is_ground.ensures.0 c.if-not-is_ground.false)

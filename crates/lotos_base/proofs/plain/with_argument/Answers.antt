@@ -8,7 +8,8 @@ use Rattle.lotos_base.proofs.plain.with_argument.Goals as goal
 -- the copies are as many as the terms
 pub index_mut-requires : goal.index_mut-requires
 index_mut-requires c =
-    let as_many : length c.in_ok-made.made.items ≡ length c.args.terms.now.items = same_length c.in_ok-made.made.items c.args.terms.now.items c.in_ok-made.ensures in
+    let as_many : length c.in_ok-made.made.items ≡ length c.args.terms.now.items =
+    same_length c.in_ok-made.made.items c.args.terms.now.items c.in_ok-made.ensures in
     omega arith
 
 pub returns : goal.returns

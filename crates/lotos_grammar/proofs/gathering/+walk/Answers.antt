@@ -130,7 +130,8 @@ pub add_library-returns-in_err-items-clause-read :
     goal.add_library-returns-in_err-items-clause-read
 add_library-returns-in_err-items-clause-read g t c =
     from_err _ _ c.from_residual.result c.in_err-items.field-0.0 (err_is _ _ c.from_residual.ensures.1)
-    (stopped _ _ (gathered_of c.args.so_far.now) (gathered_of c.library_items.new.so_far) (placed_name_of (c.args.place, c.args.name)) c.in_err-items.field-0.0 c.in_err-items.ensures.replaced)
+    (stopped _ _ (gathered_of c.args.so_far.now) (gathered_of c.library_items.new.so_far) (placed_name_of (c.args.place, c.args.name))
+    c.in_err-items.field-0.0 c.in_err-items.ensures.replaced)
 
 pub add_library-returns-in_err-items-clause-grows :
     goal.add_library-returns-in_err-items-clause-grows
@@ -138,13 +139,21 @@ add_library-returns-in_err-items-clause-grows g t c = c.in_err-items.ensures.gro
 
 pub add_library-add_items-requires : goal.add_library-add_items-requires
 add_library-add_items-requires g t c κs within = (
-  omega (arith, c.decreases, c.in_ok-items.ensures.counted, c.if-len-ge-LIBRARY_LIMIT.false, c.len.ensures, c.args.so_far.now.libraries.ok.0),
+  omega (
+    arith,
+    c.decreases,
+    c.in_ok-items.ensures.counted,
+    c.if-len-ge-LIBRARY_LIMIT.false,
+    c.len.ensures,
+    c.args.so_far.now.libraries.ok.0,
+  ),
   search rules,
 )
 
 pub add_library-returns-clause-read : goal.add_library-returns-clause-read
 add_library-returns-clause-read g t c =
-    replaced_answer _ _ _ (gathered_of c.args.so_far.now) (gathered_of c.library_items.new.so_far) _ (placed_name_of (c.args.place, c.args.name))
+    replaced_answer _ _ _ (gathered_of c.args.so_far.now) (gathered_of c.library_items.new.so_far) _
+    (placed_name_of (c.args.place, c.args.name))
     (map item_of c.in_ok-items.items.items) c.add_items.result c.in_ok-items.ensures.replaced c.add_items.ensures.read
 
 pub add_library-returns-clause-grows : goal.add_library-returns-clause-grows

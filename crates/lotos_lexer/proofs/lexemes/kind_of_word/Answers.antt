@@ -9,7 +9,8 @@ no_row = record { text = record { ref_ptr = (0, 0); now = [] }; kind = 0 }
 
 pub returns-then-eq_ignore_ascii_case : goal.returns-then-eq_ignore_ascii_case
 returns-then-eq_ignore_ascii_case c =
-    sym (c.loop-row.invariant ∙ word_kind_in-here c.args.table.now c.loop-row.row-index no_row c.args.spelled.now c.loop-row-test.true (c.if-eq_ignore_ascii_case.ensures.test.0 refl))
+    sym (c.loop-row.invariant ∙ word_kind_in-here c.args.table.now c.loop-row.row-index no_row c.args.spelled.now c.loop-row-test.true
+    (c.if-eq_ignore_ascii_case.ensures.test.0 refl))
 
 pub loop-row-preserved : goal.loop-row-preserved
 loop-row-preserved c =

@@ -42,16 +42,19 @@ returns-clause-exact c =
     ≡ with_tokens made.tokens.items (cut number 0 made.open_list (behind_all (take count rest) position) (drop count rest)) =
     elim c.match-find_piece.branch [
       | in-Blank w ↦ rw (w.cutting-is, w.count-is)
-          (ap (with_tokens cutting.tokens.items) (cut-blank number cutting.open_list position rest w.in-Blank.ensures.spans (sym w.in-Blank.ensures.exact)))
+          (ap (with_tokens cutting.tokens.items) (cut-blank number cutting.open_list position rest w.in-Blank.ensures.spans
+          (sym w.in-Blank.ensures.exact)))
       | in-Comment w ↦ rw (w.cutting-is, w.count-is)
-          (ap (with_tokens cutting.tokens.items) (cut-comment number w.in-Comment.count cutting.open_list position rest w.in-Comment.ensures.spans (sym w.in-Comment.ensures.exact)))
+          (ap (with_tokens cutting.tokens.items) (cut-comment number w.in-Comment.count cutting.open_list position rest
+          w.in-Comment.ensures.spans (sym w.in-Comment.ensures.exact)))
       | in-Token+else-is_err w ↦
           let lexeme = w.in-Token.lexeme in
           let stored : is_ok w.push.result ≡ true = w.is_err.ensures.negation ∙ ap not w.if-is_err.false in
           let added : w.push.new.self.items ≡ cutting.tokens.items ++ token_at number position lexeme ∷ [] =
           w.push.ensures.items ∙ rw (stored, w.make_token-token.ensures) refl in
           rw (w.cutting-is, w.count-is, added, w.is_open_behind-cutting.ensures)
-          (ap (with_tokens cutting.tokens.items) (cut-token number lexeme cutting.open_list position rest w.in-Token.ensures.spans (sym w.in-Token.ensures.exact))
+          (ap (with_tokens cutting.tokens.items) (cut-token number lexeme cutting.open_list position rest w.in-Token.ensures.spans
+          (sym w.in-Token.ensures.exact))
           ∙ sym (with_tokens-added cutting.tokens.items (token_at number position lexeme) _))
     ] in
     let within : count ≤ length rest =
@@ -60,5 +63,6 @@ returns-clause-exact c =
       | in-Comment w ↦ rw w.count-is w.in-Comment.ensures.spans.1
       | in-Token+else-is_err w ↦ rw w.count-is w.in-Token.ensures.spans.1
     ] in
-    step_on number text rest count cutting.open_list position c.after-cutting.result cutting.tokens.items made.tokens.items made.open_list whole
+    step_on number text rest count cutting.open_list position c.after-cutting.result cutting.tokens.items made.tokens.items made.open_list
+    whole
     c.after-cutting.ensures.exact (c.after-cutting.ensures.moved ∙ ap (λ n. position.offset + n) (length-take-le count rest within)) exact

@@ -15,8 +15,10 @@ returns c = record {
     conditions = c.in_ok-conditions.ensures.same i;
   };
   over = λ signature h. record {
-    values = subst (AreTermsOf signature) (sym c.in_ok-label.ensures.profiles) (renamed_terms_of signature (Lowered c.args.base) _ h.values);
-    leaves = subst (AreTermsOf signature) (sym c.in_ok-leaves.ensures.profiles) (renamed_terms_of signature (Lowered c.args.base) _ h.leaves);
+    values = subst (AreTermsOf signature) (sym c.in_ok-label.ensures.profiles)
+        (renamed_terms_of signature (Lowered c.args.base) _ h.values);
+    leaves = subst (AreTermsOf signature) (sym c.in_ok-leaves.ensures.profiles)
+        (renamed_terms_of signature (Lowered c.args.base) _ h.leaves);
     conditions = subst (AreConditionsOf signature) (sym c.in_ok-conditions.ensures.profiles)
         (renamed_pairs_of signature (Lowered c.args.base) _ h.conditions);
   };

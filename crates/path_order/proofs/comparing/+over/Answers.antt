@@ -4,7 +4,7 @@ use Rattle.sort_terms.specs.declared.terms.Term.{Term}
 use Rattle.lotos_base.specs.Term.{node}
 use Rattle.path_order.specs.Comparison.{all_compared, each_compared, parts_in}
 use Rattle.path_order.specs.ComparedView.{tables_behind}
-use Rattle.path_order.specs.PrecedenceView.{precedence_of}
+use Rattle.path_order.specs.PrecedenceView.{precedence_of, status_of}
 use Rattle.path_order.proofs.TableLemmas.{parts_of}
 use Rattle.path_order.proofs.CodeLemmas.{tables_more, over_leaf, over_node, term_of-Var, term_of-Node, take_whole, argument_is}
 use Rattle.path_order.proofs.comparing.+over.Goals as goal
@@ -38,8 +38,9 @@ returns t c = λ told.
     let end : c.loop-position.position ≡ length c.in-Node.others.items = omega arith in
     over_node p c.args.op c.in-Node.g (terms_of c.args.arguments.now.items) (terms_of c.in-Node.others.items) c.loop-position.below
     (tables_behind c.args.rows.now) (term_of c.args.other.now)
-    c.are_equal-equal.result c.is_greater-greater.result c.are_alike-alike.result c.is_over.result
+    c.are_equal-equal.result c.is_greater-greater.result c.are_alike-alike.result c.is_over-above.result (status_of c.status.result)
     (ap term_of c.in-Node.is ∙ term_of-Node c.in-Node.g c.in-Node.profile c.in-Node.others)
     (c.loop-position.invariant told ∙ ap (λ (xs : List Term). all_compared p (node c.args.op (terms_of c.args.arguments.now.items))
     (terms_of xs)) (take_whole c.in-Node.others.items c.loop-position.position end))
-    told c.are_equal-equal.ensures c.is_greater-greater.ensures c.are_alike-alike.ensures c.is_over.ensures refl
+    told c.are_equal-equal.ensures c.is_greater-greater.ensures c.are_alike-alike.ensures c.is_over-above.ensures
+    c.status.ensures

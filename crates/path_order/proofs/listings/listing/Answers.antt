@@ -6,6 +6,8 @@ use Rattle.sort_terms.specs.SignatureView.{signature_of}
 use Rattle.sort_terms.specs.declared.operations.Op.{Op}
 use Rattle.path_order.specs.Listed.{AreListedBy}
 use Rattle.path_order.specs.Listing.{AreListed, none_listed}
+use Rattle.path_order.specs.PrecedenceView.{status_of}
+use Rattle.path_order.proofs.StatusLemmas.{no_statuses, statuses_more, statuses_all}
 use Rattle.path_order.proofs.ListingLemmas.{listed_below, listed_more, fine_more, first_wrong, fine_all}
 use Rattle.path_order.proofs.listings.listing.Goals as goal
 
@@ -14,6 +16,7 @@ loop-item-init c = record {
   listed = subst (λ (ns : List ℕ). AreListed (signature_of c.args.signature.now) [] ns) (sym c.in_ok-made.ensures.nothing) none_listed;
   fine = λ k before. absurd (omega (arith, before));
   room = c.in_ok-made.ensures.room ∙ ap (λ (ops : List Op). length ops) c.ops-2.ensures;
+  statuses = no_statuses (signature_of c.args.signature.now) c.args.order.now c.in_ok-made.made.statuses.items c.in_ok-made.ensures.left;
 }
 
 pub with_item-requires-clause-below : goal.with_item-requires-clause-below
@@ -40,12 +43,26 @@ loop-item-preserved c =
           c.loop-item.made.order.items c.as_slice.result.now c.in_ok-made-2.made.order.items (omega arith) c.item-item.is
           c.loop-item.invariant.listed by c.in_ok-made-2.ensures.added;
       fine = fine_more (signature_of c.args.signature.now) c.args.order.now c.loop-item.item-index c.item-item.result
-          c.loop-item.made.order.items c.as_slice.result.now (omega arith) c.item-item.is c.loop-item.invariant.listed by
-          c.in_ok-made-2.ensures.some c.in_ok-made-2.ensures.apart c.loop-item.invariant.fine;
+          c.loop-item.made.order.items c.as_slice.result.now (status_of c.in_ok-made-2.ensures.status) (omega arith) c.item-item.is
+          c.loop-item.invariant.listed by c.in_ok-made-2.ensures.some c.in_ok-made-2.ensures.apart c.in_ok-made-2.ensures.written
+          c.loop-item.invariant.fine;
       room = c.in_ok-made-2.ensures.room ∙ c.loop-item.invariant.room;
+      statuses = statuses_more (signature_of c.args.signature.now) c.args.order.now c.loop-item.item-index c.item-item.result
+          c.loop-item.made.order.items c.as_slice.result.now c.loop-item.made.statuses.items c.in_ok-made-2.made.statuses.items
+          c.in_ok-made-2.ensures.status (omega arith) c.item-item.is c.loop-item.invariant.listed by c.in_ok-made-2.ensures.apart
+          (λ j f at.
+          listed_below c.args.signature.now (listed_operation_of c.item-item.result) c.as_slice.result.now
+          (length c.loop-item.made.statuses.items) j f by (c.loop-item.made.even ∙ c.loop-item.invariant.room) at)
+          c.in_ok-made-2.ensures.written c.in_ok-made-2.ensures.given c.loop-item.invariant.statuses;
     }
 
 pub returns-clause-fine : goal.returns-clause-fine
 returns-clause-fine c =
     let end : length c.args.order.now ≤ c.loop-item.item-index = omega arith in
     fine_all (signature_of c.args.signature.now) c.args.order.now c.loop-item.item-index end c.loop-item.invariant.fine
+
+pub returns-clause-statuses : goal.returns-clause-statuses
+returns-clause-statuses c =
+    let end : length c.args.order.now ≤ c.loop-item.item-index = omega arith in
+    statuses_all (signature_of c.args.signature.now) c.args.order.now c.loop-item.made.statuses.items c.loop-item.item-index end
+    c.loop-item.invariant.statuses

@@ -77,7 +77,8 @@ by_form-returns-in-Call t c =
     let processes = map process_of c.args.processes.now in
     IfOk-weaker c.called.result _ _ (λ o listed.
     subst (λ (b : PlainBehaviour). IsListedByForm processes c.args.depth (without_values b) (list_of o)) (sym c.in-Call.is)
-    (subst (λ (gs : List ℕ). IsListedByForm processes c.args.depth (plain.call c.in-Call.process gs []) (list_of o)) c.deref-in-Call.ensures.value listed))
+    (subst (λ (gs : List ℕ). IsListedByForm processes c.args.depth (plain.call c.in-Call.process gs []) (list_of o))
+    c.deref-in-Call.ensures.value listed))
     c.called.ensures
 
 pub called-returns : goal.called-returns
@@ -86,9 +87,12 @@ called-returns t c =
     let within : c.args.process < length c.args.processes.now = ltb-true _ _ (sym c.in-Some.ensures.lookup.0) in
     let found : slice_get processes c.args.process ≡ Some (process_of c.in-Some.called.now) =
     slice_get-map process_of c.args.processes.now c.args.process
-    ∙ ap (λ (o : Option PlainProcess). option_map process_of o) (slice_get-get_or c.args.processes.now c.args.process c.in-Some.called.now within ∙ ap (λ (p : PlainProcess). Some p) (sym c.in-Some.ensures.lookup.1)) in
+    ∙ ap (λ (o : Option PlainProcess). option_map process_of o)
+    (slice_get-get_or c.args.processes.now c.args.process c.in-Some.called.now within
+    ∙ ap (λ (p : PlainProcess). Some p) (sym c.in-Some.ensures.lookup.1)) in
     let used : c.deref-2.result.now ≡ zip c.in-Some.called.now.gates.items c.args.gates.now =
     c.deref-2.ensures.value ∙ c.in_ok-pairs.ensures ∙ ap (λ (gs : List ℕ). zip gs c.args.gates.now) c.deref.ensures.value in
     IfOk-weaker c.each_of.result _ _ (λ o listed.
-    call_listed processes c.args.depth c.args.process c.args.gates.now c.in-Some.called.now c.deref-2.result.now (list_of c.in_ok-parts.parts) (list_of o) found used c.in_ok-parts.ensures (listed empty_signature))
+    call_listed processes c.args.depth c.args.process c.args.gates.now c.in-Some.called.now c.deref-2.result.now
+    (list_of c.in_ok-parts.parts) (list_of o) found used c.in_ok-parts.ensures (listed empty_signature))
     c.each_of.ensures

@@ -9,11 +9,14 @@ use Rattle.plain_moves.proofs.lists.both.Goals as goal
 
 pub loop-left-preserved : goal.loop-left-preserved
 loop-left-preserved c = λ signature next.
-    both_more signature (meet_of c.args.meet.now) next (λ k. list_of c.args.rights.now) c.args.lefts.now c.loop-left.left-index c.left-item.result (list_of c.loop-left.made) (list_of c.in_ok-here.here) (list_of c.in_ok-made.made)
+    both_more signature (meet_of c.args.meet.now) next (λ k. list_of c.args.rights.now) c.args.lefts.now c.loop-left.left-index
+    c.left-item.result (list_of c.loop-left.made) (list_of c.in_ok-here.here) (list_of c.in_ok-made.made)
     c.loop-left-test.true c.left-item.is (c.loop-left.invariant signature next) (c.in_ok-here.ensures signature) c.in_ok-made.ensures
 
 pub returns : goal.returns
 returns c = λ signature next.
     sym (one_behind-nothing (list_of c.loop-left.made))
-    ∙ sym (at_drop_all (λ (ys : List PlainMove). one_behind (list_of c.loop-left.made) (both_below signature (meet_of c.args.meet.now) next (λ k. list_of c.args.rights.now) (map shaped_of ys))) c.args.lefts.now c.loop-left.left-index c.loop-left-test.false)
+    ∙ sym (at_drop_all (λ (ys : List PlainMove). one_behind (list_of c.loop-left.made)
+    (both_below signature (meet_of c.args.meet.now) next (λ k. list_of c.args.rights.now) (map shaped_of ys))) c.args.lefts.now
+    c.loop-left.left-index c.loop-left-test.false)
     ∙ c.loop-left.invariant signature next

@@ -8,5 +8,6 @@ use Rattle.plain_moves.proofs.lists.both.Given as goal
 abbrev pub invariant-loop-left : goal.invariant-loop-left
 invariant-loop-left l =
     (signature : Signature) (next : ℕ) →
-    one_behind (list_of l.made) (both_below signature (meet_of l.meet) next (λ k. list_of l.rights) (map shaped_of (drop l.left-index l.lefts)))
+    one_behind (list_of l.made) (both_below signature (meet_of l.meet) next (λ k. list_of l.rights)
+    (map shaped_of (drop l.left-index l.lefts)))
     ≡ both_below signature (meet_of l.meet) next (λ k. list_of l.rights) (map shaped_of l.lefts)

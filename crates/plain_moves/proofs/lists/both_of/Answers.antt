@@ -10,6 +10,8 @@ pub returns-in-Some : goal.returns-in-Some
 returns-in-Some c =
     IfOk-weaker c.both.result _ _ (λ o listed signature next.
     listed signature next
-    ∙ ap (λ (ys : List PlainMove). both_below signature (meet_of c.args.meet.now) next (λ k. list_of c.args.rights.now) (map shaped_of ys)) c.deref.ensures.value
-    ∙ ap (λ (ms : Option (Vec PlainMove Global)). option_and_then (both_below signature (meet_of c.args.meet.now) next (λ k. list_of c.args.rights.now)) (list_of ms)) (sym c.in-Some.is))
+    ∙ ap (λ (ys : List PlainMove). both_below signature (meet_of c.args.meet.now) next (λ k. list_of c.args.rights.now) (map shaped_of ys))
+    c.deref.ensures.value
+    ∙ ap (λ (ms : Option (Vec PlainMove Global)). option_and_then
+    (both_below signature (meet_of c.args.meet.now) next (λ k. list_of c.args.rights.now)) (list_of ms)) (sym c.in-Some.is))
     c.both.ensures

@@ -5,5 +5,6 @@ use Rattle.plain_moves.proofs.lists.in_choice.Goals as goal
 
 pub returns : goal.returns
 returns c =
-    IfOk-weaker c.one_behind.result _ _ (λ o listed. listed ∙ joined (c.in_ok-first.ensures empty_signature) (c.in_ok-second.ensures empty_signature))
+    IfOk-weaker c.one_behind.result _ _ (λ o listed. listed
+    ∙ joined (c.in_ok-first.ensures empty_signature) (c.in_ok-second.ensures empty_signature))
     c.one_behind.ensures

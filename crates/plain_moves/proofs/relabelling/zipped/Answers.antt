@@ -11,5 +11,6 @@ no_actuals (formal ∷ formals) (actual ∷ actuals) h = absurd (omega arith)
 
 pub returns-in_default : goal.returns-in_default
 returns-in_default c =
-    let none : zip (drop c.loop-formal.formal-index c.args.formals.now) c.loop-formal.rest.now ≡ [] = no_actuals _ _ c.in_default.len_below in
+    let none : zip (drop c.loop-formal.formal-index c.args.formals.now) c.loop-formal.rest.now ≡ [] =
+    no_actuals _ _ c.in_default.len_below in
     grind (arith, common_steps, none)

@@ -7,4 +7,5 @@ use Rattle.plain_moves.proofs.rule.each.Given as goal
 
 abbrev pub invariant-loop-part : goal.invariant-loop-part
 invariant-loop-part l =
-    (signature : Signature) → map shaped_of l.made.items ≡ filter_map (taken_of signature l.rule) (map shaped_of (take l.part-index l.moves))
+    (signature : Signature) → map shaped_of l.made.items ≡ filter_map (taken_of signature l.rule)
+    (map shaped_of (take l.part-index l.moves))

@@ -16,13 +16,15 @@ returns-clause-same c = λ s names twin.
     let second = phrase_in s names c.index.result.now in
     let name = (operation_of c.args.operation.now).name in
     written_five s names c.args.left.now.items c.push.new.self.items c.push-2.new.self.items c.push-3.new.self.items
-    c.push-4.new.self.items c.push-5.new.self.items (Of c.args.operation c.args.with_sort) (Close c.is_either-is_needed.result c.in_ok-position.position)
+    c.push-4.new.self.items c.push-5.new.self.items (Of c.args.operation c.args.with_sort)
+    (Close c.is_either-is_needed.result c.in_ok-position.position)
     (Phrase c.index.result true) (Operator c.args.operation) (Phrase c.index-2.result true) c.open_bracket.new.into.items
     c.in_ok-push.ensures.items c.in_ok-push-2.ensures.items c.in_ok-push-3.ensures.items c.in_ok-push-4.ensures.items
     c.in_ok-push-5.ensures.items
     ∙ ap (written s names c.args.left.now.items)
     (infix_written c.is_either-is_needed.result c.args.into.now.items c.open_bracket.new.into.items _ _ _ _ _ (operand_text first)
-    (operator_text name) (operand_text second) (of_text_if c.args.with_sort (signature_of s) (operation_of c.args.operation.now)) c.in_ok-position.position
+    (operator_text name) (operand_text second) (of_text_if c.args.with_sort (signature_of s) (operation_of c.args.operation.now))
+    c.in_ok-position.position
     c.in_ok-position.ensures.opened c.in_ok-position.ensures.place refl refl refl refl refl
     ∙ ap (λ (needed : Bool). c.args.into.now.items ++ (bracketed needed (operand_text first ++ operator_text name ++ operand_text second)
     ++ of_text_if c.args.with_sort (signature_of s) (operation_of c.args.operation.now)))

@@ -10,7 +10,8 @@ use Rattle.printed_texts.proofs.terms.push_phrase.Goals as goal
 pub loop-part-init : goal.loop-part-init
 loop-part-init c = record {
   known = none_known (signature_of c.args.signature.now) (known_at c.new-twins.result) c.new-twins.ensures;
-  text = written_more c.args.signature.now c.args.names.now c.push.new.self.items c.new-left.result.items (Phrase c.args.term c.args.is_operand)
+  text = written_more c.args.signature.now c.args.names.now c.push.new.self.items c.new-left.result.items
+      (Phrase c.args.term c.args.is_operand)
       c.args.into.now.items c.in_ok-push.ensures.items
       ∙ ap
       (λ parts. written c.args.signature.now c.args.names.now parts

@@ -17,7 +17,8 @@ returns-clause-same c = λ s names twin.
     let of = Of c.args.operation c.args.with_sort in
     let close = Close (not c.is_empty-is_needed.result) c.in_ok-position.position in
     let arguments = Arguments c.args.arguments 0 in
-    written_more s names c.push-3.new.self.items c.push-2.new.self.items arguments c.open_bracket.new.into.items c.in_ok-push-3.ensures.items
+    written_more s names c.push-3.new.self.items c.push-2.new.self.items arguments c.open_bracket.new.into.items
+    c.in_ok-push-3.ensures.items
     ∙ written_more s names c.push-2.new.self.items c.push.new.self.items close _ c.in_ok-push-2.ensures.items
     ∙ written_more s names c.push.new.self.items old of _ c.in_ok-push.ensures.items
     ∙ ap (written s names old)

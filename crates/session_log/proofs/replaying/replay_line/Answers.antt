@@ -29,7 +29,8 @@ returns-in_err-values-clause-answered g c =
     (tells_line _ _ (stops_misread (basis_over known (g.D.Deciding.canon c.args.data.now) c.args.base.now.spec.now)
     (progress_of c.args.course.now) c.args.line.now (said_by c.in_ok-said.said) c.in_ok-said.ensures.answered
     (map written_term_of c.as_slice.result.now)
-    (subst (λ (terms : List Written). IsTermsReading 0 c.in_ok-said.said.terms.now (map written_term_of terms)) (sym c.as_slice.ensures.value)
+    (subst (λ (terms : List Written). IsTermsReading 0 c.in_ok-said.said.terms.now (map written_term_of terms))
+    (sym c.as_slice.ensures.value)
     c.in_ok-terms.ensures) c.menu.result.now (ap entries_in (sym c.menu.ensures))) c.in_err-values.field-0.0
     (c.in_err-values.ensures known.signature c.requires.over))
 
@@ -42,7 +43,8 @@ returns-in_err-label-clause-answered g c =
     gave_up _ _ c.from_residual-in_err-label.result _ c.from_residual-in_err-label.ensures.1
     (step_told_of_line known (g.D.Deciding.canon c.args.data.now) c.args.base.now.spec.now (progress_of c.args.course.now)
     c.args.line.now c.in_ok-said.said c.in_ok-said.ensures.answered (map written_term_of c.as_slice.result.now)
-    (subst (λ (terms : List Written). IsTermsReading 0 c.in_ok-said.said.terms.now (map written_term_of terms)) (sym c.as_slice.ensures.value)
+    (subst (λ (terms : List Written). IsTermsReading 0 c.in_ok-said.said.terms.now (map written_term_of terms))
+    (sym c.as_slice.ensures.value)
     c.in_ok-terms.ensures) c.menu.result.now (ap entries_in (sym c.menu.ensures)) c.in_ok-values.values.items
     (c.in_ok-values.ensures known.signature c.requires.over) c.in_err-label.field-0.0 c.in_err-label.ensures.answered.1)
 
@@ -51,7 +53,8 @@ returns-clause-answered g c =
     let known = g.D.Deciding.known_data c.args.data.now in
     label_told_of_line known (g.D.Deciding.canon c.args.data.now) c.args.base.now.spec.now (progress_of c.args.course.now)
     c.args.line.now c.in_ok-said.said c.in_ok-said.ensures.answered (map written_term_of c.as_slice.result.now)
-    (subst (λ (terms : List Written). IsTermsReading 0 c.in_ok-said.said.terms.now (map written_term_of terms)) (sym c.as_slice.ensures.value)
+    (subst (λ (terms : List Written). IsTermsReading 0 c.in_ok-said.said.terms.now (map written_term_of terms))
+    (sym c.as_slice.ensures.value)
     c.in_ok-terms.ensures) c.menu.result.now (ap entries_in (sym c.menu.ensures)) c.in_ok-values.values.items
     (c.in_ok-values.ensures known.signature c.requires.over) c.args.base.now.signature.now c.requires.over.printed c.in_ok-label.label _
     c.in_ok-label.ensures.answered c.same_label.result c.same_label.ensures

@@ -1,12 +1,12 @@
 use Rattle.std.proofs.Common.{◌≡◌, ◌<◌, ◌+◌, length, arith}
 use Rattle.lotos_base.specs.Equation.{Data}
 use Rattle.lotos_base.specs.Term.{Term}
-use Rattle.session_histories.specs.Replay.{LineComesTo, LinesComeTo, goes_on, stops, ReplayRefusal}
+use Rattle.session_histories.specs.Replay.{LineRefusal, LineComesTo, LinesComeTo, goes_on, stops, ReplayRefusal}
 use Rattle.session_histories.specs.TraceLine.{lines_of}
 use Rattle.event_offers.proofs.KeepingLemmas.{held_before, holds_after, keeps_both}
 use Rattle.session_log.specs.CourseView.{basis_over, progress_of}
 use Rattle.session_log.specs.Kept.{AreSuited, IsKeptCourse}
-use Rattle.session_log.specs.RefusalView.{TellsReplay}
+use Rattle.session_log.specs.RefusalView.{IsInLine, TellsReplay}
 use Rattle.session_log.specs.Replayed.{IsGroundOver}
 use Rattle.session_log.proofs.ReplayLemmas.{line_done, lines_ended, refused_at}
 use Rattle.session_log.proofs.ResultLemmas.{gave_up}
@@ -66,9 +66,9 @@ returns-in_err-replay_at-clause-answered g c =
     c.loop-rest.rest.now c.first_line-cut.result.1.now
     (LinesComeTo (basis_over known canon spec) 2 (progress_of c.args.course.now) (lines_of c.args.steps.now))
     c.loop-rest.invariant.decides (c.first_line-cut.ensures.line some) c.in_err-replay_at.field-0.0
-    (held_before (λ (d : Data) (k : Term → Term). TellsReplay (λ (refusal : ReplayRefusal).
-    (refusal.line ≡ c.loop-rest.number + 1) × LineComesTo (basis_over d k spec) (progress_of c.loop-rest.course)
-    c.first_line-cut.result.0.now (stops refusal.why)) c.in_err-replay_at.field-0.0) c.loop-rest.invariant.same_known
+    (held_before (λ (d : Data) (k : Term → Term). TellsReplay (IsInLine (c.loop-rest.number + 1) (λ (why : LineRefusal).
+    LineComesTo (basis_over d k spec) (progress_of c.loop-rest.course) c.first_line-cut.result.0.now (stops why)))
+    c.in_err-replay_at.field-0.0) c.loop-rest.invariant.same_known
     c.in_err-replay_at.ensures.answered))
 
 pub returns-in_err-replay_at-clause-suited_after : goal.returns-in_err-replay_at-clause-suited_after

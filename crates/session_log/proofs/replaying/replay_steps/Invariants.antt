@@ -16,7 +16,7 @@ invariant-loop-rest g l = record {
   same_known : KeepsData g.D.Deciding.known_data g.D.Deciding.canon l.fn.data l.data;
   counted : 1 ≤ l.number;
   short : l.number + length l.rest ≤ length l.steps + 1;
-  decides : Decides (basis_over (g.D.Deciding.known_data l.fn.data) (g.D.Deciding.canon l.fn.data) l.base.spec.now) (l.number + 1)
+  decides : Decides (LinesComeTo (basis_over (g.D.Deciding.known_data l.fn.data) (g.D.Deciding.canon l.fn.data) l.base.spec.now)) (l.number + 1)
       (progress_of l.course) l.rest
       (LinesComeTo (basis_over (g.D.Deciding.known_data l.fn.data) (g.D.Deciding.canon l.fn.data) l.base.spec.now) 2
       (progress_of l.fn.course) (lines_of l.steps));

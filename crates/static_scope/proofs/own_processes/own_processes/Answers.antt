@@ -30,17 +30,20 @@ add_own-requires c =
     sizes_first c.loop-declared.number (inner_of c.declared-item.result)
     (written_inners (drop (c.loop-declared.declared-index + 1) c.deref-declared-items.result.now)) c.args.sizes.now.items
     (subst (λ (xs : List InnerText). BeginsAt (sizes_of_all (written_inners xs)) c.loop-declared.number c.args.sizes.now.items)
-    (next_member c.deref-declared-items.result.now c.loop-declared.declared-index c.declared-item.result c.loop-declared-test.true c.declared-item.is)
+    (next_member c.deref-declared-items.result.now c.loop-declared.declared-index c.declared-item.result c.loop-declared-test.true
+    c.declared-item.is)
     c.loop-declared.invariant.sizes)
 
 pub loop-declared-preserved : goal.loop-declared-preserved
 loop-declared-preserved c =
     let here =
-    next_member c.deref-declared-items.result.now c.loop-declared.declared-index c.declared-item.result c.loop-declared-test.true c.declared-item.is in
+    next_member c.deref-declared-items.result.now c.loop-declared.declared-index c.declared-item.result c.loop-declared-test.true
+    c.declared-item.is in
     record {
       made =
           own_next (signature_read c.args.reader.now) c.loop-declared.number c.in_ok-next.next (inner_of c.declared-item.result)
-          (written_inners (drop (c.loop-declared.declared-index + 1) c.deref-declared-items.result.now)) (callables_in c.loop-declared.made.items)
+          (written_inners (drop (c.loop-declared.declared-index + 1) c.deref-declared-items.result.now))
+          (callables_in c.loop-declared.made.items)
           (callables_in c.add_own.new.made.items) _
           (ap
           (λ (xs : List InnerText). callables_in c.loop-declared.made.items

@@ -16,7 +16,8 @@ returns-in-Stop-clause-same c = ap (λ (b : Beh). under (behaviour_of b) c.args.
 
 pub returns-in-Call-clause-same : goal.returns-in-Call-clause-same
 returns-in-Call-clause-same c =
-    subst (λ (b : Beh). IfOk c.call_under.result (λ made. stands_for made ≡ under (behaviour_of b) c.args.pairs.items)) (sym (sym c.deref.ensures ∙ c.in-Call.is))
+    subst (λ (b : Beh). IfOk c.call_under.result (λ made. stands_for made ≡ under (behaviour_of b) c.args.pairs.items))
+    (sym (sym c.deref.ensures ∙ c.in-Call.is))
     c.call_under.ensures.same
 
 pub returns-in-Call-clause-terms : goal.returns-in-Call-clause-terms
@@ -29,7 +30,8 @@ pub returns-in-Call-clause-closed_parts : goal.returns-in-Call-clause-closed_par
 returns-in-Call-clause-closed_parts c =
     IfOk-weaker c.call_under.result _ _ (λ made f signature specification h.
     f (call_ground signature specification c.in-Call.process c.in-Call.gates.items c.in-Call.values.items
-    (subst (λ (b : Beh). IsClosedBehaviour signature specification (behaviour_of b)) (sym c.deref.ensures ∙ c.in-Call.is) h))) c.call_under.ensures.closed_parts
+    (subst (λ (b : Beh). IsClosedBehaviour signature specification (behaviour_of b)) (sym c.deref.ensures ∙ c.in-Call.is) h)))
+    c.call_under.ensures.closed_parts
 
 pub returns-in_default-clause-same : goal.returns-in_default-clause-same
 returns-in_default-clause-same c =

@@ -18,13 +18,15 @@ returns-in-Stop-clause-same c = ap (λ (n : Node). under (stands_for n) c.args.p
 
 pub returns-in-Call-clause-same : goal.returns-in-Call-clause-same
 returns-in-Call-clause-same c =
-    subst (λ (n : Node). IfOk c.call_under.result (λ made. stands_for made ≡ under (stands_for n) c.args.pairs.items)) (sym (sym c.deref.ensures ∙ c.in-Call.is))
+    subst (λ (n : Node). IfOk c.call_under.result (λ made. stands_for made ≡ under (stands_for n) c.args.pairs.items))
+    (sym (sym c.deref.ensures ∙ c.in-Call.is))
     c.call_under.ensures.same
 
 pub returns-in-Call-clause-terms : goal.returns-in-Call-clause-terms
 returns-in-Call-clause-terms c =
     IfOk-weaker c.call_under.result _ _ (λ made e signature h.
-    subst (AreTermsOf signature) (sym e) (subst (λ (n : Node). AreTermsOf signature (node_profiles n)) (sym c.deref.ensures ∙ c.in-Call.is) h))
+    subst (AreTermsOf signature) (sym e) (subst (λ (n : Node). AreTermsOf signature (node_profiles n)) (sym c.deref.ensures ∙ c.in-Call.is)
+    h))
     c.call_under.ensures.terms
 
 pub returns-in-Call-clause-closed_parts : goal.returns-in-Call-clause-closed_parts
@@ -42,11 +44,13 @@ returns-in_default-clause-same c =
 
 pub returns-in_default-clause-terms : goal.returns-in_default-clause-terms
 returns-in_default-clause-terms c =
-    IfOk-weaker c.relabelled-in_default.result _ _ (λ made e signature h. subst (AreTermsOf signature) (sym e) h) c.relabelled-in_default.ensures.terms
+    IfOk-weaker c.relabelled-in_default.result _ _ (λ made e signature h. subst (AreTermsOf signature) (sym e) h)
+    c.relabelled-in_default.ensures.terms
 
 pub returns-in_default-clause-closed_parts : goal.returns-in_default-clause-closed_parts
 returns-in_default-clause-closed_parts c =
-    IfOk-weaker c.relabelled-in_default.result _ _ (λ made f signature specification h. f c.requires) c.relabelled-in_default.ensures.closed_parts
+    IfOk-weaker c.relabelled-in_default.result _ _ (λ made f signature specification h. f c.requires)
+    c.relabelled-in_default.ensures.closed_parts
 
 pub closed-requires : goal.closed-requires
 closed-requires c =

@@ -28,7 +28,8 @@ returns-clause-same c =
 pub returns-clause-terms : goal.returns-clause-terms
 returns-clause-terms c =
     IfOk-weaker c.shared.result _ _ (λ made e signature h k. subst (λ (node : Node). AreTermsOf signature (node_profiles node)) (sym e)
-    (c.in_ok-node.ensures.terms signature (subst (AreTermsOf signature) (sym (ap profiles_in c.in_ok-right.ensures)) (first_terms signature _ _ h))
+    (c.in_ok-node.ensures.terms signature (subst (AreTermsOf signature) (sym (ap profiles_in c.in_ok-right.ensures))
+    (first_terms signature _ _ h))
     (second_terms signature _ _ h) k)) c.shared.ensures
 
 pub returns-clause-closed_parts : goal.returns-clause-closed_parts

@@ -16,12 +16,14 @@ returns-clause-same c =
 pub returns-clause-terms : goal.returns-clause-terms
 returns-clause-terms c =
     IfOk-weaker c.shared.result _ _ (λ made e. ap node_profiles e
-    ∙ terms_as (node_profiles c.args.left.value) _ _ _ _ (ap profiles_in c.in_ok-right.ensures) c.in_ok-environment.ensures.terms) c.shared.ensures
+    ∙ terms_as (node_profiles c.args.left.value) _ _ _ _ (ap profiles_in c.in_ok-right.ensures) c.in_ok-environment.ensures.terms)
+    c.shared.ensures
 
 pub returns-clause-closed_parts : goal.returns-clause-closed_parts
 returns-clause-closed_parts c =
     IfOk-weaker c.shared.result _ _ (λ made e side h. parts_as made.value _ e (
       h,
       closed_under_alike _ _ _ _ _ _
-          c.in_ok-environment.ensures.same c.in_ok-environment.ensures.terms c.in_ok-variables.ensures (ap behaviour_of c.in_ok-right.ensures) side,
+          c.in_ok-environment.ensures.same c.in_ok-environment.ensures.terms c.in_ok-variables.ensures
+          (ap behaviour_of c.in_ok-right.ensures) side,
     )) c.shared.ensures

@@ -23,4 +23,5 @@ pub returns-clause-closed_parts : goal.returns-clause-closed_parts
 returns-clause-closed_parts c =
     IfOk-weaker c.shared.result _ _ (λ made e signature specification h. parts_as made.value _ e (c.part.ensures.closed_parts signature
     specification
-    (subst (λ (b : Behaviour). IsClosedBehaviour signature specification b) (sym (ap behaviour_of c.in_ok-own.ensures)) h))) c.shared.ensures
+    (subst (λ (b : Behaviour). IsClosedBehaviour signature specification b) (sym (ap behaviour_of c.in_ok-own.ensures)) h)))
+    c.shared.ensures

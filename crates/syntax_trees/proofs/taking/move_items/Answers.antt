@@ -9,7 +9,8 @@ loop-item-preserved c =
     let a = ap (λ it. count_in (inner_list_of it)) c.close-level.ensures.ahead in
     let b = ap (λ it. count_in (inner_list_of it)) c.in-None.ensures.last in (
       closed_level (map item_of c.args.items.now.items) (inner_list_of c.args.inner.items) c.loop-item.outer.items c.pop.new.self.items
-          c.loop-item.level c.take_next.new.self c.close-level.result c.in-Some.above c.finish.result.items (map item_of c.loop-item.items.items)
+          c.loop-item.level c.take_next.new.self c.close-level.result c.in-Some.above c.finish.result.items
+          (map item_of c.loop-item.items.items)
           c.loop-item.invariant.0 c.in-None.ensures.kept c.in-None.ensures.last c.in-Some.ensures.items c.finish.ensures
           c.close-level.ensures.kept c.close-level.ensures.ahead,
       omega arith,

@@ -17,7 +17,8 @@ loop-old-preserved c =
           c.loop-old-test.true c.in_ok-push.ensures.items c.loop-old.invariant.olds;
       distinct = subst (λ (ns : List ℕ). AreDistinctNumbers ns) (sym news)
           (distinct_more c.in_ok-new.new (new_numbers c.loop-old.made.items) c.loop-old.invariant.distinct
-          (fresh_absent c.in_ok-new.new c.loop-old.next (new_numbers c.loop-old.made.items) c.loop-old.invariant.below c.in_ok-new.ensures.0));
+          (fresh_absent c.in_ok-new.new c.loop-old.next (new_numbers c.loop-old.made.items) c.loop-old.invariant.below
+          c.in_ok-new.ensures.0));
       free = subst (λ (ns : List ℕ). EachMember (λ n. is_listed c.args.taken.now n ≡ false) ns) (sym news)
           (each_more (λ n. is_listed c.args.taken.now n ≡ false) c.in_ok-new.new (new_numbers c.loop-old.made.items)
           c.loop-old.invariant.free c.in_ok-new.ensures.1);

@@ -12,7 +12,8 @@ returns c =
     (λ more is.
     let after : map profiled_of more.items
     ≡ map profiled_of c.push.new.self.items
-    ++ map profiled_of (take (length c.deref-2.result.now - (c.args.position + 1)) (drop (c.args.position + 1) c.deref-2.result.now)) = is in
+    ++ map profiled_of (take (length c.deref-2.result.now - (c.args.position + 1)) (drop (c.args.position + 1) c.deref-2.result.now)) =
+    is in
     put_between c.args.terms.now.items more.items c.args.position c.args.part c.requires
     (put_pieces c.args.terms.now.items c.new.result.items c.deref.result.now c.in_ok-made.made.items c.push.new.self.items
     c.deref-2.result.now more.items c.args.position c.args.part c.new.ensures.items c.deref.ensures.value c.deref-2.ensures.value

@@ -52,7 +52,8 @@ returns-in-Solved-clause-some c =
     c.args.left.now.headed ∙ sym c.sort.ensures ∙ c.if-sort.false ∙ c.sort-2.ensures ∙ sym c.args.right.now.headed in
     let done : asked (disagreement (profiled_in c.loop-state.state.left) (profiled_in c.loop-state.state.right)) ≡ nothing_more =
     sym c.in_ok-demanded_by.ensures ∙ ap demand_of c.in-Solved.is in
-    subst (λ (v : Vec (ℕ × Sorted) Global). IsUnifiedBy (profiled_in c.args.left.now) (profiled_in c.args.right.now) (profiled_pairs v.items))
+    subst (λ (v : Vec (ℕ × Sorted) Global). IsUnifiedBy (profiled_in c.args.left.now) (profiled_in c.args.right.now)
+    (profiled_pairs v.items))
     (sym c.of.ensures)
     (solved_unified (profiled_in c.args.left.now) (profiled_in c.args.right.now) (profiled_pairs c.loop-state.state.pairs.items)
     (profiled_in c.loop-state.state.left) (profiled_in c.loop-state.state.right) heads c.requires.one_sort c.loop-state.invariant done)

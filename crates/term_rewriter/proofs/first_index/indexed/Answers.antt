@@ -56,7 +56,8 @@ loop-number-preserved c =
       begins = λ f.
           where_more (has_first f) c.loop-number.number c.args.rules.now.rules.items c.index-list-number.result _ _ _ less at
           (c.in_ok-add.ensures.firsts f
-          ∙ ap (λ (t : Term). numbers_at c.loop-number.index.firsts f ++ (if has_first f (term_of t) then c.loop-number.number ∷ [] else []))
+          ∙ ap (λ (t : Term). numbers_at c.loop-number.index.firsts f
+          ++ (if has_first f (term_of t) then c.loop-number.number ∷ [] else []))
           is_term)
           (c.loop-number.invariant.begins f);
       room = c.in_ok-add.ensures.room (length c.args.rules.now.signature.ops.items) c.loop-number.invariant.room;

@@ -1,9 +1,11 @@
 use Rattle.std.proofs.Common.{ap, ◌∙◌, ◌∷◌}
 use Rattle.std.proofs.lemmas.Result.{on_ok_weaker}
+use Rattle.sort_terms.specs.MadeTerms.{made_of}
+use Rattle.sort_terms.proofs.CopyLemmas.{made_more}
 use Rattle.path_order.specs.RulesView.{signature_in}
-use Rattle.term_store.specs.Made.{all_made, made_of}
+use Rattle.term_store.specs.Made.{all_made}
 use Rattle.term_store.specs.SharedView.{keys_in}
-use Rattle.term_store.proofs.MadeLemmas.{made_more, operation_begun, operation_less, operation_within, variable_less}
+use Rattle.term_store.proofs.MadeLemmas.{operation_begun, operation_less, operation_within, variable_less}
 use Rattle.term_store.proofs.SearchLemmas.{members_below}
 use Rattle.term_store.proofs.reading.begin.Goals as goal
 

@@ -1,7 +1,8 @@
 use Rattle.std.proofs.Common.{rules, arith, ◌<◌, ◌+◌, ◌∙◌, ap, length, subst, sym}
 use Rattle.std.proofs.lemmas.Result.{on_ok_weaker}
+use Rattle.sort_terms.specs.MadeTerms.{made_of}
 use Rattle.path_order.specs.RulesView.{signature_in}
-use Rattle.term_store.specs.Made.{all_made, made_of, number_in, turns, turns_of, with_made, with_operation}
+use Rattle.term_store.specs.Made.{all_made, number_in, turns, turns_of, with_made, with_operation}
 use Rattle.term_store.specs.SharedView.{keys_in}
 use Rattle.term_store.specs.declared.reading.Making.{Making}
 use Rattle.term_store.proofs.FirstRuleLemmas.{operation_fits}

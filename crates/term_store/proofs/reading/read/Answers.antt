@@ -1,12 +1,14 @@
 use Rattle.std.proofs.Common.{◌≡◌, ◌∷◌, ◌++◌, [], List, ◌∙◌, ap, arith, subst, sym}
 use Rattle.sort_terms.specs.TermView.{profiled_of}
+use Rattle.sort_terms.specs.MadeTerms.{made_of}
+use Rattle.sort_terms.proofs.CopyLemmas.{made_more}
 use Rattle.path_order.specs.RulesView.{signature_in}
-use Rattle.term_store.specs.Made.{AreMadeOf, all_made, made_of}
+use Rattle.term_store.specs.Made.{AreMadeOf, all_made}
 use Rattle.term_store.specs.Numbered.{term_at}
 use Rattle.term_store.specs.declared.reading.Making.{Making}
 use Rattle.term_store.specs.declared.reading.Making.TheVariants.{Term}
 use Rattle.term_store.specs.SharedView.{keys_in}
-use Rattle.term_store.proofs.MadeLemmas.{all_done, all_made_next, made_more, made_next, turns_next}
+use Rattle.term_store.proofs.MadeLemmas.{all_done, all_made_next, made_next, turns_next}
 use Rattle.term_store.proofs.reading.read.Goals as goal
 
 pub loop-next-init : goal.loop-next-init

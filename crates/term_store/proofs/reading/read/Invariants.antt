@@ -1,6 +1,7 @@
 use Rattle.std.proofs.Common.{◌≡◌, [], ◌∷◌}
+use Rattle.sort_terms.specs.MadeTerms.{made_of}
 use Rattle.path_order.specs.RulesView.{signature_in}
-use Rattle.term_store.specs.Made.{AreMadeOf, all_made, made_of, turns_of}
+use Rattle.term_store.specs.Made.{AreMadeOf, all_made, turns_of}
 use Rattle.term_store.specs.Numbered.{term_at}
 use Rattle.term_store.specs.SharedView.{keys_in}
 use Rattle.term_store.proofs.reading.read.Given as goal

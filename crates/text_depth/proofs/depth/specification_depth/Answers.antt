@@ -14,7 +14,8 @@ use Rattle.text_depth.proofs.depth.specification_depth.Goals as goal
 pub depth-deep-requires : goal.depth-deep-requires
 depth-deep-requires c = record {
   lotos = subst IsLotosGrammar (sym c.specification_grammar.ensures) of_specifications;
-  derivation = subst (λ it. IsLeftmostDerivation it c.args.rows.now (map kind_of c.args.tokens.now)) (sym c.specification_grammar.ensures) c.requires;
+  derivation = subst (λ it. IsLeftmostDerivation it c.args.rows.now (map kind_of c.args.tokens.now)) (sym c.specification_grammar.ensures)
+      c.requires;
 }
 
 pub returns : goal.returns

@@ -14,7 +14,8 @@ use Rattle.text_depth.proofs.depth.terms_depth.Goals as goal
 pub depth-deep-requires : goal.depth-deep-requires
 depth-deep-requires c = record {
   lotos = subst IsLotosGrammar (sym c.terms_grammar.ensures) of_terms;
-  derivation = subst (λ it. IsLeftmostDerivation it c.args.rows.now (map kind_of c.args.tokens.now)) (sym c.terms_grammar.ensures) c.requires;
+  derivation = subst (λ it. IsLeftmostDerivation it c.args.rows.now (map kind_of c.args.tokens.now)) (sym c.terms_grammar.ensures)
+      c.requires;
 }
 
 pub returns : goal.returns

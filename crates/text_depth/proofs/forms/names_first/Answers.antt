@@ -9,7 +9,8 @@ use Rattle.text_depth.proofs.forms.names_first.Goals as goal
 
 pub loop-place-init : goal.loop-place-init
 loop-place-init c =
-    ap (λ it. names_firsts it (firsts_of c.args.inside)) (ap (map text_place_of) c.turned-names.ensures ∙ map_reverse text_place_of c.args.names.items)
+    ap (λ it. names_firsts it (firsts_of c.args.inside)) (ap (map text_place_of) c.turned-names.ensures
+    ∙ map_reverse text_place_of c.args.names.items)
 
 pub loop-place-preserved : goal.loop-place-preserved
 loop-place-preserved c =

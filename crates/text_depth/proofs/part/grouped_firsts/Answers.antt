@@ -30,11 +30,13 @@ returns-then-len c =
 pub returns : goal.returns
 returns c =
     let operands = ap (map firsts_of) c.turned.ensures ∙ map_reverse firsts_of c.args.operands.items in
-    let strengths = ap (map (λ (strength : ℕ). strength)) c.turned-2.ensures ∙ map_reverse (λ (strength : ℕ). strength) c.args.strengths.items in
+    let strengths = ap (map (λ (strength : ℕ). strength)) c.turned-2.ensures
+    ∙ map_reverse (λ (strength : ℕ). strength) c.args.strengths.items in
     IfOk-weaker c.group_operands.result _ _
     (λ tree is.
     sym
     (ap or_no_nodes
-    (ap (λ it. grouped (λ strength. strength) (λ strength. between) it (from_last (λ (strength : ℕ). strength) c.args.strengths.items)) (sym operands)
+    (ap (λ it. grouped (λ strength. strength) (λ strength. between) it (from_last (λ (strength : ℕ). strength) c.args.strengths.items))
+    (sym operands)
     ∙ ap (λ it. grouped (λ strength. strength) (λ strength. between) (map firsts_of c.turned.result.items) it) (sym strengths) ∙ is)))
     c.group_operands.ensures

@@ -12,10 +12,20 @@ pub returns : goal.returns
 returns c =
     made c.args.name.0 c.args.name.1 Prefix c.turned.result c.new.result
     ∙ ap
-    (λ (sorts : List PlacedName). written (record { place = text_place_of c.args.name.0; name = spelling c.args.name.1; form = form_of Prefix; sorts = sorts })
+    (λ (sorts : List PlacedName). written (record {
+      place = text_place_of c.args.name.0;
+      name = spelling c.args.name.1;
+      form = form_of Prefix;
+      sorts = sorts;
+    })
     (written_terms (map written_term_of c.turned.result.items)))
     (ap (map placed_name_of) c.new.ensures.items)
     ∙ ap
-    (λ (arguments : List WrittenTerm). written (record { place = text_place_of c.args.name.0; name = spelling c.args.name.1; form = form_of Prefix; sorts = [] })
+    (λ (arguments : List WrittenTerm). written (record {
+      place = text_place_of c.args.name.0;
+      name = spelling c.args.name.1;
+      form = form_of Prefix;
+      sorts = [];
+    })
     (written_terms arguments))
     (ap (map written_term_of) c.turned.ensures ∙ map_reverse written_term_of c.args.args.items)

@@ -17,10 +17,16 @@ returns c =
     let mark = from_last placed_name_of c.args.mark.items in
     let sorts_are : map placed_name_of c.append.new.self.items ≡ map placed_name_of term.sorts.items ++ mark =
     ap (map placed_name_of) c.in_ok-append.ensures.items ∙ map-append placed_name_of term.sorts.items c.turned.result.items
-    ∙ ap (λ (m : List PlacedName). map placed_name_of term.sorts.items ++ m) (ap (map placed_name_of) c.turned.ensures ∙ map_reverse placed_name_of c.args.mark.items) in
+    ∙ ap (λ (m : List PlacedName). map placed_name_of term.sorts.items ++ m)
+    (ap (map placed_name_of) c.turned.ensures ∙ map_reverse placed_name_of c.args.mark.items) in
     made term.place term.name term.form term.args c.append.new.self
     ∙ ap
-    (λ (sorts : List PlacedName). written (record { place = text_place_of term.place; name = spelling term.name; form = form_of term.form; sorts = sorts })
+    (λ (sorts : List PlacedName). written (record {
+      place = text_place_of term.place;
+      name = spelling term.name;
+      form = form_of term.form;
+      sorts = sorts;
+    })
     (written_terms (map written_term_of term.args.items)))
     sorts_are
     ∙ sym (ap (with_sorts mark) (opened c.args.term))

@@ -9,4 +9,5 @@ use Rattle.type_building.proofs.types.add_operations.Given as goal
 abbrev pub invariant-loop-operation : goal.invariant-loop-operation
 invariant-loop-operation l =
     from_last operation_of l.operations.items
-    ≡ operations_of_profile (from_last named_operation_of l.yielded) (profile_of l.profile) ++ from_last operation_of l.initial.operations.items
+    ≡ operations_of_profile (from_last named_operation_of l.yielded) (profile_of l.profile)
+    ++ from_last operation_of l.initial.operations.items

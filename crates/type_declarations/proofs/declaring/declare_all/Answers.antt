@@ -45,7 +45,8 @@ returns-in_err-declare_ops c =
     (refused (spelling c.args.type_name.now) (presentation_of c.args.presentation.now) (sections_of c.args.sections.now) _
     (holds_weaker _ _ c.in_err-declare_ops.field-0.0
     (λ f found.
-    formal_operations_fail origin p _ written f (has_sorts origin p _ _ written (record { none = one.none; is = one.made }) two.none two.made) found)
+    formal_operations_fail origin p _ written f (has_sorts origin p _ _ written (record { none = one.none; is = one.made }) two.none
+    two.made) found)
     c.in_err-declare_ops.ensures.found))
 
 pub returns-in_err-declare_ops-2 : goal.returns-in_err-declare_ops-2

@@ -35,7 +35,8 @@ returns-in_err-made c =
     (holds_weaker _ _ c.in_err-made.field-0.0
     (λ f found.
     sort_missing (spelling c.args.type_name.now) c.args.is_formal (presentation_of c.args.presentation.now)
-    (written_operation_of c.args.op.now) f (fits_as_written (form_of c.args.op.now.form) c.args.op.now.arguments.items c.fits-is_fitting.result _ c.fits-is_fitting.ensures
+    (written_operation_of c.args.op.now) f (fits_as_written (form_of c.args.op.now.form) c.args.op.now.arguments.items
+    c.fits-is_fitting.result _ c.fits-is_fitting.ensures
     c.if-not-is_fitting.false) found)
     (c.in_err-made.ensures (presentation_of c.args.presentation.now) c.requires.named))
 
@@ -53,7 +54,8 @@ returns-in_err-add_op c =
     (holds_weaker _ _ c.in_err-add_op.field-0.0
     (λ f found.
     sym (operation_fault_is (spelling c.args.type_name.now) c.args.is_formal (presentation_of c.args.presentation.now)
-    (written_operation_of c.args.op.now) (operation_of c.in_ok-made.made) (fits_as_written (form_of c.args.op.now.form) c.args.op.now.arguments.items c.fits-is_fitting.result _ c.fits-is_fitting.ensures
+    (written_operation_of c.args.op.now) (operation_of c.in_ok-made.made)
+    (fits_as_written (form_of c.args.op.now.form) c.args.op.now.arguments.items c.fits-is_fitting.result _ c.fits-is_fitting.ensures
     c.if-not-is_fitting.false) made.0
     made.1)
     ∙ found)

@@ -9,7 +9,8 @@ use Rattle.type_definitions.proofs.cycles.first_of_type.Goals as goal
 
 pub reaches-requires : goal.reaches-requires
 reaches-requires c =
-    mention_type (graph_of c.args.graph.now) c.args.by c.mentioned-mentioned.result.now c.args.graph.now.within c.mentioned-mentioned.ensures
+    mention_type (graph_of c.args.graph.now) c.args.by c.mentioned-mentioned.result.now c.args.graph.now.within
+    c.mentioned-mentioned.ensures
     c.loop-position.position c.loop-position-test.true
 
 pub returns-then-on_cycle : goal.returns-then-on_cycle

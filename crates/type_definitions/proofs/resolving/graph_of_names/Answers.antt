@@ -17,11 +17,13 @@ of-requires c =
     let known : AreAllKnown (types_in c.args.names.now) =
     sym c.loop-text.invariant.0
     ∙ ap (λ n. unknown_mention (types_in c.args.names.now) (declared_types_of (drop n c.types-text-items.result.now))) whole
-    ∙ ap (λ (ts : List TypeText). unknown_mention (types_in c.args.names.now) (declared_types_of ts)) (drop-length c.types-text-items.result.now) in
+    ∙ ap (λ (ts : List TypeText). unknown_mention (types_in c.args.names.now) (declared_types_of ts))
+    (drop-length c.types-text-items.result.now) in
     let rows : rows_of c.loop-text.rows.items ≡ mention_graph (types_in c.args.names.now) =
     c.loop-text.invariant.1
     ∙ ap (λ n. map (λ (t : DeclaredType). type_numbers (types_in c.args.names.now) (mentions_in t.body))
     (declared_types_of (take n c.types-text-items.result.now))) whole
-    ∙ ap (λ (ts : List TypeText). map (λ (t : DeclaredType). type_numbers (types_in c.args.names.now) (mentions_in t.body)) (declared_types_of ts))
+    ∙ ap (λ (ts : List TypeText). map (λ (t : DeclaredType). type_numbers (types_in c.args.names.now) (mentions_in t.body))
+    (declared_types_of ts))
     (take-length c.types-text-items.result.now ∙ c.types-text-items.ensures) in
     graph_within (types_in c.args.names.now) (rows_of c.loop-text.rows.items) known rows

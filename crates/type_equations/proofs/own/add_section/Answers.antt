@@ -42,7 +42,8 @@ add_group-requires-clause-section c =
       section_over start now written (signature_read c.args.reader.now) _
           (give_all_same start now _ c.loop-group.invariant.given)
           (section_is start (signature_read c.args.reader.now) c.args.section.now _ _ _ _ c.new-variables.ensures.items
-          c.as_slice.ensures.value (ap (λ (v : Vec CodeVariable Global). v.items) c.in_ok-shared.ensures) c.requires.same (c.in_ok-add_variables.ensures start c.requires.same)),
+          c.as_slice.ensures.value (ap (λ (v : Vec CodeVariable Global). v.items) c.in_ok-shared.ensures) c.requires.same
+          (c.in_ok-add_variables.ensures start c.requires.same)),
     )
 
 pub loop-group-preserved : goal.loop-group-preserved
@@ -58,7 +59,8 @@ loop-group-preserved c =
           (section_over start now written (signature_read c.args.reader.now) _
           (give_all_same start now _ c.loop-group.invariant.given)
           (section_is start (signature_read c.args.reader.now) c.args.section.now _ _ _ _ c.new-variables.ensures.items
-          c.as_slice.ensures.value (ap (λ (v : Vec CodeVariable Global). v.items) c.in_ok-shared.ensures) c.requires.same (c.in_ok-add_variables.ensures start c.requires.same))));
+          c.as_slice.ensures.value (ap (λ (v : Vec CodeVariable Global). v.items) c.in_ok-shared.ensures) c.requires.same
+          (c.in_ok-add_variables.ensures start c.requires.same))));
       sound = c.in_ok-add_group.ensures.sound;
       within = c.in_ok-add_group.ensures.within;
     }
@@ -71,7 +73,8 @@ returns-in_err-add_group-clause-given c =
     let written = variables_of c.args.section.now.variables.items in
     let here =
     section_is start (signature_read c.args.reader.now) c.args.section.now _ _ _ _ c.new-variables.ensures.items
-    c.as_slice.ensures.value (ap (λ (v : Vec CodeVariable Global). v.items) c.in_ok-shared.ensures) c.requires.same (c.in_ok-add_variables.ensures start c.requires.same) in
+    c.as_slice.ensures.value (ap (λ (v : Vec CodeVariable Global). v.items) c.in_ok-shared.ensures) c.requires.same
+    (c.in_ok-add_variables.ensures start c.requires.same) in
     rw (e.1, e.2)
     (holds_weaker _ _ c.in_err-add_group.field-0.0
     (λ f found.

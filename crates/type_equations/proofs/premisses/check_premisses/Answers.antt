@@ -17,7 +17,8 @@ loop-premiss-init c = λ p asked same scope truth. tt
 pub loop-premiss-preserved : goal.loop-premiss-preserved
 loop-premiss-preserved c = λ p asked same scope truth.
     subst (λ (ws : List WrittenPremiss). AreReadPremisses p asked ws)
-    (sym (so_far premiss_of c.args.premisses.now c.loop-premiss.premiss-index c.premiss-item.result c.loop-premiss-test.true c.premiss-item.is))
+    (sym (so_far premiss_of c.args.premisses.now c.loop-premiss.premiss-index c.premiss-item.result c.loop-premiss-test.true
+    c.premiss-item.is))
     (read_append p asked (map premiss_of (take c.loop-premiss.premiss-index c.args.premisses.now)) (premiss_of c.premiss-item.result)
     (c.loop-premiss.invariant p asked same scope truth) (c.in_ok-check_premiss.ensures p asked same scope truth))
 
@@ -29,7 +30,8 @@ returns-in_err-check_premiss c =
     (λ f found.
     subst (λ (ws : List WrittenPremiss). IsFirstPremissFault p asked ws f)
     (ap (λ (ws : List WrittenPremiss). map premiss_of (take c.loop-premiss.premiss-index c.args.premisses.now) ++ ws)
-    (sym (next_of premiss_of c.args.premisses.now c.loop-premiss.premiss-index c.premiss-item.result c.loop-premiss-test.true c.premiss-item.is))
+    (sym (next_of premiss_of c.args.premisses.now c.loop-premiss.premiss-index c.premiss-item.result c.loop-premiss-test.true
+    c.premiss-item.is))
     ∙ sym (map-append premiss_of (take c.loop-premiss.premiss-index c.args.premisses.now)
     (drop c.loop-premiss.premiss-index c.args.premisses.now))
     ∙ ap (λ (ts : List TestText). map premiss_of ts) (take-append-drop c.loop-premiss.premiss-index c.args.premisses.now))

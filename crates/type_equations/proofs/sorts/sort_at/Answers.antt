@@ -12,7 +12,8 @@ use Rattle.type_equations.proofs.sorts.sort_at.Goals as goal
 pub returns-in_default : goal.returns-in_default
 returns-in_default c = λ p same.
     let none = rw c.in_default.is at c.in_ok-found.ensures in (
-      sort_name_unknown p.signature (spelling c.args.name.now) (subst (λ (g : Signature). (s : ℕ) → ¬ IsSortNamed g s (spelling c.args.name.now)) (sym same) none),
+      sort_name_unknown p.signature (spelling c.args.name.now)
+          (subst (λ (g : Signature). (s : ℕ) → ¬ IsSortNamed g s (spelling c.args.name.now)) (sym same) none),
       ap (λ (name : List ℕ). unknown_sort (text_place_of c.args.place) (Some name)) c.in_ok-copy.ensures,
     )
 

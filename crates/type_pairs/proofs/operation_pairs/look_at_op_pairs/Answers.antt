@@ -50,7 +50,8 @@ of-requires c =
 pub returns : goal.returns
 returns c = λ signature has. (
   sym (c.loop-number.invariant.1 signature has)
-      ∙ ap (λ (ps : List PairText). operation_pairs_fault signature (map pair_of (take c.loop-number.number c.args.pairs.now)) (map pair_of ps))
+      ∙ ap (λ (ps : List PairText). operation_pairs_fault signature (map pair_of (take c.loop-number.number c.args.pairs.now))
+      (map pair_of ps))
       (drop_all c.loop-number.number c.args.pairs.now (omega (arith, c.loop-number-test.false))),
   c.of.ensures,
 )

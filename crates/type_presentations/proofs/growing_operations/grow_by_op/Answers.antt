@@ -26,10 +26,12 @@ with_operations operations p = record {
 pub returns-then-added-clause-clash : goal.returns-then-added-clause-clash
 returns-then-added-clause-clash c =
     let g =
-    grown_by is_same_operation are_one_operation one_operation_clashes (mutual_by_key by_profile.key by_profile.same by_profile.tell) (operations_in c.args.presentation.now.ops)
+    grown_by is_same_operation are_one_operation one_operation_clashes (mutual_by_key by_profile.key by_profile.same by_profile.tell)
+    (operations_in c.args.presentation.now.ops)
     (operations_in c.add.new.self) (operation_of c.args.op) c.in_ok-added.added.clashes (length c.ops-before.result.now)
     (length c.ops-after.result.now)
-    (c.in_ok-added.ensures.members ∙ ap (λ (o : CodeOp). with_new is_same_operation (operations_in c.args.presentation.now.ops) (operation_of o ∷ [])) c.in_ok-new.ensures.ok)
+    (c.in_ok-added.ensures.members ∙ ap (λ (o : CodeOp). with_new is_same_operation (operations_in c.args.presentation.now.ops)
+    (operation_of o ∷ [])) c.in_ok-new.ensures.ok)
     c.in_ok-added.ensures.clashes
     (operations_differ (presentation_of c.args.presentation.now).signature c.requires.sound.data_.signature)
     (sym (length-map c.ops-before.result.now (λ op. operation_of op.value)) ∙ ap (λ (xs : List Operation). length xs) c.ops-before.ensures)
@@ -39,10 +41,12 @@ returns-then-added-clause-clash c =
 pub returns-else-added-clause-clash : goal.returns-else-added-clause-clash
 returns-else-added-clause-clash c =
     let g =
-    grown_by is_same_operation are_one_operation one_operation_clashes (mutual_by_key by_profile.key by_profile.same by_profile.tell) (operations_in c.args.presentation.now.ops)
+    grown_by is_same_operation are_one_operation one_operation_clashes (mutual_by_key by_profile.key by_profile.same by_profile.tell)
+    (operations_in c.args.presentation.now.ops)
     (operations_in c.add.new.self) (operation_of c.args.op) c.in_ok-added.added.clashes (length c.ops-before.result.now)
     (length c.ops-after.result.now)
-    (c.in_ok-added.ensures.members ∙ ap (λ (o : CodeOp). with_new is_same_operation (operations_in c.args.presentation.now.ops) (operation_of o ∷ [])) c.in_ok-new.ensures.ok)
+    (c.in_ok-added.ensures.members ∙ ap (λ (o : CodeOp). with_new is_same_operation (operations_in c.args.presentation.now.ops)
+    (operation_of o ∷ [])) c.in_ok-new.ensures.ok)
     c.in_ok-added.ensures.clashes
     (operations_differ (presentation_of c.args.presentation.now).signature c.requires.sound.data_.signature)
     (sym (length-map c.ops-before.result.now (λ op. operation_of op.value)) ∙ ap (λ (xs : List Operation). length xs) c.ops-before.ensures)
@@ -52,10 +56,12 @@ returns-else-added-clause-clash c =
 pub returns-else-added-clause-grown : goal.returns-else-added-clause-grown
 returns-else-added-clause-grown c = λ none.
     let g =
-    grown_by is_same_operation are_one_operation one_operation_clashes (mutual_by_key by_profile.key by_profile.same by_profile.tell) (operations_in c.args.presentation.now.ops)
+    grown_by is_same_operation are_one_operation one_operation_clashes (mutual_by_key by_profile.key by_profile.same by_profile.tell)
+    (operations_in c.args.presentation.now.ops)
     (operations_in c.add.new.self) (operation_of c.args.op) c.in_ok-added.added.clashes (length c.ops-before.result.now)
     (length c.ops-after.result.now)
-    (c.in_ok-added.ensures.members ∙ ap (λ (o : CodeOp). with_new is_same_operation (operations_in c.args.presentation.now.ops) (operation_of o ∷ [])) c.in_ok-new.ensures.ok)
+    (c.in_ok-added.ensures.members ∙ ap (λ (o : CodeOp). with_new is_same_operation (operations_in c.args.presentation.now.ops)
+    (operation_of o ∷ [])) c.in_ok-new.ensures.ok)
     c.in_ok-added.ensures.clashes
     (operations_differ (presentation_of c.args.presentation.now).signature c.requires.sound.data_.signature)
     (sym (length-map c.ops-before.result.now (λ op. operation_of op.value)) ∙ ap (λ (xs : List Operation). length xs) c.ops-before.ensures)

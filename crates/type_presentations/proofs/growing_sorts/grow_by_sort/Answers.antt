@@ -25,10 +25,12 @@ with_sorts sorts p = record {
 pub returns-then-added-clause-clash : goal.returns-then-added-clause-clash
 returns-then-added-clause-clash c =
     let g =
-    grown_by is_same_sort are_one_sort one_sort_clashes (mutual_by_key by_name.key by_name.same by_name.tell) (sorts_in c.args.presentation.now.sorts)
+    grown_by is_same_sort are_one_sort one_sort_clashes (mutual_by_key by_name.key by_name.same by_name.tell)
+    (sorts_in c.args.presentation.now.sorts)
     (sorts_in c.add.new.self) (sort_of c.args.sort.now) c.in_ok-added.added.clashes (length c.sorts-before.result.now)
     (length c.sorts-after.result.now)
-    (c.in_ok-added.ensures.members ∙ ap (λ (s : Sort). with_new is_same_sort (sorts_in c.args.presentation.now.sorts) (s ∷ [])) c.in_ok-copy.ensures)
+    (c.in_ok-added.ensures.members ∙ ap (λ (s : Sort). with_new is_same_sort (sorts_in c.args.presentation.now.sorts) (s ∷ []))
+    c.in_ok-copy.ensures)
     c.in_ok-added.ensures.clashes
     (sorts_differ (presentation_of c.args.presentation.now).signature c.requires.sound.data_.signature)
     (sym (length-map c.sorts-before.result.now sort_of) ∙ ap (λ (xs : List Sort). length xs) c.sorts-before.ensures)
@@ -38,10 +40,12 @@ returns-then-added-clause-clash c =
 pub returns-else-added-clause-clash : goal.returns-else-added-clause-clash
 returns-else-added-clause-clash c =
     let g =
-    grown_by is_same_sort are_one_sort one_sort_clashes (mutual_by_key by_name.key by_name.same by_name.tell) (sorts_in c.args.presentation.now.sorts)
+    grown_by is_same_sort are_one_sort one_sort_clashes (mutual_by_key by_name.key by_name.same by_name.tell)
+    (sorts_in c.args.presentation.now.sorts)
     (sorts_in c.add.new.self) (sort_of c.args.sort.now) c.in_ok-added.added.clashes (length c.sorts-before.result.now)
     (length c.sorts-after.result.now)
-    (c.in_ok-added.ensures.members ∙ ap (λ (s : Sort). with_new is_same_sort (sorts_in c.args.presentation.now.sorts) (s ∷ [])) c.in_ok-copy.ensures)
+    (c.in_ok-added.ensures.members ∙ ap (λ (s : Sort). with_new is_same_sort (sorts_in c.args.presentation.now.sorts) (s ∷ []))
+    c.in_ok-copy.ensures)
     c.in_ok-added.ensures.clashes
     (sorts_differ (presentation_of c.args.presentation.now).signature c.requires.sound.data_.signature)
     (sym (length-map c.sorts-before.result.now sort_of) ∙ ap (λ (xs : List Sort). length xs) c.sorts-before.ensures)
@@ -51,10 +55,12 @@ returns-else-added-clause-clash c =
 pub returns-else-added-clause-grown : goal.returns-else-added-clause-grown
 returns-else-added-clause-grown c = λ none.
     let g =
-    grown_by is_same_sort are_one_sort one_sort_clashes (mutual_by_key by_name.key by_name.same by_name.tell) (sorts_in c.args.presentation.now.sorts)
+    grown_by is_same_sort are_one_sort one_sort_clashes (mutual_by_key by_name.key by_name.same by_name.tell)
+    (sorts_in c.args.presentation.now.sorts)
     (sorts_in c.add.new.self) (sort_of c.args.sort.now) c.in_ok-added.added.clashes (length c.sorts-before.result.now)
     (length c.sorts-after.result.now)
-    (c.in_ok-added.ensures.members ∙ ap (λ (s : Sort). with_new is_same_sort (sorts_in c.args.presentation.now.sorts) (s ∷ [])) c.in_ok-copy.ensures)
+    (c.in_ok-added.ensures.members ∙ ap (λ (s : Sort). with_new is_same_sort (sorts_in c.args.presentation.now.sorts) (s ∷ []))
+    c.in_ok-copy.ensures)
     c.in_ok-added.ensures.clashes
     (sorts_differ (presentation_of c.args.presentation.now).signature c.requires.sound.data_.signature)
     (sym (length-map c.sorts-before.result.now sort_of) ∙ ap (λ (xs : List Sort). length xs) c.sorts-before.ensures)

@@ -49,13 +49,15 @@ returns-in_err-sort_index c =
     rw (e.1, e.2)
     (refused base (spelling c.args.type_name.now) (pairs_of c.args.sort_pairs.now c.args.op_pairs.now) _
     (holds_weaker _ _ c.in_err-sort_index.field-0.0 (λ f found. first_fails _ _ f found)
-    (c.in_err-sort_index.ensures base.signature (sorts_named c.in_ok-sort_names.sort_names _ _ c.sorts.ensures c.in_ok-sort_names.ensures))))
+    (c.in_err-sort_index.ensures base.signature (sorts_named c.in_ok-sort_names.sort_names _ _ c.sorts.ensures
+    c.in_ok-sort_names.ensures))))
 
 pub returns-in_err-op_index : goal.returns-in_err-op_index
 returns-in_err-op_index c =
     let e = err_from_is_err_and c.from_residual-in_err-op_index.result c.from_residual-in_err-op_index.ensures.1 in
     let base = presentation_of c.args.base.now in
-    let sorts = c.in_ok-sort_index.ensures base.signature (sorts_named c.in_ok-sort_names.sort_names _ _ c.sorts.ensures c.in_ok-sort_names.ensures) in
+    let sorts = c.in_ok-sort_index.ensures base.signature (sorts_named c.in_ok-sort_names.sort_names _ _ c.sorts.ensures
+    c.in_ok-sort_names.ensures) in
     rw (e.1, e.2)
     (refused base (spelling c.args.type_name.now) (pairs_of c.args.sort_pairs.now c.args.op_pairs.now) _
     (holds_weaker _ _ c.in_err-op_index.field-0.0 (λ f found. later_fails _ _ f sorts.0 (first_fails _ _ f found))
@@ -65,8 +67,10 @@ pub returns : goal.returns
 returns c =
     let base = presentation_of c.args.base.now in
     let t = spelling c.args.type_name.now in
-    let sorts = c.in_ok-sort_index.ensures base.signature (sorts_named c.in_ok-sort_names.sort_names _ _ c.sorts.ensures c.in_ok-sort_names.ensures) in
-    let ops = c.in_ok-op_index.ensures base.signature (operations_named c.in_ok-op_names.op_names _ _ c.ops.ensures c.in_ok-op_names.ensures) in
+    let sorts = c.in_ok-sort_index.ensures base.signature (sorts_named c.in_ok-sort_names.sort_names _ _ c.sorts.ensures
+    c.in_ok-sort_names.ensures) in
+    let ops = c.in_ok-op_index.ensures base.signature (operations_named c.in_ok-op_names.op_names _ _ c.ops.ensures
+    c.in_ok-op_names.ensures) in
     let clashes =
     clashes_are t base (pairs_in c.in_ok-sort_index.sort_index) (pairs_in c.in_ok-op_index.op_index) (map pair_of c.args.sort_pairs.now)
     (map pair_of c.args.op_pairs.now) sorts.0 ops.0 sorts.1 ops.1 in

@@ -24,7 +24,10 @@ no_step label target d =
 pub returns : goal.returns
 returns c = record {
   menu = menu _ _ 9 _ refl refl refl (settled _ refl refl, tt);
-  one_meets = record { sorted = values_in sample_signature (nat_sort ∷ []) (one ∷ []) refl; met = tests_hold sample_data sample_canon sample_is_canon (test_of (less one two) truth ∷ []) refl };
+  one_meets = record {
+    sorted = values_in sample_signature (nat_sort ∷ []) (one ∷ []) refl;
+    met = tests_hold sample_data sample_canon sample_is_canon (test_of (less one two) truth ∷ []) refl;
+  };
   two_does_not = λ h. two_not_below_two h.met.0;
   step = steps _ _ _ _ _ _ _ _ refl refl refl;
   no_step = no_step;

@@ -19,5 +19,6 @@ pub returns : goal.returns
 returns c = record {
   menu = shown;
   no_instance = none;
-  no_transition = no_transition [] over_nothing over_nothing_lines shown (λ e values listed meets. none values (one_entry (λ (x : Entry). Meets sample_data x values) over_nothing_entry e listed meets));
+  no_transition = no_transition [] over_nothing over_nothing_lines shown
+      (λ e values listed meets. none values (one_entry (λ (x : Entry). Meets sample_data x values) over_nothing_entry e listed meets));
 }

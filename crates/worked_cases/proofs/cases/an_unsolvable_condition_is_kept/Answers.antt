@@ -23,5 +23,6 @@ returns c = record {
   again = settled _ refl refl;
   no_instance = none;
   asked = refl;
-  no_transition = no_transition [] chasing chasing_lines shown (λ e values listed meets. none values (one_entry (λ (x : Entry). Meets sample_data x values) chasing_entry e listed meets));
+  no_transition = no_transition [] chasing chasing_lines shown
+      (λ e values listed meets. none values (one_entry (λ (x : Entry). Meets sample_data x values) chasing_entry e listed meets));
 }

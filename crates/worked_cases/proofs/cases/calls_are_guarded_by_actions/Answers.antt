@@ -15,7 +15,8 @@ use Rattle.behaviour_semantics.proofs.OptionLemmas.{some_value}
 use Rattle.worked_cases.proofs.cases.calls_are_guarded_by_actions.Goals as goal
 
 -- no call of a body without unguarded calls
-none_called : (p : Process) (process : Process) (k to : ℕ) → unguarded_calls p.body ≡ [] → p ≡ process → slice_get (unguarded_calls process.body) k ≡ Some to → ⊥
+none_called : (p : Process) (process : Process) (k to : ℕ) → unguarded_calls p.body ≡ [] → p ≡ process
+    → slice_get (unguarded_calls process.body) k ≡ Some to → ⊥
 none_called p process k to none same e =
     let empty : unguarded_calls process.body ≡ [] = subst (λ (q : Process). unguarded_calls q.body ≡ []) same none in
     absurd (cc (subst (λ (calls : List ℕ). slice_get calls k ≡ Some to) empty e))
@@ -57,5 +58,6 @@ returns c = record {
   on_the_left = refl;
   guarded = no_cycle;
   menu = menu _ _ 9 _ refl refl refl (settled _ refl refl, tt);
-  no_list = λ depth. ap (option_map (map (λ (x : ShapedMove). draft_by x.shape (first_apart (at_once ∷ []) again) x.move))) (no_list (leaves_from (first_apart (at_once ∷ []) again)) depth 0);
+  no_list = λ depth. ap (option_map (map (λ (x : ShapedMove). draft_by x.shape (first_apart (at_once ∷ []) again) x.move)))
+      (no_list (leaves_from (first_apart (at_once ∷ []) again)) depth 0);
 }

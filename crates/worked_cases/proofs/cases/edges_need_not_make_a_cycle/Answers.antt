@@ -8,14 +8,17 @@ use Rattle.worked_cases.proofs.cases.edges_need_not_make_a_cycle.Goals as goal
 
 -- The first process calls the second one, and the second calls none.
 called_from_first : (process : Process) (k to : ℕ) → first_of_two ≡ process → slice_get (unguarded_calls process.body) k ≡ Some to → to ≡ 1
-called_from_first process zero to same e = sym (some_value (subst (λ (q : Process). slice_get (unguarded_calls q.body) 0 ≡ Some to) (sym same) e))
+called_from_first process zero to same e = sym (some_value
+    (subst (λ (q : Process). slice_get (unguarded_calls q.body) 0 ≡ Some to) (sym same) e))
 called_from_first process (suc k) to same e =
-    let h : slice_get (unguarded_calls first_of_two.body) (suc k) ≡ Some to = subst (λ (q : Process). slice_get (unguarded_calls q.body) (suc k) ≡ Some to) (sym same) e in
+    let h : slice_get (unguarded_calls first_of_two.body) (suc k) ≡ Some to =
+    subst (λ (q : Process). slice_get (unguarded_calls q.body) (suc k) ≡ Some to) (sym same) e in
     absurd (cc h)
 
 called_from_second : (process : Process) (k to : ℕ) → second_of_two ≡ process → slice_get (unguarded_calls process.body) k ≡ Some to → ⊥
 called_from_second process k to same e =
-    let h : slice_get (unguarded_calls second_of_two.body) k ≡ Some to = subst (λ (q : Process). slice_get (unguarded_calls q.body) k ≡ Some to) (sym same) e in
+    let h : slice_get (unguarded_calls second_of_two.body) k ≡ Some to =
+    subst (λ (q : Process). slice_get (unguarded_calls q.body) k ≡ Some to) (sym same) e in
     absurd (cc h)
 
 nought_not_one : (n m : ℕ) → n ≡ 0 → m ≡ 1 → n ≡ m → ⊥

@@ -9,7 +9,11 @@ use Rattle.worked_cases.proofs.cases.sample_forms_are_a_canon.Goals as goal
 
 pub returns : goal.returns
 returns c = record {
-  well_formed = record { signature = sample_signature_is_well_formed; equations = λ e is. Every-at (IsEquationOver sample_signature) sample_data.equations is.0 e (are_equations_over sample_signature sample_data.equations refl) is.1 };
+  well_formed = record {
+    signature = sample_signature_is_well_formed;
+    equations = λ e is. Every-at (IsEquationOver sample_signature) sample_data.equations is.0 e
+        (are_equations_over sample_signature sample_data.equations refl) is.1;
+  };
   canon = sample_is_canon;
   two_and_one = refl;
   one_below_two = refl;

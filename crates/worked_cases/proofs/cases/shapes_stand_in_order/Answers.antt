@@ -4,7 +4,8 @@ use Rattle.behaviour_semantics.proofs.OrderLemmas.{Before-irrefl, Before-trans}
 use Rattle.worked_cases.proofs.cases.shapes_stand_in_order.Goals as goal
 
 from_the_last : Before (at_gate 1 act) (at_gate 0 act) → ⊥
-from_the_last h = Before-irrefl (at_gate 0 act) (Before-trans (at_gate 0 act) (at_gate 1 act) (at_gate 0 act) (by_gate (let lt : 0 < 1 = omega arith in lt)) h)
+from_the_last h = Before-irrefl (at_gate 0 act) (Before-trans (at_gate 0 act) (at_gate 1 act) (at_gate 0 act)
+    (by_gate (let lt : 0 < 1 = omega arith in lt)) h)
 
 pub returns : goal.returns
 returns c = record {

@@ -18,7 +18,16 @@ other_shape e = absurd (cc e)
 
 pub returns : goal.returns
 returns c = record {
-  left = record { entry = left_entry; listed = (0, refl); shape = refl; values = []; meets = record { sorted = tt; met = tt }; leaves = tt; labels = (refl, tt) };
+  left = record {
+    entry = left_entry;
+    listed = (0, refl);
+    shape = refl;
+    values = [];
+    meets = record { sorted = tt; met = tt };
+    leaves = tt;
+    labels = (refl, tt);
+  };
   not_right = λ h. other_shape (one_entry (λ (e : Entry). e.shape ≡ right_side act) left_entry h.entry h.listed h.shape);
-  not_another_label = λ h. other_gate h.values (one_entry (λ (e : Entry). EqualLabels sample_data (label_at e h.values) (gate_event gate_b [])) left_entry h.entry h.listed h.labels);
+  not_another_label = λ h. other_gate h.values (one_entry
+      (λ (e : Entry). EqualLabels sample_data (label_at e h.values) (gate_event gate_b [])) left_entry h.entry h.listed h.labels);
 }

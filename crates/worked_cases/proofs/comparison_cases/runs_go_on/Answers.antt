@@ -11,8 +11,10 @@ use Rattle.worked_cases.proofs.comparison_cases.runs_go_on.Goals as goal
 
 pub returns : goal.returns
 returns c = record {
-  two_moves = one_move (steps [] two_events act [] (gate_event gate_a []) (event gate_b stop) [] [] refl refl refl) (one_move (steps [] (event gate_b stop) act [] (gate_event gate_b []) stop [] [] refl refl refl) at_start);
-  kept = one_move (kept_steps [] giving_after_an_inner_event (let_bound inner_step) [] inner_event (giving one) [] [] refl refl refl) at_start;
+  two_moves = one_move (steps [] two_events act [] (gate_event gate_a []) (event gate_b stop) [] [] refl refl refl)
+      (one_move (steps [] (event gate_b stop) act [] (gate_event gate_b []) stop [] [] refl refl refl) at_start);
+  kept = one_move (kept_steps [] giving_after_an_inner_event (let_bound inner_step) [] inner_event (giving one) [] [] refl refl refl)
+      at_start;
   given = one_move (steps [] giving_after_an_inner_event (let_bound inner_step) [] inner_event (giving sum) [] [] refl refl refl) at_start;
   not_elsewhere = λ h. elim h [ ];
 }

@@ -42,7 +42,10 @@ returns c = record {
   value = refl;
   first = refl;
   meet = record {
-    ground = ((1, first.sorted, (values_in sample_signature (1 ∷ []) (two ∷ []) refl).0), ((1, nat_sorted, (values_in sample_signature (1 ∷ []) (one ∷ []) refl).0), tt));
+    ground = (
+      (1, first.sorted, (values_in sample_signature (1 ∷ []) (two ∷ []) refl).0),
+      ((1, nat_sorted, (values_in sample_signature (1 ∷ []) (one ∷ []) refl).0), tt),
+    );
     agree = (same_term two, (same_term one, tt));
     met = tt;
   };

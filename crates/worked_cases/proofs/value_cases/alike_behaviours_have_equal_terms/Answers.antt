@@ -18,7 +18,8 @@ sum_with_nought_is_the_same values h k =
     (sum_ground value nought (k 0 nat_sort (refl, refl)) (ground_in sample_signature nat_sort nought refl)) (k 0 nat_sort (refl, refl)) refl
 
 -- nothing is put for the variables of a closed term
-closed : (t : Term) (sort : ℕ) → term_passes sample_signature [] sort t ≡ true → (values : Substitution) → IsGrounding sample_signature t values
+closed : (t : Term) (sort : ℕ) → term_passes sample_signature [] sort t ≡ true → (values : Substitution)
+    → IsGrounding sample_signature t values
 closed t sort passes values n s o = absurd (ground_no_variable t (ground_in sample_signature sort t passes).ground n s o)
 
 -- 0 for every variable

@@ -15,7 +15,8 @@ use Rattle.worked_cases.proofs.ShownMenus.{menu, steps}
 use Rattle.worked_cases.proofs.value_cases.leaves_stand_in_order.Goals as goal
 
 -- A step with these leaves has two numbers.
-two_numbers : (leaves : List Term) (label : Label) (target : Behaviour) → Steps [] two_questions act leaves label target → AreValues sample_signature (nat_sort ∷ nat_sort ∷ []) leaves
+two_numbers : (leaves : List Term) (label : Label) (target : Behaviour) → Steps [] two_questions act leaves label target
+    → AreValues sample_signature (nat_sort ∷ nat_sort ∷ []) leaves
 two_numbers leaves label target d =
     let wanted : nat_sort ∷ nat_sort ∷ [] ≡ d.sorts = ap (λ (m : Move). m.sorts) (some_value d.move) in
     subst (λ (sorts : List ℕ). AreValues sample_signature sorts leaves) (sym wanted) d.leaves

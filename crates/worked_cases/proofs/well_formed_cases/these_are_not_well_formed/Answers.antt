@@ -20,8 +20,10 @@ no_successor sort h =
     truth_not_sorted (subst (λ (sorts : List ℕ). HaveSorts sample_signature (term_then truth no_terms) sorts) (sym arguments) h.3).0
 
 -- what a call of the process gives it has the sorts of its parameters
-given : (gates : List ℕ) (arguments : List Term) → IsCall sample_signature (counting ∷ []) [] 0 gates arguments → AreTermsIn sample_signature [] counting.parameters arguments
-given gates arguments h = subst (λ (p : Process). AreTermsIn sample_signature [] p.parameters arguments) (sym (some_value h.exists)) h.values
+given : (gates : List ℕ) (arguments : List Term) → IsCall sample_signature (counting ∷ []) [] 0 gates arguments
+    → AreTermsIn sample_signature [] counting.parameters arguments
+given gates arguments h = subst (λ (p : Process). AreTermsIn sample_signature [] p.parameters arguments) (sym (some_value h.exists))
+    h.values
 
 gates_given : (gates : List ℕ) (arguments : List Term) → IsCall sample_signature (counting ∷ []) [] 0 gates arguments → length gates ≡ 1
 gates_given gates arguments h = subst (λ (p : Process). length gates ≡ length p.gates) (sym (some_value h.exists)) h.gate_count
@@ -39,7 +41,8 @@ returns c = record {
   let_in_its_own_scope = λ h. absurd (cc (h.1.0.bound 0 nat_sort (refl, refl)));
   let_of_another_sort = λ h. truth_not_sorted h.1.0.sorted;
   asked_twice = λ h. absurd (cc (h.2.0 0 1 0 refl refl));
-  test_of_two_sorts = λ h. truth_not_sorted (subst (λ (sort : ℕ). HasSort sample_signature truth sort) (sort_of_nought h.0.sort h.0.left.sorted) h.0.right.sorted);
+  test_of_two_sorts = λ h. truth_not_sorted (subst (λ (sort : ℕ). HasSort sample_signature truth sort)
+      (sort_of_nought h.0.sort h.0.left.sorted) h.0.right.sorted);
   no_copies = λ h. h.1 refl;
   formal_gate_twice = λ h. absurd (cc (h.0.0 0 1 gate_x refl refl));
   missing_process = λ h. absurd (cc h.1.exists);

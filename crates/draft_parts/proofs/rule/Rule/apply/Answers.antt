@@ -9,7 +9,8 @@ returns-in_ok-below-in-Below-clause-over c = λ signature r h. c.in_ok-below-in-
 
 pub returns-in-Alone-clause-over : goal.returns-in-Alone-clause-over
 returns-in-Alone-clause-over c =
-    IfOk-weaker c.alone.result _ _ (λ o h. some_weaker c.args.draft (λ (signature : Signature). IsDraftRuleOver signature c.args.self.now) o h)
+    IfOk-weaker c.alone.result _ _ (λ o h. some_weaker c.args.draft (λ (signature : Signature). IsDraftRuleOver signature c.args.self.now) o
+    h)
     c.alone.ensures.over
 
 pub returns-in_ok-hidden-in-Hidden-clause-over : goal.returns-in_ok-hidden-in-Hidden-clause-over
@@ -20,5 +21,6 @@ returns-in_ok-relabelled-in-Relabelled-clause-over c = λ signature r h. c.in_ok
 
 pub returns-in-Enabled-clause-over : goal.returns-in-Enabled-clause-over
 returns-in-Enabled-clause-over c =
-    IfOk-weaker c.enabled.result _ _ (λ o h. some_weaker c.args.draft (λ (signature : Signature). IsDraftRuleOver signature c.args.self.now) o h)
+    IfOk-weaker c.enabled.result _ _ (λ o h. some_weaker c.args.draft (λ (signature : Signature). IsDraftRuleOver signature c.args.self.now)
+    o h)
     c.enabled.ensures.over

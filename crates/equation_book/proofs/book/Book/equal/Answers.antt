@@ -1,7 +1,8 @@
 use Rattle.std.proofs.Common.{sym, ◌∙◌}
 use Rattle.std.proofs.lemmas.Result.{IfOk-weaker}
 use Rattle.sort_terms.specs.SortedView.{profiled_in, term_in}
-use Rattle.equation_book.specs.BookCanon.{book_canon, book_chooses}
+use Rattle.equation_book.specs.BookCanon.{book_canon}
+use Rattle.equation_book.specs.BookCanonFacts.{book_chooses}
 use Rattle.equation_book.proofs.BookLemmas.{of_store, store_is_book, forms_decide}
 use Rattle.equation_book.proofs.book.Book.equal.Goals as goal
 

@@ -9,6 +9,7 @@ abbrev pub invariant-loop-left : goal.invariant-loop-left
 invariant-loop-left l =
     (conditions_of l.made.items ++ map (test_with (renaming_of l.self)) (conditions_of (into_iter_items l.left-iterator))
     ≡ map (test_with (renaming_of l.self)) (conditions_of (into_iter_items l.initial.left-iterator)))
-    × (condition_profiles l.made.items ++ map (pair_instance (profiled_renaming_of l.self)) (condition_profiles (into_iter_items l.left-iterator))
+    × (condition_profiles l.made.items ++ map (pair_instance (profiled_renaming_of l.self))
+    (condition_profiles (into_iter_items l.left-iterator))
     ≡ map (pair_instance (profiled_renaming_of l.self)) (condition_profiles (into_iter_items l.initial.left-iterator)))
     × (into_iter_len l.left-iterator ≡ length (into_iter_items l.left-iterator))

@@ -1,4 +1,7 @@
-use Rattle.std.proofs.Common.{◌≡◌, ◌++◌, ℕ, List, [], inl, inr, refl, codes, decimal}
+use Rattle.std.proofs.Common.{◌≡◌, ◌++◌, ℕ, List, [], inl, inr, refl, ap, ◌∙◌, subst, codes, decimal}
+use Rattle.lotos_base.specs.Name.{spelling}
+use Rattle.behaviour_tree.specs.declared.definitions.Spec.{Spec}
+use Rattle.session_histories.specs.Session.{SessionBasis}
 use Rattle.line_server.specs.Request.{replay}
 use Rattle.history_lines.specs.Standing.{shown_menu}
 use Rattle.history_lines.specs.LinesView.{basis_of, reached, standing_of}
@@ -33,11 +36,16 @@ returns-in-Err-clause-answered g c = λ name texts faults stands.
     let before = standing_of c.args.self.now texts in
     let after = standing_of c.take_all.new.self texts in
     let same : after ≡ before = same_standing after before c.in-Err.ensures.stays.basis c.in-Err.ensures.answered.0 refl in
-    either_way c.fault_line.result (λ line. AddsFault c.in-Err.fault [] line.items)
+    let named : c.spelled.result.now ≡ before.basis.specification.name =
+    c.spelled.ensures
+    ∙ (ap (λ (spec : Spec). spelling spec.name) c.spec.ensures
+    ∙ ap (λ (basis : SessionBasis). basis.specification.name) c.in-Err.ensures.stays.basis) in
+    either_way c.fault_line.result (λ line. AddsFault c.spelled.result.now c.in-Err.fault [] line.items)
     (λ line. GivesAnswer (moment_of before faults) (replay name) line.items (moment_of after faults))
     (λ _. IsBeforeOrBehind (moment_of before faults) (replay name) (moment_of after faults))
     (λ line adds.
     gives_refused before after faults name c.args.text.now line.items c.in-Err.fault stands c.requires.short
-    c.in-Err.ensures.answered.1 same adds)
+    c.in-Err.ensures.answered.1 same
+    (subst (λ (it : List ℕ). AddsFault it c.in-Err.fault [] line.items) named adds))
     (λ _. inl (is_as_before before after faults faults same refl))
     c.fault_line.ensures

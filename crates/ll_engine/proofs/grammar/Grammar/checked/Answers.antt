@@ -7,12 +7,15 @@ use Rattle.ll_engine.proofs.grammar.Grammar.checked.Goals as goal
 use Rattle.ll_engine.proofs.grammar.Grammar.checked.Goals.{In-Err}
 
 fault_of : (c : In-Err) → IsTableFaultOf (grammar_of c.args.rows.items c.args.parts c.args.tokens c.args.start) c.in-Err.fault
-fault_of c = subst (λ (rows : List Row). IsTableFaultOf (grammar_of rows c.args.parts c.args.tokens c.args.start) c.in-Err.fault) c.deref.ensures.value c.in-Err.ensures
+fault_of c = subst (λ (rows : List Row). IsTableFaultOf (grammar_of rows c.args.parts c.args.tokens c.args.start) c.in-Err.fault)
+    c.deref.ensures.value c.in-Err.ensures
 
 pub returns-in-Ok-clause-barren : goal.returns-in-Ok-clause-barren
 returns-in-Ok-clause-barren c =
-    let is = subst (λ (rows : List Row). IsChecked (grammar_of rows c.args.parts c.args.tokens c.args.start) c.in-Ok.entries.items) c.deref.ensures.value c.in-Ok.ensures in
-    λ part. exact_barren-ok (grammar_of c.args.rows.items c.args.parts c.args.tokens c.args.start) (grammar_of c.args.rows.items c.args.parts c.args.tokens c.args.start) is.predictive part
+    let is = subst (λ (rows : List Row). IsChecked (grammar_of rows c.args.parts c.args.tokens c.args.start) c.in-Ok.entries.items)
+    c.deref.ensures.value c.in-Ok.ensures in
+    λ part. exact_barren-ok (grammar_of c.args.rows.items c.args.parts c.args.tokens c.args.start)
+    (grammar_of c.args.rows.items c.args.parts c.args.tokens c.args.start) is.predictive part
 
 pub returns-in-Err-clause-ok : goal.returns-in-Err-clause-ok
 returns-in-Err-clause-ok c =

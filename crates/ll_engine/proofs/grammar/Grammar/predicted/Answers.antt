@@ -13,7 +13,8 @@ use Rattle.ll_engine.proofs.grammar.Grammar.predicted.Goals.{After-entry_at}
 checked : (c : After-entry_at) → IsChecked c.args.self.now c.in-Checked.entries.items
 checked c =
     let i = c.self.inside in
-    checked_at i.rows i.parts i.tokens i.start c.in-Checked.rows c.in-Checked.entries c.args.self.now c.self.invariant c.in-Checked.is c.self.view_is
+    checked_at i.rows i.parts i.tokens i.start c.in-Checked.rows c.in-Checked.entries c.args.self.now c.self.invariant c.in-Checked.is
+    c.self.view_is
 
 entry_is : (c : After-entry_at) → c.entry_at.result ≡ entry_at c.in-Checked.entries.items c.args.self.now.tokens c.args.part c.args.token
 entry_is c =
@@ -23,7 +24,8 @@ entry_is c =
 
 pub returns-in-Checked-clause-none : goal.returns-in-Checked-clause-none
 returns-in-Checked-clause-none c =
-    let P = (r : ℕ) (row : Production) → slice_get c.args.self.now.rows r ≡ Some row → row.left ≡ c.args.part → ¬ IsPredictedBy c.args.self.now row c.args.token in
+    let P = (r : ℕ) (row : Production) → slice_get c.args.self.now.rows r ≡ Some row → row.left ≡ c.args.part
+    → ¬ IsPredictedBy c.args.self.now row c.args.token in
     subst (λ (found : Option ℕ). IfNone found P) (sym (entry_is c))
     (entry_none c.args.self.now c.in-Checked.entries.items c.args.part c.args.token (checked c) c.requires.part c.requires.token)
 
@@ -35,13 +37,15 @@ returns-in-Checked-clause-some c =
 pub row_at-requires-clause-part : goal.row_at-requires-clause-part
 row_at-requires-clause-part c =
     let i = c.self.inside in
-    let written = written_at i.rows i.parts i.tokens i.start c.in-Written.table c.args.self.now c.self.invariant c.in-Written.is c.self.view_is in
+    let written = written_at i.rows i.parts i.tokens i.start c.in-Written.table c.args.self.now c.self.invariant c.in-Written.is
+    c.self.view_is in
     omega (arith, c.requires.part, written.0.one_each)
 
 pub returns-in-Written-clause-some : goal.returns-in-Written-clause-some
 returns-in-Written-clause-some c =
     let i = c.self.inside in
-    let written = written_at i.rows i.parts i.tokens i.start c.in-Written.table c.args.self.now c.self.invariant c.in-Written.is c.self.view_is in
+    let written = written_at i.rows i.parts i.tokens i.start c.in-Written.table c.args.self.now c.self.invariant c.in-Written.is
+    c.self.view_is in
     let found = row_some c.args.self.now c.in-Written.table.now c.args.part c.args.token written.0 written.1 c.requires.token in
     subst (λ (row : Option ℕ). IfSome row (IsOnlyRow c.args.self.now c.args.part c.args.token))
     (sym c.row_at.ensures) found

@@ -17,14 +17,16 @@ loop-i-preserved c =
     ∙ ap (λ (xs : List Symbol). xs ++ get_or right (length right - 1 - i) (Token 0) ∷ []) c.loop-i.invariant
     ∙ append_assoc old (take i (reverse right)) (get_or right (length right - 1 - i) (Token 0) ∷ [])
     ∙ ap (λ (xs : List Symbol). old ++ xs)
-    (ap (λ (x : Symbol). take i (reverse right) ++ x ∷ []) (sym (get_or-reverse right i (Token 0) (omega arith))) ∙ sym (take_more (reverse right) i (Token 0) within))
+    (ap (λ (x : Symbol). take i (reverse right) ++ x ∷ []) (sym (get_or-reverse right i (Token 0) (omega arith)))
+    ∙ sym (take_more (reverse right) i (Token 0) within))
 
 pub returns : goal.returns
 returns c = λ production is.
     let right = c.in-Some.right.now in
     let old = c.args.stack.now.items in
     let found : Some right ≡ Some production.right =
-    sym (ap (option_map (λ (r : Bor (List Symbol)). r.now)) c.in-Some.is) ∙ c.right_of.ensures ∙ ap (option_map (λ (p : Production). p.right)) is in
+    sym (ap (option_map (λ (r : Bor (List Symbol)). r.now)) c.in-Some.is) ∙ c.right_of.ensures
+    ∙ ap (option_map (λ (p : Production). p.right)) is in
     let right_is : right ≡ production.right = cc in
     let whole = take_all c.loop-i.i (reverse right) (let len = length-reverse right in omega arith) in
     ap reverse (c.loop-i.invariant ∙ ap (λ (xs : List Symbol). old ++ xs) whole)

@@ -5,16 +5,21 @@ use Rattle.ll_engine.proofs.relation.Relation.closed.Goals as goal
 use Rattle.ll_engine.proofs.relation.Relation.closed.Goals.{After-count_set-next_count}
 
 count_is : (c : After-count_set-next_count) → c.count_set-next_count.result ≡ set_count c.in_ok-next.next.bits.items
-count_is c = c.count_set-next_count.ensures ∙ sym (set_count-count_by c.deref-in-loop-relation.result.now) ∙ ap set_count c.deref-in-loop-relation.ensures.value
+count_is c = c.count_set-next_count.ensures ∙ sym (set_count-count_by c.deref-in-loop-relation.result.now)
+    ∙ ap set_count c.deref-in-loop-relation.ensures.value
 
 pub loop-relation-init : goal.loop-relation-init
-loop-relation-init c =
-    (IsOnTheWay-start c.args.self, c.count_set-count.ensures ∙ sym (set_count-count_by c.deref.result.now) ∙ ap set_count c.deref.ensures.value)
+loop-relation-init c = (
+  IsOnTheWay-start c.args.self,
+  c.count_set-count.ensures ∙ sym (set_count-count_by c.deref.result.now)
+      ∙ ap set_count c.deref.ensures.value,
+)
 
 pub returns-then-next_count-count : goal.returns-then-next_count-count
 returns-then-next_count-count c =
     IsClosureOf-same_count c.loop-relation.relation c.in_ok-next.next c.in_ok-next.ensures c.args.self c.loop-relation.invariant.0
-    (sym c.loop-relation.invariant.1 ∙ sym c.if-next_count-count.true ∙ count_is (goal.at.returns-then-next_count-count c).After-count_set-next_count)
+    (sym c.loop-relation.invariant.1 ∙ sym c.if-next_count-count.true
+    ∙ count_is (goal.at.returns-then-next_count-count c).After-count_set-next_count)
 
 pub loop-relation-smaller : goal.loop-relation-smaller
 loop-relation-smaller c =

@@ -22,9 +22,11 @@ returns-in_default-get t c =
 pub returns-in_default-2 : goal.returns-in_default-2
 returns-in_default-2 t c =
     let within : get_or c.args.path.now 0 0 < length c.deref.result.now = ltb-true _ _ (sym c.in-Some.ensures.lookup.0) in
-    let inside = put_into_argument c.args.path.now (term_of c.args.part.now) c.in-Node.operation c.in-Node.arguments c.in-Some.argument.now None c.in-len1-up.len_at_least
+    let inside = put_into_argument c.args.path.now (term_of c.args.part.now) c.in-Node.operation c.in-Node.arguments c.in-Some.argument.now
+    None c.in-len1-up.len_at_least
     (subst (λ (ts : List PlainTerm). get_or c.args.path.now 0 0 < length ts) c.deref.ensures.value within)
-    (subst (λ (ts : List PlainTerm). c.in-Some.argument.now ≡ get_or ts (get_or c.args.path.now 0 0) c.in-Some.argument.now) c.deref.ensures.value c.in-Some.ensures.lookup.1)
+    (subst (λ (ts : List PlainTerm). c.in-Some.argument.now ≡ get_or ts (get_or c.args.path.now 0 0) c.in-Some.argument.now)
+    c.deref.ensures.value c.in-Some.ensures.lookup.1)
     (ap (λ (o : Option PlainTerm). option_map term_of o) (sym c.in_default-2.is) ∙ c.in_ok-changed.ensures) in
     subst (λ (u : PlainTerm). None ≡ put_at c.args.path.now (term_of c.args.part.now) (term_of u)) (sym c.in-Node.is) inside
 
@@ -32,10 +34,14 @@ returns-in_default-2 t c =
 pub returns : goal.returns
 returns t c =
     let within : get_or c.args.path.now 0 0 < length c.deref.result.now = ltb-true _ _ (sym c.in-Some.ensures.lookup.0) in
-    let inside = put_into_argument c.args.path.now (term_of c.args.part.now) c.in-Node.operation c.in-Node.arguments c.in-Some.argument.now (Some (term_of c.in-Some-2.changed)) c.in-len1-up.len_at_least
+    let inside = put_into_argument c.args.path.now (term_of c.args.part.now) c.in-Node.operation c.in-Node.arguments c.in-Some.argument.now
+    (Some (term_of c.in-Some-2.changed)) c.in-len1-up.len_at_least
     (subst (λ (ts : List PlainTerm). get_or c.args.path.now 0 0 < length ts) c.deref.ensures.value within)
-    (subst (λ (ts : List PlainTerm). c.in-Some.argument.now ≡ get_or ts (get_or c.args.path.now 0 0) c.in-Some.argument.now) c.deref.ensures.value c.in-Some.ensures.lookup.1)
+    (subst (λ (ts : List PlainTerm). c.in-Some.argument.now ≡ get_or ts (get_or c.args.path.now 0 0) c.in-Some.argument.now)
+    c.deref.ensures.value c.in-Some.ensures.lookup.1)
     (ap (λ (o : Option PlainTerm). option_map term_of o) (sym c.in-Some-2.is) ∙ c.in_ok-changed.ensures) in
     ap (λ (u : Term). Some u) (term_of-Node c.in-Node.operation c.in_ok-with_argument.field-0)
     ∙ ap (λ ts. Some (node c.in-Node.operation ts)) c.in_ok-with_argument.ensures
-    ∙ subst (λ (u : PlainTerm). Some (node c.in-Node.operation (argument_put (get_or c.args.path.now 0 0) (term_of c.in-Some-2.changed) (arguments_of c.in-Node.arguments.items))) ≡ put_at c.args.path.now (term_of c.args.part.now) (term_of u)) (sym c.in-Node.is) inside
+    ∙ subst (λ (u : PlainTerm). Some (node c.in-Node.operation
+    (argument_put (get_or c.args.path.now 0 0) (term_of c.in-Some-2.changed) (arguments_of c.in-Node.arguments.items)))
+    ≡ put_at c.args.path.now (term_of c.args.part.now) (term_of u)) (sym c.in-Node.is) inside

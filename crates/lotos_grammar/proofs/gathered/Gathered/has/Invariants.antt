@@ -6,4 +6,5 @@ use Rattle.lotos_grammar.proofs.gathered.Gathered.has.Given as goal
 -- none of the libraries before this one has the name
 abbrev pub invariant-loop-library : goal.invariant-loop-library
 invariant-loop-library l =
-    is_read (map spelling (drop l.library-index l.library-items)) (spelling l.name) ≡ is_read (map spelling l.library-items) (spelling l.name)
+    is_read (map spelling (drop l.library-index l.library-items)) (spelling l.name)
+    ≡ is_read (map spelling l.library-items) (spelling l.name)

@@ -17,4 +17,6 @@ invariant_of-self-2 c = record {
       let long = length-set c.args.self.now.listed.items c.args.op true in omega (arith, less, long);
   once = subst (λ (xs : List ℕ). IsOnce xs) (sym c.in_ok-push.ensures.items)
       (once_more c.args.self.now.order.items c.args.op c.args.self.now.once c.requires.new);
+  even = length-set c.args.self.now.statuses.items c.args.op c.args.status ∙ c.args.self.now.even
+      ∙ sym (length-set c.args.self.now.listed.items c.args.op true);
 }

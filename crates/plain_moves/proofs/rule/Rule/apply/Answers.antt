@@ -8,7 +8,8 @@ use Rattle.plain_moves.proofs.rule.Rule.apply.Goals as goal
 
 pub returns : goal.returns
 returns c = λ signature.
-    by_parts (taken_of signature c.args.self.now (shaped_of c.args.part.now)) (shape_of c.in_ok-shape.shape.value) (label_of c.in-Some.label)
+    by_parts (taken_of signature c.args.self.now (shaped_of c.args.part.now)) (shape_of c.in_ok-shape.shape.value)
+    (label_of c.in-Some.label)
     (without_values c.in_ok-target.target.value)
     (ap (λ (o : Option PlainLabel). option_map label_of o) (sym c.in-Some.is) ∙ c.label.ensures signature)
     (c.in_ok-shape.ensures signature) (c.in_ok-target.ensures signature) (taken_asks_nothing signature c.args.self.now c.args.part.now)

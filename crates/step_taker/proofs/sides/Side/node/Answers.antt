@@ -35,5 +35,6 @@ returns-in-Standing-clause-terms c =
 
 pub returns-in-Standing-clause-closed_parts : goal.returns-in-Standing-clause-closed_parts
 returns-in-Standing-clause-closed_parts c =
-    IfOk-weaker c.owner.result _ _ (λ made e signature specification h state. parts_as made.value _ e (states_have_parts c.in-Standing.node.now.value
+    IfOk-weaker c.owner.result _ _ (λ made e signature specification h state.
+    parts_as made.value _ e (states_have_parts c.in-Standing.node.now.value
     (subst (λ (side : Side). IsSideState side) c.in-Standing.is state))) c.owner.ensures

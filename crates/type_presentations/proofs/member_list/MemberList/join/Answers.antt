@@ -59,7 +59,8 @@ returns-clause-members g c =
     (map g.T.Keyed.plain (drop c.loop-member.member-index c.as_slice-member-items.result.now)))
     (map (g.T.Keyed.image_by (number_in c.args.sorts.now)) (map g.T.Keyed.plain c.as_slice-member-items.result.now))
     c.loop-member.numbers.items c.loop-member.member-index c.loop-member.clash c.loop-member.invariant.1
-    (none_due c.as_slice-member-items.result.now c.loop-member.member-index g.T.Keyed.plain (g.T.Keyed.image_by (number_in c.args.sorts.now))
+    (none_due c.as_slice-member-items.result.now c.loop-member.member-index g.T.Keyed.plain
+    (g.T.Keyed.image_by (number_in c.args.sorts.now))
     c.loop-member-test.false) in
     at_end.members
     ∙ ap (λ (xs : List g.T.Keyed.Plain). with_new g.T.Keyed.are_same (members_by g.T.Keyed.plain c.args.self.now) xs)
@@ -75,7 +76,8 @@ returns-clause-numbers g c = λ n.
     (map g.T.Keyed.plain (drop c.loop-member.member-index c.as_slice-member-items.result.now)))
     (map (g.T.Keyed.image_by (number_in c.args.sorts.now)) (map g.T.Keyed.plain c.as_slice-member-items.result.now))
     c.loop-member.numbers.items c.loop-member.member-index c.loop-member.clash c.loop-member.invariant.1
-    (none_due c.as_slice-member-items.result.now c.loop-member.member-index g.T.Keyed.plain (g.T.Keyed.image_by (number_in c.args.sorts.now))
+    (none_due c.as_slice-member-items.result.now c.loop-member.member-index g.T.Keyed.plain
+    (g.T.Keyed.image_by (number_in c.args.sorts.now))
     c.loop-member-test.false) in
     numbers_at_end g.T.Keyed.are_same
     (λ (o : g.T.Keyed.Plain). itself_by_key g.T.Keyed.key_of g.T.Keyed.are_same g.met.T.Keyed.same_keys o)

@@ -15,4 +15,5 @@ returns-clause-sound c =
     refl c.requires.sound c.requires.presentation
 
 pub returns-clause-presented : goal.returns-clause-presented
-returns-clause-presented c = mapped_and_last presented_of c.args.self.now.types.items c.push.new.self.items _ _ c.in_ok-push.ensures.items refl
+returns-clause-presented c = mapped_and_last presented_of c.args.self.now.types.items c.push.new.self.items _ _ c.in_ok-push.ensures.items
+    refl

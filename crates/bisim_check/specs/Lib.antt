@@ -1,0 +1,4 @@
+pub mod LineTexts
+pub mod LineView
+pub mod OneByOne
+pub mod Agreeing

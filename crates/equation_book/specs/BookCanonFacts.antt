@@ -1,0 +1,27 @@
+-- The canon of a book gives chosen forms, and is a canon of the data of the book.
+use Rattle.lotos_base.specs.Canon.{IsCanon}
+use Rattle.rewriting_theory.specs.ChosenForm.{Chooses}
+use Rattle.termination_theory.specs.Orientation.{IsOrientation}
+use Rattle.termination_theory.proofs.ChosenCanonLemmas.{chosen_canon}
+use Rattle.sort_terms.specs.EquationView.{data_of}
+use Rattle.path_order.specs.RulesView.{rules_in, plain_rules_in, precedence_in}
+use Rattle.path_order.proofs.RulesLemmas.{rules_have_forms}
+use Rattle.path_order.proofs.RuleTestLemmas.{test_gives}
+use Rattle.critical_pairs.proofs.JoinedLemmas.{joined_confluent}
+use Rattle.equation_book.specs.SortedSidesFacts.{sorted_sides}
+use Rattle.equation_book.specs.BookCanon.{book_canon}
+use Rattle.equation_book.specs.declared.book.Book.{Book}
+
+-- it is the chosen form
+pub book_chooses : (book : Book) → Chooses (plain_rules_in book.joined.rules) (book_canon book)
+book_chooses book t = (rules_have_forms book.joined.rules t).1
+
+-- the rules are those of the data
+pub book_oriented : (book : Book) → IsOrientation (precedence_in book.joined.rules) (data_of book.flat) (rules_in book.joined.rules)
+book_oriented book = test_gives (precedence_in book.joined.rules) 0 (data_of book.flat).equations (rules_in book.joined.rules) book.oriented
+
+-- so it is a canon of the data
+pub book_is_canon : (book : Book) → IsCanon (data_of book.flat) (book_canon book)
+book_is_canon book =
+    chosen_canon (precedence_in book.joined.rules) (data_of book.flat) (rules_in book.joined.rules) (book_canon book)
+    (sorted_sides book.flat book.sides) (book_oriented book) (joined_confluent book.joined) (book_chooses book)

@@ -1,0 +1,4 @@
+pub mod NumberedNames
+pub mod GivenApart
+pub mod EquationApart
+pub mod PlainManner

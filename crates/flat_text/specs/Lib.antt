@@ -1,0 +1,9 @@
+pub mod FreeNames
+pub mod GivenNames
+pub mod EquationNames
+pub mod DataText
+pub mod BehaviourBy
+pub mod FlatText
+pub mod FlatCases
+pub mod NameLaws
+pub mod MannerLaws

@@ -1,0 +1,5 @@
+pub mod ListLemmas
+pub mod TermLists
+pub mod BinderLemmas
+pub mod NodeLemmas
+pub mod ActionLemmas

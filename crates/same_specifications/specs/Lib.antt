@@ -1,0 +1,2 @@
+pub mod SameSpecification
+pub mod SameSpecificationLaws

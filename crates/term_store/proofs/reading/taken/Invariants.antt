@@ -1,7 +1,0 @@
-use Rattle.std.proofs.Common.{◌≡◌, ◌++◌, length, map}
-use Rattle.sort_terms.specs.TermView.{profiled_of}
-use Rattle.term_store.specs.Made.{made_of}
-use Rattle.term_store.proofs.reading.taken.Given as goal
-
-abbrev pub invariant-loop-index : goal.invariant-loop-index
-invariant-loop-index l = (length l.terms.items ≡ l._index) × (made_of l.initial.made.items ≡ map profiled_of l.terms.items ++ made_of l.made.items)

@@ -1,4 +1,0 @@
-pub mod GateLemmas
-pub mod ScopeLemmas
-pub mod DeclaredLemmas
-mod EntryLemmas

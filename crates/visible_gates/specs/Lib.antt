@@ -1,3 +1,0 @@
-pub mod VisibleGates
-pub mod DeclaredGates
-pub mod EntryGates
