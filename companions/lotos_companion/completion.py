@@ -10,7 +10,7 @@ from .data_names import Operation
 
 FILE_COMMANDS = ("save", "save!", "replay")
 TERM_COMMANDS = ("normal", "equal")
-ENTRY_COMMANDS = ("step", "which")
+ENTRY_COMMANDS = ("step", "which", "instances")
 LAST_NAME = re.compile(r"[^ \t,()!]*$")
 
 

@@ -202,7 +202,7 @@ class Shell:
     def _help(self, _rest: str) -> None:
         for word, command in self._commands.items():
             self._screen.own(f"{word} {command.words}".ljust(22) + f"  {command.what}")
-        self._screen.own("undo, trace, replay NAME, show and quit are the program's, as all other lines")
+        self._screen.own("undo, trace, values SORT K, instances N K, replay NAME, show and quit are the program's, as all other lines")
 
     def _find(self, rest: str) -> None:
         menu = self.play.menu

@@ -4,3 +4,13 @@ pub mod NumberTexts
 pub mod CutLines
 pub mod LineReadings
 pub mod DataLemmas
+pub mod AnswerLemmas
+pub mod TargetLemmas
+pub mod SurveyLemmas
+pub mod ReadingLemmas
+pub mod MatchLemmas
+pub mod PairLemmas
+pub mod GateLemmas
+pub mod LabelLemmas
+pub mod StartLemmas
+pub mod IndexLemmas

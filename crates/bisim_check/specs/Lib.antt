@@ -2,3 +2,10 @@ pub mod LineTexts
 pub mod LineView
 pub mod OneByOne
 pub mod Agreeing
+pub mod Surveys
+pub mod Faults
+pub mod Readings
+pub mod NamedOnes
+pub mod Matching
+pub mod Events
+pub mod PairIndex

@@ -1,3 +1,4 @@
 pub mod WalkLemmas
 pub mod SummaryLemmas
 pub mod TextLemmas
+pub mod HandedOn

@@ -1,6 +1,6 @@
 -- The summary, part by part.
 use Rattle.std.proofs.Common.{◌≡◌, ℕ, List, [], ◌++◌, length, map, codes, decimal, Option, option_map, sym, ap, ◌∙◌, subst}
-use Rattle.session_log.proofs.ReplayLemmas.{over_same}
+use Rattle.history_lines.proofs.HandedOn.{over_same}
 use Rattle.lotos_base.proofs.Pieces.{two_pieces}
 use Rattle.lotos_base.specs.Equation.{Data}
 use Rattle.lotos_base.specs.Term.{Term}
@@ -9,13 +9,8 @@ use Rattle.sort_terms.specs.EquationView.{data_of}
 use Rattle.sort_terms.specs.SignatureView.{signature_of}
 use Rattle.sort_terms.specs.declared.equations.Flat.{Flat}
 use Rattle.behaviour_semantics.specs.Label.{Label}
-use Rattle.behaviour_tree.specs.MoveView.{label_of}
-use Rattle.behaviour_tree.specs.declared.definitions.Spec.{Spec}
-use Rattle.session_histories.specs.Session.{Progress, opened}
-use Rattle.session_log.specs.CourseView.{basis_over, past_of, progress_of, situation_of}
-use Rattle.session_log.specs.declared.courses.Course.{Course}
-use Rattle.session_log.specs.declared.courses.Past.{Past}
-use Rattle.session_log.specs.declared.sessions.Session.{Session}
+use Rattle.history_lines.specs.HandedOn.{Progress, opened, basis_over, past_of, progress_of, situation_of, Course, Past, Session, label_of}
+use Rattle.history_lines.specs.HandedOn.{Spec}
 use Rattle.demo_walks.specs.DemoWalk.{WalkValues, AreWalkValues, GoesThrough, walk_steps}
 use Rattle.demo_walks.specs.DemoSummary.{IsSummary, entries_seen, sizes_line, summary_text, text_of_last}
 use Rattle.demo_walks.specs.WalkView.{IsOnWalk, reached, written_summary}

@@ -1,17 +1,11 @@
 -- Walks, step by step.
 use Rattle.std.proofs.Common.{◌≡◌, ◌≤◌, ℕ, zero, suc, ◌+◌, ◌*◌, List, [], ◌∷◌, ◌++◌, length, map, Option, None, Some, option_map, refl, sym, ap, ◌∙◌, subst, arith, add-one}
-use Rattle.session_log.proofs.ReplayLemmas.{over_same}
+use Rattle.history_lines.proofs.HandedOn.{over_same}
 use Rattle.lotos_base.specs.Equation.{Data}
 use Rattle.lotos_base.specs.Term.{Term}
 use Rattle.behaviour_semantics.specs.Label.{Label}
-use Rattle.behaviour_tree.specs.MoveView.{label_of}
-use Rattle.behaviour_tree.specs.declared.definitions.Spec.{Spec}
-use Rattle.session_histories.specs.Session.{SessionBasis, Item, PastStep, Situation, Progress, stepped}
-use Rattle.session_histories.specs.Lawful.{HasStepped}
-use Rattle.session_histories.specs.Refusal.{StepRefusal, step_refusal}
-use Rattle.session_log.specs.CourseView.{basis_over}
-use Rattle.session_log.specs.Kept.{IsLawfulSession}
-use Rattle.session_log.specs.declared.sessions.Session.{Session}
+use Rattle.history_lines.specs.HandedOn.{SessionBasis, Item, PastStep, Situation, Progress, stepped, HasStepped, StepRefusal, step_refusal}
+use Rattle.history_lines.specs.HandedOn.{basis_over, IsLawfulSession, Session, label_of, Spec}
 use Rattle.demo_walks.specs.DemoWalk.{WalkStep, WalkValues, Goes, GoesThrough, cell_step, round_steps, rounds_steps, is_refused}
 use Rattle.demo_walks.specs.DemoSummary.{entries_before, entries_seen, later_label, last_label}
 use Rattle.demo_walks.specs.WalkView.{IsOnWalk, most_entries, reached}

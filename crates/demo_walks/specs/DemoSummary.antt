@@ -3,8 +3,7 @@ use Rattle.std.specs.Prelude.{◌≡◌, ℕ, ◌+◌, List, [], ◌∷◌, ◌+
 use Rattle.lotos_base.specs.Equation.{Data}
 use Rattle.lotos_base.specs.Signature.{Signature}
 use Rattle.behaviour_semantics.specs.Label.{Label}
-use Rattle.printed_texts.specs.MenuText.{label_text}
-use Rattle.session_histories.specs.Session.{SessionBasis, PastStep, Situation, Progress}
+use Rattle.history_lines.specs.HandedOn.{label_text, SessionBasis, PastStep, Situation, Progress}
 use Rattle.demo_walks.specs.DemoWalk.{IsDemoWalk}
 
 -- how many entries the menus have in which the steps were taken

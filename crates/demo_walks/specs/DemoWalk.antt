@@ -6,9 +6,7 @@ use Rattle.lotos_base.specs.Equation.{Place}
 use Rattle.lotos_base.specs.Signature.{Signature, prefix_form}
 use Rattle.lotos_base.specs.Term.{Term}
 use Rattle.behaviour_semantics.specs.Label.{Label}
-use Rattle.session_histories.specs.Session.{SessionBasis, Situation, Progress, opened}
-use Rattle.session_histories.specs.Refusal.{StepRefusal, step_refusal}
-use Rattle.session_histories.specs.Lawful.{HasStepped}
+use Rattle.history_lines.specs.HandedOn.{SessionBasis, Situation, Progress, opened, StepRefusal, step_refusal, HasStepped}
 
 -- where terms stand that are in no text
 abbrev pub no_place : Place

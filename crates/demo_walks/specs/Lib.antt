@@ -3,3 +3,4 @@ pub mod DemoSummary
 pub mod WalkView
 pub mod WalkCases
 pub mod DemoText
+pub mod HandedOn

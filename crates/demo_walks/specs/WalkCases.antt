@@ -3,8 +3,7 @@ use Rattle.std.specs.Prelude.{◌≡◌, ℕ, List, [], ◌∷◌, None, Some, c
 use Rattle.lotos_base.specs.Term.{Term}
 use Rattle.behaviour_semantics.specs.Behaviour.{stop}
 use Rattle.behaviour_semantics.specs.Label.{gate_event, inner_event}
-use Rattle.session_histories.specs.Session.{Situation, PastStep, Progress}
-use Rattle.session_histories.specs.RefusalCases.{choice_entry, item, nought, small_basis, small_menu, succ}
+use Rattle.history_lines.specs.HandedOn.{Situation, PastStep, Progress, choice_entry, item, nought, small_basis, small_menu, succ}
 use Rattle.demo_walks.specs.DemoWalk.{WalkStep, WalkValues, round_steps, rounds_steps, walk_steps}
 use Rattle.demo_walks.specs.DemoSummary.{entries_seen, last_label, summary_text}
 

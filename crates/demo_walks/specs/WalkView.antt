@@ -4,8 +4,6 @@ use Rattle.lotos_base.specs.Signature.{Signature}
 use Rattle.lotos_base.specs.Sorting.{IsGround}
 use Rattle.lotos_base.specs.Term.{Term}
 use Rattle.lotos_base.specs.Equation.{Data}
-use Rattle.behaviour_tree.specs.MoveView.{label_of}
-use Rattle.behaviour_tree.specs.declared.definitions.Spec.{Spec}
 use Rattle.lotos_base.specs.Name.{spelling}
 use Rattle.sort_terms.specs.EquationView.{data_of}
 use Rattle.sort_terms.specs.ProfiledTerm.{IsOf}
@@ -13,10 +11,7 @@ use Rattle.sort_terms.specs.SignatureView.{signature_of}
 use Rattle.sort_terms.specs.SortedView.{profiled_in, term_in}
 use Rattle.sort_terms.specs.declared.equations.Flat.{Flat}
 use Rattle.sort_terms.specs.declared.sorted.Sorted.{Sorted}
-use Rattle.session_histories.specs.Session.{Progress}
-use Rattle.session_log.specs.CourseView.{progress_of}
-use Rattle.session_log.specs.Kept.{IsLawfulSession}
-use Rattle.session_log.specs.declared.sessions.Session.{Session}
+use Rattle.history_lines.specs.HandedOn.{Progress, progress_of, IsLawfulSession, Session, label_of, Spec}
 use Rattle.demo_walks.specs.DemoWalk.{WalkValues}
 use Rattle.demo_walks.specs.DemoSummary.{entries_seen, last_label, sizes_line, text_of_last}
 use Rattle.demo_walks.specs.declared.values.CellValues.{CellValues}

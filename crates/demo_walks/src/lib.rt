@@ -9,5 +9,11 @@ pub mod texts;
 pub mod values;
 pub mod walking;
 
+pub use history_lines::laws::{lines_lead_on, served_lines_are_answered};
+pub use history_lines::{
+    Book, FreshMenus, HistoryLines, MenuMaker, Ranks, Served, Session, Spec, StepFault,
+    StepRefusal, menu_text, push_number, push_text, read_terms, serve, serve_input, take,
+    term_text,
+};
 pub use summaries::write_summary;
 pub use texts::demo_text;

@@ -1,12 +1,15 @@
 //! The summary of the walk.
 
-ghost use Rattle.behaviour_tree.specs.MoveView.{label_of};
 ghost use Rattle.demo_walks.specs.DemoSummary.{IsSummary, sizes_line, text_of_last};
 ghost use Rattle.demo_walks.specs.WalkView.{written_summary};
-ghost use Rattle.equation_book.specs.BookCanon.{book_canon};
+ghost use Rattle.history_lines.specs.HandedOn.{
+  IsLawfulSession,
+  basis_over,
+  book_canon,
+  label_of,
+  progress_of,
+};
 ghost use Rattle.lotos_base.specs.Name.{spelling};
-ghost use Rattle.session_log.specs.CourseView.{basis_over, progress_of};
-ghost use Rattle.session_log.specs.Kept.{IsLawfulSession};
 ghost use Rattle.sort_terms.specs.EquationView.{data_of};
 ghost use Rattle.sort_terms.specs.SignatureView.{signature_of};
 ghost use Rattle.std.specs.Prelude.{◌≡◌, ◌++◌, ℕ, [], List, MatchResult, OnOk, map, option_map};
@@ -14,12 +17,8 @@ ghost use Rattle.std.specs.Prelude.{◌≡◌, ◌++◌, ℕ, [], List, MatchRes
 use crate::tallies::Tally;
 use crate::values::CellValues;
 use crate::walking::walk;
-use behaviour_tree::{Label, Spec};
-use equation_book::Book;
+use history_lines::{Book, Label, MenuMaker, Session, Spec, label_text, push_number, push_text};
 use lotos_base::NoMemory;
-use printed_texts::brackets::{push_number, push_text};
-use printed_texts::label_text;
-use session_log::{MenuMaker, Session};
 use sort_terms::{Flat, Signature};
 use std::alloc::Global;
 

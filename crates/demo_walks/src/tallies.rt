@@ -1,12 +1,11 @@
 //! What is seen on a walk.
 
-ghost use Rattle.behaviour_tree.specs.MoveView.{label_of};
-ghost use Rattle.std.specs.Prelude.{◌≡◌, ◌+◌, ◌*◌, ◌≤◌, [], Some, length, option_map};
+ghost use Rattle.history_lines.specs.HandedOn.{label_of};
 ghost use Rattle.lotos_base.specs.Equation.{Data};
 ghost use Rattle.lotos_base.specs.Term.{Term};
+ghost use Rattle.std.specs.Prelude.{◌≡◌, ◌+◌, ◌*◌, ◌≤◌, [], Some, length, option_map};
 
-use behaviour_tree::Label;
-use session_log::{MenuMaker, Session};
+use history_lines::{Label, MenuMaker, Session};
 
 /// What is seen on a walk through a session.
 #[derive(Debug, Drop)]
@@ -21,7 +20,7 @@ pub struct Tally {
 
 impl Tally {
     ghost use Rattle.demo_walks.specs.WalkView.{IsOnWalk, most_entries, reached};
-    ghost use Rattle.session_log.specs.Kept.{IsLawfulSession};
+    ghost use Rattle.history_lines.specs.HandedOn.{IsLawfulSession};
 
     /// What is seen of a session that has taken no step: its menu.
     pub fn begin<M: MenuMaker>(session: &Session<M>) -> Tally

@@ -3,8 +3,8 @@
 ghost use Rattle.demo_walks.specs.DemoText.{cell_line, cell_lines, demo_text, numeral, repeated};
 ghost use Rattle.std.specs.Prelude.{◌≡◌, ◌++◌, IfOk, OnOk};
 
+use history_lines::push_text;
 use lotos_base::NoMemory;
-use printed_texts::brackets::push_text;
 use std::alloc::Global;
 
 /// The data, up to the bracket that opens before the cells.

@@ -1,6 +1,5 @@
 //! The values that the cells put.
 
-ghost use Rattle.behaviour_tree.specs.BehaviourView.{terms_of};
 ghost use Rattle.demo_walks.specs.DemoWalk.{
   AreWalkValues,
   IsValueOf,
@@ -16,13 +15,13 @@ ghost use Rattle.demo_walks.specs.WalkView.{
   IsGivenValue,
   values_of,
 };
+ghost use Rattle.history_lines.specs.HandedOn.{AreGiven, terms_of};
+ghost use Rattle.lotos_base.specs.Signature.{Signature as PlainSignature};
 ghost use Rattle.lotos_base.specs.WrittenTerm.{written_terms};
 ghost use Rattle.lotos_base.specs.WrittenView.{written_term_of, written_terms_of};
-ghost use Rattle.session_log.specs.Entries.{AreGiven};
 ghost use Rattle.sort_terms.specs.SignatureView.{signature_of};
 ghost use Rattle.sort_terms.specs.SortedView.{term_in};
 ghost use Rattle.std.specs.Prelude.{◌≡◌, ◌∷◌, [], IfOk, IfSome, option_map};
-ghost use Rattle.lotos_base.specs.Signature.{Signature as PlainSignature};
 
 use lotos_base::{Form, Name, NoMemory, Place, Written};
 use sort_terms::{Signature, SortFault, Sorted, read_in};

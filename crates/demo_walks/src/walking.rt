@@ -1,6 +1,5 @@
 //! The walk, step by step.
 
-ghost use Rattle.behaviour_tree.specs.BehaviourView.{terms_of};
 ghost use Rattle.demo_walks.specs.DemoWalk.{
   Goes,
   GoesThrough,
@@ -10,17 +9,20 @@ ghost use Rattle.demo_walks.specs.DemoWalk.{
   walk_steps,
 };
 ghost use Rattle.demo_walks.specs.WalkView.{AreGivenValues, IsOnWalk, reached, values_of};
-ghost use Rattle.event_offers.specs.Keeping.{KeepsData};
-ghost use Rattle.session_histories.specs.Refusal.{StepRefusal as PlainRefusal};
-ghost use Rattle.session_log.specs.CourseView.{basis_over};
-ghost use Rattle.session_log.specs.Entries.{AreGiven};
-ghost use Rattle.session_log.specs.RefusalView.{TellsStep};
+ghost use Rattle.history_lines.specs.HandedOn.{
+  AreGiven,
+  KeepsData,
+  StepRefusal as PlainRefusal,
+  TellsStep,
+  basis_over,
+  terms_of,
+};
 ghost use Rattle.std.specs.Prelude.{◌≡◌, OnOk, Option, Some};
 
 use crate::tallies::Tally;
 use crate::values::CellValues;
+use history_lines::{MenuMaker, Session, StepRefusal};
 use lotos_base::NoMemory;
-use session_log::{MenuMaker, Session, StepRefusal};
 use sort_terms::{Deciding, Sorted};
 use std::alloc::Global;
 

@@ -43,13 +43,13 @@ fn texts(alloc: Global, types: &[u8], sort: u32, size: u32) -> Result<String, Fa
     Ok(text)
 }
 
-const SUMS: &[u8] =
-    b"type T is sorts N opns 0, a : -> N _+_ : N, N -> N eqns forall x, y, z : N ofsort N (x + y) + z = x + (y + z); x + 0 = x; 0 + x = x; endtype";
+const SUMS: &[u8] = b"type T is sorts N opns 0, a : -> N _+_ : N, N -> N \
+      eqns forall x, y, z : N ofsort N (x + y) + z = x + (y + z); x + 0 = x; 0 + x = x; endtype";
 
 const TREES: &[u8] = b"type T is sorts N opns a, b : -> N f : N, N -> N endtype";
 
-const ALL_EQUAL: &[u8] =
-    b"type T is sorts N, E opns a, b : -> N f : N -> N g : E -> N eqns forall x : N ofsort N f(x) = x; b = a; endtype";
+const ALL_EQUAL: &[u8] = b"type T is sorts N, E opns a, b : -> N f : N -> N g : E -> N \
+      eqns forall x : N ofsort N f(x) = x; b = a; endtype";
 
 const ORDERED: &[u8] = b"type T is sorts N, M opns p : N, M -> M c : -> M b, a : -> N endtype";
 

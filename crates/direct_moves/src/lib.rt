@@ -5,4 +5,6 @@
 #[cfg(test)]
 mod drafts;
 #[cfg(test)]
+mod identical;
+#[cfg(test)]
 mod moves;

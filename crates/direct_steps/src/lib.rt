@@ -1,12 +1,15 @@
-//! What only a direct call shows of behaviours and sessions: derivations that no menu has, steps
-//! with values of another sort, and menus of large states. It holds tests alone; whole runs are the
-//! cases of `case_tables`.
+//! What only a direct call shows of behaviours, sessions and flat texts: derivations that no menu
+//! has, steps with values of another sort, menus of large states, and flat texts that are written
+//! byte for byte and accepted again. It holds tests alone; whole runs are the cases of
+//! `case_tables`.
 #![tactic(auto)]
 
 #[cfg(test)]
 mod accepted;
 #[cfg(test)]
 mod demonstrations;
+#[cfg(test)]
+mod flat_texts;
 #[cfg(test)]
 mod makers;
 #[cfg(test)]

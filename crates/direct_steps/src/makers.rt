@@ -1,26 +1,23 @@
 //! Menus by an object that is short of answers, and of a state that no session reaches soon.
 
-ghost use Rattle.spec_acceptance.specs.Acceptance.{Acceptance};
 ghost use Rattle.behaviour_semantics.specs.Behaviour.{no_gates, parallel, stop};
 ghost use Rattle.behaviour_tree.specs.Closed.{IsClosedNode};
 ghost use Rattle.behaviour_tree.specs.Over.{IsSpecOver, IsStateOf};
 ghost use Rattle.behaviour_tree.specs.StateView.{node_profiles, stands_for};
 ghost use Rattle.behaviour_tree.specs.declared.definitions.Spec.{Spec as WholeSpec};
-ghost use Rattle.equation_book.specs.BookCanon.{book_canon};
-ghost use Rattle.equation_book.specs.BookCanonFacts.{book_is_canon};
-ghost use Rattle.process_checks.specs.Ranks.{AreRanksOf};
-ghost use Rattle.sort_terms.specs.EquationView.{data_of};
-ghost use Rattle.spec_acceptance.specs.AcceptedView.{HoldsAccepted};
-ghost use Rattle.std.specs.Prelude.{◌≡◌, IfOk};
+ghost use Rattle.demo_walks.specs.HandedOn.{AreRanksOf, book_canon};
 ghost use Rattle.lotos_base.specs.Signature.{IsWellFormedSignature, Signature};
+ghost use Rattle.sort_terms.specs.EquationView.{data_of};
+ghost use Rattle.spec_acceptance.specs.Acceptance.{Acceptance};
+ghost use Rattle.spec_acceptance.specs.AcceptedView.{HoldsAccepted};
+ghost use Rattle.spec_acceptance.specs.HandedOn.{book_is_canon};
+ghost use Rattle.std.specs.Prelude.{◌≡◌, IfOk};
 
 use crate::accepted::accept;
 use behaviour_tree::boxes::shared;
 use behaviour_tree::{Meet, Node, Spec, State};
-use equation_book::Book;
+use demo_walks::{Book, FreshMenus, MenuMaker, Ranks};
 use lotos_base::NoMemory;
-use menu_builder::{FreshMenus, MenuMaker};
-use process_checks::Ranks;
 use sort_terms::{Deciding, Sorted};
 use spec_acceptance::Accepted;
 use std::alloc::Global;
@@ -142,12 +139,12 @@ fn below(alloc: Global, accepted: Accepted, levels: u32) -> Result<usize, NoMemo
 }
 
 #[test]
-fn a_state_of_ten_thousand_levels(rt: HostRuntime) -> Result<(), Fail> {
+fn a_state_of_four_thousand_levels(rt: HostRuntime) -> Result<(), Fail> {
     let alloc = rt.alloc();
     let accepted = accept(
         alloc,
         "specification S [a] : noexit behaviour a; stop endspec",
     )?;
-    assert_eq!(rt; below(alloc, accepted, 10_000)?, 1);
+    assert_eq!(rt; below(alloc, accepted, 4_000)?, 1);
     Ok(())
 }

@@ -1,20 +1,16 @@
 //! Steps of sessions with values that no line gives.
 
-ghost use Rattle.spec_acceptance.specs.Acceptance.{Acceptance};
-ghost use Rattle.equation_book.specs.BookCanon.{book_canon};
-ghost use Rattle.session_log.specs.Entries.{AreGiven};
-ghost use Rattle.session_log.specs.Kept.{IsLawfulSession};
+ghost use Rattle.demo_walks.specs.HandedOn.{AreGiven, IsLawfulSession, book_canon};
 ghost use Rattle.sort_terms.specs.EquationView.{data_of};
 ghost use Rattle.sort_terms.specs.SignatureView.{signature_of};
+ghost use Rattle.spec_acceptance.specs.Acceptance.{Acceptance};
 ghost use Rattle.spec_acceptance.specs.AcceptedView.{HoldsAccepted};
 ghost use Rattle.std.specs.Prelude.{IfOk};
 
 use crate::accepted::accept;
 use demo_walks::values::CellValues;
-use equation_book::Book;
+use demo_walks::{Book, FreshMenus, Session, StepRefusal};
 use lotos_base::NoMemory;
-use menu_builder::FreshMenus;
-use session_log::{Session, StepRefusal};
 use sort_terms::{Signature, Sorted};
 use spec_acceptance::Accepted;
 use std::alloc::Global;

@@ -11,6 +11,7 @@ ghost use Rattle.lotos_base.specs.Equality.{Equal};
 ghost use Rattle.lotos_base.specs.Sorting.{IsGround};
 
 use crate::book::Book;
+use crate::depths::of_held_depth;
 use lotos_base::NoMemory;
 use sort_terms::{Deciding, Sorted};
 
@@ -22,12 +23,12 @@ impl Deciding for Book {
     ghost is_canon = { λ it. book_is_canon it };
 
     fn normal(&mut self, term: &Sorted) -> Result<Sorted, NoMemory> {
-        self.normal_form(term)
+        self.value_form(term)
     }
 }
 
 impl Book {
-    /// The normal form of the term. The data and the rules stay as they are.
+    /// The normal form of the term, however deep. The data and the rules stay as they are.
     pub fn normal_form(&mut self, term: &Sorted) -> Result<Sorted, NoMemory>
         requires { IsOf (signature_of self.old.flat.signature) (profiled_in term.now) }
         ensures canonical { IfOk result
@@ -38,6 +39,21 @@ impl Book {
         ensures joined { self.new.joined ≡ self.old.joined }
     {
         self.store.canonical_term(term)
+    }
+
+    /// The normal form of a value that a menu or a state is to have. Where more than 10,000
+    /// operations stand one in another, this is want of memory. The data and the rules stay as
+    /// they are.
+    pub fn value_form(&mut self, term: &Sorted) -> Result<Sorted, NoMemory>
+        requires { IsOf (signature_of self.old.flat.signature) (profiled_in term.now) }
+        ensures canonical { IfOk result
+            (λ form. term_in form ≡ book_canon self.old (term_in term.now)) }
+        ensures is_of { IfOk result
+            (λ form. IsOf (signature_of self.old.flat.signature) (profiled_in form)) }
+        ensures flat { self.new.flat ≡ self.old.flat }
+        ensures joined { self.new.joined ≡ self.old.joined }
+    {
+        of_held_depth(self.normal_form(term)?)
     }
 
     /// Whether the equations derive the equality of the two ground terms.

@@ -5,6 +5,7 @@
 pub mod book;
 pub mod book_fault;
 pub mod deciding;
+mod depths;
 pub mod opening;
 
 pub use book::Book;

@@ -3,13 +3,6 @@ pub mod RenamingLemmas
 pub mod ChangedLemmas
 pub mod JoinLemmas
 pub mod ValueLemmas
-pub mod VariableLemmas
-pub mod ChangingLemmas
-pub mod GroundLemmas
-pub mod LackLemmas
-pub mod FindingLemmas
-pub mod SolvingWay
-pub mod EntryLemmas
 pub mod InstanceLemmas
 pub mod SampleDrafts
 pub mod KeepingLemmas

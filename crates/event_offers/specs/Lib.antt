@@ -4,8 +4,5 @@ pub mod Offers
 pub mod Joining
 pub mod Values
 pub mod Keeping
-pub mod Changing
-pub mod Finding
-pub mod Variables
 pub mod Instances
 pub mod HandedOn

@@ -1,8 +1,8 @@
-//! Drafts and entries of menus: joining the drafts of two sides of a parallel, and solving a draft
-//! (ISO 8807:1989, behaviour expressions: synchronisation of value offers).
+//! Drafts and entries of menus, their variables numbered anew or with values put for them, and
+//! joining the drafts of two sides of a parallel (ISO 8807:1989, behaviour expressions:
+//! synchronisation of value offers).
 #![tactic(auto)]
 
-pub mod changing;
 pub mod copies;
 pub mod drafts;
 pub mod entries;
@@ -11,14 +11,10 @@ pub mod labels;
 pub mod lists;
 pub mod menus;
 pub mod renaming;
-pub mod replacements;
 pub mod shapes;
-pub mod solving;
 pub mod valued;
-pub mod variables;
 
 pub use behaviour_tree::{Label, Spec};
 pub use drafts::{Draft, Entry};
 pub use joining::join_offers;
 pub use menus::Menu;
-pub use solving::solve;

@@ -1,4 +1,10 @@
 pub mod NumberedNames
 pub mod GivenApart
 pub mod EquationApart
-pub mod PlainManner
+pub mod TableLemmas
+pub mod GivingLemmas
+pub mod LongerNames
+pub mod GivenLemmas
+pub mod FilledLists
+pub mod MorePieces
+pub mod SideSorts

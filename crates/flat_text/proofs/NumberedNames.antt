@@ -123,7 +123,7 @@ all_taken taken word number (suc many) each q h =
     ]
 
 -- So many taken names with numbers in a row are no more than there are taken names.
-enough : (taken : List (List ℕ)) (word : List ℕ) (number many : ℕ) → number + many < 2 ^ 64
+pub enough : (taken : List (List ℕ)) (word : List ℕ) (number many : ℕ) → number + many < 2 ^ 64
     → ((k : ℕ) → number ≤ k → k < number + many → has_name taken (with_number word k) ≡ true) → many ≤ length taken
 enough taken word number many few each =
     let within : length (candidates word number many) ≤ length taken =

@@ -1,6 +1,5 @@
 -- The names that the processes of a specification are given, so that no two of them have one name.
-use Rattle.std.specs.Prelude.{ℕ, List, [], ◌∷◌, ◌++◌, map, if◌then◌else◌, codes}
-use Rattle.behaviour_semantics.specs.Behaviour.{Process, Specification}
+use Rattle.std.specs.Prelude.{ℕ, List, [], ◌∷◌, ◌++◌, if◌then◌else◌, codes}
 use Rattle.flat_text.specs.FreeNames.{has_name, with_number, least_free}
 
 -- a name with its number behind a `_`, which is the least from 2 that gives no taken name: `P_2`
@@ -20,7 +19,3 @@ given_behind earlier taken (name ∷ names) =
 -- The names that are given in the place of these. A name with a number differs from all of them and from all names given before.
 abbrev pub given_names : List (List ℕ) → List (List ℕ)
 given_names names = given_behind [] names names
-
--- of the processes of a specification
-abbrev pub process_names : Specification → List (List ℕ)
-process_names specification = map (λ (p : Process). p.name) specification.processes

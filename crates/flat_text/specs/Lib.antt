@@ -2,8 +2,9 @@ pub mod FreeNames
 pub mod GivenNames
 pub mod EquationNames
 pub mod DataText
-pub mod BehaviourBy
 pub mod FlatText
 pub mod FlatCases
 pub mod NameLaws
-pub mod MannerLaws
+pub mod WritingView
+pub mod GivingView
+pub mod NamesView

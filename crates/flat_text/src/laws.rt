@@ -1,7 +1,6 @@
-//! The laws of the names in flat texts, and of their manner. Each function carries a law as its
-//! contract and does nothing.
+//! The laws of the names in flat texts. Each function carries a law as its contract and does
+//! nothing.
 
-ghost use Rattle.flat_text.specs.MannerLaws.{PlainTextsAreOfThePlainManner};
 ghost use Rattle.flat_text.specs.NameLaws.{
   EquationNamesAreApart,
   GivenNamesAreApart,
@@ -23,10 +22,4 @@ pub fn given_names_are_apart()
 /// an operation, in whichever form and letter case.
 pub fn equation_names_are_apart()
     ensures { EquationNamesAreApart }
-{}
-
-/// With both sides of premisses and the processes' own names, the text of a behaviour is the one
-/// that is printed.
-pub fn plain_texts_are_of_the_plain_manner()
-    ensures { PlainTextsAreOfThePlainManner }
 {}

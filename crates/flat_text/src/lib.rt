@@ -3,4 +3,12 @@
 #![tactic(auto)]
 
 pub mod cases;
+pub mod data_lines;
+pub mod equation_names;
+pub mod free_names;
+pub mod given_names;
+pub mod headings;
 pub mod laws;
+pub mod texts;
+
+pub use texts::write_flat;

@@ -3,7 +3,7 @@ use Rattle.std.proofs.Common.{◌≡◌, ℕ, List, [], refl}
 use Rattle.lotos_base.specs.declared.places.Place.{Place}
 use Rattle.lotos_lexer.specs.Tokens as lexed
 use Rattle.lotos_lexer.specs.Tokens.{tokens_of}
-use Rattle.sentence_trees.specs.declared.fault.ReadFault.TheVariants.{BadByte, OpenComment}
+use Rattle.session_log.specs.HandedOn.{BadByte, OpenComment}
 use Rattle.lotos_rows.specs.Words.{left_out}
 use Rattle.session_lines.specs.Refusal.{AreTerms, AreUnread}
 

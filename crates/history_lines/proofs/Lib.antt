@@ -15,3 +15,5 @@ mod CaseLemmas
 pub mod StepOnceLemmas
 pub mod LineOnceLemmas
 pub mod ReportOnceLemmas
+pub mod ListingLemmas
+pub mod HandedOn

@@ -3,8 +3,8 @@ use Rattle.std.proofs.Common.{◌≡◌, ◌<◌, ◌≤◌, ℕ, Bool, true, fa
 use Rattle.std.proofs.lemmas.Slice.Eq.{bytes_eq-Decides}
 use Rattle.session_log.proofs.CourseLemmas.{situation_now}
 use Rattle.lotos_base.specs.Outside.{Texts, Puts}
-use Rattle.line_server.specs.Request.{Request, skip, show_menu, show_behaviour, show_trace, undo, leave, no_request, take_step, save, replay, show_normal, compare}
-use Rattle.sentence_trees.specs.ReadingLaws.{TextsHaveOneOutcome}
+use Rattle.line_server.specs.Request.{Request, skip, show_menu, show_behaviour, show_trace, undo, leave, no_request, take_step, save, replay, show_normal, compare, list_values, list_instances}
+use Rattle.session_log.specs.HandedOn.{TextsHaveOneOutcome}
 use Rattle.sort_terms.specs.ReadingLaws.{ReadingComesToOneThing}
 use Rattle.behaviour_semantics.proofs.OptionLemmas.{some_value}
 use Rattle.session_histories.specs.Session.{PastStep, Progress, first_situation, HasUndone}
@@ -16,6 +16,9 @@ use Rattle.session_histories.proofs.ReplayLemmas.{no_stop}
 use Rattle.session_lines.specs.Answer as questions
 use Rattle.session_lines.specs.Answer.{normal_text, comparison_text}
 use Rattle.session_lines.specs.AnswerLaws.{QuestionsHaveOneAnswer}
+use Rattle.list_lines.specs.ListLaws.{InstancesHaveOneAnswer, ValuesHaveOneAnswer}
+use Rattle.list_lines.specs.ListOutcome.{ListOutcome, EntryInstances}
+use Rattle.list_lines.specs.ListText.{instances_text, values_text}
 use Rattle.lotos_base.specs.Term.{Term}
 use Rattle.history_lines.specs.OutcomeLaws.{IsLawfulStanding, AreAlike}
 use Rattle.history_lines.specs.Standing.{Standing, shown_trace}
@@ -175,7 +178,8 @@ ready follow standing h = record {
 }
 
 module _ (follow : SessionsFollowDerivations) (stay : SessionsStayLawful) (steps : StepsAreExact) (exact : ReplayIsExact)
-    (texts : TextsHaveOneOutcome) (readings : ReadingComesToOneThing) (answers : QuestionsHaveOneAnswer) where
+    (texts : TextsHaveOneOutcome) (readings : ReadingComesToOneThing) (answers : QuestionsHaveOneAnswer) (values : ValuesHaveOneAnswer)
+    (instances : InstancesHaveOneAnswer) where
   pub line_once : (standing : Standing) (told : Texts) (request : Request) (one other : Befallen) → IsLawfulStanding standing
       → standing.texts ≡ Some told → RequestComesTo standing request one → RequestComesTo standing request other → one.faulty ≡ false
       → other.faulty ≡ false → one ≡ other
@@ -203,6 +207,16 @@ module _ (follow : SessionsFollowDerivations) (stay : SessionsStayLawful) (steps
       h.2
       ∙ (ap (λ (it : questions.QuestionOutcome Bool). says standing (comparison_text it))
       (answers.comparison standing.basis.data_ terms h.0 k.0 h.1 k.1)
+      ∙ sym k.2)
+  line_once standing told (list_values name size) one other lawful tells h k f g =
+      h.2
+      ∙ (ap (λ (it : ListOutcome (List Term)). says standing (values_text standing.basis it))
+      (values standing.basis name size h.0 k.0 lawful.over.signature h.1 k.1)
+      ∙ sym k.2)
+  line_once standing told (list_instances number size) one other lawful tells h k f g =
+      h.2
+      ∙ (ap (λ (it : ListOutcome EntryInstances). says standing (instances_text standing.basis number it))
+      (instances standing.basis standing.progress.situation.menu number size h.0 k.0 h.1 k.1)
       ∙ sym k.2)
 
 -- ---- Faults of the shelf
@@ -254,3 +268,5 @@ line_failed standing (save name) one other h k f g = save_failed standing name o
 line_failed standing (replay name) one other h k f g = replay_failed standing name one other h k f g
 line_failed standing (show_normal terms) one other h k f g = absurd (said_well standing one _ h.2 refl f)
 line_failed standing (compare terms) one other h k f g = absurd (said_well standing one _ h.2 refl f)
+line_failed standing (list_values name size) one other h k f g = absurd (said_well standing one _ h.2 refl f)
+line_failed standing (list_instances number size) one other h k f g = absurd (said_well standing one _ h.2 refl f)

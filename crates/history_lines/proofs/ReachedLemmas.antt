@@ -5,7 +5,7 @@ use Rattle.lotos_base.specs.Outside.{Texts}
 use Rattle.behaviour_semantics.specs.Alike.{Alike}
 use Rattle.behaviour_semantics.specs.Behaviour.{Behaviour}
 use Rattle.behaviour_semantics.specs.Rule.{as_given}
-use Rattle.line_server.specs.Request.{Request, skip, show_menu, show_behaviour, show_trace, undo, leave, no_request, take_step, save, replay, show_normal, compare, request_of}
+use Rattle.line_server.specs.Request.{Request, skip, show_menu, show_behaviour, show_trace, undo, leave, no_request, take_step, save, replay, show_normal, compare, list_values, list_instances, request_of}
 use Rattle.session_histories.specs.Session.{SessionBasis, Situation, PastStep, first_of, first_situation}
 use Rattle.session_histories.specs.Lawful.{IsSituation, LeadTo, IsLawful, IsLawfulFrom, HasStepped}
 use Rattle.session_histories.specs.Replay.{ReplayIs, goes_on}
@@ -154,6 +154,8 @@ request_led stay begun standing (save name) it is comes = save_led begun standin
 request_led stay begun standing (replay name) it is comes = replay_led begun standing name it is comes
 request_led stay begun standing (show_normal terms) it is comes = stays_led begun standing it _ is comes.2 refl
 request_led stay begun standing (compare terms) it is comes = stays_led begun standing it _ is comes.2 refl
+request_led stay begun standing (list_values name size) it is comes = stays_led begun standing it _ is comes.2 refl
+request_led stay begun standing (list_instances number size) it is comes = stays_led begun standing it _ is comes.2 refl
 
 pub line_reached : SessionsFollowDerivations → SessionsStayLawful → (begun : Beginning) (standing : Standing) (line : List ℕ)
     (it : Befallen) → CanBegin begun → IsReached begun standing → LineComesTo standing line it → IsReached begun it.reply.next

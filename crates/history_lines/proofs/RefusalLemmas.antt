@@ -16,7 +16,8 @@ five_pieces before a b c d e =
     ∙ (ap (λ (it : List ℕ). it ++ e) (append_assoc before (a ++ b ++ c) d) ∙ append_assoc before (a ++ b ++ c ++ d) e)
 
 -- the line of a step that is refused, by its number
-pub step_added : (name : List ℕ) (line : ℕ) (refusal : Option plain.StepRefusal) (code before after : List ℕ) → number_for refusal ≡ Some code
+pub step_added : (name : List ℕ) (line : ℕ) (refusal : Option plain.StepRefusal) (code before after : List ℕ)
+    → number_for refusal ≡ Some code
     → after ≡ before ++ codes "refused 812 Step line " ++ decimal line ++ codes " " ++ code ++ codes "\n"
     → IsSomeAnd (at_line line refusal) (λ (why : ReplayRefusal). after ≡ before ++ replay_refusal_text name why)
 step_added name line None code before after e h = absurd (cc e)

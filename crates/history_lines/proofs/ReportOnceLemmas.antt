@@ -1,7 +1,7 @@
 -- The lines of a text have one report.
 use Rattle.std.proofs.Common.{◌≡◌, ℕ, true, false, List, [], ◌∷◌, ◌++◌, Option, None, Some, refl, ap, sym, ◌∙◌, subst}
 use Rattle.lotos_base.specs.Outside.{Texts}
-use Rattle.line_server.specs.Request.{Request, skip, show_menu, show_behaviour, show_trace, undo, leave, no_request, take_step, save, replay, show_normal, compare, request_of}
+use Rattle.line_server.specs.Request.{Request, skip, show_menu, show_behaviour, show_trace, undo, leave, no_request, take_step, save, replay, show_normal, compare, list_values, list_instances, request_of}
 use Rattle.session_histories.specs.Session.{SessionBasis, Situation, first_situation}
 use Rattle.session_histories.specs.Lawful.{IsLawful}
 use Rattle.session_histories.specs.SessionLaws.{IsStateOver}
@@ -73,6 +73,8 @@ line_tells standing (save name) it tells h = save_tells standing name it tells h
 line_tells standing (replay name) it tells h = replay_tells standing name it tells h
 line_tells standing (show_normal terms) it tells h = tells_still standing it _ tells h.2 refl
 line_tells standing (compare terms) it tells h = tells_still standing it _ tells h.2 refl
+line_tells standing (list_values name size) it tells h = tells_still standing it _ tells h.2 refl
+line_tells standing (list_instances number size) it tells h = tells_still standing it _ tells h.2 refl
 
 -- ---- Reports
 

@@ -1,6 +1,6 @@
 -- Lines that were served, by what the answers to their requests say.
 use Rattle.std.proofs.Common.{◌≡◌, inl, inr, ℕ, List, [], ◌++◌, refl, ap, sym, ◌∙◌, subst}
-use Rattle.line_server.specs.Request.{Request, skip, show_menu, show_behaviour, show_trace, undo, leave, no_request, take_step, save, replay, show_normal, compare, request_of}
+use Rattle.line_server.specs.Request.{Request, skip, show_menu, show_behaviour, show_trace, undo, leave, no_request, take_step, save, replay, show_normal, compare, list_values, list_instances, request_of}
 use Rattle.line_server.specs.Serving.{ServesLine}
 use Rattle.line_server.specs.declared.lines.Answer.{Answer}
 use Rattle.history_lines.specs.Standing.{Standing}
@@ -27,6 +27,8 @@ may_call standing (save name) before after (inr is) = inr is.1
 may_call standing (replay name) before after is = is
 may_call standing (show_normal terms) before after is = is
 may_call standing (compare terms) before after is = is
+may_call standing (list_values name size) before after is = is
+may_call standing (list_instances number size) before after is = is
 
 pub appends_reply : (before after : SessionPoint) (line : List ℕ) (wanted : Request) (answer text text_after : List ℕ) (served : Served)
     → wanted ≡ request_of line → ends_behind served ≡ ends_session wanted

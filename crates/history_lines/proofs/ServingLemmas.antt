@@ -5,13 +5,16 @@ use Rattle.lotos_base.specs.Outside.{Texts}
 use Rattle.lotos_base.specs.Signature.{Signature}
 use Rattle.behaviour_semantics.specs.Label.{Label}
 use Rattle.line_server.specs.RequestLaws.{Carries}
-use Rattle.line_server.specs.Request.{Request, take_step, undo, leave, show_normal, compare}
+use Rattle.line_server.specs.Request.{Request, take_step, undo, leave, show_normal, compare, list_values, list_instances}
 use Rattle.session_histories.specs.Session.{SessionBasis, HasUndone}
 use Rattle.history_lines.specs.Standing.{Standing}
 use Rattle.history_lines.specs.CommandRefusal.{CommandRefusal, command_refusal_text}
 use Rattle.history_lines.specs.Befallen.{Befallen, says, says_faulty, leaves, come_to}
 use Rattle.session_lines.specs.Answer.{IsNormalAnswer, IsComparison, normal_text, comparison_text}
 use Rattle.session_lines.specs.View.{AddsOutcome}
+use Rattle.list_lines.specs.ListOutcome.{ValuesComeTo, InstancesComeTo}
+use Rattle.list_lines.specs.ListText.{values_text, instances_text}
+use Rattle.list_lines.specs.ListView.{AddsList}
 use Rattle.session_log.specs.Courses.{IsUndone}
 use Rattle.history_lines.specs.StepAnswer.{took, declined, StepComesTo}
 use Rattle.history_lines.specs.ShelfAnswer.{refusal_in}
@@ -163,6 +166,28 @@ pub said_comparison : (before after : Standing) (faults : ℕ) (terms start text
 said_comparison before after faults terms start text none same adds =
     gives_said before after before faults faults (compare terms) text (comparison_text adds.0)
     (adds.0, adds.1, refl) refl (adds.2 ∙ ap (λ (it : List ℕ). it ++ comparison_text adds.0) none) same refl
+
+-- a list that was added
+pub said_values : {T E : Type 0} (result : Result T E) (before : Standing) (faults : ℕ) (items : T → List ℕ) (name : List ℕ) (size : ℕ)
+    → IfOk result (λ (line : T). AddsList (ValuesComeTo before.basis name size) (values_text before.basis) [] (items line))
+    → MatchResult result
+    (λ (line : T). GivesAnswer (moment_of before faults) (list_values name size) (items line) (moment_of before faults))
+    (λ _. IsBeforeOrBehind (moment_of before faults) (list_values name size) (moment_of before faults))
+said_values {T} {E} result before faults items name size is =
+    either_way result (λ (line : T). AddsList (ValuesComeTo before.basis name size) (values_text before.basis) [] (items line))
+    (λ (line : T). GivesAnswer (moment_of before faults) (list_values name size) (items line) (moment_of before faults))
+    (λ (e : E). IsBeforeOrBehind (moment_of before faults) (list_values name size) (moment_of before faults))
+    (λ line adds.
+    gives_said before before before faults faults (list_values name size) (items line) (values_text before.basis adds.0)
+    (adds.0, adds.1, refl) refl adds.2 refl refl)
+    (λ e. inl (is_as_before before before faults faults refl refl)) is
+
+pub said_instances : (before after : Standing) (faults number size : ℕ) (start text : List ℕ) → start ≡ [] → after ≡ before
+    → AddsList (InstancesComeTo before.basis before.progress.situation.menu number size) (instances_text before.basis number) start text
+    → GivesAnswer (moment_of before faults) (list_instances number size) text (moment_of after faults)
+said_instances before after faults number size start text none same adds =
+    gives_said before after before faults faults (list_instances number size) text (instances_text before.basis number adds.0)
+    (adds.0, adds.1, refl) refl (adds.2 ∙ ap (λ (it : List ℕ). it ++ instances_text before.basis number adds.0) none) same refl
 
 -- the same behind an equal moment
 pub at_moment : {T E : Type 0} (result : Result T E) (before after other : SessionMoment) (items : T → List ℕ) (wanted : Request)

@@ -131,11 +131,13 @@ gives_replayed before after faults name got text count stands short comes same k
 pub gives_refused : (before after : Standing) (faults : ℕ) (name got text : List ℕ) (fault : ReplayFault)
     → StandsUnder before.texts name got → length got ≤ trace_limit
     → TellsReplay (λ why. ReplayIs before.basis (first_situation before.progress) got (stops why)) fault → after ≡ before
-    → AddsFault before.basis.specification.name fault [] text → GivesAnswer (moment_of before faults) (replay name) text (moment_of after faults)
+    → AddsFault before.basis.specification.name fault [] text
+    → GivesAnswer (moment_of before faults) (replay name) text (moment_of after faults)
 gives_refused before after faults name got text fault stands short told same adds = by fault told adds
   where
     here : (why : ReplayRefusal) → ReplayIs before.basis (first_situation before.progress) got (stops why)
-        → text ≡ replay_refusal_text before.basis.specification.name why → GivesAnswer (moment_of before faults) (replay name) text (moment_of after faults)
+        → text ≡ replay_refusal_text before.basis.specification.name why
+        → GivesAnswer (moment_of before faults) (replay name) text (moment_of after faults)
     here why comes printed =
         gives_said before after before faults faults (replay name) text (refusal_in before (no_replay before.basis.specification.name why))
         (is_refused got why stands short comes) refl printed same refl
@@ -150,7 +152,8 @@ gives_refused before after faults name got text fault stands short told same add
         (λ (why : ReplayRefusal). text ≡ [] ++ replay_refusal_text before.basis.specification.name why)) h.1 added)
 
     by : (it : ReplayFault) → TellsReplay (λ why. ReplayIs before.basis (first_situation before.progress) got (stops why)) it
-        → AddsFault before.basis.specification.name it [] text → GivesAnswer (moment_of before faults) (replay name) text (moment_of after faults)
+        → AddsFault before.basis.specification.name it [] text
+        → GivesAnswer (moment_of before faults) (replay name) text (moment_of after faults)
     by (replay_fault.BadLine line) h added = here (in_line line bad_line) h added
     by (replay_fault.OtherSpecification kept) h added = here (other_specification kept.items) h added
     by (replay_fault.LabelDiffers line kept found) h added = here (in_line line (label_differs kept.items found.items)) h added

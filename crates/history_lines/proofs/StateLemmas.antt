@@ -1,11 +1,7 @@
 -- The text of a state, over the signature of the data and over what a session holds.
 use Rattle.std.proofs.Common.{◌≡◌, ℕ, List, [], ◌++◌, codes, ◌∙◌}
 use Rattle.lotos_base.specs.Signature.{Signature}
-use Rattle.behaviour_tree.specs.DefinitionView.{specification_of}
-use Rattle.behaviour_tree.specs.StateView.{state_of}
-use Rattle.behaviour_tree.specs.declared.definitions.Spec.{Spec}
-use Rattle.behaviour_tree.specs.declared.states.State.{State}
-use Rattle.printed_texts.specs.BehaviourText.{state_text}
+use Rattle.session_log.specs.HandedOn.{state_text, specification_of, state_of, Spec, State}
 use Rattle.history_lines.proofs.TextPieces.{fresh_two}
 
 pub state_here : (shown data_ : Signature) (given kept : Spec) (told reached : State) (start one after : List ℕ) → shown ≡ data_

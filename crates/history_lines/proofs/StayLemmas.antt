@@ -2,7 +2,7 @@
 use Rattle.std.proofs.Common.{◌≡◌, ap, sym, ◌∙◌, subst}
 use Rattle.lotos_base.specs.Term.{Term}
 use Rattle.lotos_base.specs.Equation.{Data}
-use Rattle.behaviour_tree.specs.declared.definitions.Spec.{Spec}
+use Rattle.session_log.specs.HandedOn.{Spec}
 use Rattle.sort_terms.specs.EquationView.{data_of}
 use Rattle.session_lines.specs.HandedOn.{book_canon}
 use Rattle.session_lines.specs.HandedOn.{Book}

@@ -3,9 +3,8 @@ use Rattle.std.proofs.Common.{◌≡◌, ℕ, List, length, Option, Some, refl, 
 use Rattle.behaviour_semantics.proofs.SupplyLemmas.{length-values}
 use Rattle.session_log.proofs.ReplayLemmas.{read_values}
 use Rattle.lotos_base.specs.WrittenTerm.{WrittenTerm}
-use Rattle.sentence_trees.specs.Reading.{IsTermsFault}
-use Rattle.sentence_trees.specs.declared.fault.ReadFault.{ReadFault}
-use Rattle.sentence_trees.specs.declared.fault.ReadFault.TheVariants as fault
+use Rattle.session_log.specs.HandedOn.{IsTermsFault, ReadFault}
+use Rattle.session_log.specs.HandedOn.read_faults as fault
 use Rattle.lotos_base.specs.Term.{Term}
 use Rattle.sort_terms.specs.SortedView.{term_in}
 use Rattle.behaviour_semantics.specs.Fault.{first_of_two}

@@ -3,10 +3,7 @@ use Rattle.std.proofs.Common.{◌≡◌, ℕ, List, [], ◌++◌, map, codes, de
 use Rattle.lotos_base.specs.Name.{spelling}
 use Rattle.lotos_base.specs.Signature.{Signature}
 use Rattle.behaviour_semantics.specs.Label.{Label}
-use Rattle.behaviour_tree.specs.declared.definitions.Spec.{Spec}
-use Rattle.event_offers.specs.declared.menus.Menu.{Menu}
-use Rattle.menu_builder.specs.Menus.{entries_in}
-use Rattle.printed_texts.specs.MenuText.{label_text, menu_text}
+use Rattle.session_log.specs.HandedOn.{entries_in, Menu, label_text, menu_text, Spec}
 
 abbrev pub label_of_spec : Signature → Spec → Label → List ℕ
 label_of_spec signature spec label = label_text signature (map spelling spec.gate_names.items) label

@@ -20,9 +20,7 @@ use Rattle.sort_terms.specs.declared.sort_faults.SortFault.TheVariants as sort_f
 use Rattle.sort_terms.specs.declared.sorted.Sorted.{Sorted}
 use Rattle.sort_terms.proofs.OutcomeLemmas.{read_ground, is_reading}
 use Rattle.behaviour_semantics.proofs.ListLemmas.{Every-append}
-use Rattle.behaviour_tree.specs.BehaviourTerms.{profiles_of}
-use Rattle.behaviour_tree.specs.BehaviourView.{terms_of}
-use Rattle.behaviour_tree.specs.Over.{AreTermsOf}
+use Rattle.session_log.specs.HandedOn.{profiles_of, terms_of, AreTermsOf}
 use Rattle.session_histories.specs.Replay.{AreRead}
 use Rattle.session_lines.specs.View.{refused_for_term}
 use Rattle.session_log.specs.Entries.{AreGiven}

@@ -2,11 +2,13 @@
 use Rattle.std.specs.Prelude.{◌≡◌, ℕ, Bool, List, [], ◌++◌, codes}
 use Rattle.lotos_base.specs.Term.{Term}
 use Rattle.behaviour_semantics.specs.Label.{Label}
-use Rattle.line_server.specs.Request.{Request, skip, show_menu, show_behaviour, show_trace, undo, leave, no_request, take_step, save, replay, show_normal, compare, request_of}
+use Rattle.line_server.specs.Request.{Request, skip, show_menu, show_behaviour, show_trace, undo, leave, no_request, take_step, save, replay, show_normal, compare, list_values, list_instances, request_of}
 use Rattle.session_histories.specs.Session.{SessionBasis, Progress, HasUndone}
 use Rattle.session_histories.specs.Replay.{shown_label}
 use Rattle.session_lines.specs.Answer.{QuestionOutcome, IsNormalAnswer, IsComparison, normal_text, comparison_text}
 use Rattle.session_lines.specs.Refusal.{bad_command}
+use Rattle.list_lines.specs.ListOutcome.{ListOutcome, EntryInstances, ValuesComeTo, InstancesComeTo}
+use Rattle.list_lines.specs.ListText.{values_text, instances_text}
 use Rattle.history_lines.specs.Standing.{Standing, shown_menu, state_line, shown_trace}
 use Rattle.history_lines.specs.CommandRefusal.{ill_formed}
 use Rattle.history_lines.specs.Befallen.{Befallen, says, leaves, come_to}
@@ -49,6 +51,12 @@ RequestComesTo standing (compare terms) it =
 RequestComesTo standing (show_normal terms) it =
     (outcome : QuestionOutcome Term) × IsNormalAnswer standing.basis.data_.signature standing.basis.canon terms outcome
     × (it ≡ says standing (normal_text standing.basis.data_.signature outcome))
+RequestComesTo standing (list_values name size) it =
+    (outcome : ListOutcome (List Term)) × ValuesComeTo standing.basis name size outcome
+    × (it ≡ says standing (values_text standing.basis outcome))
+RequestComesTo standing (list_instances number size) it =
+    (outcome : ListOutcome EntryInstances) × InstancesComeTo standing.basis standing.progress.situation.menu number size outcome
+    × (it ≡ says standing (instances_text standing.basis number outcome))
 RequestComesTo standing show_behaviour it = it ≡ says standing (state_line standing.basis standing.progress)
 RequestComesTo standing leave it = it ≡ leaves standing
 RequestComesTo standing no_request it = it ≡ says standing (refusal_in standing (ill_formed bad_command))

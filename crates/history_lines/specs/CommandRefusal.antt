@@ -2,7 +2,7 @@
 -- is to be told of it.
 use Rattle.std.specs.Prelude.{ℕ, List, ◌++◌, codes, decimal}
 use Rattle.lotos_base.specs.Signature.{Signature}
-use Rattle.printed_texts.specs.MenuText.{entry_term_text}
+use Rattle.session_log.specs.HandedOn.{entry_term_text}
 use Rattle.session_histories.specs.Refusal.{StepRefusal, no_entry, value_count, value_sort, unmet}
 use Rattle.session_histories.specs.Replay.{LineRefusal, bad_line, step_refused, label_differs, state_differs, ReplayRefusal, in_line, other_specification}
 use Rattle.session_lines.specs.Refusal.{QuestionRefusal, refusal_text}

@@ -3,7 +3,7 @@ use Rattle.std.specs.Prelude.{◌≡◌, ℕ, Option}
 use Rattle.lotos_base.specs.Outside.{Texts}
 use Rattle.lotos_base.specs.Term.{Term}
 use Rattle.lotos_base.specs.Equation.{Data}
-use Rattle.behaviour_tree.specs.declared.definitions.Spec.{Spec}
+use Rattle.session_log.specs.HandedOn.{Spec}
 use Rattle.sort_terms.specs.EquationView.{data_of}
 use Rattle.sort_terms.specs.ReaderView.{signature_read}
 use Rattle.sort_terms.specs.SignatureView.{signature_of}

@@ -1,7 +1,7 @@
 -- The refusals that those of the code stand for, and the lines that are added for them.
 use Rattle.std.specs.Prelude.{◌≡◌, ℕ, List, ◌++◌, Option, None, Some, IsSomeAnd}
 use Rattle.lotos_base.specs.Signature.{Signature}
-use Rattle.sentence_trees.specs.declared.fault.ReadFault.{ReadFault}
+use Rattle.session_log.specs.HandedOn.{ReadFault}
 use Rattle.session_histories.specs.Refusal as plain
 use Rattle.session_histories.specs.Replay.{ReplayRefusal, in_line, other_specification, bad_line, step_refused, label_differs, state_differs}
 use Rattle.session_lines.specs.Refusal as questions

@@ -8,7 +8,7 @@ use Rattle.sort_terms.specs.ReadingOutcome.{ReadingIs, answered}
 use Rattle.sort_terms.specs.SortedView.{profiled_in, term_in}
 use Rattle.sort_terms.specs.declared.sorted.Sorted.{Sorted}
 use Rattle.behaviour_semantics.specs.Solving.{Entry}
-use Rattle.behaviour_tree.specs.BehaviourView.{terms_of}
+use Rattle.session_log.specs.HandedOn.{terms_of}
 use Rattle.session_histories.specs.Session.{SessionBasis, Progress}
 use Rattle.session_log.specs.Entries.{AreGiven}
 use Rattle.history_lines.specs.StepAnswer.{AreStepValues}

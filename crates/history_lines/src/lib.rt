@@ -6,6 +6,7 @@
 pub mod cases;
 pub mod laws;
 pub mod lines;
+pub mod listing;
 pub mod outcome_laws;
 pub mod refusals;
 pub mod replaying;
@@ -19,5 +20,9 @@ pub mod values;
 
 pub use lines::HistoryLines;
 pub use served::{Served, serve};
-pub use session_log::Session;
+pub use session_lines::Book;
+pub use session_log::{
+    FreshMenus, Label, MenuMaker, Ranks, Session, Spec, StepFault, StepRefusal, label_text,
+    menu_text, push_number, push_text, read_terms, take, term_text,
+};
 pub use sessions::serve_input;

@@ -1,8 +1,7 @@
 //! A session that answers lines.
 
-use menu_builder::MenuMaker;
 use session_lines::Book;
-use session_log::Session;
+use session_log::{MenuMaker, Session};
 use sort_terms::{Reader, Signature};
 
 /// A session that answers lines.

@@ -2,11 +2,12 @@
 
 ghost use Rattle.history_lines.specs.OutcomeLaws.{LinesComeToOneThing, SessionsHaveOneReport};
 
-use sentence_trees::reading_laws::texts_have_one_outcome;
+use list_lines::laws::lists_have_one_answer;
 use session_histories::laws::{
     replay_is_exact, sessions_follow_derivations, sessions_stay_lawful, steps_are_exact,
 };
 use session_lines::laws::questions_have_one_answer;
+use session_log::texts_have_one_outcome;
 use sort_terms::laws::reading_comes_to_one_thing;
 
 /// A line comes to one thing at most where the shelf tells its texts and counts no fault; where it
@@ -21,6 +22,7 @@ pub fn lines_come_to_one_thing()
     texts_have_one_outcome();
     reading_comes_to_one_thing();
     questions_have_one_answer();
+    lists_have_one_answer();
 }
 
 /// Over a shelf that tells its texts and counts no fault, a session has one report for the lines of

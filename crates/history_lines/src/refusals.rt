@@ -1,16 +1,15 @@
 //! Why a line of a session is refused, and the line that is printed for it.
 
 ghost use Rattle.history_lines.specs.RefusalView.{AddsDecline, AddsFault, AddsStep, code_for};
-ghost use Rattle.printed_texts.specs.TextView.{written_value};
+ghost use Rattle.session_log.specs.HandedOn.{written_value};
 ghost use Rattle.sort_terms.specs.SignatureView.{signature_of};
 ghost use Rattle.std.specs.Prelude.{◌≡◌, ◌++◌, OnOk, codes, decimal, option_map};
 
+use list_lines::refusals::push_no_entry;
 use lotos_base::NoMemory;
-use printed_texts::brackets::{push_number, push_text};
-use printed_texts::labels::push_value;
 use session_lines::refusals::push_refusal;
 use session_lines::{ReadFault, Refusal};
-use session_log::{ReplayFault, StepRefusal};
+use session_log::{ReplayFault, StepRefusal, push_number, push_text, push_value};
 use sort_terms::{Signature, Sorted};
 
 /// Why the line of a step is refused.
@@ -87,19 +86,6 @@ fn push_step(
         StepRefusal::Unmet { left, right } => push_unmet(signature, left, right, into),
         StepRefusal::NoMemory => Err(NoMemory),
     }
-}
-
-// Appends the line for an entry that is not there.
-#[tactic(auto, using(crate::proofs::TextPieces::in_five))]
-fn push_no_entry(number: u64, length: usize, into: &mut Vec<u8>) -> Result<(), NoMemory>
-    ensures { OnOk result (into.new.items ≡ into.old.items ++ codes "refused 802 NoEntry "
-        ++ decimal number ++ codes " of " ++ decimal length ++ codes "\n") }
-{
-    push_text(into, b"refused 802 NoEntry ")?;
-    push_number(into, number as u128)?;
-    push_text(into, b" of ")?;
-    push_number(into, length as u128)?;
-    push_text(into, b"\n")
 }
 
 // Appends the line for another number of values.

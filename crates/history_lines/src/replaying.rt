@@ -36,8 +36,7 @@ use crate::lines::HistoryLines;
 use crate::saving::TRACE_LIMIT;
 use crate::texts::{fault_line, name_line, replayed_line};
 use lotos_base::{GetFault, NoMemory, Shelf};
-use menu_builder::MenuMaker;
-use session_log::ReplayFault;
+use session_log::{MenuMaker, ReplayFault};
 use std::alloc::Global;
 
 impl<M: MenuMaker> HistoryLines<'_, M> {

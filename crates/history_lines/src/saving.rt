@@ -13,8 +13,7 @@ ghost use Rattle.std.specs.Prelude.{◌≡◌, ◌≤◌, IfOk, MatchResult, len
 use crate::lines::HistoryLines;
 use crate::texts::name_line;
 use lotos_base::{NoMemory, PutFault, Shelf};
-use menu_builder::MenuMaker;
-use session_log::TraceFault;
+use session_log::{MenuMaker, TraceFault};
 use std::alloc::Global;
 
 /// A trace has so many bytes at most.

@@ -20,7 +20,7 @@ ghost use Rattle.std.specs.Prelude.{
 use crate::lines::HistoryLines;
 use line_server::{Request, read_request};
 use lotos_base::{NoMemory, Shelf};
-use menu_builder::MenuMaker;
+use session_log::MenuMaker;
 use std::alloc::Global;
 
 /// How a line leaves the session.

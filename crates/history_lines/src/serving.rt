@@ -3,7 +3,10 @@
 ghost use Rattle.history_lines.specs.Calls.{CallsShelf, MayCallShelf};
 ghost use Rattle.history_lines.specs.LinesView.{IsServing, basis_of, reached, standing_of};
 ghost use Rattle.history_lines.specs.Serving.{moment_of, GivesAnswer, IsBeforeOrBehind};
-ghost use Rattle.line_server.specs.Request.{compare, show_normal};
+ghost use Rattle.line_server.specs.Request.{compare, list_instances, show_normal};
+ghost use Rattle.list_lines.specs.ListOutcome.{ValuesComeTo};
+ghost use Rattle.list_lines.specs.ListText.{values_text};
+ghost use Rattle.list_lines.specs.ListView.{AddsList};
 ghost use Rattle.line_server.specs.RequestView.{wants};
 ghost use Rattle.line_server.specs.RequestLaws.{Carries};
 ghost use Rattle.lotos_base.specs.Outside.{Texts};
@@ -13,6 +16,7 @@ ghost use Rattle.std.specs.Prelude.{
   ◌+◌,
   ◌<◌,
   ◌^◌,
+  [],
   ℕ,
   IfOk,
   MatchResult,
@@ -21,14 +25,14 @@ ghost use Rattle.std.specs.Prelude.{
 };
 
 use crate::lines::HistoryLines;
+use crate::listing::push_instances;
 use crate::served::serve;
 use crate::texts::{bare_line, menu_lines};
 use line_server::{Answer, Lines, Request};
+use list_lines::push_value_list;
 use lotos_base::{NoMemory, Shelf};
-use menu_builder::MenuMaker;
-use printed_texts::brackets::push_text;
-use report_text::state_text;
 use session_lines::questions::{push_comparison, push_normal};
+use session_log::{MenuMaker, push_text, state_text};
 use std::alloc::Global;
 
 impl<M: MenuMaker> HistoryLines<'_, M> {
@@ -66,6 +70,8 @@ impl<M: MenuMaker> HistoryLines<'_, M> {
             Request::Save { name } => self.save_line(alloc, name, shelf),
             Request::Normal { terms } => self.normal_line(alloc, terms),
             Request::Equal { terms } => self.equal_line(alloc, terms),
+            Request::Values { name, size } => self.values_line(alloc, name, size),
+            Request::Instances { number, size } => self.instances_line(alloc, number, size),
             Request::Menu => self.menu_text(alloc),
             Request::Behaviour => self.state_line(alloc),
             Request::Trace => self.trace_lines(alloc),
@@ -112,6 +118,47 @@ impl<M: MenuMaker> HistoryLines<'_, M> {
     {
         let mut text = Vec::new(alloc);
         push_comparison(alloc, &self.reader, &mut self.book, terms, &mut text)?;
+        Ok(text)
+    }
+
+    // The values of the sort with the name.
+    fn values_line(&self, alloc: Global, name: &[u8], size: u32) -> Result<Vec<u8>, NoMemory>
+        requires serving { IsServing M.suits self.now }
+        ensures { IfOk result (λ text. AddsList (ValuesComeTo (basis_of self.now) name.now size)
+            (values_text (basis_of self.now)) [] text.items) }
+    {
+        let mut text = Vec::new(alloc);
+        push_value_list(
+            self.signature,
+            &self.reader,
+            self.book.rules(),
+            name,
+            size,
+            &mut text,
+        )?;
+        Ok(text)
+    }
+
+    // The instances of the entry with this number.
+    fn instances_line(&mut self, alloc: Global, number: u64, size: u32) -> Result<Vec<u8>, NoMemory>
+        requires serving { IsServing M.suits self.old }
+        ensures answered { (texts : Option Texts) (faults : ℕ) → MatchResult result
+            (λ line. GivesAnswer (moment_of (standing_of self.old texts) faults)
+            (list_instances number size) line.items (moment_of (standing_of self.new texts) faults))
+            (λ _. IsBeforeOrBehind (moment_of (standing_of self.old texts) faults)
+            (list_instances number size) (moment_of (standing_of self.new texts) faults)) }
+        ensures serving_after { IsServing M.suits self.new }
+    {
+        let mut text = Vec::new(alloc);
+        push_instances(
+            self.signature,
+            self.session.spec(),
+            &mut self.book,
+            self.session.menu(),
+            number,
+            size,
+            &mut text,
+        )?;
         Ok(text)
     }
 

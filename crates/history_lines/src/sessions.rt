@@ -9,7 +9,7 @@ ghost use Rattle.line_server.specs.Writing.{stream};
 use crate::lines::HistoryLines;
 use line_server::{SessionEnd, serve_session};
 use lotos_base::{Shelf, Sink, Source};
-use menu_builder::MenuMaker;
+use session_log::MenuMaker;
 use std::alloc::Global;
 
 /// Serves the lines of the input, each by [`crate::serve`], and answers how the session ended, as

@@ -1,6 +1,6 @@
 //! Steps and undo.
 
-ghost use Rattle.behaviour_tree.specs.MoveView.{label_of};
+ghost use Rattle.history_lines.specs.Answer.{did_text};
 ghost use Rattle.history_lines.specs.LinesView.{
   IsServing,
   StaysServing,
@@ -10,13 +10,13 @@ ghost use Rattle.history_lines.specs.LinesView.{
 };
 ghost use Rattle.history_lines.specs.Serving.{moment_of, Declines, GivesAnswer, IsBeforeOrBehind};
 ghost use Rattle.history_lines.specs.Serving.{undo_text};
+ghost use Rattle.history_lines.specs.StepAnswer.{StepComesTo, took};
 ghost use Rattle.history_lines.specs.Values.{ChoosesValues};
 ghost use Rattle.line_server.specs.Request.{take_step, undo as undo_step};
 ghost use Rattle.lotos_base.specs.Outside.{Texts};
 ghost use Rattle.lotos_base.specs.WrittenView.{written_term_of};
-ghost use Rattle.history_lines.specs.Answer.{did_text};
-ghost use Rattle.history_lines.specs.StepAnswer.{StepComesTo, took};
 ghost use Rattle.session_lines.specs.Refusal.{AreTerms};
+ghost use Rattle.session_log.specs.HandedOn.{label_of};
 ghost use Rattle.std.specs.Prelude.{
   ◌≡◌,
   ◌+◌,
@@ -35,11 +35,10 @@ use crate::lines::HistoryLines;
 use crate::refusals::Decline;
 use crate::texts::{bare_line, decline_line, did_line, undone_line};
 use crate::values::values_at;
-use behaviour_tree::Label;
 use lotos_base::{NoMemory, Written};
-use menu_builder::MenuMaker;
 use session_lines::read_terms;
 use session_log::entries::counted_entry;
+use session_log::{Label, MenuMaker};
 use sort_terms::Sorted;
 use std::alloc::Global;
 

@@ -1,17 +1,13 @@
 //! The texts of answers.
 
 ghost use Rattle.history_lines.specs.RefusalView.{AddsDecline, AddsFault};
-ghost use Rattle.printed_texts.specs.TextView.{written_label, written_menu};
+ghost use Rattle.session_log.specs.HandedOn.{written_label, written_menu};
 ghost use Rattle.sort_terms.specs.SignatureView.{signature_of};
 ghost use Rattle.std.specs.Prelude.{◌≡◌, ◌++◌, [], IfOk, codes, decimal};
 
 use crate::refusals::{Decline, push_decline, push_fault};
-use behaviour_tree::{Label, Spec};
-use event_offers::Menu;
 use lotos_base::NoMemory;
-use printed_texts::brackets::{push_number, push_text};
-use printed_texts::{label_text, menu_text};
-use session_log::ReplayFault;
+use session_log::{Label, Menu, ReplayFault, Spec, label_text, menu_text, push_number, push_text};
 use sort_terms::Signature;
 use std::alloc::Global;
 

@@ -1,11 +1,11 @@
 //! The values of a step: the readings of the terms of its line.
 
-ghost use Rattle.behaviour_tree.specs.BehaviourView.{terms_of};
+ghost use Rattle.history_lines.specs.StepAnswer.{IsFirstMisread};
 ghost use Rattle.history_lines.specs.Values.{IsTermRefused, IsValueReadAt, TellsMisread};
 ghost use Rattle.lotos_base.specs.WrittenView.{written_term_of};
-ghost use Rattle.history_lines.specs.StepAnswer.{IsFirstMisread};
 ghost use Rattle.session_histories.specs.Replay.{AreRead};
 ghost use Rattle.session_log.specs.Entries.{AreGiven};
+ghost use Rattle.session_log.specs.HandedOn.{terms_of};
 ghost use Rattle.sort_terms.specs.ReaderView.{signature_read};
 ghost use Rattle.sort_terms.specs.ScopeView.{variables_in};
 ghost use Rattle.std.specs.Prelude.{◌≡◌, ◌++◌, ◌∷◌, [], MatchResult, OnOk, length, map};

@@ -119,7 +119,7 @@ not_absent_occurs statement k (q ∷ ss) n s (suc i) e at none =
 
 -- ---- the first case
 
-first_fine : (theory : Theory) (lemma : Lemma) → IsFit theory → IsStated theory.data_.signature lemma
+pub first_fine : (theory : Theory) (lemma : Lemma) → IsFit theory → IsStated theory.data_.signature lemma
     → IsFineCase theory.data_.signature (length lemma.variables) (first_case theory lemma)
 first_fine theory lemma fit stated = record {
   sort = stated.sort;

@@ -1,18 +1,18 @@
-mod Each
-mod ArgumentLemmas
-mod LineLemmas
-mod CoverLemmas
-mod CaseLemmas
+pub mod Each
+pub mod ArgumentLemmas
+pub mod LineLemmas
+pub mod CoverLemmas
+pub mod CaseLemmas
 mod HoldLemmas
 mod SplitSound
-mod UseSound
-mod LemmasHold
-mod OnceLemmas
+pub mod UseSound
+pub mod LemmasHold
+pub mod OnceLemmas
 mod FaultLemmas
 mod RequirementLemmas
-mod CertificateTests
-mod TestedLines
-mod TestedCertificates
+pub mod CertificateTests
+pub mod TestedLines
+pub mod TestedCertificates
 mod AdditionForms
 mod CaseProofs
 mod SmallSortProofs

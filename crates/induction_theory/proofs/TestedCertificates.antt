@@ -46,13 +46,13 @@ decides_result signature sort f = go (slice_get signature.operations f) refl
     )
 
 -- Each of the operations has the sort as result, and each number is listed once.
-abbrev AllResults : Signature → ℕ → List ℕ → Type 0
+abbrev pub AllResults : Signature → ℕ → List ℕ → Type 0
 AllResults signature sort fs = (i f : ℕ) → slice_get fs i ≡ Some f → HasResult signature sort f
 
-abbrev AllOnce : List ℕ → Type 0
+abbrev pub AllOnce : List ℕ → Type 0
 AllOnce fs = (i j f : ℕ) → slice_get fs i ≡ Some f → slice_get fs j ≡ Some f → i ≡ j
 
-decides_results : (signature : Signature) (sort : ℕ) (fs : List ℕ) → Decides (all_results signature sort fs) (AllResults signature sort fs)
+pub decides_results : (signature : Signature) (sort : ℕ) (fs : List ℕ) → Decides (all_results signature sort fs) (AllResults signature sort fs)
 decides_results signature sort [] = ((λ e i f at. absurd (cc at)), (λ all. refl))
 decides_results signature sort (f ∷ fs) =
     Decides-like (result_is sort (slice_get signature.operations f) && all_results signature sort fs) joined
@@ -65,7 +65,7 @@ decides_results signature sort (f ∷ fs) =
     joined h (suc i) g at = h.1 i g at
 
 -- the member at some index is listed, and what is listed stands at some index
-member_among : (xs : List ℕ) (i n : ℕ) → slice_get xs i ≡ Some n → IsListedIn xs n
+pub member_among : (xs : List ℕ) (i n : ℕ) → slice_get xs i ≡ Some n → IsListedIn xs n
 member_among [] i n at = absurd (cc at)
 member_among (x ∷ xs) zero n at = rw ((Decides-eqb x n).1 (same_Some x n at)) refl
 member_among (x ∷ xs) (suc i) n at = go (nat_eq x n) (member_among xs i n at)
@@ -74,7 +74,7 @@ member_among (x ∷ xs) (suc i) n at = go (nat_eq x n) (member_among xs i n at)
     go true rest = refl
     go false rest = rest
 
-among_member : (xs : List ℕ) (n : ℕ) → IsListedIn xs n → (i : ℕ) × (slice_get xs i ≡ Some n)
+pub among_member : (xs : List ℕ) (n : ℕ) → IsListedIn xs n → (i : ℕ) × (slice_get xs i ≡ Some n)
 among_member [] n among = absurd (cc among)
 among_member (x ∷ xs) n among = go (nat_eq x n) refl among (λ rest. among_member xs n rest)
   where
@@ -83,7 +83,7 @@ among_member (x ∷ xs) n among = go (nat_eq x n) refl among (λ rest. among_mem
     go true e among later = (0, ap (λ (m : ℕ). Some m) ((Decides-eqb x n).0 e))
     go false e among later = let found = later among in (suc found.0, found.1)
 
-decides_once : (fs : List ℕ) → Decides (all_once fs) (AllOnce fs)
+pub decides_once : (fs : List ℕ) → Decides (all_once fs) (AllOnce fs)
 decides_once [] = ((λ e i j f at also. absurd (cc at)), (λ all. refl))
 decides_once (x ∷ xs) =
     Decides-like (not (is_listed xs x) && all_once xs) joined parted
@@ -114,7 +114,7 @@ decides_once (x ∷ xs) =
       (λ i j f at also. let same : suc i ≡ suc j = once (suc i) (suc j) f at also in omega (arith, same)),
     )
 
-decides_cover : (signature : Signature) (earlier : List Cover) (cover : Cover)
+pub decides_cover : (signature : Signature) (earlier : List Cover) (cover : Cover)
     → Decides (is_right_cover signature earlier cover) (IsRightCover signature earlier cover)
 decides_cover signature earlier cover =
     Decides-like

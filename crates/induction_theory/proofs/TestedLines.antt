@@ -157,15 +157,15 @@ pattern_means signature rules covers pattern (split_pattern path) = go (subterm 
 
 -- ---- uses
 
-stands_decided : (proving : Proving) (source : Source) (n : ℕ) → Decides (stands proving source n) (StandsForItself proving source n)
+pub stands_decided : (proving : Proving) (source : Source) (n : ℕ) → Decides (stands proving source n) (StandsForItself proving source n)
 stands_decided proving (by_lemma k) n = ((λ e. absurd (cc e)), (λ h. absurd h))
 stands_decided proving (by_hypothesis k) n = ((λ e. leb-true proving.free n e), (λ h. le-leb proving.free n h))
 
-masked_fixed : (proving : Proving) (source : Source) (values : Substitution) (n s : ℕ) → StandsForItself proving source n
+pub masked_fixed : (proving : Proving) (source : Source) (values : Substitution) (n s : ℕ) → StandsForItself proving source n
     → masked proving source values n s ≡ variable n s
 masked_fixed proving source values n s h = rw ((stands_decided proving source n).1 h) refl
 
-masked_same : (proving : Proving) (source : Source) (values others : Substitution) (n s : ℕ)
+pub masked_same : (proving : Proving) (source : Source) (values others : Substitution) (n s : ℕ)
     → (StandsForItself proving source n → values n s ≡ variable n s) → values n s ≡ others n s
     → values n s ≡ masked proving source others n s
 masked_same proving source values others n s fixed same = go (stands proving source n) refl
@@ -174,26 +174,26 @@ masked_same proving source values others n s fixed same = go (stands proving sou
     go true e = fixed ((stands_decided proving source n).0 e)
     go false e = same
 
-is_of : (proving : Proving) (point : Case) (source : Source) (statement : Statement)
+pub is_of : (proving : Proving) (point : Case) (source : Source) (statement : Statement)
     → statement_at proving point source ≡ Some statement → IsOfSource proving point source statement
 is_of proving point (by_lemma k) statement e = e
 is_of proving point (by_hypothesis k) statement e = e
 
-of_is : (proving : Proving) (point : Case) (source : Source) (statement : Statement) → IsOfSource proving point source statement
+pub of_is : (proving : Proving) (point : Case) (source : Source) (statement : Statement) → IsOfSource proving point source statement
     → statement_at proving point source ≡ Some statement
 of_is proving point (by_lemma k) statement h = h
 of_is proving point (by_hypothesis k) statement h = h
 
 -- What a use tells of the statement and of the part that stands at the path.
-record UseTells (theory : Theory) (proving : Proving) (use_ : Use) (statement : Statement) (part : Term) : Type 0 where
-  values : Substitution
-  fixed : (n s : ℕ) → StandsForItself proving use_.source n → values n s ≡ variable n s
-  sorted : KeepsSorts theory.data_.signature (taken_side use_.direction statement) values
-  closed : (n s : ℕ) → Occurs n s (placed_side use_.direction statement)
+pub record UseTells (theory : Theory) (proving : Proving) (use_ : Use) (statement : Statement) (part : Term) : Type 0 where
+  pub values : Substitution
+  pub fixed : (n s : ℕ) → StandsForItself proving use_.source n → values n s ≡ variable n s
+  pub sorted : KeepsSorts theory.data_.signature (taken_side use_.direction statement) values
+  pub closed : (n s : ℕ) → Occurs n s (placed_side use_.direction statement)
       → StandsForItself proving use_.source n ⊎ Occurs n s (taken_side use_.direction statement)
-  old : substituted values (taken_side use_.direction statement) ≡ part
+  pub old : substituted values (taken_side use_.direction statement) ≡ part
 
-tells : (theory : Theory) (proving : Proving) (point : Case) (use_ : Use) (result : Statement) (statement : Statement) (part : Term)
+pub tells : (theory : Theory) (proving : Proving) (point : Case) (use_ : Use) (result : Statement) (statement : Statement) (part : Term)
     → IsOfSource proving point use_.source statement → subterm use_.path (side_at use_.side point.goal) ≡ Some part
     → IsUsed theory proving point use_ result → UseTells theory proving use_ statement part
 tells theory proving point use_ result statement part is at used =
@@ -208,7 +208,7 @@ tells theory proving point use_ result statement part is at used =
           (same_Some (substituted used.values (taken_side use_.direction used.statement)) part (sym used.old ∙ at));
     }
 
-told_values : (theory : Theory) (proving : Proving) (use_ : Use) (statement : Statement) (part : Term)
+pub told_values : (theory : Theory) (proving : Proving) (use_ : Use) (statement : Statement) (part : Term)
     → (told : UseTells theory proving use_ statement part) → (n s : ℕ) → Occurs n s (taken_side use_.direction statement)
     → told.values n s ≡ candidate proving use_ statement part n s
 told_values theory proving use_ statement part told n s o =

@@ -18,18 +18,19 @@ use Rattle.induction_theory.specs.Splits.{Theory, Case, Proving, IsInScope, in_b
 use Rattle.induction_theory.specs.Uses.{taken_side, placed_side, side_at, with_side, IsOfSource, StandsForItself, IsUsed}
 use Rattle.induction_theory.specs.Certified.{IsFit}
 use Rattle.induction_theory.specs.Requirements.{HoldsByInduction, OccursInSide}
+use Rattle.induction_theory.proofs.Each.{each_more}
 use Rattle.induction_theory.proofs.ArgumentLemmas.{argument_occurs, part_occurs}
 use Rattle.induction_theory.proofs.CaseLemmas.{IsFineHypothesis, IsFineCase}
 use Rattle.induction_theory.proofs.HoldLemmas.{GroundsScope, HoldsAt, HypothesisHolds, IsSoundCase, from_canon}
 
 -- ---- sides
 
-by_taken : (P : Term → Type 0) (direction : Direction) (statement : Statement) → P statement.left → P statement.right
+pub by_taken : (P : Term → Type 0) (direction : Direction) (statement : Statement) → P statement.left → P statement.right
     → P (taken_side direction statement)
 by_taken P forward statement left right = left
 by_taken P backward statement left right = right
 
-by_placed : (P : Term → Type 0) (direction : Direction) (statement : Statement) → P statement.left → P statement.right
+pub by_placed : (P : Term → Type 0) (direction : Direction) (statement : Statement) → P statement.left → P statement.right
     → P (placed_side direction statement)
 by_placed P forward statement left right = right
 by_placed P backward statement left right = left
@@ -39,21 +40,21 @@ from_sides : (P : Term → Type 0) (direction : Direction) (statement : Statemen
 from_sides P forward statement taken placed = (taken, placed)
 from_sides P backward statement taken placed = (placed, taken)
 
-by_side : (P : Term → Type 0) (side : Side) (statement : Statement) → P statement.left → P statement.right → P (side_at side statement)
+pub by_side : (P : Term → Type 0) (side : Side) (statement : Statement) → P statement.left → P statement.right → P (side_at side statement)
 by_side P left_side statement left right = left
 by_side P right_side statement left right = right
 
-taken_occurs : (direction : Direction) (statement : Statement) (n s : ℕ) → Occurs n s (taken_side direction statement)
+pub taken_occurs : (direction : Direction) (statement : Statement) (n s : ℕ) → Occurs n s (taken_side direction statement)
     → OccursInSide statement n s
 taken_occurs forward statement n s o = inl o
 taken_occurs backward statement n s o = inr o
 
-placed_occurs : (direction : Direction) (statement : Statement) (n s : ℕ) → Occurs n s (placed_side direction statement)
+pub placed_occurs : (direction : Direction) (statement : Statement) (n s : ℕ) → Occurs n s (placed_side direction statement)
     → OccursInSide statement n s
 placed_occurs forward statement n s o = inr o
 placed_occurs backward statement n s o = inl o
 
-side_occurs : (side : Side) (statement : Statement) (n s : ℕ) → Occurs n s (side_at side statement) → OccursInSide statement n s
+pub side_occurs : (side : Side) (statement : Statement) (n s : ℕ) → Occurs n s (side_at side statement) → OccursInSide statement n s
 side_occurs left_side statement n s o = inl o
 side_occurs right_side statement n s o = inr o
 
@@ -101,31 +102,34 @@ pub record IsEarlier (theory : Theory) (statement : Statement) : Type 0 where
   pub right : HasSort theory.data_.signature statement.right sort
   pub holds : HoldsByInduction theory.data_ statement
 
--- What a use needs of a lemma or a hypothesis: it is sorted, its fixed variables are in scope, and it holds where these have
--- equal values.
+-- A statement whose sides have one sort.
+pub record IsSortedStatement (signature : Signature) (statement : Statement) : Type 0 where
+  pub sort : ℕ
+  pub left : HasSort signature statement.left sort
+  pub right : HasSort signature statement.right sort
+
+-- What a use needs of a lemma or a hypothesis: it is sorted, and its fixed variables are in scope.
+pub record IsStatedSource (theory : Theory) (proving : Proving) (point : Case) (source : Source) (statement : Statement) : Type 0 where
+  pub sort : ℕ
+  pub left : HasSort theory.data_.signature statement.left sort
+  pub right : HasSort theory.data_.signature statement.right sort
+  pub scoped : (n s : ℕ) → StandsForItself proving source n → OccursInSide statement n s → IsInScope point n s
+
+-- And it holds where these have equal values.
 record IsUsable (theory : Theory) (proving : Proving) (point : Case) (source : Source) (statement : Statement) : Type 0 where
-  sort : ℕ
-  left : HasSort theory.data_.signature statement.left sort
-  right : HasSort theory.data_.signature statement.right sort
-  scoped : (n s : ℕ) → StandsForItself proving source n → OccursInSide statement n s → IsInScope point n s
+  stated : IsStatedSource theory proving point source statement
   holds : (values others : Substitution) → Each (HypothesisHolds theory proving.free values) point.hypotheses
       → IsGrounding theory.data_.signature statement.left others → IsGrounding theory.data_.signature statement.right others
       → ((n s : ℕ) → StandsForItself proving source n → OccursInSide statement n s → Equal theory.data_ (others n s) (values n s))
       → HoldsAt theory others statement
 
-usable : (theory : Theory) (proving : Proving) (point : Case) (source : Source) (statement : Statement)
-    → Each (IsEarlier theory) proving.earlier → IsFineCase theory.data_.signature proving.free point
-    → IsOfSource proving point source statement → IsUsable theory proving point source statement
-usable theory proving point (by_lemma k) statement earlier fine at =
-    let lemma = each_member (IsEarlier theory) proving.earlier k statement earlier at in
-    record {
-      sort = lemma.sort;
-      left = lemma.left;
-      right = lemma.right;
-      scoped = λ n s stands o. absurd stands;
-      holds = λ values others hypotheses left right fixed. lemma.holds others left right;
-    }
-usable theory proving point (by_hypothesis k) statement earlier fine at =
+pub stated_source : (theory : Theory) (proving : Proving) (point : Case) (source : Source) (statement : Statement)
+    → Each (IsSortedStatement theory.data_.signature) proving.earlier → IsFineCase theory.data_.signature proving.free point
+    → IsOfSource proving point source statement → IsStatedSource theory proving point source statement
+stated_source theory proving point (by_lemma k) statement earlier fine at =
+    let lemma = each_member (IsSortedStatement theory.data_.signature) proving.earlier k statement earlier at in
+    record { sort = lemma.sort; left = lemma.left; right = lemma.right; scoped = λ n s stands o. absurd stands }
+stated_source theory proving point (by_hypothesis k) statement earlier fine at =
     let h = each_member (IsFineHypothesis theory.data_.signature proving.free point.sorts point.gone) point.hypotheses k statement
     fine.hypotheses at in
     record {
@@ -133,9 +137,28 @@ usable theory proving point (by_hypothesis k) statement earlier fine at =
       left = h.left;
       right = h.right;
       scoped = λ n s stands o. ((h.listed n s o).0, (h.listed n s o).1 stands);
-      holds = λ values others hypotheses left right fixed.
-          each_member (HypothesisHolds theory proving.free values) point.hypotheses k statement hypotheses at others left right fixed;
     }
+
+usable : (theory : Theory) (proving : Proving) (point : Case) (source : Source) (statement : Statement)
+    → Each (IsEarlier theory) proving.earlier → IsFineCase theory.data_.signature proving.free point
+    → IsOfSource proving point source statement → IsUsable theory proving point source statement
+usable theory proving point source statement earlier fine at = record {
+  stated = stated_source theory proving point source statement
+      (each_more (IsEarlier theory) (IsSortedStatement theory.data_.signature) proving.earlier
+      (λ one is. record { sort = is.sort; left = is.left; right = is.right }) earlier)
+      fine at;
+  holds = holds source at;
+}
+  where
+    holds : (source : Source) → IsOfSource proving point source statement
+        → (values others : Substitution) → Each (HypothesisHolds theory proving.free values) point.hypotheses
+        → IsGrounding theory.data_.signature statement.left others → IsGrounding theory.data_.signature statement.right others
+        → ((n s : ℕ) → StandsForItself proving source n → OccursInSide statement n s → Equal theory.data_ (others n s) (values n s))
+        → HoldsAt theory others statement
+    holds (by_lemma k) at values others hypotheses left right fixed =
+        (each_member (IsEarlier theory) proving.earlier k statement earlier at).holds others left right
+    holds (by_hypothesis k) at values others hypotheses left right fixed =
+        each_member (HypothesisHolds theory proving.free values) point.hypotheses k statement hypotheses at others left right fixed
 
 -- ---- the goal that a use makes
 
@@ -167,7 +190,7 @@ fine_with_goal theory free point goal fit fine is = record {
 module _ {theory : Theory} {proving : Proving} {point : Case} {use_ : Use} {result : Statement} where
   -- what is put in is sorted
   placed_keeps : (used : IsUsed theory proving point use_ result) → IsFineCase theory.data_.signature proving.free point
-      → IsUsable theory proving point use_.source used.statement
+      → IsStatedSource theory proving point use_.source used.statement
       → KeepsSorts theory.data_.signature (placed_side use_.direction used.statement) used.values
   placed_keeps used fine usable_ n s o = go (used.closed n s o)
     where
@@ -188,7 +211,7 @@ module _ {theory : Theory} {proving : Proving} {point : Case} {use_ : Use} {resu
 
   -- and so is one of what is put there
   placed_scoped : (used : IsUsed theory proving point use_ result) → IsFineCase theory.data_.signature proving.free point
-      → IsUsable theory proving point use_.source used.statement
+      → IsStatedSource theory proving point use_.source used.statement
       → (n s : ℕ) → Occurs n s (substituted used.values (placed_side use_.direction used.statement)) → IsInScope point n s
   placed_scoped used fine usable_ n s o =
       let from = substituted_occurs n s used.values (placed_side use_.direction used.statement) o in
@@ -205,7 +228,7 @@ module _ {theory : Theory} {proving : Proving} {point : Case} {use_ : Use} {resu
           (occurs_substituted n s m r used.values (taken_side use_.direction used.statement) there inside)
 
   after_sort : (used : IsUsed theory proving point use_ result) → (fine : IsFineCase theory.data_.signature proving.free point)
-      → IsUsable theory proving point use_.source used.statement → HasSort theory.data_.signature used.after fine.sort
+      → IsStatedSource theory proving point use_.source used.statement → HasSort theory.data_.signature used.after fine.sort
   after_sort used fine usable_ =
       let taken = taken_side use_.direction used.statement in
       let placed = placed_side use_.direction used.statement in
@@ -225,7 +248,7 @@ module _ {theory : Theory} {proving : Proving} {point : Case} {use_ : Use} {resu
       used.new
 
   after_scoped : (used : IsUsed theory proving point use_ result) → IsFineCase theory.data_.signature proving.free point
-      → IsUsable theory proving point use_.source used.statement → (n s : ℕ) → Occurs n s used.after → IsInScope point n s
+      → IsStatedSource theory proving point use_.source used.statement → (n s : ℕ) → Occurs n s used.after → IsInScope point n s
   after_scoped used fine usable_ n s o =
       go (put_at_occurs use_.path (substituted used.values (placed_side use_.direction used.statement)) (side_at use_.side point.goal)
       used.after n s used.new o)
@@ -265,7 +288,7 @@ module _ {theory : Theory} {proving : Proving} {point : Case} {use_ : Use} {resu
           → IsGroundOf theory.data_.signature s (others n s)
       placed_at n s o (inl stands) =
           subst (λ (t : Term). IsGroundOf theory.data_.signature s (substituted values t)) (sym (used.fixed n s stands))
-          (grounds n s (usable_.scoped n s stands (placed_occurs use_.direction used.statement n s o)))
+          (grounds n s (usable_.stated.scoped n s stands (placed_occurs use_.direction used.statement n s o)))
       placed_at n s o (inr there) = taken_ground n s there
 
       placed_ground : IsGrounding theory.data_.signature (placed_side use_.direction used.statement) others
@@ -336,5 +359,21 @@ use_sound theory proving point use_ result fit earlier used sound fine values gr
     goal : IsFineGoal theory.data_.signature point result
     goal =
         subst (IsFineGoal theory.data_.signature point) (sym used.is_result)
-        (replaced_goal theory.data_.signature proving.free point use_.side used.after fine (after_sort used fine is_usable)
-        (after_scoped used fine is_usable))
+        (replaced_goal theory.data_.signature proving.free point use_.side used.after fine (after_sort used fine is_usable.stated)
+        (after_scoped used fine is_usable.stated))
+
+-- a use of what is sorted leaves a fine case
+pub used_fine : (theory : Theory) (proving : Proving) (point : Case) (use_ : Use) (result : Statement) → IsFit theory
+    → Each (IsSortedStatement theory.data_.signature) proving.earlier → IsUsed theory proving point use_ result
+    → IsFineCase theory.data_.signature proving.free point
+    → IsFineCase theory.data_.signature proving.free (with_goal theory point result)
+used_fine theory proving point use_ result fit earlier used fine = fine_with_goal theory proving.free point result fit fine goal
+  where
+    stated : IsStatedSource theory proving point use_.source used.statement
+    stated = stated_source theory proving point use_.source used.statement earlier fine used.is_there
+
+    goal : IsFineGoal theory.data_.signature point result
+    goal =
+        subst (IsFineGoal theory.data_.signature point) (sym used.is_result)
+        (replaced_goal theory.data_.signature proving.free point use_.side used.after fine (after_sort used fine stated)
+        (after_scoped used fine stated))

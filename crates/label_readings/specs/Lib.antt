@@ -1,3 +1,4 @@
 pub mod LabelReading
 pub mod LabelLaws
 pub mod MenuReadings
+pub mod HandedOn

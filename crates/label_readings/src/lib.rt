@@ -2,3 +2,5 @@
 #![tactic(auto)]
 
 pub mod laws;
+
+pub use texts_read_back::trace_laws::traces_are_replayed;

@@ -4,9 +4,9 @@ use Rattle.std.specs.Str.{bytes_eq, is_utf8, IsUtf8}
 use Rattle.std.proofs.lemmas.Str.{IsUtf8-from_is_utf8, is_utf8-from_IsUtf8}
 use Rattle.std.proofs.lemmas.List.{take_rest}
 use Rattle.line_server.specs.Line.{behind_blanks, behind_spaces, first_word, behind_word, word_length, stripped}
-use Rattle.line_server.specs.Request.{Request, show_menu, show_behaviour, show_trace, undo, leave, save, replay, only, number_in, step_by, with_name, name_of, named, asked_with, requested_by, requested_in, request_of}
+use Rattle.line_server.specs.Request.{Request, show_menu, show_behaviour, show_trace, undo, leave, save, replay, only, number_in, size_in, step_by, values_by, instances_by, with_name, name_of, named, asked_with, requested_by, requested_in, request_of}
 use Rattle.line_server.specs.RequestLaws.{Carries}
-use Rattle.line_server.proofs.LineLemmas.{blanks_short, end_short, spaces_short, word_short}
+use Rattle.line_server.proofs.LineLemmas.{blanks_short, end_short, spaces_short, word_short, first_short}
 
 unit : Unit {0}
 unit = tt
@@ -24,6 +24,15 @@ step_carries : (n : ℕ) (number : Option ℕ) (terms : List ℕ) → length ter
 step_carries n None terms within = unit
 step_carries n (Some number) terms within = within
 
+values_carry : (n : ℕ) (name : List ℕ) (size : Option ℕ) → length name ≤ n → Carries n (values_by name size)
+values_carry n name None within = unit
+values_carry n name (Some size) within = within
+
+instances_carry : (n : ℕ) (number size : Option ℕ) → Carries n (instances_by number size)
+instances_carry n None size = unit
+instances_carry n (Some number) None = unit
+instances_carry n (Some number) (Some size) = unit
+
 name_carries : (n : ℕ) (request : List ℕ → Request) (rest : List ℕ)
     → ((name : List ℕ) → length name ≤ n → Carries n (request name)) → length rest ≤ n → Carries n (named request rest)
 name_carries n make [] so within = unit
@@ -40,7 +49,11 @@ with_carries n word rest within =
     (either_carries n (bytes_eq word (codes "save")) _ _ (name_carries n save rest (λ name short. short) within)
     (either_carries n (bytes_eq word (codes "replay")) _ _ (name_carries n replay rest (λ name short. short) within)
     (either_carries n (bytes_eq word (codes "normal")) _ _ within
-    (either_carries n (bytes_eq word (codes "equal")) _ _ within unit))))
+    (either_carries n (bytes_eq word (codes "equal")) _ _ within
+    (either_carries n (bytes_eq word (codes "values")) _ _
+    (values_carry n (first_word rest) (size_in (behind_word rest)) (omega (arith, first_short rest, within)))
+    (either_carries n (bytes_eq word (codes "instances")) _ _
+    (instances_carry n (number_in (first_word rest)) (size_in (behind_word rest))) unit))))))
 
 word_carries : (n : ℕ) (word rest : List ℕ) → length rest ≤ n → Carries n (requested_by word rest)
 word_carries n word rest within =

@@ -1,5 +1,5 @@
 -- What each line of a session asks for: a command word in lower case, and what stands behind it.
-use Rattle.std.specs.Prelude.{ℕ, nat_eq, nat_lt, if◌then◌else◌, Bool, false, ◌&&◌, ◌||◌, not, List, [], ◌∷◌, length, Option, None, Some, codes}
+use Rattle.std.specs.Prelude.{ℕ, nat_eq, nat_le, nat_lt, if◌then◌else◌, Bool, false, ◌&&◌, ◌||◌, not, List, [], ◌∷◌, length, Option, None, Some, codes}
 use Rattle.std.specs.Char.{is_ascii_digit}
 use Rattle.std.specs.List.{list_all}
 use Rattle.std.specs.Str.{bytes_eq, is_utf8}
@@ -8,13 +8,16 @@ use Rattle.line_server.specs.Line.{stripped, first_word, behind_word}
 
 -- A line asks for nothing; for the menu, the behaviour or the trace; to undo the last step; for the end of the session; to take
 -- the step by the entry with a number and with values for its variables; to save the trace under a name, or to replay the text
--- under it; for the normal form of a term, or whether two terms are equal; or it has none of these forms. Terms are as they are
--- written.
+-- under it; for the normal form of a term, or whether two terms are equal; for the values of the sort with a name, or the
+-- instances of the entry with a number, by terms with at most so many operations; or it has none of these forms. Terms and names
+-- are as they are written.
 pub data Request : Type 0 where
   skip show_menu show_behaviour show_trace undo leave no_request : Request
   take_step : (number : ℕ) (terms : List ℕ) → Request
   save replay : (name : List ℕ) → Request
   show_normal compare : (terms : List ℕ) → Request
+  list_values : (name : List ℕ) (size : ℕ) → Request
+  list_instances : (number size : ℕ) → Request
 
 -- ---- Numbers
 
@@ -61,6 +64,34 @@ with_name make (Some name) = make name
 abbrev pub named : (List ℕ → Request) → List ℕ → Request
 named make rest = with_name make (name_of rest)
 
+-- the size that bytes are, from 1 to 64
+abbrev pub size_of : Option ℕ → Option ℕ
+size_of None = None
+size_of (Some number) = if nat_le 1 number && nat_le number 64 then Some number else None
+
+abbrev pub size_in : List ℕ → Option ℕ
+size_in bytes = size_of (number_in bytes)
+
+-- the name of a sort, which any word may be, and a size
+abbrev pub values_by : List ℕ → Option ℕ → Request
+values_by name None = no_request
+values_by name (Some size) = list_values name size
+
+abbrev pub values_in : List ℕ → Request
+values_in rest = values_by (first_word rest) (size_in (behind_word rest))
+
+-- the number of an entry, and a size
+abbrev pub instances_up_to : ℕ → Option ℕ → Request
+instances_up_to number None = no_request
+instances_up_to number (Some size) = list_instances number size
+
+abbrev pub instances_by : Option ℕ → Option ℕ → Request
+instances_by None size = no_request
+instances_by (Some number) size = instances_up_to number size
+
+abbrev pub instances_in : List ℕ → Request
+instances_in rest = instances_by (number_in (first_word rest)) (size_in (behind_word rest))
+
 -- ---- Words
 
 -- the words behind which something stands
@@ -71,6 +102,8 @@ asked_with word rest =
     else if bytes_eq word (codes "replay") then named replay rest
     else if bytes_eq word (codes "normal") then show_normal rest
     else if bytes_eq word (codes "equal") then compare rest
+    else if bytes_eq word (codes "values") then values_in rest
+    else if bytes_eq word (codes "instances") then instances_in rest
     else no_request
 
 -- and those that stand alone

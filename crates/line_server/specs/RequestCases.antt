@@ -1,12 +1,12 @@
 -- Worked cases: what lines ask for.
 use Rattle.std.specs.Prelude.{◌≡◌, ℕ, List, [], codes}
-use Rattle.line_server.specs.Request.{Request, skip, show_menu, show_behaviour, show_trace, undo, leave, no_request, take_step, show_normal, compare, request_of}
+use Rattle.line_server.specs.Request.{Request, skip, show_menu, show_behaviour, show_trace, undo, leave, no_request, take_step, show_normal, compare, list_values, list_instances, request_of}
 
 abbrev pub Asks : List ℕ → Request → Type 0
 Asks line request = request_of line ≡ request
 
 -- Lines that have a form. Blanks at the ends and a carriage return are no part of a line, and any number of spaces separates
--- words; a comment alone behind the number is left to the grammar of terms.
+-- words; a comment alone behind the number is left to the grammar of terms. Any word may be the name of a sort.
 pub record LinesAsk : Type 0 where
   pub nothing : Asks (codes " \t\r") skip
   pub menu : Asks (codes "menu") show_menu
@@ -22,6 +22,11 @@ pub record LinesAsk : Type 0 where
   pub normal : Asks (codes "normal f(x)") (show_normal (codes "f(x)"))
   pub normal_of_nothing : Asks (codes "normal") (show_normal [])
   pub equal : Asks (codes "equal  a,  b") (compare (codes "a,  b"))
+  pub values : Asks (codes "values N 3") (list_values (codes "N") 3)
+  pub values_spaces : Asks (codes "values  Nat   64 ") (list_values (codes "Nat") 64)
+  pub values_of_a_number : Asks (codes "values 17 1") (list_values (codes "17") 1)
+  pub instances : Asks (codes "instances 1 3") (list_instances 1 3)
+  pub instances_of_nought : Asks (codes "instances 0  64\r") (list_instances 0 64)
 
 -- Lines that have none.
 pub record LinesAskNothing : Type 0 where
@@ -38,3 +43,15 @@ pub record LinesAskNothing : Type 0 where
   pub eleven_digits : Asks (codes "step 10000000000") no_request
   pub no_name : Asks (codes "save ") no_request
   pub no_name_to_replay : Asks (codes "replay") no_request
+  pub no_sort : Asks (codes "values") no_request
+  pub no_size : Asks (codes "values N") no_request
+  pub size_nought : Asks (codes "values N 0") no_request
+  pub size_too_large : Asks (codes "values N 65") no_request
+  pub size_with_zero : Asks (codes "values N 03") no_request
+  pub size_no_number : Asks (codes "values N x") no_request
+  pub behind_size : Asks (codes "values N 3 4") no_request
+  pub tab_before_size : Asks (codes "values N\t3") no_request
+  pub entry_alone : Asks (codes "instances 1") no_request
+  pub entry_no_number : Asks (codes "instances x 3") no_request
+  pub entry_with_zero : Asks (codes "instances 01 3") no_request
+  pub entry_too_large_size : Asks (codes "instances 1 65") no_request

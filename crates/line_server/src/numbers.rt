@@ -3,7 +3,7 @@
 ghost use Rattle.line_server.specs.Request as plain;
 ghost use Rattle.std.specs.Char.{is_ascii_digit};
 ghost use Rattle.std.specs.List.{list_all};
-ghost use Rattle.std.specs.Prelude.{◌≡◌, ◌<◌, length, true};
+ghost use Rattle.std.specs.Prelude.{◌≡◌, ◌<◌, Some, length, true};
 ghost use Rattle.std.specs.Str.Parse.{digits_value};
 
 /// The number that the word is: one to ten decimal digits without a leading zero, or `0`.
@@ -17,6 +17,32 @@ pub fn number_in(word: &[u8]) -> Option<u64>
         return None;
     }
     Some(value_of(word))
+}
+
+/// The largest size of a term that a line may name.
+pub const SIZE_LIMIT: u64 = 64;
+
+/// The size of a term that the word is: a number from 1 to 64 without a leading zero.
+pub fn size_in(word: &[u8]) -> Option<u32>
+    ensures { result ≡ plain.size_in word.now }
+{
+    match number_in(word) {
+        None => None,
+        Some(number) => size_of(number),
+    }
+}
+
+// The number, if it is from 1 to 64.
+fn size_of(number: u64) -> Option<u32>
+    ensures { result ≡ plain.size_of (Some number) }
+{
+    if number < 1 {
+        return None;
+    }
+    if number > SIZE_LIMIT {
+        return None;
+    }
+    Some(number as u32)
 }
 
 // Whether all bytes are decimal digits.

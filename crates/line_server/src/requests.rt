@@ -2,6 +2,8 @@
 
 ghost use Rattle.line_server.specs.Request.{
   asked_with,
+  instances_in,
+  instances_up_to,
   name_of,
   named,
   only,
@@ -10,11 +12,13 @@ ghost use Rattle.line_server.specs.Request.{
   requested_by,
   save,
   step_in,
+  values_by,
+  values_in,
 };
 ghost use Rattle.line_server.specs.RequestView.{wants};
 ghost use Rattle.std.specs.Prelude.{◌≡◌, option_map};
 
-use crate::numbers::number_in;
+use crate::numbers::{number_in, size_in};
 use crate::words::{first_word_length, without_blanks, without_spaces};
 
 /// What a line asks for.
@@ -61,14 +65,29 @@ pub enum Request<'a> {
         /// The terms as they are written.
         terms: &'a [u8],
     },
+    /// The values of a sort.
+    Values {
+        /// The name of the sort as it is written.
+        name: &'a [u8],
+        /// How many operations a value has at most, from 1 to 64.
+        size: u32,
+    },
+    /// The instances of an entry.
+    Instances {
+        /// The number of the entry.
+        number: u64,
+        /// How many operations each of the values for its variables has at most, from 1 to 64.
+        size: u32,
+    },
 }
 
 /// What the line asks for. Blanks at both ends, a carriage return among them, are no part of it.
 /// Its first word, up to the first space, is the command word, in lower case. Behind `menu`,
-/// `show`,
-/// `trace`, `undo` and `quit` nothing may stand; behind `step` stands a number of one to ten digits
-/// without a leading zero, or `0`, and behind it the terms; behind `save` and `replay` a name,
-/// which is UTF-8 and goes to the end of the line; behind `normal` and `equal` terms.
+/// `show`, `trace`, `undo` and `quit` nothing may stand; behind `step` stands a number of one to
+/// ten digits without a leading zero, or `0`, and behind it the terms; behind `save` and `replay` a
+/// name, which is UTF-8 and goes to the end of the line; behind `normal` and `equal` terms; behind
+/// `values` a word, and behind `instances` a number as behind `step`, and then a size, which is a
+/// number from 1 to 64 without a leading zero.
 pub fn read_request(line: &[u8]) -> Request<'_>
     ensures { wants result ≡ request_of line.now }
 {
@@ -124,6 +143,10 @@ fn requested_with<'a>(word: &[u8], rest: &'a [u8]) -> Request<'a>
         Request::Normal { terms: rest }
     } else if word == b"equal".as_slice() {
         Request::Equal { terms: rest }
+    } else if word == b"values".as_slice() {
+        values(rest)
+    } else if word == b"instances".as_slice() {
+        instances(rest)
     } else {
         Request::Unknown
     }
@@ -140,6 +163,46 @@ fn step(rest: &[u8]) -> Request<'_>
             number,
             terms: without_spaces(&rest[count..]),
         },
+    }
+}
+
+// The values of the sort that a word names, up to a size.
+fn values(rest: &[u8]) -> Request<'_>
+    ensures { wants result ≡ values_in rest.now }
+{
+    let count = first_word_length(rest);
+    let size = size_in(without_spaces(&rest[count..]));
+    values_up_to(&rest[..count], size)
+}
+
+// The values of the sort with this name, if there is a size.
+fn values_up_to(name: &[u8], size: Option<u32>) -> Request<'_>
+    ensures { wants result ≡ values_by name.now size }
+{
+    match size {
+        None => Request::Unknown,
+        Some(size) => Request::Values { name, size },
+    }
+}
+
+// The instances of the entry that a number names, up to a size.
+fn instances(rest: &[u8]) -> Request<'_>
+    ensures { wants result ≡ instances_in rest.now }
+{
+    let count = first_word_length(rest);
+    match number_in(&rest[..count]) {
+        None => Request::Unknown,
+        Some(number) => instances_of(number, size_in(without_spaces(&rest[count..]))),
+    }
+}
+
+// The instances of the entry with this number, if there is a size.
+fn instances_of<'a>(number: u64, size: Option<u32>) -> Request<'a>
+    ensures { wants result ≡ instances_up_to number size }
+{
+    match size {
+        None => Request::Unknown,
+        Some(size) => Request::Instances { number, size },
     }
 }
 

@@ -1,5 +1,5 @@
 -- What the answers of the code are, by what they list.
-use Rattle.std.proofs.Common.{◌≡◌, ℕ, ◌<◌, ◌≤◌, List, ◌++◌, Some, codes, inl, ap, sym, ◌∙◌, subst}
+use Rattle.std.proofs.Common.{◌≡◌, ◌⊎◌, ℕ, ◌<◌, ◌≤◌, List, [], ◌∷◌, ◌++◌, Some, length, codes, inl, inr, refl, ap, sym, ◌∙◌, subst, arith}
 use Rattle.lotos_base.specs.Equation.{Data, HasSortedSides}
 use Rattle.lotos_base.specs.Signature.{Signature}
 use Rattle.lotos_base.specs.Term.{Term}
@@ -16,12 +16,12 @@ use Rattle.session_histories.specs.Refusal.{entry_numbered}
 use Rattle.session_histories.specs.Session.{SessionBasis}
 use Rattle.value_lists.specs.InstanceList as found
 use Rattle.value_lists.specs.Tuples.{tuple_count}
-use Rattle.value_lists.specs.ValueList.{HasMoreValues, HasUpToValues, IsValueList}
+use Rattle.value_lists.specs.ValueList.{AreValueLists, HasMoreValues, HasUpToValues, IsValueList}
 use Rattle.value_lists.specs.declared.limits.TheConstants.{MAX_INSTANCES, MAX_VALUES}
-use Rattle.list_lines.specs.ListOutcome.{ListOutcome, listed, refused, no_sort, too_many_values, too_many_instances, IsListOf, HasFew, HasTooMany, IsSettled, ValuesComeTo, has_no_sort, has_too_many, has_values, InstancesComeTo, has_too_many_instances, has_instances, ListsInstances}
+use Rattle.list_lines.specs.ListOutcome.{ListOutcome, listed, refused, no_sort, too_many_values, too_many_instances, IsListOf, HasFew, HasTooMany, IsSettled, MayChoose, ValuesComeTo, has_no_sort, has_too_many, has_values, InstancesComeTo, has_too_many_instances, has_instances, ListsInstances}
 use Rattle.list_lines.specs.ListText.{Printing, list_refusal_text, value_list_text, values_text, instance_list_text, instances_text, printing_of}
 use Rattle.list_lines.specs.ListView.{AddsList, HasChoices, HasRules, IsPrintedFor, printing_with}
-use Rattle.list_lines.proofs.SettledLemmas.{few_same, instances_same, list_same, more_same, settled}
+use Rattle.list_lines.proofs.SettledLemmas.{few_same, instances_same, list_same, lists_same, more_same, settled}
 
 -- ---- Values
 
@@ -71,6 +71,38 @@ module _ (basis : SessionBasis) (signature : Signature) (rules : List Rule) (has
         (subst (λ (it : Signature). HasMoreValues it (IsNormal rules) size MAX_VALUES) has.over more)),
     added,
   )
+
+-- ---- Choices
+
+-- where a list is empty, or has a member
+none_or_some : (sorts : List ℕ) → (sorts ≡ []) ⊎ (0 < length sorts)
+none_or_some [] = inl refl
+none_or_some (sort ∷ sorts) = inr (omega arith)
+
+module _ (basis : SessionBasis) (signature : Signature) (rules : List Rule) (has : HasRules basis signature rules)
+    (entry : solving.Entry) (size : ℕ) where
+  few_there : HasUpToValues signature (IsNormal rules) size MAX_VALUES → HasFew basis size
+  few_there few =
+      few_same basis.data_.signature (IsNormal rules) (IsSettled basis) (settled rules basis.canon has.normal) size MAX_VALUES
+      (subst (λ (it : Signature). HasUpToValues it (IsNormal rules) size MAX_VALUES) has.over few)
+
+  pub more_there : HasMoreValues signature (IsNormal rules) size MAX_VALUES → HasTooMany basis size
+  more_there more =
+      more_same basis.data_.signature (IsNormal rules) (IsSettled basis) (settled rules basis.canon has.normal) size MAX_VALUES
+      (subst (λ (it : Signature). HasMoreValues it (IsNormal rules) size MAX_VALUES) has.over more)
+
+  pub has_choices : (choices : List (List Term)) → AreValueLists signature (IsNormal rules) size entry.variables choices
+      → (0 < length entry.variables → HasUpToValues signature (IsNormal rules) size MAX_VALUES) → HasChoices basis entry size choices
+  has_choices choices are few = record {
+    may = by (none_or_some entry.variables);
+    are = lists_same basis.data_.signature (IsNormal rules) (IsSettled basis) (settled rules basis.canon has.normal) size
+        entry.variables choices
+        (subst (λ (it : Signature). AreValueLists it (IsNormal rules) size entry.variables choices) has.over are);
+  }
+    where
+      by : (entry.variables ≡ []) ⊎ (0 < length entry.variables) → MayChoose basis size entry
+      by (inl none) = inl none
+      by (inr some) = inr (few_there (few some))
 
 -- ---- Instances
 

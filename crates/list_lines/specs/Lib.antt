@@ -3,3 +3,4 @@ pub mod ListText
 pub mod ListView
 pub mod ListCases
 pub mod ListLaws
+pub mod HandedOn

@@ -31,11 +31,11 @@ ghost use Rattle.value_lists.specs.InstanceList.{
   profiles_in,
 };
 
-use crate::given_values::push_given;
 use event_offers::Entry;
 use lotos_base::{Name, NoMemory};
 use printed_texts::brackets::{push_number, push_text};
 use printed_texts::labels::push_label;
+use printed_texts::values::push_given;
 use sort_terms::{Deciding, Signature, Sorted};
 use value_lists::{ListFault, instance_label, instances_of};
 
@@ -130,6 +130,7 @@ fn push_instance_lines<D: Deciding>(
 }
 
 // Appends the line of an instance.
+#[tactic(auto, using(session_histories::proofs::StepLineLemmas::line_written))]
 fn push_instance<D: Deciding>(
     signature: &Signature,
     gates: &[Name],

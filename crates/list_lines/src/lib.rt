@@ -3,7 +3,6 @@
 #![tactic(auto)]
 
 pub mod cases;
-pub mod given_values;
 pub mod instance_lines;
 pub mod laws;
 pub mod refusals;
@@ -11,3 +10,4 @@ pub mod value_lines;
 
 pub use instance_lines::push_instance_list;
 pub use value_lines::push_value_list;
+pub use value_lists::{ListFault, values_of_each};

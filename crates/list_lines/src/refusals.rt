@@ -1,17 +1,16 @@
 //! The lines of refusals.
 
-ghost use Rattle.list_lines.specs.ListOutcome.{no_sort};
+ghost use Rattle.list_lines.specs.ListOutcome.{no_entry, no_sort};
 ghost use Rattle.list_lines.specs.ListText.{list_refusal_text};
-ghost use Rattle.std.specs.Prelude.{◌≡◌, ◌++◌, OnOk, codes, decimal};
+ghost use Rattle.std.specs.Prelude.{◌≡◌, ◌++◌, OnOk};
 
 use lotos_base::NoMemory;
 use printed_texts::brackets::{push_number, push_text};
 
 /// Appends the line for an entry that is not there: its number, and how many entries there are.
-#[tactic(auto, using(crate::proofs::TextLemmas::in_five))]
 pub fn push_no_entry(number: u64, length: usize, into: &mut Vec<u8>) -> Result<(), NoMemory>
-    ensures { OnOk result (into.new.items ≡ into.old.items ++ codes "refused 802 NoEntry "
-        ++ decimal number ++ codes " of " ++ decimal length ++ codes "\n") }
+    ensures { OnOk result (into.new.items
+        ≡ into.old.items ++ list_refusal_text (no_entry number length)) }
 {
     push_text(into, b"refused 802 NoEntry ")?;
     push_number(into, number as u128)?;

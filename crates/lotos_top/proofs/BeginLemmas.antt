@@ -2,28 +2,14 @@
 use Rattle.std.proofs.Common.{◌≡◌, List, [], map, sym, ap, subst, ◌∙◌}
 use Rattle.lotos_base.specs.Term.{Term}
 use Rattle.lotos_base.specs.Equation.{Data}
-use Rattle.termination_theory.specs.Orientation.{rules_of}
-use Rattle.rewriting_theory.specs.ChosenForm.{Chooses}
 use Rattle.behaviour_semantics.specs.Behaviour.{Specification}
 use Rattle.behaviour_semantics.specs.Replacement.{with_values, binding_of}
-use Rattle.behaviour_tree.specs.DefinitionView.{specification_of}
-use Rattle.behaviour_tree.specs.StateView.{state_of}
-use Rattle.behaviour_tree.specs.declared.definitions.Spec.{Spec}
-use Rattle.behaviour_tree.specs.declared.states.State.{State}
-use Rattle.path_order.specs.RulesView.{rules_in, precedence_in}
 use Rattle.sort_terms.specs.EquationView.{data_of}
-use Rattle.equation_book.specs.BookCanon.{book_canon}
-use Rattle.equation_book.specs.BookCanonFacts.{book_chooses, book_is_canon}
-use Rattle.equation_book.specs.declared.book.Book.{Book}
-use Rattle.menu_builder.specs.declared.makers.FreshMenus.{FreshMenus}
+use Rattle.spec_acceptance.specs.HandedOn.{book_canon, book_chooses, book_is_canon, Book, rules_in, precedence_in, rules_of, Chooses}
 use Rattle.spec_acceptance.specs.Acceptance.{Acceptance}
-use Rattle.history_lines.specs.HandedOn.{Progress, Situation, first_situation}
-use Rattle.history_lines.specs.HandedOn.{IsSituation}
-use Rattle.history_lines.specs.HandedOn.{basis_over, progress_of, pasts_of}
-use Rattle.history_lines.specs.HandedOn.{AreSuited, IsKeptState, IsLawfulSession}
-use Rattle.history_lines.specs.HandedOn.{Past}
-use Rattle.history_lines.specs.HandedOn.{Session}
-use Rattle.history_lines.specs.Beginning.{CanBegin}
+use Rattle.demo_walks.specs.HandedOn.{Progress, Situation, first_situation, IsSituation, basis_over, progress_of, pasts_of, AreSuited}
+use Rattle.demo_walks.specs.HandedOn.{IsKeptState, IsLawfulSession, Past, Session, FreshMenus, specification_of, state_of, Spec, State}
+use Rattle.demo_walks.specs.HandedOn.{CanBegin}
 use Rattle.spec_acceptance.specs.AcceptedView.{HoldsAccepted}
 use Rattle.spec_acceptance.specs.declared.accepted.Accepted.{Accepted}
 use Rattle.lotos_top.specs.Opening.{SessionBegins}

@@ -11,8 +11,7 @@ use Rattle.line_server.specs.Session.{SessionCame, finished, quit, input_failed,
 use Rattle.line_server.specs.Turn.{around, IsRead}
 use Rattle.line_server.specs.Writing.{Stream}
 use Rattle.line_server.specs.declared.ends.SessionEnd.{SessionEnd}
-use Rattle.history_lines.specs.SessionMachine.{SessionPoint, history_machine}
-use Rattle.history_lines.specs.Beginning.{Beginning}
+use Rattle.demo_walks.specs.HandedOn.{SessionPoint, history_machine, Beginning}
 use Rattle.lotos_top.specs.Causes.{GivesWay, IsReadPast, ServesLines, IsDemonstration, IsUnread, AnswersHaveCauses}
 use Rattle.lotos_top.specs.Opening.{opening_text}
 use Rattle.lotos_top.specs.Run.{Streams, Writes, whole, in_part, nothing, Prints, ServesSession, in_front, in_want, behind, Stops, Follows, Ran, ended_by}

@@ -5,7 +5,7 @@ use Rattle.std.specs.declared.alloc.Global.{Global}
 use Rattle.std.proofs.lemmas.List.{drop_more, take_more, length-drop}
 use Rattle.std.proofs.Math.ListN.{drop_of_length-le}
 use Rattle.std.proofs.Math.Seq.{take-length}
-use Rattle.refusal_lines.specs.HandedOn.{words_of}
+use Rattle.spec_acceptance.specs.HandedOn.{words_of}
 use Rattle.lotos_top.specs.Words.{WordsBehind, words_behind, ends_files, file_before, cut_at_with}
 
 -- words before those that are cut

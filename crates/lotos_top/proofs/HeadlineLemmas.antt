@@ -3,13 +3,12 @@ use Rattle.std.proofs.Common.{◌≡◌, ◌⊎◌, inl, inr, ℕ, ◌+◌, ◌<
 use Rattle.std.proofs.lemmas.List.{append-nil}
 use Rattle.lotos_base.specs.Counts.{Rises, last_count}
 use Rattle.lotos_base.specs.Outside.{Texts}
-use Rattle.spec_acceptance.specs.HandedOn.{ShelfState, GotFile}
+use Rattle.spec_acceptance.specs.HandedOn.{ShelfState, GotFile, Refused}
 use Rattle.spec_acceptance.specs.Acceptance.{Asked, Acceptance, IsAccepted}
 use Rattle.spec_acceptance.specs.AcceptanceOutcomes.{ComesOver}
 use Rattle.spec_acceptance.specs.Doing.{Did}
 use Rattle.spec_acceptance.specs.Part.{Comes, goes_on, unread, stops, wants_memory}
 use Rattle.spec_acceptance.proofs.OneAnswer.{comes_over, outcomes_over_texts_are_one}
-use Rattle.refusal_lines.specs.HandedOn.{Refused}
 use Rattle.line_server.specs.Answered as served
 use Rattle.line_server.specs.Cutting.{complete, unfinished, last_line, lines_in}
 use Rattle.line_server.specs.Limits.{input_limit}
@@ -20,12 +19,8 @@ use Rattle.line_server.specs.declared.ends.SessionEnd.{SessionEnd}
 use Rattle.line_server.specs.declared.ends.SessionEnd.TheVariants as end_of
 use Rattle.line_server.proofs.Cuts.{complete-append}
 use Rattle.line_server.proofs.AnsweredLines.{answered_still}
-use Rattle.history_lines.specs.Answered.{AreAnswered}
-use Rattle.history_lines.specs.Standing.{Standing}
-use Rattle.history_lines.specs.SessionMachine.{SessionPoint, point, history_machine}
-use Rattle.history_lines.specs.Beginning.{Beginning, standing_at}
-use Rattle.history_lines.specs.Reached.{IsReached}
-use Rattle.history_lines.specs.ReportLaws.{LinesLeadOn, ServedLinesAreAnswered}
+use Rattle.demo_walks.specs.HandedOn.{AreAnswered, Standing, SessionPoint, point, history_machine, Beginning, standing_at, IsReached}
+use Rattle.demo_walks.specs.HandedOn.{LinesLeadOn, ServedLinesAreAnswered}
 use Rattle.lotos_top.specs.Headline.{Stands, IsSteady, Simulates, Headline}
 use Rattle.lotos_top.specs.Opening.{SessionBegins, opening_text}
 use Rattle.lotos_top.specs.Run.{Streams, ServesSession, in_front, in_want, behind, Follows, Ran, ended_by}

@@ -9,3 +9,4 @@ mod ServingLemmas
 mod SettledLemmas
 mod WordsLemmas
 mod WorkLemmas
+pub mod HandedOn

@@ -6,20 +6,14 @@ use Rattle.lotos_base.specs.Outside.{Texts}
 use Rattle.lotos_base.specs.declared.memory_shelf.MemShelf.{MemShelf}
 use Rattle.demo_walks.specs.DemoSummary.{IsSummary}
 use Rattle.demo_walks.specs.DemoText.{demo_text}
-use Rattle.history_lines.specs.HandedOn.{past_of, progress_of}
-use Rattle.history_lines.specs.HandedOn.{Course}
-use Rattle.history_lines.specs.HandedOn.{Past}
-use Rattle.history_lines.specs.Beginning.{Beginning}
-use Rattle.spec_acceptance.specs.HandedOn.{ShelfState, shelf_state, GotFile, IsFileOf}
+use Rattle.demo_walks.specs.HandedOn.{past_of, progress_of, Course, Past, usage_text, Beginning}
+use Rattle.spec_acceptance.specs.HandedOn.{ShelfState, shelf_state, GotFile, IsFileOf, Refused, refused_of, refusal_text}
 use Rattle.spec_acceptance.specs.Acceptance.{Acceptance, Asked, AcceptsText, IsAccepted}
 use Rattle.spec_acceptance.specs.Part.{Comes, goes_on, unread, stops, wants_memory, Part, Then, Has, Telling}
 use Rattle.spec_acceptance.specs.Doing.{Did, Failed}
 use Rattle.spec_acceptance.specs.declared.not_accepted.NotAccepted.{NotAccepted}
 use Rattle.spec_acceptance.specs.declared.not_accepted.NotAccepted.TheVariants.{File as Lacking, Spec, NoMemory}
 use Rattle.spec_acceptance.proofs.DoingLemmas.{did_then, has_done, wants_nothing, failed_first}
-use Rattle.refusal_lines.specs.HandedOn.{Refused, refused_of}
-use Rattle.refusal_lines.specs.RefusalText.{refusal_text}
-use Rattle.printed_texts.specs.ReportLines.{usage_text}
 use Rattle.lotos_top.specs.Opening.{SessionBegins, opening_text}
 use Rattle.lotos_top.specs.Prepared.{begun, IsLawfulAt, print_in, printed_by, CameTo, IsReady, IsFaultPrinted, FailsAlone}
 use Rattle.lotos_top.specs.Work.{Print, print, Finish, prints, serves, unread_printed, refusal_printed, word_or_none, Finds, Opens, OpensAsked, WithoutFiles, IsSummaryPrinted, Demonstrates, work_of}

@@ -12,10 +12,8 @@ use Rattle.line_server.specs.Request.{request_of}
 use Rattle.line_server.specs.Turn.{Surroundings}
 use Rattle.line_server.specs.Writing.{Stream, WritesAll, WritesBeginning}
 use Rattle.line_server.specs.declared.ends.SessionEnd.{SessionEnd}
-use Rattle.history_lines.specs.Serving.{ShelfCounts, moment_of, IsBeforeOrBehind}
-use Rattle.history_lines.specs.SessionMachine.{SessionPoint, LineLeaves, history_machine}
-use Rattle.history_lines.specs.Beginning.{Beginning}
-use Rattle.history_lines.proofs.AnsweredLemmas.{counts_rise, count_rises}
+use Rattle.demo_walks.specs.HandedOn.{ShelfCounts, moment_of, IsBeforeOrBehind, SessionPoint, LineLeaves, history_machine, Beginning}
+use Rattle.demo_walks.proofs.HandedOn.{counts_rise, count_rises}
 use Rattle.lotos_top.specs.Prepared.{begun, print_in, printed_by, CameTo, IsReady}
 use Rattle.lotos_top.specs.Run.{Streams, streams, Writes, whole, in_part, nothing, Prints, ServesSession, in_front, in_want, behind, Stops, Follows, Ran}
 use Rattle.lotos_top.specs.Words.{CommandLine}

@@ -6,9 +6,7 @@ use Rattle.line_server.specs.Session.{IsSessionServed}
 use Rattle.line_server.specs.Turn.{around}
 use Rattle.line_server.specs.Writing.{Stream, WritesAll, WritesBeginning}
 use Rattle.line_server.specs.declared.ends.SessionEnd.{SessionEnd}
-use Rattle.history_lines.specs.Standing.{Standing}
-use Rattle.history_lines.specs.SessionMachine.{point, history_machine}
-use Rattle.history_lines.specs.Beginning.{Beginning, standing_at}
+use Rattle.demo_walks.specs.HandedOn.{Standing, point, history_machine, Beginning, standing_at}
 use Rattle.lotos_top.specs.Opening.{opening_text}
 use Rattle.lotos_top.specs.Run.{Streams, ServesSession, in_front, behind, ended_by}
 use Rattle.lotos_top.specs.declared.ended.Ended.{Ended}

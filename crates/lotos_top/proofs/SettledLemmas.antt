@@ -2,15 +2,14 @@
 use Rattle.std.proofs.Common.{◌≡◌, ◌⊎◌, inl, inr, ℕ, List, [], ◌++◌, Option, None, Some, refl, sym, ap, ◌∙◌, subst}
 use Rattle.lotos_base.specs.Counts.{Rises}
 use Rattle.lotos_base.specs.Outside.{Texts}
-use Rattle.spec_acceptance.specs.HandedOn.{ShelfState, GotFile, AreGotFrom}
+use Rattle.spec_acceptance.specs.HandedOn.{ShelfState, GotFile, AreGotFrom, Refused}
 use Rattle.spec_acceptance.specs.Acceptance.{Asked, Acceptance, IsAccepted}
 use Rattle.spec_acceptance.specs.AcceptanceOutcomes.{got_from, ComesOver}
 use Rattle.spec_acceptance.specs.Doing.{Did}
 use Rattle.spec_acceptance.specs.Part.{Comes, goes_on, unread, stops, wants_memory, Part, Then, Has}
 use Rattle.spec_acceptance.specs.PartLaws.{Lacks}
 use Rattle.spec_acceptance.proofs.OneAnswer.{got_told, lacks_told, outcomes_over_texts_are_one}
-use Rattle.refusal_lines.specs.HandedOn.{Refused}
-use Rattle.history_lines.specs.Beginning.{Beginning}
+use Rattle.demo_walks.specs.HandedOn.{Beginning}
 use Rattle.lotos_top.specs.Opening.{SessionBegins, opening_text}
 use Rattle.lotos_top.specs.Run.{Streams, Follows, Ran}
 use Rattle.lotos_top.specs.Settled.{WorkOver, IsFinishFor, IsByAcceptance, AsksFor, DoesWorkOver, IsSettled}

@@ -4,7 +4,7 @@ use Rattle.std.specs.Prelude.{nat_le, if◌then◌else◌, option_map}
 use Rattle.std.specs.Str.{bytes_eq}
 use Rattle.std.proofs.lemmas.Bool.{and_parts, leb-true}
 use Rattle.std.proofs.lemmas.Option.{none-some, same_Some}
-use Rattle.refusal_lines.specs.HandedOn.{words_limit, word_bytes_limit, total_length, are_within}
+use Rattle.spec_acceptance.specs.HandedOn.{words_limit, word_bytes_limit, total_length, are_within}
 use Rattle.spec_acceptance.specs.Acceptance.{Asked}
 use Rattle.lotos_top.specs.declared.commands.Task.{Task}
 use Rattle.lotos_top.specs.declared.commands.Task.TheVariants as task

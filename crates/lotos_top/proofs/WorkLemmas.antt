@@ -3,12 +3,11 @@ use Rattle.std.proofs.Common.{◌≡◌, ◌⊎◌, inl, inr, ℕ, List, [], ◌
 use Rattle.std.proofs.lemmas.List.Elements.{All-nil}
 use Rattle.std.proofs.lemmas.List.{append-nil}
 use Rattle.lotos_base.specs.Counts.{next_count}
-use Rattle.spec_acceptance.specs.HandedOn.{ShelfState, GotFile, IsFileOf, Gives, GivesSome, calls_after}
+use Rattle.spec_acceptance.specs.HandedOn.{ShelfState, GotFile, IsFileOf, Gives, GivesSome, calls_after, Refused}
 use Rattle.spec_acceptance.specs.Acceptance.{Asked, Acceptance, IsAccepted}
 use Rattle.spec_acceptance.specs.Doing.{AsksBehind, Did}
 use Rattle.spec_acceptance.specs.Part.{Comes, goes_on, unread, stops, wants_memory, Part, Then, Has, Telling}
-use Rattle.refusal_lines.specs.HandedOn.{Refused}
-use Rattle.history_lines.specs.Beginning.{Beginning}
+use Rattle.demo_walks.specs.HandedOn.{Beginning}
 use Rattle.lotos_top.specs.Opening.{SessionBegins}
 use Rattle.lotos_top.specs.Work.{Print, Finish, prints, serves, Finds, Opens, OpensAsked, refusal_printed, work_of}
 use Rattle.lotos_top.specs.Words.{session}

@@ -7,10 +7,8 @@ use Rattle.spec_acceptance.specs.Acceptance.{Asked, Acceptance}
 use Rattle.spec_acceptance.specs.Part.{goes_on}
 use Rattle.spec_acceptance.specs.AcceptanceOutcomes.{ComesOver}
 use Rattle.line_server.specs.Limits.{input_limit}
-use Rattle.history_lines.specs.Beginning.{Beginning, standing_at}
-use Rattle.history_lines.specs.Standing.{Standing}
+use Rattle.demo_walks.specs.HandedOn.{Beginning, standing_at, Standing, AreAnswered}
 use Rattle.line_server.specs.Cutting.{lines_in}
-use Rattle.history_lines.specs.Answered.{AreAnswered}
 use Rattle.lotos_top.specs.Opening.{SessionBegins, opening_text}
 use Rattle.lotos_top.specs.Run.{Streams}
 use Rattle.lotos_top.specs.Words.{CommandLine, session}

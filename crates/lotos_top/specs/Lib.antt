@@ -7,3 +7,4 @@ pub mod Settled
 pub mod Headline
 pub mod Prepared
 pub mod Status
+pub mod HandedOn

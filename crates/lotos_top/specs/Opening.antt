@@ -1,15 +1,10 @@
 -- Where the session of what was accepted begins, and what is printed before it.
 use Rattle.std.specs.Prelude.{◌≡◌, ℕ, List, [], ◌++◌, map, Option, Some, None}
 use Rattle.lotos_base.specs.Term.{Term}
-use Rattle.termination_theory.specs.Precedence.{Precedence}
-use Rattle.termination_theory.specs.Orientation.{NumberedRule, rules_of}
-use Rattle.rewriting_theory.specs.ChosenForm.{Chooses}
 use Rattle.behaviour_semantics.specs.Replacement.{with_values, binding_of}
-use Rattle.equation_book.specs.Refusal.{IsOpenedBy}
+use Rattle.spec_acceptance.specs.HandedOn.{IsOpenedBy, Precedence, NumberedRule, rules_of, Chooses}
 use Rattle.spec_acceptance.specs.Acceptance.{Acceptance}
-use Rattle.printed_texts.specs.ReportLines.{head_text}
-use Rattle.history_lines.specs.Standing.{shown_menu}
-use Rattle.history_lines.specs.Beginning.{Beginning, CanBegin}
+use Rattle.demo_walks.specs.HandedOn.{head_text, shown_menu, Beginning, CanBegin}
 
 -- the normal forms are those by the rules that the order's items make of the equations
 abbrev pub AreNormalForms : Acceptance → (Term → Term) → Type 0

@@ -2,16 +2,9 @@
 use Rattle.std.specs.Prelude.{◌≡◌, ℕ, List, [], Option, None, Some, IfSome}
 use Rattle.lotos_base.specs.Term.{Term}
 use Rattle.lotos_base.specs.Equation.{Data}
-use Rattle.behaviour_tree.specs.declared.definitions.Spec.{Spec}
-use Rattle.equation_book.specs.BookCanon.{book_canon}
-use Rattle.history_lines.specs.LinesView.{basis_of, reached}
-use Rattle.history_lines.specs.declared.lines.HistoryLines.{HistoryLines}
-use Rattle.spec_acceptance.specs.HandedOn.{ShelfState}
-use Rattle.menu_builder.specs.declared.makers.FreshMenus.{FreshMenus}
-use Rattle.history_lines.specs.HandedOn.{basis_over, progress_of}
-use Rattle.history_lines.specs.HandedOn.{IsLawfulSession}
-use Rattle.history_lines.specs.Beginning.{Beginning}
-use Rattle.refusal_lines.specs.HandedOn.{Refused, refused_of}
+use Rattle.demo_walks.specs.HandedOn.{basis_of, reached, HistoryLines, basis_over, progress_of, IsLawfulSession, FreshMenus, Spec}
+use Rattle.demo_walks.specs.HandedOn.{Beginning}
+use Rattle.spec_acceptance.specs.HandedOn.{ShelfState, book_canon, Refused, refused_of}
 use Rattle.sort_terms.specs.EquationView.{data_of}
 use Rattle.spec_acceptance.specs.Doing.{Did}
 use Rattle.spec_acceptance.specs.Part.{Comes, goes_on, unread, stops, wants_memory, Part}

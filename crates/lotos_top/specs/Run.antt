@@ -9,9 +9,7 @@ use Rattle.line_server.specs.Turn.{around}
 use Rattle.line_server.specs.Writing.{Stream, stream, WritesAll, WritesBeginning}
 use Rattle.line_server.specs.declared.ends.SessionEnd.{SessionEnd}
 use Rattle.line_server.specs.declared.ends.SessionEnd.TheVariants as end
-use Rattle.history_lines.specs.Standing.{Standing}
-use Rattle.history_lines.specs.SessionMachine.{point, history_machine}
-use Rattle.history_lines.specs.Beginning.{Beginning, standing_at}
+use Rattle.demo_walks.specs.HandedOn.{Standing, point, history_machine, Beginning, standing_at}
 use Rattle.lotos_top.specs.Opening.{opening_text}
 use Rattle.lotos_top.specs.Words.{CommandLine}
 use Rattle.lotos_top.specs.Work.{Print, Finish, prints, serves, unread_printed, work_of}

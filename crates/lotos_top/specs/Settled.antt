@@ -2,13 +2,12 @@
 use Rattle.std.specs.Prelude.{◌≡◌, ◌⊎◌, List, Option, Some, None}
 use Rattle.lotos_base.specs.Counts.{Rises}
 use Rattle.lotos_base.specs.Outside.{Texts}
-use Rattle.spec_acceptance.specs.HandedOn.{ShelfState, GotFile, AreGotFrom}
+use Rattle.spec_acceptance.specs.HandedOn.{ShelfState, GotFile, AreGotFrom, Refused}
 use Rattle.spec_acceptance.specs.Acceptance.{Asked, Acceptance}
 use Rattle.spec_acceptance.specs.AcceptanceOutcomes.{got_from, ComesOver}
 use Rattle.spec_acceptance.specs.Part.{Comes, goes_on, unread, stops, wants_memory}
 use Rattle.spec_acceptance.specs.PartLaws.{Lacks}
-use Rattle.history_lines.specs.Beginning.{Beginning}
-use Rattle.refusal_lines.specs.HandedOn.{Refused}
+use Rattle.demo_walks.specs.HandedOn.{Beginning}
 use Rattle.lotos_top.specs.Opening.{SessionBegins, opening_text}
 use Rattle.lotos_top.specs.Run.{Streams, Follows}
 use Rattle.lotos_top.specs.Words.{CommandLine, check, session, demonstration}

@@ -1,7 +1,7 @@
 -- The lines of words that the program takes: the table of verbs, and what a verb asks for with the words behind it.
 use Rattle.std.specs.Prelude.{ℕ, zero, suc, Bool, true, false, not, ◌&&◌, ◌||◌, List, [], ◌∷◌, length, nat_le, codes, decimal, if◌then◌else◌, Option, Some, None, option_map}
 use Rattle.std.specs.Str.{bytes_eq}
-use Rattle.refusal_lines.specs.HandedOn.{words_of, are_within}
+use Rattle.spec_acceptance.specs.HandedOn.{words_of, are_within}
 use Rattle.spec_acceptance.specs.Acceptance.{Asked}
 use Rattle.spec_acceptance.specs.AcceptedView.{asked_for}
 use Rattle.lotos_top.specs.declared.commands.Command.{Command}

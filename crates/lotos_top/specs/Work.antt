@@ -3,12 +3,10 @@
 use Rattle.std.specs.Prelude.{◌≡◌, ◌⊎◌, ℕ, List, [], Option, Some, None, codes}
 use Rattle.spec_acceptance.specs.Acceptance.{Asked, Acceptance, AcceptsText, IsAccepted}
 use Rattle.spec_acceptance.specs.Part.{Comes, goes_on, unread, stops, wants_memory, Part, Then, Has, Telling}
-use Rattle.refusal_lines.specs.HandedOn.{Refused}
-use Rattle.refusal_lines.specs.RefusalText.{refusal_text}
-use Rattle.printed_texts.specs.ReportLines.{unread_text, usage_text}
+use Rattle.spec_acceptance.specs.HandedOn.{Refused, refusal_text}
+use Rattle.demo_walks.specs.HandedOn.{unread_text, usage_text, Beginning}
 use Rattle.demo_walks.specs.DemoText.{demo_text}
 use Rattle.demo_walks.specs.DemoSummary.{IsSummary}
-use Rattle.history_lines.specs.Beginning.{Beginning}
 use Rattle.lotos_top.specs.Opening.{SessionBegins, opening_text}
 use Rattle.lotos_top.specs.Words.{CommandLine, check, session, demonstration}
 use Rattle.lotos_top.specs.declared.ended.Ended.{Ended}

@@ -20,12 +20,12 @@ ghost use Rattle.lotos_top.specs.Words.{
   verb_of,
   verbs,
 };
-ghost use Rattle.refusal_lines.specs.HandedOn.{words_of};
+ghost use Rattle.spec_acceptance.specs.HandedOn.{words_of};
 ghost use Rattle.std.specs.Prelude.{◌≡◌, None, Some, MatchOption, decimal, map, option_map};
 ghost use Rattle.std.specs.Str.{bytes_eq};
 
 use itoa::Buffer;
-use refusal_lines::are_within_limits;
+use spec_acceptance::are_within_limits;
 
 /// What the words ask for.
 #[derive(Clone, Copy, Debug)]

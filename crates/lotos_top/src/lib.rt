@@ -7,8 +7,11 @@ mod opening;
 mod running;
 
 pub use commands::{Command, parse_command};
+pub use demo_walks::{HistoryLines, Served, lines_lead_on, serve};
 pub use ended::Ended;
-pub use history_lines::{HistoryLines, Served, serve};
-pub use refusal_lines::{Refused, SpecFault, WORD_BYTES_LIMIT, WORDS_LIMIT};
 pub use running::run;
-pub use spec_acceptance::{Accepted, NotAccepted};
+pub use spec_acceptance::outcome_laws::data_are_well_formed;
+pub use spec_acceptance::{
+    Accepted, NotAccepted, Refused, SpecFault, WORD_BYTES_LIMIT, WORDS_LIMIT,
+    start_values_are_ground,
+};

@@ -2,6 +2,7 @@
 //! line that says why there is none.
 
 ghost use Rattle.demo_walks.specs.DemoSummary.{IsSummary};
+ghost use Rattle.demo_walks.specs.HandedOn.{head_text, unread_text, usage_text};
 ghost use Rattle.lotos_base.specs.Name.{spelling};
 ghost use Rattle.lotos_top.specs.Opening.{SessionBegins, opening_text};
 ghost use Rattle.lotos_top.specs.Prepared.{
@@ -27,15 +28,19 @@ ghost use Rattle.lotos_top.specs.declared.ended.Ended.TheVariants.{
   SpecRefused as spec_refused,
   WordsRefused as words_refused,
 };
-ghost use Rattle.printed_texts.specs.ReportLines.{head_text, unread_text, usage_text};
-ghost use Rattle.refusal_lines.specs.HandedOn.{are_within, refused_of, words_of};
-ghost use Rattle.refusal_lines.specs.RefusalText.{refusal_text};
 ghost use Rattle.sort_terms.specs.EquationView.{data_of};
 ghost use Rattle.sort_terms.specs.SignatureView.{signature_of};
 ghost use Rattle.spec_acceptance.specs.Acceptance.{Acceptance, AcceptsText, IsAccepted};
 ghost use Rattle.spec_acceptance.specs.AcceptedView.{HoldsAccepted, asked_for};
 ghost use Rattle.spec_acceptance.specs.Doing.{Did, Failed};
-ghost use Rattle.spec_acceptance.specs.HandedOn.{ShelfState, shelf_state};
+ghost use Rattle.spec_acceptance.specs.HandedOn.{
+  ShelfState,
+  are_within,
+  refusal_text,
+  refused_of,
+  shelf_state,
+  words_of,
+};
 ghost use Rattle.spec_acceptance.specs.Part.{goes_on};
 ghost use Rattle.std.specs.Prelude.{
   ◌≡◌,
@@ -54,17 +59,12 @@ ghost use Rattle.std.specs.Prelude.{
 
 use crate::commands::{Command, USAGE, parse_command};
 use crate::ended::Ended;
-use behaviour_tree::Spec;
-use demo_walks::{demo_text, write_summary};
-use equation_book::Book;
-use history_lines::Session;
+use demo_walks::{
+    FreshMenus, Session, Spec, demo_text, menu_text, push_number, push_text, write_summary,
+};
 use lotos_base::{MemShelf, NoMemory, Shelf};
-use menu_builder::FreshMenus;
-use printed_texts::brackets::{push_number, push_text};
-use printed_texts::menu_text;
-use refusal_lines::{Refused, refusal_line};
 use sort_terms::Signature;
-use spec_acceptance::{Accepted, NotAccepted};
+use spec_acceptance::{Accepted, Book, NotAccepted, Refused, refusal_line};
 use std::alloc::Global;
 
 /// A specification that is accepted, where its session begins.

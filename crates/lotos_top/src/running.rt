@@ -1,6 +1,6 @@
 //! The whole program over any outside.
 
-ghost use Rattle.history_lines.specs.LinesView.{IsServing};
+ghost use Rattle.demo_walks.specs.HandedOn.{IsServing};
 ghost use Rattle.line_server.specs.Writing.{stream};
 ghost use Rattle.lotos_top.specs.Causes.{AnswersHaveCauses};
 ghost use Rattle.lotos_top.specs.Headline.{Headline};
@@ -9,18 +9,15 @@ ghost use Rattle.lotos_top.specs.Prepared.{IsLawfulAt, any_maker, beginning_of, 
 ghost use Rattle.lotos_top.specs.Run.{Ran, ServesSession, Writes, ended_by, streams};
 ghost use Rattle.lotos_top.specs.Settled.{IsSettled};
 ghost use Rattle.lotos_top.specs.Words.{command_line};
-ghost use Rattle.refusal_lines.specs.HandedOn.{words_of};
 ghost use Rattle.sort_terms.specs.SignatureView.{signature_of};
-ghost use Rattle.spec_acceptance.specs.HandedOn.{shelf_state};
+ghost use Rattle.spec_acceptance.specs.HandedOn.{shelf_state, words_of};
 ghost use Rattle.std.specs.Prelude.{◌≡◌, MatchResult};
 
 use crate::ended::Ended;
 use crate::opening::{Alone, Front, Opened, Ready, front_of, prepare};
-use history_lines::laws::{lines_lead_on, served_lines_are_answered};
-use history_lines::{HistoryLines, serve_input};
+use demo_walks::{FreshMenus, HistoryLines, lines_lead_on, serve_input, served_lines_are_answered};
 use line_server::{SessionEnd, write_whole};
 use lotos_base::{Failed, NoMemory, Shelf, Sink, Source};
-use menu_builder::FreshMenus;
 use sort_terms::Reader;
 use std::alloc::Global;
 

@@ -1,12 +1,14 @@
 -- Nodes of states whose moves are listed, and what their list is.
 use Rattle.std.specs.Prelude.{◌≤◌, ℕ, List, max}
-use Rattle.lotos_base.specs.Signature.{IsWellFormedSignature}
+use Rattle.lotos_base.specs.Signature.{IsWellFormedSignature, Signature}
 use Rattle.lotos_base.specs.Canon.{IsCanon}
 use Rattle.behaviour_semantics.specs.Draft.{above_processes}
 use Rattle.behaviour_semantics.specs.WellFormed.{Every, IsSpecification, IsClosedBehaviour}
 use Rattle.behaviour_tree.specs.Closed.{IsClosedNode}
+use Rattle.behaviour_tree.specs.DefinitionView.{specification_of}
 use Rattle.behaviour_tree.specs.Over.{AreTermsOf}
 use Rattle.behaviour_tree.specs.StateView.{node_profiles, stands_for}
+use Rattle.behaviour_tree.specs.declared.definitions.Spec.{Spec}
 use Rattle.behaviour_tree.specs.declared.states.Node.{Node}
 use Rattle.event_offers.specs.declared.drafts.Draft.{Draft}
 use Rattle.draft_parts.specs.DraftTerms.{HasTermsOf}
@@ -14,6 +16,13 @@ use Rattle.draft_parts.specs.Lists.{plain_drafts}
 use Rattle.draft_parts.specs.HasDrafts.{HasDrafts}
 use Rattle.menu_builder.specs.NodeNumbers.{above_node}
 use Rattle.menu_builder.specs.Placed.{Basis, setting_on}
+
+-- The node is a state of the specification: the closed behaviour that it stands for is well formed over it, its
+-- environments close what they stand beside, and its terms are of the signature.
+pub record IsKnownNode (signature : Signature) (spec : Spec) (node : Node) : Type 0 where
+  pub closed : IsClosedBehaviour signature (specification_of spec) (stands_for node)
+  pub terms : AreTermsOf signature (node_profiles node)
+  pub given : IsClosedNode node
 
 -- The node is closed and stands for a closed behaviour over the specification, its terms are of the signature, and no
 -- variable that it or a process binds has a number from `base` on.

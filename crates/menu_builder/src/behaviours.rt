@@ -15,6 +15,7 @@ ghost use Rattle.term_match.specs.SubstView.{profiled_pairs};
 use crate::binders::{call_environment, let_environment, value_environment};
 use crate::events::{action_moves, exit_moves, inner_moves};
 use crate::guards::guarded_drafts;
+use crate::levels::Levels;
 use behaviour_tree::{Beh, Meet, Spec, Test};
 use draft_parts::environments::{following, leaf};
 use draft_parts::{Call, Rule, Variant, at_gates, beside, calls_beside, copies_beside, either};
@@ -24,7 +25,7 @@ use process_checks::Ranks;
 use sort_terms::{Deciding, Sorted, Variable};
 
 /// The drafts of the moves of the behaviour under the environment, whose leaves are numbered from
-/// `first` on.
+/// `first` on, where the rules nest no deeper than so many levels.
 #[cycle(listing)]
 pub fn behaviour_moves<D: Deciding>(
     spec: &Spec,
@@ -32,6 +33,7 @@ pub fn behaviour_moves<D: Deciding>(
     behaviour: &Beh,
     environment: &Vec<(u64, Sorted)>,
     first: u64,
+    levels: Levels,
     decider: &mut D,
 ) -> Result<Vec<Draft>, NoMemory>
     requires over { IsSpecOver (D.known_data decider.old).signature spec.now }
@@ -56,7 +58,16 @@ pub fn behaviour_moves<D: Deciding>(
             next: _,
         } => action_moves(*gate, offers, test, environment, first, decider),
         Beh::Inner(_) => inner_moves(*environment.allocator()),
-        Beh::Guard(test, part) => guard_moves(spec, ranks, test, part, environment, first, decider),
+        Beh::Guard(test, part) => guard_moves(
+            spec,
+            ranks,
+            test,
+            part,
+            environment,
+            first,
+            levels,
+            decider,
+        ),
         Beh::Choice(_, left, right) => choice_moves(
             spec,
             ranks,
@@ -64,6 +75,7 @@ pub fn behaviour_moves<D: Deciding>(
             right,
             environment,
             first,
+            levels,
             decider,
         ),
         Beh::Parallel(_, meet, left, right) => parallel_moves(
@@ -74,9 +86,19 @@ pub fn behaviour_moves<D: Deciding>(
             right,
             environment,
             first,
+            levels,
             decider,
         ),
-        Beh::Hide(gates, part) => hide_moves(spec, ranks, gates, part, environment, first, decider),
+        Beh::Hide(gates, part) => hide_moves(
+            spec,
+            ranks,
+            gates,
+            part,
+            environment,
+            first,
+            levels,
+            decider,
+        ),
         Beh::Enable(_, left, variables, _) => enable_moves(
             spec,
             ranks,
@@ -84,6 +106,7 @@ pub fn behaviour_moves<D: Deciding>(
             variables,
             environment,
             first,
+            levels,
             decider,
         ),
         Beh::Disable(_, left, right) => disable_moves(
@@ -93,6 +116,7 @@ pub fn behaviour_moves<D: Deciding>(
             right,
             environment,
             first,
+            levels,
             decider,
         ),
         Beh::Let(bindings, part) => let_moves(
@@ -102,6 +126,7 @@ pub fn behaviour_moves<D: Deciding>(
             part,
             environment,
             first,
+            levels,
             decider,
         ),
         Beh::ChooseValue(variable, part) => value_moves(
@@ -111,6 +136,7 @@ pub fn behaviour_moves<D: Deciding>(
             part,
             environment,
             first,
+            levels,
             decider,
         ),
         Beh::ChooseGate(gate, gates, part) => gate_moves(
@@ -121,6 +147,7 @@ pub fn behaviour_moves<D: Deciding>(
             part,
             environment,
             first,
+            levels,
             decider,
         ),
         Beh::ParGate(gate, gates, meet, part) => par_moves(
@@ -132,6 +159,7 @@ pub fn behaviour_moves<D: Deciding>(
             part,
             environment,
             first,
+            levels,
             decider,
         ),
         Beh::Call {
@@ -147,6 +175,7 @@ pub fn behaviour_moves<D: Deciding>(
             values,
             environment,
             first,
+            levels,
             decider,
         ),
     }
@@ -162,6 +191,7 @@ fn guard_moves<D: Deciding>(
     part: &Beh,
     environment: &Vec<(u64, Sorted)>,
     first: u64,
+    levels: Levels,
     decider: &mut D,
 ) -> Result<Vec<Draft>, NoMemory>
     requires over { IsSpecOver (D.known_data decider.old).signature spec.now }
@@ -177,7 +207,8 @@ fn guard_moves<D: Deciding>(
         made.items) }
     ensures same_known { KeepsData D.known_data D.canon decider.old decider.new }
 {
-    let parts = behaviour_moves(spec, ranks, part, environment, first, decider)?;
+    let below = levels.below()?;
+    let parts = behaviour_moves(spec, ranks, part, environment, first, below, decider)?;
     guarded_drafts(test, environment, parts)
 }
 
@@ -191,6 +222,7 @@ fn choice_moves<D: Deciding>(
     right: &Beh,
     environment: &Vec<(u64, Sorted)>,
     first: u64,
+    levels: Levels,
     decider: &mut D,
 ) -> Result<Vec<Draft>, NoMemory>
     requires over { IsSpecOver (D.known_data decider.old).signature spec.now }
@@ -206,8 +238,9 @@ fn choice_moves<D: Deciding>(
         made.items) }
     ensures same_known { KeepsData D.known_data D.canon decider.old decider.new }
 {
-    let lefts = behaviour_moves(spec, ranks, left, environment, first, decider)?;
-    let rights = behaviour_moves(spec, ranks, right, environment, first, decider)?;
+    let below = levels.below()?;
+    let lefts = behaviour_moves(spec, ranks, left, environment, first, below, decider)?;
+    let rights = behaviour_moves(spec, ranks, right, environment, first, below, decider)?;
     either(lefts, rights)
 }
 
@@ -222,6 +255,7 @@ fn parallel_moves<D: Deciding>(
     right: &Beh,
     environment: &Vec<(u64, Sorted)>,
     first: u64,
+    levels: Levels,
     decider: &mut D,
 ) -> Result<Vec<Draft>, NoMemory>
     requires over { IsSpecOver (D.known_data decider.old).signature spec.now }
@@ -237,8 +271,9 @@ fn parallel_moves<D: Deciding>(
         made.items) }
     ensures same_known { KeepsData D.known_data D.canon decider.old decider.new }
 {
-    let lefts = behaviour_moves(spec, ranks, left, environment, first, decider)?;
-    let rights = behaviour_moves(spec, ranks, right, environment, first, decider)?;
+    let below = levels.below()?;
+    let lefts = behaviour_moves(spec, ranks, left, environment, first, below, decider)?;
+    let rights = behaviour_moves(spec, ranks, right, environment, first, below, decider)?;
     beside(lefts, rights, meet, first)
 }
 
@@ -252,6 +287,7 @@ fn hide_moves<D: Deciding>(
     part: &Beh,
     environment: &Vec<(u64, Sorted)>,
     first: u64,
+    levels: Levels,
     decider: &mut D,
 ) -> Result<Vec<Draft>, NoMemory>
     requires over { IsSpecOver (D.known_data decider.old).signature spec.now }
@@ -266,7 +302,8 @@ fn hide_moves<D: Deciding>(
         (profiles_in part.now) (profiled_pairs environment.now.items) made.items) }
     ensures same_known { KeepsData D.known_data D.canon decider.old decider.new }
 {
-    let parts = behaviour_moves(spec, ranks, part, environment, first, decider)?;
+    let below = levels.below()?;
+    let parts = behaviour_moves(spec, ranks, part, environment, first, below, decider)?;
     Rule::Hidden(gates.as_slice()).apply_to_all(parts)
 }
 
@@ -280,6 +317,7 @@ fn enable_moves<D: Deciding>(
     variables: &Vec<Variable>,
     environment: &Vec<(u64, Sorted)>,
     first: u64,
+    levels: Levels,
     decider: &mut D,
 ) -> Result<Vec<Draft>, NoMemory>
     requires over { IsSpecOver (D.known_data decider.old).signature spec.now }
@@ -293,7 +331,8 @@ fn enable_moves<D: Deciding>(
         (profiles_in left.now ++ terms) (profiled_pairs environment.now.items) made.items) }
     ensures same_known { KeepsData D.known_data D.canon decider.old decider.new }
 {
-    let parts = behaviour_moves(spec, ranks, left, environment, first, decider)?;
+    let below = levels.below()?;
+    let parts = behaviour_moves(spec, ranks, left, environment, first, below, decider)?;
     Rule::Enabled(variables).apply_to_all(parts)
 }
 
@@ -307,6 +346,7 @@ fn disable_moves<D: Deciding>(
     right: &Beh,
     environment: &Vec<(u64, Sorted)>,
     first: u64,
+    levels: Levels,
     decider: &mut D,
 ) -> Result<Vec<Draft>, NoMemory>
     requires over { IsSpecOver (D.known_data decider.old).signature spec.now }
@@ -322,8 +362,9 @@ fn disable_moves<D: Deciding>(
         made.items) }
     ensures same_known { KeepsData D.known_data D.canon decider.old decider.new }
 {
-    let lefts = behaviour_moves(spec, ranks, left, environment, first, decider)?;
-    let rights = behaviour_moves(spec, ranks, right, environment, first, decider)?;
+    let below = levels.below()?;
+    let lefts = behaviour_moves(spec, ranks, left, environment, first, below, decider)?;
+    let rights = behaviour_moves(spec, ranks, right, environment, first, below, decider)?;
     either(lefts, rights)
 }
 
@@ -337,6 +378,7 @@ fn let_moves<D: Deciding>(
     part: &Beh,
     environment: &Vec<(u64, Sorted)>,
     first: u64,
+    levels: Levels,
     decider: &mut D,
 ) -> Result<Vec<Draft>, NoMemory>
     requires over { IsSpecOver (D.known_data decider.old).signature spec.now }
@@ -354,7 +396,8 @@ fn let_moves<D: Deciding>(
     ensures same_known { KeepsData D.known_data D.canon decider.old decider.new }
 {
     let inner = let_environment(bindings, environment, decider)?;
-    let parts = behaviour_moves(spec, ranks, part, &inner, first, decider)?;
+    let below = levels.below()?;
+    let parts = behaviour_moves(spec, ranks, part, &inner, first, below, decider)?;
     Rule::Below(Variant::Bound).apply_to_all(parts)
 }
 
@@ -368,6 +411,7 @@ fn value_moves<D: Deciding>(
     part: &Beh,
     environment: &Vec<(u64, Sorted)>,
     first: u64,
+    levels: Levels,
     decider: &mut D,
 ) -> Result<Vec<Draft>, NoMemory>
     requires over { IsSpecOver (D.known_data decider.old).signature spec.now }
@@ -384,7 +428,8 @@ fn value_moves<D: Deciding>(
 {
     let inner = value_environment(variable, environment, first)?;
     let next = following(first)?;
-    let parts = behaviour_moves(spec, ranks, part, &inner, next, decider)?;
+    let below = levels.below()?;
+    let parts = behaviour_moves(spec, ranks, part, &inner, next, below, decider)?;
     let chosen = leaf(first, variable.sort);
     Rule::Valued(&chosen).apply_to_all(parts)
 }
@@ -400,6 +445,7 @@ fn gate_moves<D: Deciding>(
     part: &Beh,
     environment: &Vec<(u64, Sorted)>,
     first: u64,
+    levels: Levels,
     decider: &mut D,
 ) -> Result<Vec<Draft>, NoMemory>
     requires over { IsSpecOver (D.known_data decider.old).signature spec.now }
@@ -414,7 +460,8 @@ fn gate_moves<D: Deciding>(
         (profiles_in part.now) (profiled_pairs environment.now.items) made.items) }
     ensures same_known { KeepsData D.known_data D.canon decider.old decider.new }
 {
-    let parts = behaviour_moves(spec, ranks, part, environment, first, decider)?;
+    let below = levels.below()?;
+    let parts = behaviour_moves(spec, ranks, part, environment, first, below, decider)?;
     at_gates(*environment.allocator(), gate, gates, &parts)
 }
 
@@ -429,6 +476,7 @@ pub fn call_moves<D: Deciding>(
     values: &Vec<Sorted>,
     environment: &Vec<(u64, Sorted)>,
     first: u64,
+    levels: Levels,
     decider: &mut D,
 ) -> Result<Vec<Draft>, NoMemory>
     requires over { IsSpecOver (D.known_data decider.old).signature spec.now }
@@ -445,7 +493,8 @@ pub fn call_moves<D: Deciding>(
 {
     let called = &spec.processes[process as usize];
     let inner = call_environment(&called.parameters, values, environment, decider)?;
-    let body = behaviour_moves(spec, ranks, &called.body, &inner, first, decider)?;
+    let below = levels.below()?;
+    let body = behaviour_moves(spec, ranks, &called.body, &inner, first, below, decider)?;
     let call = Call {
         formals: &called.gates,
         actuals: gates,
@@ -467,6 +516,7 @@ fn par_moves<D: Deciding>(
     part: &Beh,
     environment: &Vec<(u64, Sorted)>,
     first: u64,
+    levels: Levels,
     decider: &mut D,
 ) -> Result<Vec<Draft>, NoMemory>
     requires over { IsSpecOver (D.known_data decider.old).signature spec.now }
@@ -491,7 +541,8 @@ fn par_moves<D: Deciding>(
         } => {
             let called = &spec.processes[*process as usize];
             let inner = call_environment(&called.parameters, values, environment, decider)?;
-            let body = behaviour_moves(spec, ranks, &called.body, &inner, first, decider)?;
+            let below = levels.below_sides(gates.len())?;
+            let body = behaviour_moves(spec, ranks, &called.body, &inner, first, below, decider)?;
             let call = Call {
                 formals: &called.gates,
                 actuals,
@@ -499,7 +550,8 @@ fn par_moves<D: Deciding>(
             calls_beside(gate, gates, meet, &call, &body, first)
         }
         _ => {
-            let parts = behaviour_moves(spec, ranks, part, environment, first, decider)?;
+            let below = levels.below_sides(gates.len())?;
+            let parts = behaviour_moves(spec, ranks, part, environment, first, below, decider)?;
             copies_beside(gate, gates, meet, &parts, first)
         }
     }

@@ -7,6 +7,7 @@ pub mod binders;
 pub mod events;
 pub mod guards;
 pub mod laws;
+pub mod levels;
 pub mod makers;
 pub mod menus;
 pub mod nodes;
@@ -14,5 +15,6 @@ pub mod numbers;
 
 pub use behaviours::{behaviour_moves, call_moves};
 pub use event_offers::Menu;
+pub use levels::Levels;
 pub use makers::{FreshMenus, MenuMaker};
 pub use menus::menu;

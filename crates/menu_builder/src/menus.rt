@@ -1,6 +1,10 @@
 //! The menu of a state.
 
-ghost use Rattle.behaviour_semantics.specs.Draft.{draft_with, numbered_from_zero};
+ghost use Rattle.behaviour_semantics.specs.Draft.{
+  above_processes as above_declared,
+  draft_with,
+  numbered_from_zero,
+};
 ghost use Rattle.behaviour_semantics.specs.Listing.{AllSolveTo};
 ghost use Rattle.behaviour_semantics.specs.Menu.{Exact};
 ghost use Rattle.behaviour_semantics.specs.WellFormed.{Every};
@@ -8,7 +12,7 @@ ghost use Rattle.behaviour_semantics.specs.DraftOrder.{IsInOrder};
 ghost use Rattle.behaviour_tree.specs.Closed.{IsClosedNode};
 ghost use Rattle.behaviour_tree.specs.DefinitionView.{specification_of};
 ghost use Rattle.behaviour_tree.specs.Over.{IsSpecOver, IsStateOf};
-ghost use Rattle.behaviour_tree.specs.StateView.{state_of};
+ghost use Rattle.behaviour_tree.specs.StateView.{stands_for, state_of};
 ghost use Rattle.draft_parts.specs.Lists.{plain_drafts};
 ghost use Rattle.event_offers.specs.Keeping.{KeepsData};
 ghost use Rattle.event_offers.specs.OfferView.{plain_draft, plain_entry};
@@ -16,22 +20,26 @@ ghost use Rattle.event_offers.specs.Offers.{IsEntryOver};
 ghost use Rattle.draft_parts.specs.DraftTerms.{HasTermsOf};
 ghost use Rattle.menu_builder.specs.OpenMenus.{lowered_drafts};
 ghost use Rattle.menu_builder.specs.Menus.{entries_in};
+ghost use Rattle.menu_builder.specs.Nodes.{IsKnownNode};
 ghost use Rattle.process_checks.specs.Ranks.{AreRanksOf};
-ghost use Rattle.std.specs.Prelude.{◌≡◌, ◌++◌, IfOk, map, option_to_list};
+ghost use Rattle.std.specs.Prelude.{◌≡◌, ◌≤◌, ◌++◌, IfOk, map, option_to_list};
 ghost use Rattle.lotos_base.specs.Signature.{IsWellFormedSignature, Signature};
 
+use crate::levels::Levels;
 use crate::nodes::node_moves;
 use crate::numbers::{above_node, above_processes};
-use behaviour_tree::{Spec, State};
+use behaviour_tree::{Node, Spec, State};
+use draft_solving::solve;
 use event_offers::renaming::Renaming;
-use event_offers::{Draft, Entry, Menu, solve};
+use event_offers::{Draft, Entry, Menu};
 use lotos_base::NoMemory;
 use process_checks::Ranks;
 use sort_terms::Deciding;
 use std::alloc::Global;
 
 /// The exact menu of the state, over the data and the canon of the object: for each shape that
-/// fits, in order, the solved form of its draft.
+/// fits, in order, the solved form of its draft. Where rules nest deeper than 4,000 levels, along
+/// the parts of the state and the calls that stand before an event, this is want of memory.
 pub fn menu<D: Deciding>(
     alloc: Global,
     spec: &Spec,
@@ -52,10 +60,37 @@ pub fn menu<D: Deciding>(
 {
     let node = state.node();
     let least = above_processes(spec, 0)?;
-    let base = above_node(node, least)?;
-    let drafts = node_moves(alloc, spec, ranks, node, base, decider)?;
-    let entries = solved(drafts, base, decider)?;
+    let entries = node_entries(alloc, spec, ranks, node, least, Levels::all(), decider)?;
     Ok(Menu::of(entries))
+}
+
+/// The entries of the exact menu of what the node stands for. `least` is a number above those of
+/// all variables that processes declare; it is the same for all nodes of a specification. Where the
+/// rules nest deeper than so many levels it answers `NoMemory`.
+pub fn node_entries<D: Deciding>(
+    alloc: Global,
+    spec: &Spec,
+    ranks: &Ranks,
+    node: &Node,
+    least: u64,
+    levels: Levels,
+    decider: &mut D,
+) -> Result<Vec<Entry>, NoMemory>
+    requires signature { IsWellFormedSignature (D.known_data decider.old).signature }
+    requires over { IsSpecOver (D.known_data decider.old).signature spec.now }
+    requires ranks { AreRanksOf spec.now ranks.now }
+    requires node { IsKnownNode (D.known_data decider.old).signature spec.now node.now }
+    requires least { above_declared (specification_of spec.now).processes ≤ least }
+    ensures exact { IfOk result (λ made. Exact (D.known_data decider.old) (D.canon decider.old)
+        (specification_of spec.now).processes (stands_for node.now)
+        (map plain_entry made.items)) }
+    ensures over { IfOk result
+        (λ made. Every (IsEntryOver (D.known_data decider.old).signature) made.items) }
+    ensures same_known { KeepsData D.known_data D.canon decider.old decider.new }
+{
+    let base = above_node(node, least)?;
+    let drafts = node_moves(alloc, spec, ranks, node, base, levels, decider)?;
+    solved(drafts, base, decider)
 }
 
 // The drafts with their variables numbered from 0, each solved.

@@ -3,3 +3,4 @@ pub mod TermLemmas
 pub mod PartLemmas
 pub mod TwinLemmas
 pub mod MenuLemmas
+pub mod FunctionalityLemmas

@@ -7,7 +7,7 @@ use Rattle.sort_terms.specs.declared.signatures.Signature.{Signature as KeptSign
 use Rattle.sort_terms.specs.declared.sorted.Sorted.{Sorted}
 use Rattle.event_offers.specs.declared.drafts.Entry.{Entry}
 use Rattle.printed_texts.specs.Brackets.{bracketed, round, commas}
-use Rattle.printed_texts.specs.MenuText.{term_texts, exit_values_text, condition_texts, if_text}
+use Rattle.printed_texts.specs.MenuText.{term_texts, exit_values_text, given_text, condition_texts, if_text}
 use Rattle.printed_texts.specs.TextView.{line_at, written_value, written_condition, written_lines}
 
 -- the texts of values and conditions one by one
@@ -30,6 +30,16 @@ exit_values_are s [] false h k = refl
 exit_values_are s [] true h k = absurd (k refl refl)
 exit_values_are s (v ∷ vs) true h k = ap (λ texts. round (commas texts)) (value_texts s (v ∷ vs))
 exit_values_are s (v ∷ vs) false h k = let none : (v ∷ vs) ≡ [] = h refl in grind arith
+
+-- the values of a step, which stand where there are some
+pub given_are : (s : KeptSignature) (vs : List Sorted) → (length vs ≡ 0 → ⊥)
+    → given_text (signature_of s) (terms_of vs) ≡ codes " " ++ commas (map (written_value s) vs)
+given_are s [] h = absurd (h refl)
+given_are s (v ∷ vs) h = ap (λ texts. codes " " ++ commas texts) (value_texts s (v ∷ vs))
+
+pub none_given : (s : KeptSignature) (vs : List Sorted) → length vs ≡ 0 → given_text (signature_of s) (terms_of vs) ≡ []
+none_given s [] h = refl
+none_given s (v ∷ vs) h = absurd (cc h)
 
 -- the conditions of an entry that has some
 pub conditions_are :

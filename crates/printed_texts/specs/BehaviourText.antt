@@ -1,22 +1,33 @@
 -- The text of a behaviour, on one line. A variable has the name that its binder gives it.
-use Rattle.std.specs.Prelude.{ℕ, List, [], ◌∷◌, ◌++◌, map, Bool, true, false, Option, Some, None, slice_get, codes}
+use Rattle.std.specs.Prelude.{ℕ, List, [], ◌∷◌, ◌++◌, map, Bool, true, false, nat_eq, if◌then◌else◌, Option, Some, None, slice_get, codes}
 use Rattle.lotos_base.specs.Signature.{Signature}
-use Rattle.lotos_base.specs.Term.{Term}
+use Rattle.lotos_base.specs.Term.{Term, variable, node, no_terms, term_then}
 use Rattle.lotos_base.specs.Equation.{Variable}
 use Rattle.behaviour_semantics.specs.Behaviour.{Behaviour, stop, exit_with, action, inner_action, guard, choice, parallel, hide, enable, disable, let_be, choose_value, choose_gate, par_gate, call, relabel, Test, Offer, give, ask, ExitValue, exit_value, any_of, SynchronisationSet, no_gates, all_gates, at_gates, Process, Specification, asked_variables, let_variables}
 use Rattle.printed_texts.specs.Brackets.{round, square, bracketed, commas}
 use Rattle.printed_texts.specs.TermText.{sort_text, term_text}
 use Rattle.printed_texts.specs.MenuText.{name_text}
 
--- What the names in a behaviour are looked up in: the signature, and the gates and processes of the specification.
+-- What the names in a behaviour are looked up in: the signature, the names of the gates and those of the processes, by their
+-- numbers. Where the number of the constant `true` is given, a premiss whose right side it is has its left side alone.
 pub record Naming : Type 0 where
   pub signature : Signature
   pub gates : List (List ℕ)
-  pub processes : List Process
+  pub processes : List (List ℕ)
+  pub truth : Option ℕ
 
+-- the names of the processes of a specification
+abbrev pub process_names : Specification → List (List ℕ)
+process_names specification = map (λ (p : Process). p.name) specification.processes
+
+-- The names of a specification. Both sides of each premiss are written.
 abbrev pub naming_in : Signature → Specification → Naming
-naming_in signature specification =
-    record { signature = signature; gates = specification.gate_names; processes = specification.processes }
+naming_in signature specification = record {
+  signature = signature;
+  gates = specification.gate_names;
+  processes = process_names specification;
+  truth = None;
+}
 
 -- a gate, and gates between commas
 abbrev pub gate_text : Naming → ℕ → List ℕ
@@ -26,9 +37,8 @@ abbrev pub gates_text : Naming → List ℕ → List ℕ
 gates_text naming gates = commas (map (gate_text naming) gates)
 
 -- a process
-abbrev pub process_name : Option Process → List ℕ
-process_name None = []
-process_name (Some process) = process.name
+abbrev pub called_text : Naming → ℕ → List ℕ
+called_text naming process = name_text (slice_get naming.processes process)
 
 -- a declared variable with its sort, and declared variables between commas
 abbrev pub declared_text : Naming → Variable → List ℕ
@@ -37,13 +47,24 @@ declared_text naming x = x.name ++ codes ":" ++ sort_text naming.signature x.sor
 abbrev pub declarations_text : Naming → List Variable → List ℕ
 declarations_text naming variables = commas (map (declared_text naming) variables)
 
--- a premiss, without and with its brackets
+-- a premiss: both sides; what is written of it; and with its brackets
 abbrev pub equation_text : Naming → List Variable → Test → List ℕ
 equation_text naming names test =
     term_text naming.signature names test.left ++ codes " = " ++ term_text naming.signature names test.right
 
+-- whether a term is the constant with this number
+abbrev pub is_constant : Option ℕ → Term → Bool
+is_constant None t = false
+is_constant (Some constant) (variable number sort) = false
+is_constant (Some constant) (node operation no_terms) = nat_eq operation constant
+is_constant (Some constant) (node operation (term_then t ts)) = false
+
+abbrev pub premiss_text : Naming → List Variable → Test → List ℕ
+premiss_text naming names test =
+    if is_constant naming.truth test.right then term_text naming.signature names test.left else equation_text naming names test
+
 abbrev pub test_text : Naming → List Variable → Test → List ℕ
-test_text naming names test = square (equation_text naming names test)
+test_text naming names test = square (premiss_text naming names test)
 
 -- the selection predicate of an action, behind a blank, if there is one
 abbrev pub predicate_text : Naming → List Variable → Option Test → List ℕ
@@ -95,7 +116,7 @@ pair_text naming pair = gate_text naming pair.1 ++ codes " for " ++ gate_text na
 -- the call of a process
 abbrev pub call_text : Naming → List Variable → ℕ → List ℕ → List Term → List ℕ
 call_text naming names process gates values =
-    process_name (slice_get naming.processes process) ++ square_list (map (gate_text naming) gates)
+    called_text naming process ++ square_list (map (gate_text naming) gates)
     ++ round_list (map (term_text naming.signature names) values)
 
 -- The behaviour stands in brackets as a part: it is a binary form, a word form or a relabelling.

@@ -1,5 +1,6 @@
 pub mod Brackets
 pub mod TermText
+pub mod FunctionalityText
 pub mod MenuText
 pub mod BehaviourText
 pub mod ReportLines

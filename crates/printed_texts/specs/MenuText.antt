@@ -30,6 +30,11 @@ abbrev pub exit_values_text : Signature → List Term → List ℕ
 exit_values_text signature [] = []
 exit_values_text signature (value ∷ values) = round (commas (term_texts signature (value ∷ values)))
 
+-- the values of a step, behind a blank where there are some
+abbrev pub given_text : Signature → List Term → List ℕ
+given_text signature [] = []
+given_text signature (value ∷ values) = codes " " ++ commas (term_texts signature (value ∷ values))
+
 -- a label: `i`; a gate with its values; `exit` with its values
 abbrev pub label_text : Signature → List (List ℕ) → Label → List ℕ
 label_text signature gates inner_event = codes "i"

@@ -1,2 +1,3 @@
 pub mod DetailLemmas
 pub mod LineLemmas
+pub mod HandedOn

@@ -6,9 +6,9 @@ use Rattle.lotos_base.specs.Term.{Term}
 use Rattle.behaviour_semantics.specs.Behaviour.{Process, Specification}
 use Rattle.type_definitions.specs.MentionFaults.{MentionFault, double_type, unknown_type, type_cycle}
 use Rattle.type_definitions.specs.TypeFault.{TypeFault, double_sort, unknown_sort, double_operation, unknown_operation as no_operation, not_formal, missing_actual, premised, unknown_name, no_reading, two_readings, too_large}
-use Rattle.scope_parts.specs.ScopeFault as scope
-use Rattle.printed_texts.specs.Brackets.{round, commas}
-use Rattle.printed_texts.specs.TermText.{sort_text, term_text}
+use Rattle.start_values.specs.HandedOn.scope_fault as scope
+use Rattle.printed_texts.specs.FunctionalityText.{functionality_text}
+use Rattle.printed_texts.specs.TermText.{term_text}
 use Rattle.start_values.specs.Refusal.{Refusal, too_long, bad_byte, open_comment, wrong_syntax, too_deep, too_many_libraries, wrong_names, wrong_types, wrong_scopes, mismatch, unguarded, unknown_operation, twice_listed, bad_status, unorientable, unjoined, start_values, start_term}
 use Rattle.refusal_lines.specs.TextNames.{TextNames, place_text}
 use Rattle.refusal_lines.specs.RefusalPlace.{place_of_equation}
@@ -56,15 +56,7 @@ detail_of_scopes (scope.value_count place wanted given) = counts_text wanted giv
 detail_of_scopes (scope.no_bool place) = []
 detail_of_scopes (scope.refused_term refusal) = []
 
--- a functionality: `noexit`, `exit`, or `exit(S, T)`
-abbrev pub sorts_text : Signature → List ℕ → List ℕ
-sorts_text signature [] = []
-sorts_text signature (sort ∷ sorts) = round (commas (map (sort_text signature) (sort ∷ sorts)))
-
-abbrev pub functionality_text : Signature → Option (List ℕ) → List ℕ
-functionality_text signature None = codes "noexit"
-functionality_text signature (Some sorts) = codes "exit" ++ sorts_text signature sorts
-
+-- two functionalities
 abbrev pub mismatch_detail : Option Data → Option (List ℕ) → Option (List ℕ) → List ℕ
 mismatch_detail None left right = []
 mismatch_detail (Some data_) left right =

@@ -7,12 +7,10 @@ ghost use Rattle.refusal_lines.specs.RefusalDetail.{
   equation_detail,
   equation_text,
   forms_text,
-  functionality_text,
   mismatch_detail,
   pair_detail,
   process_at,
   sides_text,
-  sorts_text,
   steps_text,
   with_place,
 };
@@ -26,8 +24,8 @@ use crate::places::place_at;
 use crate::text_names::{TextNames, push_place};
 use behaviour_tree::Spec;
 use lotos_base::NoMemory;
-use printed_texts::brackets::{close_bracket, open_bracket, push_separator, push_text};
-use printed_texts::operations::push_sort;
+use printed_texts::brackets::push_text;
+use printed_texts::functionalities::push_functionality;
 use printed_texts::terms::push_phrase;
 use sort_terms::{Equation, Flat, Signature, Sorted};
 
@@ -50,38 +48,6 @@ pub fn push_mismatch(
             push_functionality(&flat.signature, right, into)
         }
     }
-}
-
-// Appends a functionality.
-fn push_functionality(
-    signature: &Signature,
-    sorts: &Option<Vec<u32>>,
-    into: &mut Vec<u8>,
-) -> Result<(), NoMemory>
-    ensures { OnOk result (into.new.items ≡ into.old.items
-        ++ functionality_text (signature_of signature.now) (functionality_of sorts.now)) }
-{
-    match sorts {
-        None => push_text(into, b"noexit"),
-        Some(sorts) => {
-            push_text(into, b"exit")?;
-            push_sorts(signature, sorts, into)
-        }
-    }
-}
-
-// Appends sorts in brackets, if there are some.
-fn push_sorts(signature: &Signature, sorts: &Vec<u32>, into: &mut Vec<u8>) -> Result<(), NoMemory>
-    ensures { OnOk result (into.new.items
-        ≡ into.old.items ++ sorts_text (signature_of signature.now) sorts.now.items) }
-{
-    let is_needed = !sorts.is_empty();
-    let position = open_bracket(into, is_needed)?;
-    for (index, sort) in sorts.iter().enumerate() {
-        push_separator(into, index)?;
-        push_sort(signature, *sort, into)?;
-    }
-    close_bracket(into, is_needed, position)
 }
 
 /// Appends a cycle of processes, and its first one again.

@@ -1,8 +1,11 @@
 //! Where each refusal stands.
 
+ghost use Rattle.lotos_base.specs.Equation.{Data};
 ghost use Rattle.lotos_base.specs.WrittenView.{text_place_of};
 ghost use Rattle.refusal_lines.specs.LineView.{data_in, place_told};
 ghost use Rattle.refusal_lines.specs.RefusalPlace.{place_of_equation};
+ghost use Rattle.sort_terms.specs.EquationView.{data_of};
+ghost use Rattle.start_values.specs.HandedOn.{term_told, told_by};
 ghost use Rattle.start_values.specs.RefusalView.{
   refusal_of,
   told_of_book,
@@ -14,19 +17,12 @@ ghost use Rattle.start_values.specs.RefusalView.{
   told_of_type_term,
   told_of_types,
 };
-ghost use Rattle.scope_parts.specs.FaultView.{term_told, told_by};
 ghost use Rattle.std.specs.Option.{option_map};
-ghost use Rattle.sort_terms.specs.EquationView.{data_of};
 ghost use Rattle.std.specs.Prelude.{◌≡◌, Option, Some};
-ghost use Rattle.lotos_base.specs.Equation.{Data};
 
-use equation_book::BookFault;
 use lotos_base::Place;
-use process_checks::{ExitFault, RankFault};
-use scope_parts::ScopeFault;
-use sentence_trees::ReadFault;
 use sort_terms::{Flat, SortFault};
-use start_values::SpecFault;
+use start_values::{BookFault, ExitFault, RankFault, ReadFault, ScopeFault, SpecFault};
 use type_definitions::TypeFault;
 
 /// Where a refusal stands, if it stands anywhere.

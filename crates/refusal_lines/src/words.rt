@@ -1,6 +1,7 @@
 //! The number and the name of each refusal.
 
 ghost use Rattle.refusal_lines.specs.LineView.{words_told};
+ghost use Rattle.start_values.specs.HandedOn.{term_told, told_by};
 ghost use Rattle.start_values.specs.RefusalView.{
   refusal_of,
   told_of_book,
@@ -12,15 +13,10 @@ ghost use Rattle.start_values.specs.RefusalView.{
   told_of_type_term,
   told_of_types,
 };
-ghost use Rattle.scope_parts.specs.FaultView.{term_told, told_by};
 ghost use Rattle.std.specs.Prelude.{◌≡◌, ℕ};
 
-use equation_book::BookFault;
-use process_checks::{ExitFault, RankFault};
-use scope_parts::ScopeFault;
-use sentence_trees::ReadFault;
 use sort_terms::SortFault;
-use start_values::SpecFault;
+use start_values::{BookFault, ExitFault, RankFault, ReadFault, ScopeFault, SpecFault};
 use type_definitions::TypeFault;
 
 /// The number and the name of a refusal.

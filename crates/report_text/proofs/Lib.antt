@@ -2,3 +2,4 @@ pub mod SquareLemmas
 pub mod ListLemmas
 pub mod TextLemmas
 pub mod PartLemmas
+pub mod NamingLemmas

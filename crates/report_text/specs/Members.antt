@@ -1,22 +1,14 @@
--- The texts of what stands in lists between commas, and what a name in a behaviour is looked up in.
+-- The texts of what stands in lists between commas.
 use Rattle.std.specs.Prelude.{ℕ, List, map}
 use Rattle.lotos_base.specs.Equation.{Variable}
 use Rattle.sort_terms.specs.EquationView.{variable_of}
-use Rattle.sort_terms.specs.SignatureView.{signature_of}
 use Rattle.sort_terms.specs.SortedView.{term_in}
 use Rattle.sort_terms.specs.declared.equations.Variable as kept
-use Rattle.sort_terms.specs.declared.signatures.Signature.{Signature}
 use Rattle.sort_terms.specs.declared.sorted.Sorted.{Sorted}
 use Rattle.behaviour_tree.specs.BehaviourView.{exit_value_of, let_of}
-use Rattle.behaviour_tree.specs.DefinitionView.{specification_of}
 use Rattle.behaviour_tree.specs.declared.behaviours.ExitValue.{ExitValue}
-use Rattle.behaviour_tree.specs.declared.definitions.Spec.{Spec}
-use Rattle.printed_texts.specs.BehaviourText.{Naming, naming_in, gate_text, pair_text, declared_text, exit_value_text, binding_text}
+use Rattle.printed_texts.specs.BehaviourText.{Naming, gate_text, pair_text, declared_text, exit_value_text, binding_text}
 use Rattle.printed_texts.specs.TermText.{term_text}
-
--- the names of a specification over a signature
-abbrev pub naming_of : Signature → Spec → Naming
-naming_of signature spec = naming_in (signature_of signature) (specification_of spec)
 
 -- a gate, a pair of a relabelling, a declared variable, a term, a value of `exit`, and a variable of `let` with its term
 abbrev pub gate_member : ℕ → Naming → List Variable → List ℕ

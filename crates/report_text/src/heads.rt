@@ -1,6 +1,5 @@
 //! What stands before the part of a form, and whole calls and ends.
 
-ghost use Rattle.lotos_base.specs.Name.{spelling};
 ghost use Rattle.behaviour_tree.specs.BehaviourView.{
   exit_value_of,
   let_of,
@@ -10,8 +9,7 @@ ghost use Rattle.behaviour_tree.specs.BehaviourView.{
   test_of,
   variables_of,
 };
-ghost use Rattle.behaviour_tree.specs.DefinitionView.{process_of};
-ghost use Rattle.report_text.specs.Members.{naming_of};
+ghost use Rattle.report_text.specs.NamingView.{naming_of};
 ghost use Rattle.printed_texts.specs.BehaviourText.{
   between_blanks,
   binding_text,
@@ -23,43 +21,43 @@ ghost use Rattle.printed_texts.specs.BehaviourText.{
   offers_text,
   pair_text,
   predicate_text,
-  process_name,
+  called_text,
   round_list,
   sign_text,
 };
 ghost use Rattle.printed_texts.specs.Brackets.{commas, square};
 ghost use Rattle.sort_terms.specs.EquationView.{variable_of};
-ghost use Rattle.std.specs.Prelude.{◌≡◌, ◌++◌, OnOk, codes, map, option_map, slice_get};
+ghost use Rattle.std.specs.Prelude.{◌≡◌, ◌++◌, OnOk, codes, map, option_map};
 
 use crate::lists::{push_list, push_round_list, push_square, push_square_list};
 use crate::members::{push_declared, push_gate};
+use crate::naming::{Naming, ProcessNames};
 use crate::premisses::{push_offers, push_predicate};
 use crate::signs::push_meet;
-use behaviour_tree::{ExitValue, Meet, Offer, Spec, Test};
+use behaviour_tree::{ExitValue, Meet, Offer, Test};
 use lotos_base::NoMemory;
 use printed_texts::brackets::push_text;
-use sort_terms::{Signature, Sorted, Variable};
+use printed_texts::labels::push_name;
+use sort_terms::{Sorted, Variable};
 
 /// Appends `exit` with its values.
 pub fn push_exit(
-    signature: &Signature,
-    spec: &Spec,
+    naming: &Naming<'_>,
     names: &[Variable],
     values: &Vec<ExitValue>,
     into: &mut Vec<u8>,
 ) -> Result<(), NoMemory>
     ensures { OnOk result (into.new.items ≡ into.old.items ++ (codes "exit" ++ round_list
-        (map (exit_value_text (naming_of signature.now spec.now) (variables_of names.now))
+        (map (exit_value_text (naming_of naming.now) (variables_of names.now))
         (map exit_value_of values.now.items)))) }
 {
     push_text(into, b"exit")?;
-    push_round_list(signature, spec, names, values, into)
+    push_round_list(naming, names, values, into)
 }
 
 /// Appends an action up to its `;`. Its test sees the inner names.
 pub fn push_action(
-    signature: &Signature,
-    spec: &Spec,
+    naming: &Naming<'_>,
     names: &[Variable],
     inner: &[Variable],
     gate: u32,
@@ -68,151 +66,142 @@ pub fn push_action(
     into: &mut Vec<u8>,
 ) -> Result<(), NoMemory>
     ensures { OnOk result (into.new.items ≡ into.old.items
-        ++ (gate_text (naming_of signature.now spec.now) gate
-        ++ offers_text (naming_of signature.now spec.now) (variables_of names.now)
+        ++ (gate_text (naming_of naming.now) gate
+        ++ offers_text (naming_of naming.now) (variables_of names.now)
         (map offer_of offers.now.items)
-        ++ predicate_text (naming_of signature.now spec.now) (variables_of inner.now)
+        ++ predicate_text (naming_of naming.now) (variables_of inner.now)
         (option_map test_of test.now) ++ codes "; ")) }
 {
-    push_gate(signature, spec, gate, into)?;
-    push_offers(signature, spec, names, offers, into)?;
-    push_predicate(signature, spec, inner, test, into)?;
+    push_gate(naming, gate, into)?;
+    push_offers(naming, names, offers, into)?;
+    push_predicate(naming, inner, test, into)?;
     push_text(into, b"; ")
 }
 
 /// Appends a hiding up to its `in`.
-pub fn push_hide(
-    signature: &Signature,
-    spec: &Spec,
-    gates: &Vec<u32>,
-    into: &mut Vec<u8>,
-) -> Result<(), NoMemory>
+pub fn push_hide(naming: &Naming<'_>, gates: &Vec<u32>, into: &mut Vec<u8>) -> Result<(), NoMemory>
     ensures { OnOk result (into.new.items ≡ into.old.items ++ (codes "hide "
-        ++ gates_text (naming_of signature.now spec.now) gates.now.items ++ codes " in ")) }
+        ++ gates_text (naming_of naming.now) gates.now.items ++ codes " in ")) }
 {
     push_text(into, b"hide ")?;
-    push_list(signature, spec, &[], gates, into)?;
+    push_list(naming, &[], gates, into)?;
     push_text(into, b" in ")
 }
 
 /// Appends a `let` up to its `in`.
 pub fn push_let(
-    signature: &Signature,
-    spec: &Spec,
+    naming: &Naming<'_>,
     names: &[Variable],
     bindings: &Vec<(Variable, Sorted)>,
     into: &mut Vec<u8>,
 ) -> Result<(), NoMemory>
     ensures { OnOk result (into.new.items ≡ into.old.items ++ (codes "let "
-        ++ commas (map (binding_text (naming_of signature.now spec.now) (variables_of names.now))
+        ++ commas (map (binding_text (naming_of naming.now) (variables_of names.now))
         (map let_of bindings.now.items)) ++ codes " in ")) }
 {
     push_text(into, b"let ")?;
-    push_list(signature, spec, names, bindings, into)?;
+    push_list(naming, names, bindings, into)?;
     push_text(into, b" in ")
 }
 
 /// Appends a value choice up to its `[]`.
 pub fn push_value_choice(
-    signature: &Signature,
-    spec: &Spec,
+    naming: &Naming<'_>,
     variable: &Variable,
     into: &mut Vec<u8>,
 ) -> Result<(), NoMemory>
     ensures { OnOk result (into.new.items ≡ into.old.items ++ (codes "choice "
-        ++ declared_text (naming_of signature.now spec.now) (variable_of variable.now)
+        ++ declared_text (naming_of naming.now) (variable_of variable.now)
         ++ codes " [] ")) }
 {
     push_text(into, b"choice ")?;
-    push_declared(signature, spec, variable, into)?;
+    push_declared(naming, variable, into)?;
     push_text(into, b" [] ")
 }
 
 // Appends a gate and the list from which it is taken.
 fn push_taken(
-    signature: &Signature,
-    spec: &Spec,
+    naming: &Naming<'_>,
     gate: u32,
     gates: &Vec<u32>,
     into: &mut Vec<u8>,
 ) -> Result<(), NoMemory>
     ensures { OnOk result (into.new.items ≡ into.old.items
-        ++ (gate_text (naming_of signature.now spec.now) gate ++ codes " in "
-        ++ square (gates_text (naming_of signature.now spec.now) gates.now.items))) }
+        ++ (gate_text (naming_of naming.now) gate ++ codes " in "
+        ++ square (gates_text (naming_of naming.now) gates.now.items))) }
 {
-    push_gate(signature, spec, gate, into)?;
+    push_gate(naming, gate, into)?;
     push_text(into, b" in ")?;
-    push_square(signature, spec, &[], gates, into)
+    push_square(naming, &[], gates, into)
 }
 
 /// Appends a gate choice up to its `[]`.
 pub fn push_gate_choice(
-    signature: &Signature,
-    spec: &Spec,
+    naming: &Naming<'_>,
     gate: u32,
     gates: &Vec<u32>,
     into: &mut Vec<u8>,
 ) -> Result<(), NoMemory>
     ensures { OnOk result (into.new.items ≡ into.old.items ++ (codes "choice "
-        ++ gate_text (naming_of signature.now spec.now) gate ++ codes " in "
-        ++ square (gates_text (naming_of signature.now spec.now) gates.now.items)
+        ++ gate_text (naming_of naming.now) gate ++ codes " in "
+        ++ square (gates_text (naming_of naming.now) gates.now.items)
         ++ codes " [] ")) }
 {
     push_text(into, b"choice ")?;
-    push_taken(signature, spec, gate, gates, into)?;
+    push_taken(naming, gate, gates, into)?;
     push_text(into, b" [] ")
 }
 
 /// Appends a gate `par` up to its sign.
 pub fn push_par(
-    signature: &Signature,
-    spec: &Spec,
+    naming: &Naming<'_>,
     gate: u32,
     gates: &Vec<u32>,
     meet: &Meet,
     into: &mut Vec<u8>,
 ) -> Result<(), NoMemory>
     ensures { OnOk result (into.new.items ≡ into.old.items ++ (codes "par "
-        ++ gate_text (naming_of signature.now spec.now) gate ++ codes " in "
-        ++ square (gates_text (naming_of signature.now spec.now) gates.now.items)
-        ++ between_blanks (sign_text (naming_of signature.now spec.now) (meet_of meet.now)))) }
+        ++ gate_text (naming_of naming.now) gate ++ codes " in "
+        ++ square (gates_text (naming_of naming.now) gates.now.items)
+        ++ between_blanks (sign_text (naming_of naming.now) (meet_of meet.now)))) }
 {
     push_text(into, b"par ")?;
-    push_taken(signature, spec, gate, gates, into)?;
-    push_meet(signature, spec, meet, into)
+    push_taken(naming, gate, gates, into)?;
+    push_meet(naming, meet, into)
 }
 
 /// Appends a relabelling up to its `in`.
 pub fn push_relabel(
-    signature: &Signature,
-    spec: &Spec,
+    naming: &Naming<'_>,
     pairs: &Vec<(u32, u32)>,
     into: &mut Vec<u8>,
 ) -> Result<(), NoMemory>
     ensures { OnOk result (into.new.items ≡ into.old.items ++ (codes "relabel "
-        ++ commas (map (pair_text (naming_of signature.now spec.now)) pairs.now.items)
+        ++ commas (map (pair_text (naming_of naming.now)) pairs.now.items)
         ++ codes " in ")) }
 {
     push_text(into, b"relabel ")?;
-    push_list(signature, spec, &[], pairs, into)?;
+    push_list(naming, &[], pairs, into)?;
     push_text(into, b" in ")
 }
 
 // Appends the name of a process.
-fn push_process(spec: &Spec, process: u32, into: &mut Vec<u8>) -> Result<(), NoMemory>
-    ensures { OnOk result (into.new.items ≡ into.old.items ++ process_name
-        (slice_get (map process_of spec.now.processes.items) process)) }
+fn push_process(naming: &Naming<'_>, process: u32, into: &mut Vec<u8>) -> Result<(), NoMemory>
+    ensures { OnOk result (into.new.items
+        ≡ into.old.items ++ called_text (naming_of naming.now) process) }
 {
-    match spec.processes.get(process as usize) {
-        None => Ok(()),
-        Some(called) => push_text(into, called.name.spelled()),
+    match naming.processes {
+        ProcessNames::Own(processes) => match processes.get(process as usize) {
+            None => Ok(()),
+            Some(called) => push_text(into, called.name.spelled()),
+        },
+        ProcessNames::Given(names) => push_name(names.as_slice(), process, into),
     }
 }
 
 /// Appends a call.
 pub fn push_call(
-    signature: &Signature,
-    spec: &Spec,
+    naming: &Naming<'_>,
     names: &[Variable],
     process: u32,
     gates: &Vec<u32>,
@@ -220,10 +209,10 @@ pub fn push_call(
     into: &mut Vec<u8>,
 ) -> Result<(), NoMemory>
     ensures { OnOk result (into.new.items ≡ into.old.items ++ call_text
-        (naming_of signature.now spec.now) (variables_of names.now) process gates.now.items
+        (naming_of naming.now) (variables_of names.now) process gates.now.items
         (terms_of values.now.items)) }
 {
-    push_process(spec, process, into)?;
-    push_square_list(signature, spec, &[], gates, into)?;
-    push_round_list(signature, spec, names, values, into)
+    push_process(naming, process, into)?;
+    push_square_list(naming, &[], gates, into)?;
+    push_round_list(naming, names, values, into)
 }

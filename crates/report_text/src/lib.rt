@@ -1,4 +1,5 @@
-//! What is printed of states: closed behaviours on one line (ISO 8807:1989, behaviour expressions).
+//! What is printed of behaviours, and of states, which are closed ones: one line (ISO 8807:1989,
+//! behaviour expressions).
 #![tactic(auto)]
 
 pub mod behaviours;
@@ -6,6 +7,7 @@ pub mod calls;
 pub mod heads;
 pub mod lists;
 pub mod members;
+pub mod naming;
 pub mod nodes;
 pub mod premisses;
 pub mod scopes;
@@ -13,4 +15,5 @@ pub mod signs;
 pub mod squares;
 
 pub use calls::state_text;
+pub use naming::{Naming, ProcessNames};
 pub use printed_texts::{label_text, menu_text, term_text};

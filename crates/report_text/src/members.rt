@@ -1,23 +1,24 @@
 //! What stands in lists between commas.
 
-ghost use Rattle.lotos_base.specs.Name.{spelling};
+ghost use Rattle.report_text.specs.NamingView.{naming_of};
 ghost use Rattle.report_text.specs.Members.{
   binding_member,
   declared_member,
   exit_member,
   gate_member,
-  naming_of,
   pair_member,
   value_member,
 };
 ghost use Rattle.behaviour_tree.specs.BehaviourView.{variables_of};
-ghost use Rattle.printed_texts.specs.BehaviourText.{Naming, declared_text, gate_text};
+ghost use Rattle.printed_texts.specs.BehaviourText as wording;
+ghost use Rattle.printed_texts.specs.BehaviourText.{declared_text, gate_text};
 ghost use Rattle.printed_texts.specs.TextView.{written_term};
 ghost use Rattle.sort_terms.specs.EquationView.{variable_of};
 ghost use Rattle.std.specs.Prelude.{◌≡◌, ◌++◌, ℕ, List, OnOk};
 ghost use Rattle.lotos_base.specs.Equation as equation;
 
-use behaviour_tree::{ExitValue, Spec};
+use crate::naming::Naming;
+use behaviour_tree::ExitValue;
 use lotos_base::NoMemory;
 use printed_texts::brackets::push_text;
 use printed_texts::labels::push_name;
@@ -27,18 +28,17 @@ use sort_terms::{Signature, Sorted, Variable};
 
 /// A member of a list in a text.
 pub trait Member {
-    ghost text: { Self → Naming → List equation.Variable → List ℕ };
+    ghost text: { Self → wording.Naming → List equation.Variable → List ℕ };
 
     /// Appends the text of the member, where these variables are in scope.
     fn push(
         &self,
-        signature: &Signature,
-        spec: &Spec,
+        naming: &Naming<'_>,
         names: &[Variable],
         into: &mut Vec<u8>,
     ) -> Result<(), NoMemory>
         ensures { OnOk result (into.new.items ≡ into.old.items
-            ++ text self.now (naming_of signature.now spec.now) (variables_of names.now)) };
+            ++ text self.now (naming_of naming.now) (variables_of names.now)) };
 }
 
 impl Member for u32 {
@@ -46,12 +46,11 @@ impl Member for u32 {
 
     fn push(
         &self,
-        signature: &Signature,
-        spec: &Spec,
+        naming: &Naming<'_>,
         names: &[Variable],
         into: &mut Vec<u8>,
     ) -> Result<(), NoMemory> {
-        push_gate(signature, spec, *self, into)
+        push_gate(naming, *self, into)
     }
 }
 
@@ -60,14 +59,13 @@ impl Member for (u32, u32) {
 
     fn push(
         &self,
-        signature: &Signature,
-        spec: &Spec,
+        naming: &Naming<'_>,
         names: &[Variable],
         into: &mut Vec<u8>,
     ) -> Result<(), NoMemory> {
-        push_gate(signature, spec, self.1, into)?;
+        push_gate(naming, self.1, into)?;
         push_text(into, b" for ")?;
-        push_gate(signature, spec, self.0, into)
+        push_gate(naming, self.0, into)
     }
 }
 
@@ -76,12 +74,11 @@ impl Member for Variable {
 
     fn push(
         &self,
-        signature: &Signature,
-        spec: &Spec,
+        naming: &Naming<'_>,
         names: &[Variable],
         into: &mut Vec<u8>,
     ) -> Result<(), NoMemory> {
-        push_declared(signature, spec, self, into)
+        push_declared(naming, self, into)
     }
 }
 
@@ -90,12 +87,11 @@ impl Member for Sorted {
 
     fn push(
         &self,
-        signature: &Signature,
-        spec: &Spec,
+        naming: &Naming<'_>,
         names: &[Variable],
         into: &mut Vec<u8>,
     ) -> Result<(), NoMemory> {
-        push_term(signature, names, self, into)
+        push_term(naming.signature, names, self, into)
     }
 }
 
@@ -104,16 +100,15 @@ impl Member for ExitValue {
 
     fn push(
         &self,
-        signature: &Signature,
-        spec: &Spec,
+        naming: &Naming<'_>,
         names: &[Variable],
         into: &mut Vec<u8>,
     ) -> Result<(), NoMemory> {
         match self {
-            ExitValue::Give(term) => push_term(signature, names, term, into),
+            ExitValue::Give(term) => push_term(naming.signature, names, term, into),
             ExitValue::Any(sort) => {
                 push_text(into, b"any ")?;
-                push_sort(signature, *sort, into)
+                push_sort(naming.signature, *sort, into)
             }
         }
     }
@@ -124,43 +119,36 @@ impl Member for (Variable, Sorted) {
 
     fn push(
         &self,
-        signature: &Signature,
-        spec: &Spec,
+        naming: &Naming<'_>,
         names: &[Variable],
         into: &mut Vec<u8>,
     ) -> Result<(), NoMemory> {
-        push_declared(signature, spec, &self.0, into)?;
+        push_declared(naming, &self.0, into)?;
         push_text(into, b" = ")?;
-        push_term(signature, names, &self.1, into)
+        push_term(naming.signature, names, &self.1, into)
     }
 }
 
 /// Appends the name of a gate.
-pub fn push_gate(
-    signature: &Signature,
-    spec: &Spec,
-    gate: u32,
-    into: &mut Vec<u8>,
-) -> Result<(), NoMemory>
+pub fn push_gate(naming: &Naming<'_>, gate: u32, into: &mut Vec<u8>) -> Result<(), NoMemory>
     ensures { OnOk result (into.new.items
-        ≡ into.old.items ++ gate_text (naming_of signature.now spec.now) gate) }
+        ≡ into.old.items ++ gate_text (naming_of naming.now) gate) }
 {
-    push_name(spec.gate_names.as_slice(), gate, into)
+    push_name(naming.gates.as_slice(), gate, into)
 }
 
 /// Appends a variable with its sort, as a binder declares it.
 pub fn push_declared(
-    signature: &Signature,
-    spec: &Spec,
+    naming: &Naming<'_>,
     variable: &Variable,
     into: &mut Vec<u8>,
 ) -> Result<(), NoMemory>
     ensures { OnOk result (into.new.items ≡ into.old.items
-        ++ declared_text (naming_of signature.now spec.now) (variable_of variable.now)) }
+        ++ declared_text (naming_of naming.now) (variable_of variable.now)) }
 {
     push_text(into, variable.name.spelled())?;
     push_text(into, b":")?;
-    push_sort(signature, variable.sort, into)
+    push_sort(naming.signature, variable.sort, into)
 }
 
 /// Appends a term.

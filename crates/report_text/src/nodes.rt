@@ -10,7 +10,7 @@ ghost use Rattle.behaviour_tree.specs.BehaviourView.{
 };
 ghost use Rattle.behaviour_tree.specs.Closed.{IsClosedBy, IsClosedNode, IsClosedUnder};
 ghost use Rattle.behaviour_tree.specs.StateView.{environment_of, stands_for};
-ghost use Rattle.report_text.specs.Members.{naming_of};
+ghost use Rattle.report_text.specs.NamingView.{naming_of};
 ghost use Rattle.printed_texts.specs.BehaviourText.{
   behaviour_text,
   between_blanks,
@@ -23,72 +23,62 @@ ghost use Rattle.lotos_base.specs.Substitution.{binding, without};
 
 use crate::behaviours::{is_bracketed, push_behaviour, push_unit};
 use crate::heads::{push_call, push_hide, push_relabel};
+use crate::naming::Naming;
 use crate::scopes::below_accept;
 use crate::signs::{push_accept, push_meet};
 use behaviour_instances::environments::below_accept as values_below;
 use behaviour_instances::instance;
-use behaviour_tree::{Beh, Meet, Node, Spec};
+use behaviour_tree::{Beh, Meet, Node};
 use lotos_base::NoMemory;
 use printed_texts::brackets::{close_bracket, open_bracket, push_text};
-use sort_terms::{Signature, Sorted, Variable};
+use sort_terms::{Sorted, Variable};
 use std::rc::Rc;
 
 /// Appends the text of a node, with the values of its environments put in.
 #[cycle(nodes)]
-pub fn push_node(
-    signature: &Signature,
-    spec: &Spec,
-    node: &Node,
-    into: &mut Vec<u8>,
-) -> Result<(), NoMemory>
+pub fn push_node(naming: &Naming<'_>, node: &Node, into: &mut Vec<u8>) -> Result<(), NoMemory>
     requires { IsClosedNode node.now }
     ensures { OnOk result (into.new.items ≡ into.old.items ++ behaviour_text
-        (naming_of signature.now spec.now) [] (stands_for node.now)) }
+        (naming_of naming.now) [] (stands_for node.now)) }
 {
     match node {
         Node::Stop => push_text(into, b"stop"),
-        Node::Part(behaviour, environment) => {
-            push_part(signature, spec, behaviour, environment, into)
-        }
+        Node::Part(behaviour, environment) => push_part(naming, behaviour, environment, into),
         Node::Call {
             process,
             gates,
             values,
-        } => push_call(signature, spec, &[], *process, gates, values, into),
-        Node::Parallel(meet, left, right) => {
-            push_parallel(signature, spec, meet, left, right, into)
-        }
-        Node::Hide(gates, part) => push_hidden(signature, spec, gates, part, into),
+        } => push_call(naming, &[], *process, gates, values, into),
+        Node::Parallel(meet, left, right) => push_parallel(naming, meet, left, right, into),
+        Node::Hide(gates, part) => push_hidden(naming, gates, part, into),
         Node::Enable(left, variables, right, environment) => push_enabling(
-            signature,
-            spec,
+            naming,
             left,
             variables,
             right,
             environment,
             into,
         ),
-        Node::Disable(left, right) => push_disabling(signature, spec, left, right, into),
-        Node::Relabel(pairs, part) => push_relabelled(signature, spec, pairs, part, into),
+        Node::Disable(left, right) => push_disabling(naming, left, right, into),
+        Node::Relabel(pairs, part) => push_relabelled(naming, pairs, part, into),
     }
 }
 
 // Appends a behaviour with the values of its environment put in.
 fn push_part(
-    signature: &Signature,
-    spec: &Spec,
+    naming: &Naming<'_>,
     behaviour: &Beh,
     environment: &Vec<(u64, Sorted)>,
     into: &mut Vec<u8>,
 ) -> Result<(), NoMemory>
     requires { IsClosedBy environment.now.items (behaviour_of behaviour.now) }
     ensures { OnOk result (into.new.items ≡ into.old.items ++ behaviour_text
-        (naming_of signature.now spec.now) [] (with_values
+        (naming_of naming.now) [] (with_values
         (binding (environment_of environment.now.items)) (behaviour_of behaviour.now))) }
 {
     let closed = instance(environment, behaviour)?;
     let names = Vec::new(*into.allocator());
-    push_behaviour(signature, spec, &names, &closed, into)
+    push_behaviour(naming, &names, &closed, into)
 }
 
 // Whether the node stands in brackets as a part.
@@ -109,19 +99,14 @@ fn is_in_brackets(node: &Node) -> bool
 
 // Appends the text of a part, with its brackets where it needs some.
 #[cycle(nodes)]
-fn push_node_unit(
-    signature: &Signature,
-    spec: &Spec,
-    part: &Node,
-    into: &mut Vec<u8>,
-) -> Result<(), NoMemory>
+fn push_node_unit(naming: &Naming<'_>, part: &Node, into: &mut Vec<u8>) -> Result<(), NoMemory>
     requires { IsClosedNode part.now }
     ensures { OnOk result (into.new.items ≡ into.old.items ++ unit_text (stands_for part.now)
-        (behaviour_text (naming_of signature.now spec.now) [] (stands_for part.now))) }
+        (behaviour_text (naming_of naming.now) [] (stands_for part.now))) }
 {
     let is_needed = is_in_brackets(part);
     let position = open_bracket(into, is_needed)?;
-    push_node(signature, spec, part, into)?;
+    push_node(naming, part, into)?;
     close_bracket(into, is_needed, position)
 }
 
@@ -129,8 +114,7 @@ fn push_node_unit(
 #[cycle(nodes)]
 #[inline(never)]
 fn push_parallel(
-    signature: &Signature,
-    spec: &Spec,
+    naming: &Naming<'_>,
     meet: &Meet,
     left: &Rc<Node>,
     right: &Rc<Node>,
@@ -138,39 +122,37 @@ fn push_parallel(
 ) -> Result<(), NoMemory>
     requires { IsClosedNode left.now.value × IsClosedNode right.now.value }
     ensures { OnOk result (into.new.items ≡ into.old.items ++ behaviour_text
-        (naming_of signature.now spec.now) [] (plain.parallel (meet_of meet.now)
+        (naming_of naming.now) [] (plain.parallel (meet_of meet.now)
         (stands_for left.now.value) (stands_for right.now.value))) }
 {
-    push_node_unit(signature, spec, left, into)?;
-    push_meet(signature, spec, meet, into)?;
-    push_node_unit(signature, spec, right, into)
+    push_node_unit(naming, left, into)?;
+    push_meet(naming, meet, into)?;
+    push_node_unit(naming, right, into)
 }
 
 // Appends a hiding.
 #[cycle(nodes)]
 #[inline(never)]
 fn push_hidden(
-    signature: &Signature,
-    spec: &Spec,
+    naming: &Naming<'_>,
     gates: &Vec<u32>,
     part: &Rc<Node>,
     into: &mut Vec<u8>,
 ) -> Result<(), NoMemory>
     requires { IsClosedNode part.now.value }
     ensures { OnOk result (into.new.items ≡ into.old.items ++ behaviour_text
-        (naming_of signature.now spec.now) [] (plain.hide gates.now.items
+        (naming_of naming.now) [] (plain.hide gates.now.items
         (stands_for part.now.value))) }
 {
-    push_hide(signature, spec, gates, into)?;
-    push_node(signature, spec, part, into)
+    push_hide(naming, gates, into)?;
+    push_node(naming, part, into)
 }
 
 // Appends an enabling.
 #[cycle(nodes)]
 #[inline(never)]
 fn push_enabling(
-    signature: &Signature,
-    spec: &Spec,
+    naming: &Naming<'_>,
     left: &Rc<Node>,
     variables: &Vec<Variable>,
     right: &Rc<Beh>,
@@ -180,20 +162,19 @@ fn push_enabling(
     requires { IsClosedNode left.now.value × IsClosedUnder (variables_of variables.now.items)
         environment.now.items (behaviour_of right.now.value) }
     ensures { OnOk result (into.new.items ≡ into.old.items ++ behaviour_text
-        (naming_of signature.now spec.now) [] (plain.enable (stands_for left.now.value)
+        (naming_of naming.now) [] (plain.enable (stands_for left.now.value)
         (variables_of variables.now.items) (with_values
         (without (plain.numbers_of (variables_of variables.now.items))
         (binding (environment_of environment.now.items))) (behaviour_of right.now.value)))) }
 {
-    push_node_unit(signature, spec, left, into)?;
-    push_accept(signature, spec, variables, into)?;
-    push_following(signature, spec, variables, right, environment, into)
+    push_node_unit(naming, left, into)?;
+    push_accept(naming, variables, into)?;
+    push_following(naming, variables, right, environment, into)
 }
 
 // Appends the right side of an enabling, which sees the variables that it accepts.
 fn push_following(
-    signature: &Signature,
-    spec: &Spec,
+    naming: &Naming<'_>,
     variables: &Vec<Variable>,
     right: &Beh,
     environment: &Vec<(u64, Sorted)>,
@@ -204,13 +185,13 @@ fn push_following(
     ensures { OnOk result (into.new.items ≡ into.old.items ++ unit_text
         (with_values (without (plain.numbers_of (variables_of variables.now.items))
         (binding (environment_of environment.now.items))) (behaviour_of right.now))
-        (behaviour_text (naming_of signature.now spec.now)
+        (behaviour_text (naming_of naming.now)
         (variables_of variables.now.items ++ []) (with_values
         (without (plain.numbers_of (variables_of variables.now.items))
         (binding (environment_of environment.now.items))) (behaviour_of right.now)))) }
 {
     let closed = following(variables, right, environment)?;
-    push_accepting(signature, spec, variables, &closed, into)
+    push_accepting(naming, variables, &closed, into)
 }
 
 // The right side of an enabling with the values of its environment put in.
@@ -231,55 +212,52 @@ fn following(
 
 // Appends a behaviour as a part that sees these variables alone.
 fn push_accepting(
-    signature: &Signature,
-    spec: &Spec,
+    naming: &Naming<'_>,
     variables: &Vec<Variable>,
     part: &Beh,
     into: &mut Vec<u8>,
 ) -> Result<(), NoMemory>
     ensures { OnOk result (into.new.items ≡ into.old.items ++ unit_text (behaviour_of part.now)
-        (behaviour_text (naming_of signature.now spec.now)
+        (behaviour_text (naming_of naming.now)
         (variables_of variables.now.items ++ []) (behaviour_of part.now))) }
 {
     let names = below_accept(&Vec::new(*into.allocator()), variables)?;
-    push_unit(signature, spec, &names, part, into)
+    push_unit(naming, &names, part, into)
 }
 
 // Appends a disabling.
 #[cycle(nodes)]
 #[inline(never)]
 fn push_disabling(
-    signature: &Signature,
-    spec: &Spec,
+    naming: &Naming<'_>,
     left: &Rc<Node>,
     right: &Rc<Node>,
     into: &mut Vec<u8>,
 ) -> Result<(), NoMemory>
     requires { IsClosedNode left.now.value × IsClosedNode right.now.value }
     ensures { OnOk result (into.new.items ≡ into.old.items ++ behaviour_text
-        (naming_of signature.now spec.now) [] (plain.disable (stands_for left.now.value)
+        (naming_of naming.now) [] (plain.disable (stands_for left.now.value)
         (stands_for right.now.value))) }
 {
-    push_node_unit(signature, spec, left, into)?;
+    push_node_unit(naming, left, into)?;
     push_text(into, b" [> ")?;
-    push_node_unit(signature, spec, right, into)
+    push_node_unit(naming, right, into)
 }
 
 // Appends a relabelling.
 #[cycle(nodes)]
 #[inline(never)]
 fn push_relabelled(
-    signature: &Signature,
-    spec: &Spec,
+    naming: &Naming<'_>,
     pairs: &Vec<(u32, u32)>,
     part: &Rc<Node>,
     into: &mut Vec<u8>,
 ) -> Result<(), NoMemory>
     requires { IsClosedNode part.now.value }
     ensures { OnOk result (into.new.items ≡ into.old.items ++ behaviour_text
-        (naming_of signature.now spec.now) [] (plain.relabel pairs.now.items
+        (naming_of naming.now) [] (plain.relabel pairs.now.items
         (stands_for part.now.value))) }
 {
-    push_relabel(signature, spec, pairs, into)?;
-    push_node(signature, spec, part, into)
+    push_relabel(naming, pairs, into)?;
+    push_node(naming, part, into)
 }

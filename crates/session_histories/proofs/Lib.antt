@@ -4,3 +4,4 @@ pub mod RefusalLemmas
 pub mod ReplayLemmas
 pub mod LineBytes
 pub mod TraceLemmas
+pub mod StepLineLemmas

@@ -5,8 +5,8 @@ use Rattle.lotos_base.specs.Signature.{Signature}
 use Rattle.lotos_base.specs.Term.{Term}
 use Rattle.behaviour_semantics.specs.Behaviour.{Behaviour, Specification}
 use Rattle.printed_texts.specs.BehaviourText.{state_text}
-use Rattle.printed_texts.specs.Brackets.{commas}
-use Rattle.printed_texts.specs.MenuText.{label_text, term_texts}
+pub use Rattle.printed_texts.specs.MenuText.{given_text}
+use Rattle.printed_texts.specs.MenuText.{label_text}
 use Rattle.session_histories.specs.Session.{Item, Situation, PastStep, Progress, first_of}
 
 -- the first line of format 1
@@ -19,11 +19,6 @@ heading_mark = codes "lotos-trace 2 "
 
 abbrev pub trace_heading : List ℕ → List ℕ
 trace_heading name = heading_mark ++ name
-
--- the values of a step, behind a blank where there are some
-abbrev pub given_text : Signature → List Term → List ℕ
-given_text signature [] = []
-given_text signature (value ∷ values) = codes " " ++ commas (term_texts signature (value ∷ values))
 
 -- what ends the values
 abbrev pub arrow : List ℕ

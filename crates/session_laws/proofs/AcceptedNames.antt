@@ -5,11 +5,9 @@ use Rattle.syntax_trees.specs.WrittenDefinition.{WrittenSpecification}
 use Rattle.syntax_trees.specs.TakenItems.{items_of_specification}
 use Rattle.behaviour_semantics.specs.Behaviour.{Specification}
 use Rattle.behaviour_semantics.specs.WellFormed.{Every}
-use Rattle.lotos_grammar.specs.Gathering.{GotFile, Gathered, GatheringOutcome, all_gathered, faulty, without_file, memory_wanted, Becomes, nothing_yet, item}
-use Rattle.texts_read_back.specs.TextNames.{IsWordSpelling}
-use Rattle.spec_acceptance.specs.Part.{Comes, goes_on, unread, stops, wants_memory}
-use Rattle.spec_acceptance.specs.Texts.{Gathers, comes_of}
-use Rattle.spec_acceptance.specs.Scopes.{StandsFor}
+use Rattle.label_readings.specs.HandedOn.{IsWordSpelling}
+use Rattle.lotos_top.specs.HandedOn.{Comes, goes_on, unread, stops, wants_memory, Gathers, comes_of, StandsFor, GotFile, Gathered}
+use Rattle.lotos_top.specs.HandedOn.{GatheringOutcome, all_gathered, faulty, without_file, memory_wanted, Becomes, nothing_yet, item}
 use Rattle.type_definitions.specs.DeclaredTypes.{types_of}
 use Rattle.session_laws.specs.AcceptedNames.{AcceptedNamesAreOfText}
 use Rattle.session_laws.proofs.AcceptedParts.{StandsOn, accepted_on}

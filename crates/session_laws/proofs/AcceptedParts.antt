@@ -6,12 +6,8 @@ use Rattle.syntax_trees.specs.WrittenDefinition.{WrittenSpecification}
 use Rattle.behaviour_semantics.specs.Behaviour.{Specification}
 use Rattle.type_definitions.specs.DeclaredTypes.{types_of}
 use Rattle.sentence_trees.specs.Reading.{IsSpecificationReading}
-use Rattle.lotos_grammar.specs.Gathering.{GotFile, Gathered}
-use Rattle.spec_acceptance.specs.Part.{goes_on}
-use Rattle.spec_acceptance.specs.Texts.{Gathers}
-use Rattle.spec_acceptance.specs.Types.{HaveData}
-use Rattle.spec_acceptance.specs.Scopes.{StandsFor}
-use Rattle.spec_acceptance.specs.Acceptance.{Asked, Founded, FoundedBy, Acceptance, IsAccepted}
+use Rattle.lotos_top.specs.HandedOn.{goes_on, Gathers, HaveData, StandsFor, Asked, Founded, FoundedBy, Acceptance, IsAccepted, GotFile}
+use Rattle.lotos_top.specs.HandedOn.{Gathered}
 
 -- a part that goes on is not ended by the first of its two
 pub second : {X : Type 0} → ⊥ ⊎ X → X

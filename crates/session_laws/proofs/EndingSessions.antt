@@ -5,7 +5,6 @@ use Rattle.lotos_base.specs.Term.{Term}
 use Rattle.lotos_base.proofs.CanonLemmas.{canon_ground}
 use Rattle.lotos_base.specs.Canon.{IsCanon}
 use Rattle.syntax_trees.specs.WrittenDefinition.{WrittenSpecification}
-use Rattle.lotos_grammar.specs.Gathering.{GotFile}
 use Rattle.behaviour_semantics.specs.Behaviour.{Behaviour, Specification, sorts_of}
 use Rattle.behaviour_semantics.specs.Label.{exit_event}
 use Rattle.behaviour_semantics.specs.Rule.{AreValues, as_given}
@@ -18,12 +17,8 @@ use Rattle.session_histories.specs.SessionLaws.{SessionsFollowDerivations, IsSta
 use Rattle.functionality_laws.specs.HasFunctionality.{EndsWithin, AllAgree}
 use Rattle.functionality_laws.specs.ExitLaws.{EndsWith, ExitsHaveTheirSorts}
 use Rattle.functionality_laws.specs.AgreementLaws.{NoDisagreementIsAgreement}
-use Rattle.start_values.specs.StartLaws.{StartValuesAreGround}
-use Rattle.history_lines.specs.Beginning.{Beginning}
-use Rattle.history_lines.specs.Standing.{Standing}
-use Rattle.history_lines.specs.Reached.{IsReached}
-use Rattle.spec_acceptance.specs.Acceptance.{Asked, Founded, FoundedBy, Acceptance, IsAccepted, start_of}
-use Rattle.spec_acceptance.specs.Part.{goes_on}
+use Rattle.lotos_top.specs.HandedOn.{Beginning, Standing, IsReached, Asked, Founded, FoundedBy, Acceptance, IsAccepted, start_of, goes_on}
+use Rattle.lotos_top.specs.HandedOn.{StartValuesAreGround, GotFile}
 use Rattle.lotos_top.specs.Opening.{SessionBegins}
 use Rattle.session_laws.specs.EndingSessions.{SessionsEndAsDeclared}
 use Rattle.session_laws.proofs.AcceptedParts.{second}

@@ -7,12 +7,15 @@ use Rattle.syntax_trees.specs.TakenItems.{items_of_specification, without_items,
 use Rattle.syntax_trees.proofs.TakingItems.{listed-again}
 use Rattle.sentence_trees.specs.Reading.{IsTypesReading, IsSpecificationReading}
 use Rattle.type_definitions.specs.DeclaredTypes.{DeclaredType, types_of}
-use Rattle.lotos_grammar.specs.Gathering.{GotFile, Gathered, nothing_yet, with_type, Waiting, item, mention, GatheringOutcome, all_gathered, faulty, without_file, memory_wanted, MentionComesTo, read_before, one_too_many, in_place, not_read, no_file, wanted_before_text, wanted_behind_text, goes_on, stops, Becomes, nothing_waits, a_type, mentions, then, ends, memory_ends}
+use Rattle.lotos_top.specs.HandedOn.{GotFile, Gathered, nothing_yet, with_type, Waiting, item, mention, GatheringOutcome, all_gathered}
+use Rattle.lotos_top.specs.HandedOn.{faulty, without_file, memory_wanted, MentionComesTo, read_before, one_too_many, in_place, not_read}
+use Rattle.lotos_top.specs.HandedOn.{no_file, wanted_before_text, wanted_behind_text, gathering_goes_on as goes_on}
+use Rattle.lotos_top.specs.HandedOn.{gathering_stops as stops, Becomes, nothing_waits, a_type, mentions, then, ends, memory_ends}
 use Rattle.scope_parts.specs.Numbering.{own_gates, inner_gates, inners_gates}
 use Rattle.scope_parts.specs.Definitions.{declared_gates}
 use Rattle.behaviour_semantics.specs.WellFormed.{Every}
 use Rattle.behaviour_semantics.proofs.EveryLemmas.{every_front, every_back}
-use Rattle.texts_read_back.specs.TextNames.{IsWordSpelling}
+use Rattle.label_readings.specs.HandedOn.{IsWordSpelling}
 use Rattle.session_laws.proofs.TokenSpellings.{tokens_spelled}
 use Rattle.session_laws.proofs.WrittenNames.{every_joined, IsBodySpelled, IsItemSpelled, items_spelled, specification_spelled}
 

@@ -4,9 +4,8 @@ use Rattle.lotos_base.specs.Term.{Term}
 use Rattle.behaviour_semantics.specs.WellFormed.{Every}
 use Rattle.behaviour_semantics.specs.Label.{Label}
 use Rattle.sentence_trees.specs.Reading.{node_limit}
-use Rattle.texts_read_back.specs.TermDepth.{term_depth}
-use Rattle.texts_read_back.specs.TraceReadings.{IsWithinLine}
-use Rattle.line_server.specs.Request.{Request, skip, show_menu, show_behaviour, show_trace, undo, leave, no_request, take_step, save, replay, show_normal, compare, request_of}
+use Rattle.label_readings.specs.HandedOn.{term_depth, IsWithinLine}
+use Rattle.line_server.specs.Request.{Request, skip, show_menu, show_behaviour, show_trace, undo, leave, no_request, take_step, save, replay, show_normal, compare, list_values, list_instances, request_of}
 use Rattle.line_server.specs.Machine.{Reply}
 use Rattle.line_server.specs.Answered as served
 use Rattle.line_server.specs.Answered.{no_line, ended_by, behind_one}
@@ -15,14 +14,10 @@ use Rattle.session_histories.specs.Lawful.{HasStepped}
 use Rattle.session_histories.specs.TraceLine.{lines_of, Heading, no_heading, of_steps, of_states}
 use Rattle.session_histories.specs.Replay as trace
 use Rattle.session_histories.specs.Replay.{goes_on, is_miscounted, is_misread, is_unmet, is_replayed, LinesComeTo, all_done, one_goes_on, StatedLinesComeTo, all_stated, both_go_on, ComeBehindName, ComeBehind}
-use Rattle.history_lines.specs.Standing.{Standing}
-use Rattle.history_lines.specs.Befallen.{Befallen}
-use Rattle.history_lines.specs.StepAnswer as step
-use Rattle.history_lines.specs.StepAnswer.{StepAnswer, StepComesTo}
-use Rattle.history_lines.specs.ShelfAnswer as shelf
-use Rattle.history_lines.specs.ShelfAnswer.{SaveComesTo, ReplayComesTo}
-use Rattle.history_lines.specs.Answer.{RequestComesTo, LineComesTo, after_step, UndoComesTo, is_undone, is_at_start}
-use Rattle.history_lines.specs.SessionMachine.{SessionPoint, LineIs, history_machine}
+use Rattle.lotos_top.specs.HandedOn.{Standing, Befallen, StepAnswer, StepComesTo, SaveComesTo, ReplayComesTo, RequestComesTo, LineComesTo}
+use Rattle.lotos_top.specs.HandedOn.{after_step, UndoComesTo, is_undone, is_at_start, SessionPoint, LineIs, history_machine}
+use Rattle.lotos_top.specs.HandedOn.step_answer as step
+use Rattle.lotos_top.specs.HandedOn.shelf_answer as shelf
 use Rattle.session_laws.specs.LineBounds.{IsWithinLines, LinesKeepWithin}
 use Rattle.session_laws.proofs.ReadDepths.{values_within}
 use Rattle.session_laws.proofs.NumberBounds.{ten_digits, IsNumbered, request_numbered, line_numbered_in}
@@ -144,6 +139,8 @@ request_within standing (save name) it small within comes = save_within standing
 request_within standing (replay name) it small within comes = replayed_within standing name it within comes
 request_within standing (show_normal terms) it small within comes = stays_within standing it _ within comes.2 refl
 request_within standing (compare terms) it small within comes = stays_within standing it _ within comes.2 refl
+request_within standing (list_values name size) it small within comes = stays_within standing it _ within comes.2 refl
+request_within standing (list_instances number size) it small within comes = stays_within standing it _ within comes.2 refl
 
 line_keeps : (standing : Standing) (line : List ℕ) (it : Befallen) → IsWithinLines standing.progress → LineComesTo standing line it
     → IsWithinLines it.reply.next.progress

@@ -10,7 +10,7 @@ use Rattle.std.proofs.lemmas.Option.{same_Some}
 use Rattle.lotos_base.proofs.Digits.{digit_is, digit_value_is, one_digit_more}
 use Rattle.line_server.specs.Line.{first_word, behind_word, stripped}
 use Rattle.line_server.specs.Request as request
-use Rattle.line_server.specs.Request.{Request, show_menu, show_behaviour, show_trace, undo, leave, take_step, save, replay, only, number_in, step_by, with_name, asked_with, requested_by, requested_in, request_of}
+use Rattle.line_server.specs.Request.{Request, show_menu, show_behaviour, show_trace, undo, leave, take_step, save, replay, only, number_in, step_by, values_by, instances_by, with_name, asked_with, requested_by, requested_in, request_of}
 use Rattle.session_histories.specs.TraceLine.{StepLine, AroundArrow, is_number, leads_with_zero, step_line, has_return, with_arrow, around_arrow, with_terms, first_digits, behind_digits}
 
 abbrev pub ten_digits : ℕ
@@ -77,12 +77,26 @@ step_numbered word terms = by (request.is_number word) refl
         short_below word parts.0 (form_short word (nat_eq (length word) 1 || not (request.leads_with_zero word)) parts.1)
     by false is = unit
 
+values_numbered : (name : List ℕ) (size : Option ℕ) → IsNumbered (values_by name size)
+values_numbered name None = unit
+values_numbered name (Some size) = unit
+
+instances_numbered : (number size : Option ℕ) → IsNumbered (instances_by number size)
+instances_numbered None size = unit
+instances_numbered (Some number) None = unit
+instances_numbered (Some number) (Some size) = unit
+
 with_numbered : (word rest : List ℕ) → IsNumbered (asked_with word rest)
 with_numbered word rest =
     either_numbered (bytes_eq word (codes "step")) _ _ (step_numbered (first_word rest) (behind_word rest))
     (either_numbered (bytes_eq word (codes "save")) _ _ (name_numbered save (request.name_of rest) (λ n. unit))
     (either_numbered (bytes_eq word (codes "replay")) _ _ (name_numbered replay (request.name_of rest) (λ n. unit))
-    (either_numbered (bytes_eq word (codes "normal")) _ _ unit (either_numbered (bytes_eq word (codes "equal")) _ _ unit unit))))
+    (either_numbered (bytes_eq word (codes "normal")) _ _ unit
+    (either_numbered (bytes_eq word (codes "equal")) _ _ unit
+    (either_numbered (bytes_eq word (codes "values")) _ _
+    (values_numbered (first_word rest) (request.size_in (behind_word rest)))
+    (either_numbered (bytes_eq word (codes "instances")) _ _
+    (instances_numbered (request.number_in (first_word rest)) (request.size_in (behind_word rest))) unit))))))
 
 word_numbered : (word rest : List ℕ) → IsNumbered (requested_by word rest)
 word_numbered word rest =

@@ -13,11 +13,8 @@ use Rattle.behaviour_semantics.specs.Replacement.{with_values, binding_of}
 use Rattle.session_histories.specs.Session.{SessionBasis, Progress}
 use Rattle.session_histories.specs.Lawful.{IsSituation}
 use Rattle.session_histories.proofs.StepLemmas.{one_situation}
-use Rattle.spec_acceptance.specs.Acceptance.{Acceptance}
-use Rattle.spec_acceptance.specs.AcceptanceLaws.{DataAreWellFormed}
-use Rattle.spec_acceptance.proofs.DecidedOrders.{over_once, statuses_once}
-use Rattle.spec_acceptance.proofs.DecidedRules.{data_within, greater_also, AreAlike, rules_once}
-use Rattle.history_lines.specs.Beginning.{Beginning}
+use Rattle.lotos_top.proofs.HandedOn.{over_once, statuses_once, data_within, greater_also, AreAlike, rules_once}
+use Rattle.lotos_top.specs.HandedOn.{Beginning, Acceptance, DataAreWellFormed}
 use Rattle.lotos_top.specs.Opening.{AreNormalForms, SessionBegins}
 use Rattle.session_laws.specs.OneBeginning.{SessionsBeginOnce}
 use Rattle.session_laws.proofs.AcceptedParts.{StandsOn, accepted_on}

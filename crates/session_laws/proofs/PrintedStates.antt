@@ -17,15 +17,12 @@ use Rattle.printed_texts.specs.BehaviourText.{state_text}
 use Rattle.session_histories.specs.Lawful.{LeadTo}
 use Rattle.session_histories.specs.Session.{Situation, derivations_of}
 use Rattle.session_histories.specs.SessionLaws.{SessionsFollowDerivations}
-use Rattle.history_lines.specs.Beginning.{Beginning}
-use Rattle.history_lines.specs.Standing.{Standing}
-use Rattle.history_lines.specs.Reached.{IsReached}
-use Rattle.spec_acceptance.specs.Acceptance.{Acceptance}
+use Rattle.lotos_top.specs.HandedOn.{Beginning, Standing, IsReached, Acceptance}
 use Rattle.lotos_top.specs.Opening.{SessionBegins}
 use Rattle.state_texts.specs.BoundNames.{bound_names, names_in_bodies, names_at_hand, MovesKeepNames}
 use Rattle.state_texts.specs.StateTexts.{StateTextsAreOfNames}
 use Rattle.state_texts.specs.TextBytes.{AllPass, is_printable}
-use Rattle.texts_read_back.specs.TextNames.{IsWordSpelling, IsOperationSpelling}
+use Rattle.label_readings.specs.HandedOn.{IsWordSpelling, IsOperationSpelling}
 use Rattle.session_laws.specs.AcceptedNames.{HasAcceptedNames, AcceptedNamesAreOfText}
 use Rattle.session_laws.specs.PrintedStates.{IsNamedProcess, HasNamedDefinitions, AcceptedDefinitionsAreNamed, IsPrintedLine, StatesPrintOnOneLine}
 use Rattle.session_laws.proofs.AcceptedParts.{StandsOn, accepted_on}
@@ -179,7 +176,8 @@ module _ (keep : MovesKeepNames) (follow : SessionsFollowDerivations) (begun : B
       standing.progress.situation.state name reached there_))
 
 -- the names at hand where the session of an accepted specification begins
-pub at_hand : MovesKeepNames → (acceptance : Acceptance) (begun : Beginning) → SessionBegins acceptance begun → HasNamedDefinitions acceptance
+pub at_hand : MovesKeepNames → (acceptance : Acceptance) (begun : Beginning) → SessionBegins acceptance begun
+    → HasNamedDefinitions acceptance
     → Every IsWordSpelling (names_at_hand begun.basis.specification.processes begun.progress.situation.state)
 at_hand keep acceptance begun begins has =
     subst (λ (it : Specification). Every IsWordSpelling (names_at_hand it.processes begun.progress.situation.state))

@@ -10,11 +10,7 @@ use Rattle.label_readings.specs.MenuReadings.{IsShownMenu, MenuIsReadBack, Menus
 use Rattle.session_histories.specs.Lawful.{LeadTo}
 use Rattle.session_histories.specs.Session.{Situation, derivations_of}
 use Rattle.session_histories.specs.SessionLaws.{SessionsFollowDerivations}
-use Rattle.history_lines.specs.Beginning.{Beginning}
-use Rattle.history_lines.specs.Standing.{Standing}
-use Rattle.history_lines.specs.Reached.{IsReached}
-use Rattle.spec_acceptance.specs.Acceptance.{Acceptance}
-use Rattle.spec_acceptance.specs.AcceptanceLaws.{DataAreWellFormed}
+use Rattle.lotos_top.specs.HandedOn.{Beginning, Standing, IsReached, Acceptance, DataAreWellFormed}
 use Rattle.lotos_top.specs.Opening.{SessionBegins}
 use Rattle.session_laws.specs.AcceptedNames.{HasAcceptedNames, AcceptedNamesAreOfText}
 use Rattle.session_laws.specs.ReadableLabels.{SessionsShowReadableLabels}

@@ -2,12 +2,7 @@
 use Rattle.std.proofs.Common.{◌≡◌, ◌⊎◌, inl, inr, ℕ, Bool, true, false, List, [], ◌∷◌, ◌++◌, Some, ap, sym, ◌∙◌, subst, append-nil}
 use Rattle.line_server.specs.Answered as served
 use Rattle.line_server.specs.Answered.{no_line, ended_by, behind_one}
-use Rattle.history_lines.specs.SessionMachine.{SessionPoint, history_machine}
-use Rattle.history_lines.specs.Beginning.{Beginning}
-use Rattle.spec_acceptance.specs.HandedOn.{ShelfState, GotFile, Gives}
-use Rattle.spec_acceptance.specs.Acceptance.{Asked}
-use Rattle.spec_acceptance.specs.Doing.{Did}
-use Rattle.spec_acceptance.specs.Part.{Comes, goes_on}
+use Rattle.lotos_top.specs.HandedOn.{SessionPoint, history_machine, Beginning, ShelfState, GotFile, Gives, Asked, Did, Comes, goes_on}
 use Rattle.lotos_top.specs.Run.{Streams, Ran}
 use Rattle.lotos_top.specs.Words.{session}
 use Rattle.lotos_top.specs.Work.{Print, Finish, prints, serves, work_of}

@@ -13,18 +13,11 @@ use Rattle.session_histories.specs.Session.{SessionBasis, Situation, Progress, f
 use Rattle.session_histories.specs.Lawful.{LeadTo}
 use Rattle.session_histories.specs.Replay.{LinesOutcome, ReplayRefusal, ReplayIs, goes_on, stops}
 use Rattle.session_histories.specs.TraceLaws.{trace_of}
-use Rattle.texts_read_back.specs.TextNames.{IsWordSpelling, HasTextNames}
-use Rattle.texts_read_back.specs.TraceReadings.{HasNamesOfText, HasTextTrace, TracesAreReplayed}
-use Rattle.history_lines.specs.Standing.{Standing, shown_trace}
-use Rattle.history_lines.specs.Befallen.{Befallen}
-use Rattle.history_lines.specs.ShelfAnswer.{SaveComesTo, is_too_long, is_unwritten, is_saved, ReplayComesTo, is_failed, is_missing, is_long, is_refused, is_replayed, trace_limit, HasPut, StandsUnder, saved_text, replayed_text}
-use Rattle.history_lines.specs.Answer.{RequestComesTo}
-use Rattle.history_lines.specs.Serving.{ShelfCounts}
-use Rattle.history_lines.specs.SessionMachine.{SessionPoint, history_machine}
-use Rattle.history_lines.specs.Beginning.{Beginning, CanBegin}
-use Rattle.history_lines.specs.Reached.{IsReached}
-use Rattle.history_lines.specs.ReportLaws.{LinesLeadOn}
-use Rattle.spec_acceptance.specs.Acceptance.{Acceptance}
+use Rattle.label_readings.specs.HandedOn.{IsWordSpelling, HasTextNames, HasNamesOfText, HasTextTrace, TracesAreReplayed}
+use Rattle.lotos_top.specs.HandedOn.{Standing, shown_trace, Befallen, SaveComesTo, is_too_long, is_unwritten, is_saved, ReplayComesTo}
+use Rattle.lotos_top.specs.HandedOn.{is_failed, is_missing, is_long, is_refused, is_replayed, trace_limit, HasPut, StandsUnder, saved_text}
+use Rattle.lotos_top.specs.HandedOn.{replayed_text, RequestComesTo, ShelfCounts, SessionPoint, history_machine, Beginning, CanBegin}
+use Rattle.lotos_top.specs.HandedOn.{IsReached, LinesLeadOn, Acceptance}
 use Rattle.lotos_top.specs.Opening.{SessionBegins}
 use Rattle.behaviour_semantics.specs.Behaviour.{Process, Specification}
 use Rattle.behaviour_semantics.proofs.EveryLemmas.{every_front, every_back}

@@ -23,7 +23,7 @@ use Rattle.lotos_lexer.specs.Tokens.{Lexed, behind, at_next_line, at_next_column
 use Rattle.token_laws.proofs.WordLemmas.{word_within, word_again, run_within, run_again, taken_long, first_stays, word_some, run_some, first_alphanumeric}
 use Rattle.lotos_rows.specs.Names.{spelled}
 use Rattle.behaviour_semantics.specs.WellFormed.{Every}
-use Rattle.texts_read_back.specs.TextNames.{IsWordSpelling, IsDigitSpelling, IsSignSpelling}
+use Rattle.label_readings.specs.HandedOn.{IsWordSpelling, IsDigitSpelling, IsSignSpelling}
 
 -- ---- What a token of a kind is spelled as
 

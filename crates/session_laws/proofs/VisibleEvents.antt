@@ -2,7 +2,6 @@
 use Rattle.std.proofs.Common.{List, sym, subst}
 use Rattle.lotos_base.specs.Equation.{Data}
 use Rattle.lotos_base.specs.Term.{Term}
-use Rattle.lotos_grammar.specs.Gathering.{GotFile}
 use Rattle.syntax_trees.specs.TakenItems.{without_items}
 use Rattle.behaviour_semantics.specs.Behaviour.{Behaviour, Specification}
 use Rattle.behaviour_semantics.specs.Label.{Label}
@@ -21,11 +20,7 @@ use Rattle.declaration_laws.specs.EntryGates.{EntriesStayAtGates}
 use Rattle.session_histories.specs.Lawful.{LeadTo}
 use Rattle.session_histories.specs.Session.{Situation, derivations_of}
 use Rattle.session_histories.specs.SessionLaws.{SessionsFollowDerivations, IsStateOver}
-use Rattle.history_lines.specs.Beginning.{Beginning}
-use Rattle.history_lines.specs.Standing.{Standing}
-use Rattle.history_lines.specs.Reached.{IsReached}
-use Rattle.spec_acceptance.specs.Acceptance.{Asked, Acceptance, IsAccepted}
-use Rattle.spec_acceptance.specs.Part.{goes_on}
+use Rattle.lotos_top.specs.HandedOn.{Beginning, Standing, IsReached, Asked, Acceptance, IsAccepted, goes_on, GotFile}
 use Rattle.lotos_top.specs.Opening.{SessionBegins}
 use Rattle.session_laws.specs.VisibleEvents.{SessionsShowDeclaredGates}
 use Rattle.session_laws.proofs.AcceptedParts.{StandsOn, accepted_on}

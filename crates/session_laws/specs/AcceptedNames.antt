@@ -1,10 +1,8 @@
 -- The names of an accepted specification have the form of names: each is one whole token, and infix operations have two arguments.
 use Rattle.std.specs.Prelude.{List}
 use Rattle.behaviour_semantics.specs.WellFormed.{Every}
-use Rattle.texts_read_back.specs.TextNames.{IsWordSpelling, HasTextNames}
-use Rattle.lotos_grammar.specs.Gathering.{GotFile}
-use Rattle.spec_acceptance.specs.Acceptance.{Asked, Acceptance, IsAccepted}
-use Rattle.spec_acceptance.specs.Part.{goes_on}
+use Rattle.label_readings.specs.HandedOn.{IsWordSpelling, HasTextNames}
+use Rattle.lotos_top.specs.HandedOn.{Asked, Acceptance, IsAccepted, goes_on, GotFile}
 
 -- those of its sorts and operations, and those of its gates
 pub record HasAcceptedNames (acceptance : Acceptance) : Type 0 where

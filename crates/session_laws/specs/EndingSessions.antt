@@ -1,17 +1,12 @@
 -- How the sessions of an accepted specification end: as it declares, or never.
 use Rattle.std.specs.Prelude.{List}
 use Rattle.lotos_base.specs.Term.{Term}
-use Rattle.lotos_grammar.specs.Gathering.{GotFile}
 use Rattle.behaviour_semantics.specs.Behaviour.{Behaviour}
 use Rattle.behaviour_semantics.specs.Label.{exit_event}
 use Rattle.behaviour_semantics.specs.Transition.{Transition}
 use Rattle.functionality_laws.specs.HasFunctionality.{EndsWithin}
 use Rattle.functionality_laws.specs.ExitLaws.{EndsWith}
-use Rattle.history_lines.specs.Beginning.{Beginning}
-use Rattle.history_lines.specs.Standing.{Standing}
-use Rattle.history_lines.specs.Reached.{IsReached}
-use Rattle.spec_acceptance.specs.Acceptance.{Asked, Acceptance, IsAccepted}
-use Rattle.spec_acceptance.specs.Part.{goes_on}
+use Rattle.lotos_top.specs.HandedOn.{Beginning, Standing, IsReached, Asked, Acceptance, IsAccepted, goes_on, GotFile}
 use Rattle.lotos_top.specs.Opening.{SessionBegins}
 
 -- Where the session stands, the state has the functionality that the specification declares, or `noexit`; and each termination that

@@ -1,13 +1,10 @@
 -- The numbers of entries and the values that a session got by its lines are such as a line of a trace can hold.
 use Rattle.std.specs.Prelude.{◌≡◌, ℕ, Bool, List, []}
 use Rattle.behaviour_semantics.specs.WellFormed.{Every}
-use Rattle.texts_read_back.specs.TraceReadings.{IsWithinLine}
+use Rattle.label_readings.specs.HandedOn.{IsWithinLine}
 use Rattle.line_server.specs.Answered as served
 use Rattle.session_histories.specs.Session.{Progress, items_of}
-use Rattle.history_lines.specs.Standing.{Standing}
-use Rattle.history_lines.specs.Befallen.{Befallen}
-use Rattle.history_lines.specs.Answer.{LineComesTo}
-use Rattle.history_lines.specs.SessionMachine.{SessionPoint, history_machine}
+use Rattle.lotos_top.specs.HandedOn.{Standing, Befallen, LineComesTo, SessionPoint, history_machine}
 
 -- the number of each entry has at most ten digits, and the values are nested at most as deep as those that are read
 abbrev pub IsWithinLines : Progress → Type 0

@@ -1,9 +1,6 @@
 -- What was accepted has one session to begin: one order of rules with their normal forms, one state and one menu.
 use Rattle.std.specs.Prelude.{◌≡◌, List}
-use Rattle.lotos_grammar.specs.Gathering.{GotFile}
-use Rattle.spec_acceptance.specs.Acceptance.{Asked, Acceptance, IsAccepted}
-use Rattle.spec_acceptance.specs.Part.{goes_on}
-use Rattle.history_lines.specs.Beginning.{Beginning}
+use Rattle.lotos_top.specs.HandedOn.{Beginning, Asked, Acceptance, IsAccepted, goes_on, GotFile}
 use Rattle.lotos_top.specs.Opening.{SessionBegins}
 
 abbrev pub SessionsBeginOnce : Type 0

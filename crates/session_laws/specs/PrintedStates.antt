@@ -1,17 +1,12 @@
 -- What is printed of the states of a session: one line of printable characters, since each name in it is one of the specification's.
 use Rattle.std.specs.Prelude.{ℕ, List}
-use Rattle.lotos_grammar.specs.Gathering.{GotFile}
 use Rattle.behaviour_semantics.specs.Behaviour.{Process}
 use Rattle.behaviour_semantics.specs.WellFormed.{Every}
 use Rattle.printed_texts.specs.BehaviourText.{state_text}
 use Rattle.state_texts.specs.BoundNames.{bound_names}
 use Rattle.state_texts.specs.TextBytes.{AllPass, is_printable, IsOnOneLine}
-use Rattle.texts_read_back.specs.TextNames.{IsWordSpelling}
-use Rattle.history_lines.specs.Beginning.{Beginning}
-use Rattle.history_lines.specs.Standing.{Standing}
-use Rattle.history_lines.specs.Reached.{IsReached}
-use Rattle.spec_acceptance.specs.Acceptance.{Asked, Acceptance, IsAccepted}
-use Rattle.spec_acceptance.specs.Part.{goes_on}
+use Rattle.label_readings.specs.HandedOn.{IsWordSpelling}
+use Rattle.lotos_top.specs.HandedOn.{Beginning, Standing, IsReached, Asked, Acceptance, IsAccepted, goes_on, GotFile}
 use Rattle.lotos_top.specs.Opening.{SessionBegins}
 
 -- a process with its name and those of the variables that its body binds

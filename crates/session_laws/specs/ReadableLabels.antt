@@ -1,12 +1,7 @@
 -- What a session shows as labels is read back from what is printed.
 use Rattle.std.specs.Prelude.{List}
 use Rattle.label_readings.specs.MenuReadings.{MenuIsReadBack}
-use Rattle.lotos_grammar.specs.Gathering.{GotFile}
-use Rattle.history_lines.specs.Beginning.{Beginning}
-use Rattle.history_lines.specs.Standing.{Standing}
-use Rattle.history_lines.specs.Reached.{IsReached}
-use Rattle.spec_acceptance.specs.Acceptance.{Asked, Acceptance, IsAccepted}
-use Rattle.spec_acceptance.specs.Part.{goes_on}
+use Rattle.lotos_top.specs.HandedOn.{Beginning, Standing, IsReached, Asked, Acceptance, IsAccepted, goes_on, GotFile}
 use Rattle.lotos_top.specs.Opening.{SessionBegins}
 
 -- it is so in every state that a session of an accepted specification reaches

@@ -2,12 +2,8 @@
 use Rattle.std.specs.Prelude.{◌≡◌, ◌⊎◌, ℕ, Bool, true, false, List, ◌∷◌, ◌++◌, Some}
 use Rattle.line_server.specs.Answered as served
 use Rattle.line_server.specs.Machine.{Reply}
-use Rattle.lotos_grammar.specs.Gathering.{GotFile}
-use Rattle.history_lines.specs.SessionMachine.{SessionPoint, LineIs, history_machine}
-use Rattle.history_lines.specs.Beginning.{Beginning}
-use Rattle.spec_acceptance.specs.HandedOn.{ShelfState, Gives}
-use Rattle.spec_acceptance.specs.Acceptance.{Asked, Acceptance, IsAccepted}
-use Rattle.spec_acceptance.specs.Part.{goes_on}
+use Rattle.lotos_top.specs.HandedOn.{SessionPoint, LineIs, history_machine, Beginning, ShelfState, Gives, Asked, Acceptance, IsAccepted}
+use Rattle.lotos_top.specs.HandedOn.{goes_on, GotFile}
 use Rattle.lotos_top.specs.Opening.{SessionBegins}
 use Rattle.lotos_top.specs.Run.{Streams, Ran}
 use Rattle.lotos_top.specs.Words.{session}

@@ -5,13 +5,9 @@ use Rattle.lotos_base.specs.Outside.{Texts}
 use Rattle.line_server.specs.Answered as served
 use Rattle.line_server.specs.Machine.{Reply}
 use Rattle.line_server.specs.Request.{save, replay, request_of}
-use Rattle.lotos_grammar.specs.Gathering.{GotFile}
 use Rattle.session_histories.specs.Session.{Progress}
-use Rattle.history_lines.specs.SessionMachine.{SessionPoint, point, LineIs, history_machine}
-use Rattle.history_lines.specs.ShelfAnswer.{saved_text, replayed_text}
-use Rattle.history_lines.specs.Beginning.{Beginning, standing_at}
-use Rattle.spec_acceptance.specs.Acceptance.{Asked, Acceptance, IsAccepted}
-use Rattle.spec_acceptance.specs.Part.{goes_on}
+use Rattle.lotos_top.specs.HandedOn.{SessionPoint, point, LineIs, history_machine, saved_text, replayed_text, Beginning, standing_at, Asked}
+use Rattle.lotos_top.specs.HandedOn.{Acceptance, IsAccepted, goes_on, GotFile}
 use Rattle.lotos_top.specs.Opening.{SessionBegins}
 
 -- The session that began so stands there, behind lines that were answered beside some shelf. The shelf may have counted faults on

@@ -1,6 +1,5 @@
 -- The events that a session shows are at gates that its specification declares, and these have distinct names.
 use Rattle.std.specs.Prelude.{List}
-use Rattle.lotos_grammar.specs.Gathering.{GotFile}
 use Rattle.behaviour_semantics.specs.Behaviour.{Behaviour}
 use Rattle.behaviour_semantics.specs.Label.{Label}
 use Rattle.behaviour_semantics.specs.Transition.{Transition}
@@ -8,11 +7,7 @@ use Rattle.behaviour_semantics.specs.Solving.{Entry}
 use Rattle.behaviour_semantics.specs.Menu.{IsEntry}
 use Rattle.declaration_laws.specs.VisibleGates.{IsOneOf, IsAt}
 use Rattle.declaration_laws.specs.DeclaredGates.{HasDistinctGates}
-use Rattle.history_lines.specs.Beginning.{Beginning}
-use Rattle.history_lines.specs.Standing.{Standing}
-use Rattle.history_lines.specs.Reached.{IsReached}
-use Rattle.spec_acceptance.specs.Acceptance.{Asked, Acceptance, IsAccepted}
-use Rattle.spec_acceptance.specs.Part.{goes_on}
+use Rattle.lotos_top.specs.HandedOn.{Beginning, Standing, IsReached, Asked, Acceptance, IsAccepted, goes_on, GotFile}
 use Rattle.lotos_top.specs.Opening.{SessionBegins}
 
 -- Where the session stands, each transition is the inner event, a termination, or at a gate that the specification declares; and so

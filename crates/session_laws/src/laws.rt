@@ -13,11 +13,10 @@ use behaviour_semantics::transition::transitions_are_derived;
 use declaration_laws::gates::{
     entries_stay_at_gates, moves_stay_at_gates, texts_have_declared_gates,
 };
-use history_lines::laws::lines_lead_on;
+use label_readings::traces_are_replayed;
+use lotos_top::{data_are_well_formed, lines_lead_on};
 use session_histories::laws::sessions_follow_derivations;
-use spec_acceptance::outcome_laws::data_are_well_formed;
 use state_texts::laws::moves_keep_names;
-use texts_read_back::trace_laws::traces_are_replayed;
 
 /// Numbers of entries and values that the lines of a session give keep within what a line of a
 /// trace can hold: at most ten digits, and terms nested at most 500 deep.

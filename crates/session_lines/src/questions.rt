@@ -37,7 +37,7 @@ use lotos_base::{NoMemory, Written};
 use lotos_grammar::read_terms;
 use printed_texts::brackets::push_text;
 use printed_texts::term_text;
-use sort_terms::{Deciding, Reader, Scope, Signature, Sorted};
+use sort_terms::{Reader, Scope, Signature, Sorted};
 use std::alloc::Global;
 
 /// Appends the normal form of the one term in the text, or the line of its refusal.
@@ -117,7 +117,7 @@ fn normal_of(
 {
     let scope = Scope::new(alloc);
     let read = reader.read_in(&scope, term, None)?;
-    Ok(book.normal(&read)?)
+    Ok(book.normal_form(&read)?)
 }
 
 /// Appends whether the two terms in the text are equal, or the line of their refusal.

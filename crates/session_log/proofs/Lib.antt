@@ -4,3 +4,4 @@ pub mod EntryLemmas
 pub mod TextLemmas
 pub mod CourseLemmas
 pub mod ReplayLemmas
+pub mod HandedOn

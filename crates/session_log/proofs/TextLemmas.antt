@@ -4,13 +4,8 @@ use Rattle.std.proofs.lemmas.List.{length-append, drop_all}
 use Rattle.lotos_base.proofs.Pieces.{next_member}
 use Rattle.lotos_base.specs.Name.{spelling}
 use Rattle.lotos_base.specs.declared.names.Name.{Name}
-use Rattle.behaviour_tree.specs.BehaviourView.{terms_of}
-use Rattle.printed_texts.specs.Brackets.{commas}
-use Rattle.printed_texts.specs.MenuText.{term_texts}
-use Rattle.printed_texts.specs.TextView.{written_value}
 use Rattle.sort_terms.specs.SignatureView.{signature_of}
 use Rattle.sort_terms.specs.declared.signatures.Signature.{Signature}
-use Rattle.sort_terms.specs.declared.sorted.Sorted.{Sorted}
 use Rattle.behaviour_semantics.specs.Behaviour.{Behaviour}
 use Rattle.behaviour_tree.specs.DefinitionView.{specification_of}
 use Rattle.behaviour_tree.specs.StateView.{state_of}
@@ -18,7 +13,7 @@ use Rattle.behaviour_tree.specs.declared.definitions.Spec.{Spec}
 use Rattle.behaviour_tree.specs.declared.states.State.{State}
 use Rattle.event_offers.specs.declared.menus.Menu.{Menu}
 use Rattle.session_histories.specs.Session.{Situation, first_of}
-use Rattle.session_histories.specs.TraceText.{ended, given_text, step_text, line_of_state, stated_steps}
+use Rattle.session_histories.specs.TraceText.{ended, step_text, line_of_state, stated_steps}
 use Rattle.session_log.specs.CourseView.{item_of, pasts_of, situation_of}
 use Rattle.session_log.specs.Courses.{oldest_state, behind_state}
 use Rattle.session_log.specs.declared.courses.Course.{Course}
@@ -26,40 +21,6 @@ use Rattle.session_log.specs.declared.courses.Past.{Past}
 use Rattle.session_log.specs.RefusalView.{TellsLength}
 use Rattle.session_log.specs.declared.refusals.TraceFault.{TraceFault}
 use Rattle.session_log.specs.declared.refusals.TraceFault.TheVariants as trace_fault
-
--- values as they are printed
-pub texts_are : (signature : Signature) (values : List Sorted)
-    → map (written_value signature) values ≡ term_texts (signature_of signature) (terms_of values)
-texts_are signature [] = refl
-texts_are signature (value ∷ values) = ap (λ (it : List (List ℕ)). written_value signature value ∷ it) (texts_are signature values)
-
-pub given_are : (signature : Signature) (values : List Sorted) → (length values ≡ 0 → ⊥)
-    → given_text (signature_of signature) (terms_of values) ≡ codes " " ++ commas (map (written_value signature) values)
-given_are signature [] some = absurd (some refl)
-given_are signature (value ∷ values) some =
-    ap (λ (it : List (List ℕ)). codes " " ++ commas it) (sym (texts_are signature (value ∷ values)))
-
-pub none_given : (signature : Signature) (values : List Sorted) → length values ≡ 0
-    → given_text (signature_of signature) (terms_of values) ≡ []
-none_given signature [] none = refl
-none_given signature (value ∷ values) none = absurd (cc none)
-
--- the line of a step, piece by piece
-pub line_written : (start number given before label end : List ℕ) (a b c d : List ℕ) → number ≡ start ++ a → given ≡ number ++ b
-    → before ≡ given ++ codes " => " → label ≡ before ++ c → end ≡ label ++ codes "\n" → d ≡ a ++ b ++ codes " => " ++ c
-    → end ≡ start ++ ended d
-line_written start number given before label end a b c d is_number is_given is_before is_label is_end is =
-    is_end
-    ∙ (ap (λ (it : List ℕ). it ++ codes "\n") (is_label
-    ∙ ap (λ (it : List ℕ). it ++ c) (is_before
-    ∙ ap (λ (it : List ℕ). it ++ codes " => ") (is_given ∙ ap (λ (it : List ℕ). it ++ b) is_number)))
-    ∙ (ap (λ (it : List ℕ). it ++ codes "\n") (
-    ap (λ (it : List ℕ). it ++ codes " => " ++ c) (append_assoc start a b)
-    ∙ (ap (λ (it : List ℕ). it ++ c) (append_assoc start (a ++ b) (codes " => "))
-    ∙ append_assoc start (a ++ b ++ codes " => ") c)
-    )
-    ∙ (append_assoc start (a ++ b ++ codes " => " ++ c) (codes "\n")
-    ∙ ap (λ (it : List ℕ). start ++ ended it) (sym is))))
 
 -- the state behind a step is where what is left of the steps begins
 behind_is : (state : State) (menu : Menu) (rest : List Past)

@@ -5,3 +5,4 @@ pub mod RefusalView
 pub mod Lines
 pub mod Entries
 pub mod Replayed
+pub mod HandedOn

@@ -40,6 +40,7 @@ use process_checks::Ranks;
 use sort_terms::{Deciding, Sorted};
 use std::alloc::Global;
 use std::mem;
+use step_taker::depths::checked_depth;
 use step_taker::{StepFault, take};
 
 /// A step that was taken, with the state and the menu before it.
@@ -217,6 +218,8 @@ impl Course {
     {
         let entry = counted_entry(&self.menu, number, values.len())?;
         check_values(entry, values, data)?;
+        // The derivation is a copy of the shape, made by recursion.
+        checked_depth(&entry.shape)?;
         Ok(entry.derivation(values, data)?)
     }
 

@@ -78,7 +78,7 @@ use lotos_grammar::read_terms;
 use menu_builder::MenuMaker;
 use printed_texts::label_text;
 use process_checks::Ranks;
-use report_text::nodes::push_node;
+use report_text::calls::push_state;
 use sort_terms::{Deciding, Reader, Scope, Signature, Sorted};
 use std::alloc::Global;
 
@@ -291,7 +291,7 @@ fn found_state(alloc: Global, base: &TraceGround<'_>, state: &State) -> Result<V
         base.now.spec.now state.now) }
 {
     let mut text = Vec::new(alloc);
-    push_node(base.signature, base.spec, state.node(), &mut text)?;
+    push_state(base.signature, base.spec, state.node(), &mut text)?;
     Ok(text)
 }
 

@@ -1,15 +1,11 @@
 //! The text of a trace.
 
-ghost use Rattle.behaviour_tree.specs.BehaviourView.{terms_of};
 ghost use Rattle.lotos_base.specs.Name.{spelling};
-ghost use Rattle.printed_texts.specs.Brackets.{commas};
-ghost use Rattle.printed_texts.specs.TextView.{written_value};
 ghost use Rattle.behaviour_tree.specs.Closed.{IsClosedNode};
 ghost use Rattle.behaviour_tree.specs.DefinitionView.{specification_of};
 ghost use Rattle.behaviour_tree.specs.StateView.{state_of};
 ghost use Rattle.session_histories.specs.TraceText.{
   ended,
-  given_text,
   line_of_state,
   step_text,
   trace_heading,
@@ -24,10 +20,10 @@ use crate::courses::{Course, Past};
 use crate::refusals::TraceFault;
 use behaviour_tree::{Spec, State};
 use lotos_base::{Name, NoMemory};
-use printed_texts::brackets::{push_number, push_separator, push_text};
-use printed_texts::labels::{push_label, push_value};
-use report_text::nodes::push_node;
-use sort_terms::{Signature, Sorted};
+use printed_texts::brackets::{push_number, push_text};
+use printed_texts::labels::push_label;
+use printed_texts::values::push_given;
+use sort_terms::Signature;
 use std::alloc::Global;
 
 /// The trace of the course: the line `lotos-trace 2 NAME` with the name of the specification, and
@@ -92,12 +88,12 @@ fn push_state(
         (state_of state.now))) }
 {
     push_text(into, b"at ")?;
-    push_node(signature, spec, state.node(), into)?;
+    report_text::calls::push_state(signature, spec, state.node(), into)?;
     push_text(into, b"\n")
 }
 
 // Appends the line of a step.
-#[tactic(auto, using(crate::proofs::TextLemmas::line_written))]
+#[tactic(auto, using(session_histories::proofs::StepLineLemmas::line_written))]
 fn push_step(
     signature: &Signature,
     gates: &[Name],
@@ -113,36 +109,4 @@ fn push_step(
     push_text(into, b" => ")?;
     push_label(signature, gates, &past.label, into)?;
     push_text(into, b"\n")
-}
-
-// Appends the values of a step, behind a blank, if there are some.
-fn push_given(
-    signature: &Signature,
-    values: &Vec<Sorted>,
-    into: &mut Vec<u8>,
-) -> Result<(), NoMemory>
-    ensures { OnOk result (into.new.items ≡ into.old.items
-        ++ given_text (signature_of signature.now) (terms_of values.now.items)) }
-{
-    if values.is_empty() {
-        return Ok(());
-    }
-    push_text(into, b" ")?;
-    push_values(signature, values, into)
-}
-
-// Appends values between commas.
-fn push_values(
-    signature: &Signature,
-    values: &Vec<Sorted>,
-    into: &mut Vec<u8>,
-) -> Result<(), NoMemory>
-    ensures { OnOk result (into.new.items ≡ into.old.items
-        ++ commas (map (written_value signature.now) values.now.items)) }
-{
-    for (index, value) in values.iter().enumerate() {
-        push_separator(into, index)?;
-        push_value(signature, value, into)?;
-    }
-    Ok(())
 }

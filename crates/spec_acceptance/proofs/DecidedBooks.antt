@@ -11,7 +11,7 @@ use Rattle.termination_theory.specs.Orientation.{NumberedRule, rules_of, IsOrien
 use Rattle.termination_theory.proofs.OrientationLemmas.{oriented_well_formed, rules_of_data}
 use Rattle.path_order.specs.Listing.{IsFirstWrong, listed_name, listed_status}
 use Rattle.path_order.specs.OrderedBy.{IsPrecedenceBy}
-use Rattle.equation_book.specs.HandedOn.{AreUnjoinedBy}
+use Rattle.refusal_lines.specs.HandedOn.{AreUnjoinedBy}
 use Rattle.spec_acceptance.specs.AcceptanceLaws.{BooksAreDecided}
 use Rattle.spec_acceptance.specs.Book.{Opens, OpeningFault, names_none, names_twice, names_no_status, not_oriented, not_joined, DoesNotOpen}
 use Rattle.spec_acceptance.specs.PartLaws.{IsDecided}

@@ -13,8 +13,7 @@ use Rattle.sort_terms.specs.SortedView.{term_in}
 use Rattle.sort_terms.specs.declared.sort_faults.SortFault.TheVariants as sort
 use Rattle.syntax_trees.specs.WrittenDefinition.{WrittenSpecification}
 use Rattle.syntax_trees.specs.TakenItems.{without_items}
-use Rattle.sentence_trees.specs.declared.fault.ReadFault.{ReadFault}
-use Rattle.sentence_trees.specs.declared.fault.ReadFault.TheVariants as read
+use Rattle.refusal_lines.specs.HandedOn.read_faults as read
 use Rattle.type_definitions.specs.DeclaredTypes.{DeclaredType}
 use Rattle.type_definitions.specs.MentionFaults.{double_type, unknown_type, type_cycle}
 use Rattle.type_definitions.specs.TypeFault as plain_type
@@ -36,16 +35,12 @@ use Rattle.process_checks.specs.declared.mismatches.ExitFault.{ExitFault}
 use Rattle.process_checks.specs.declared.mismatches.ExitFault.TheVariants as exit
 use Rattle.process_checks.specs.declared.rank_table.RankFault.{RankFault}
 use Rattle.process_checks.specs.declared.rank_table.RankFault.TheVariants as rank
-use Rattle.equation_book.specs.Refusal.{IsBookFault}
-use Rattle.equation_book.specs.declared.book_fault.BookFault.{BookFault}
-use Rattle.equation_book.specs.declared.book_fault.BookFault.TheVariants as book
-use Rattle.start_values.specs.Refusal as plain
-use Rattle.start_values.specs.Refusal.{Refusal, wrong_scopes}
-use Rattle.start_values.specs.RefusalView.{told_of_text, told_of_scopes, refused_of}
-use Rattle.start_values.specs.declared.refused.Refused.{Refused}
-use Rattle.start_values.specs.declared.spec_fault.SpecFault.TheVariants as fault
-use Rattle.lotos_grammar.specs.TextFault.{TextFault, text_fault_of, TextIsMisread}
-use Rattle.lotos_grammar.proofs.MisreadTexts.{fault_told}
+use Rattle.refusal_lines.specs.HandedOn.{IsBookFault, BookFault, TextFault, text_fault_of, TextIsMisread, ReadFault, Refusal, wrong_scopes}
+use Rattle.refusal_lines.specs.HandedOn.{told_of_text, told_of_scopes, refused_of, CodeRefused as Refused}
+use Rattle.refusal_lines.specs.HandedOn.book_faults as book
+use Rattle.refusal_lines.specs.HandedOn.refusal as plain
+use Rattle.refusal_lines.specs.HandedOn.spec_faults as fault
+use Rattle.refusal_lines.proofs.HandedOn.{fault_told}
 use Rattle.spec_acceptance.specs.Ending.{with_libraries, with_data, with_spec}
 use Rattle.spec_acceptance.specs.Texts.{text_refusal, text_told}
 use Rattle.spec_acceptance.specs.Types.{of_names, of_declarations, HaveFault, types_told}

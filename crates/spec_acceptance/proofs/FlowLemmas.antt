@@ -3,7 +3,6 @@ use Rattle.std.proofs.Common.{refl, sym, ◌≡◌, inl, subst, ℕ, List, [], m
 use Rattle.std.specs.Prelude.{Result, Ok, Err, MatchResult}
 use Rattle.lotos_base.specs.WrittenTerm.{ListedOperation}
 use Rattle.lotos_base.specs.WrittenView.{listed_operation_of}
-use Rattle.sentence_trees.specs.Reading.{IsSpecificationReading}
 use Rattle.lotos_base.specs.Equation.{Data}
 use Rattle.sort_terms.specs.EquationView.{IsSortedFlat, data_of}
 use Rattle.syntax_trees.specs.WrittenDefinition.{WrittenSpecification}
@@ -13,10 +12,9 @@ use Rattle.scope_parts.specs.GateLists.{TextHasGateLists}
 use Rattle.place_laws.proofs.GateListLemmas.{read_texts_have_gate_lists, gate_lists_stay}
 use Rattle.behaviour_semantics.specs.Behaviour.{Specification}
 use Rattle.behaviour_tree.specs.DefinitionView.{specification_of}
-use Rattle.lotos_grammar.specs.Gathering.{Gathered, nothing_yet, item, memory_wanted, memory_ends}
-use Rattle.lotos_grammar.specs.ShelfUse.{ShelfState}
+use Rattle.refusal_lines.specs.HandedOn.{Gathered, nothing_yet, item, memory_wanted, memory_ends, ShelfState, IsSpecificationReading}
+use Rattle.refusal_lines.specs.HandedOn.{Refused}
 use Rattle.type_definitions.specs.DeclaredTypes.{types_of}
-use Rattle.start_values.specs.Refusal.{Refused}
 use Rattle.spec_acceptance.specs.Ending.{with_spec}
 use Rattle.spec_acceptance.specs.Part.{goes_on}
 use Rattle.spec_acceptance.specs.Texts.{GathersTypes, Gathers, Orders}

@@ -17,8 +17,6 @@ use Rattle.type_definitions.specs.DeclaredTypes.{types_of}
 use Rattle.type_definitions.specs.declared.type_faults.TypeFault.{TypeFault}
 use Rattle.type_definitions.specs.declared.type_faults.TypeFault.TheVariants as type
 use Rattle.type_flatten.specs.FlatView.{IsFlat, IsRefused}
-use Rattle.lotos_grammar.specs.declared.faults.LibraryFault.{LibraryFault}
-use Rattle.lotos_grammar.specs.declared.gathered.Gathered.{Gathered}
 use Rattle.behaviour_semantics.specs.Behaviour.{Specification}
 use Rattle.behaviour_semantics.specs.Guardedness.{IsGuarded}
 use Rattle.behaviour_tree.specs.DefinitionView.{specification_of}
@@ -26,9 +24,7 @@ use Rattle.behaviour_tree.specs.Over.{IsSpecOver}
 use Rattle.behaviour_tree.specs.declared.definitions.Spec.{Spec as CodeSpec}
 use Rattle.lotos_base.specs.declared.names.Name.{Name}
 use Rattle.lotos_base.specs.declared.written_terms.OrderItem.{OrderItem}
-use Rattle.sentence_trees.specs.Reading.{IsOrderReadFault, IsOrderReading, IsSpecificationFault}
-use Rattle.sentence_trees.specs.declared.fault.ReadFault.{ReadFault}
-use Rattle.sentence_trees.specs.declared.fault.ReadFault.TheVariants as read
+use Rattle.refusal_lines.specs.HandedOn.read_faults as read
 use Rattle.process_checks.specs.Exits.{Blames}
 use Rattle.process_checks.specs.Functionality.{all_disagreements}
 use Rattle.process_checks.specs.Ranks.{AreRanksOf, RefusesRanks}
@@ -44,16 +40,13 @@ use Rattle.scope_parts.specs.ScopeFault as scope
 use Rattle.scope_parts.specs.declared.scope_faults.ScopeFault.{ScopeFault}
 use Rattle.scope_parts.specs.declared.scope_faults.ScopeFault.TheVariants as scoped
 use Rattle.path_order.specs.RulesView.{precedence_in, rules_in}
-use Rattle.equation_book.specs.Refusal.{IsBookFault, IsOpenedBy}
-use Rattle.equation_book.specs.declared.book.Book.{Book}
-use Rattle.equation_book.specs.declared.book_fault.BookFault.{BookFault}
-use Rattle.equation_book.specs.declared.book_fault.BookFault.TheVariants as book
+use Rattle.refusal_lines.specs.HandedOn.{IsBookFault, IsOpenedBy, Book, BookFault, LibraryFault, CodeGathered as Gathered, TextIsMisread}
+use Rattle.refusal_lines.specs.HandedOn.{IsOrderReadFault, IsOrderReading, IsSpecificationFault, ReadFault, CodeRefused as Refused}
+use Rattle.refusal_lines.specs.HandedOn.book_faults as book
 use Rattle.static_scope.specs.KeptPlaces.{places_of}
 use Rattle.static_scope.specs.TextPlaces.{text_places}
-use Rattle.start_values.specs.Refusal as plain
-use Rattle.start_values.specs.declared.refused.Refused.{Refused}
-use Rattle.start_values.specs.declared.spec_fault.SpecFault.TheVariants as fault
-use Rattle.lotos_grammar.specs.TextFault.{TextIsMisread}
+use Rattle.refusal_lines.specs.HandedOn.refusal as plain
+use Rattle.refusal_lines.specs.HandedOn.spec_faults as fault
 use Rattle.spec_acceptance.specs.Ending.{at_first, with_libraries, with_spec}
 use Rattle.spec_acceptance.specs.Texts.{text_told}
 use Rattle.spec_acceptance.specs.Types.{HaveData, HaveFault, types_told}

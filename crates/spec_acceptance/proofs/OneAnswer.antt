@@ -4,11 +4,8 @@ use Rattle.std.specs.Option.{option_map}
 use Rattle.lotos_base.specs.Counts.{Rises}
 use Rattle.lotos_base.specs.Limits.{text_limit}
 use Rattle.lotos_base.specs.Outside.{Texts}
-use Rattle.lotos_grammar.specs.Gathering.{GotFile}
-use Rattle.lotos_grammar.specs.GatheringLaws.{AreGotFrom}
-use Rattle.lotos_grammar.specs.ShelfUse.{ShelfState, IsFileOf}
+use Rattle.refusal_lines.specs.HandedOn.{GotFile, AreGotFrom, ShelfState, IsFileOf, Refused}
 use Rattle.spec_acceptance.specs.Acceptance.{Asked, Acceptance, IsAccepted}
-use Rattle.start_values.specs.Refusal.{Refused}
 use Rattle.spec_acceptance.specs.Part.{Comes, goes_on, unread, stops, wants_memory}
 use Rattle.spec_acceptance.specs.Doing.{Did}
 use Rattle.spec_acceptance.specs.declared.not_accepted.NotAccepted.TheVariants.{File, Spec, NoMemory}

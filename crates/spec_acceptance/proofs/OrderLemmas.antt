@@ -4,13 +4,10 @@ use Rattle.std.specs.Prelude.{Vec, Result, Ok, Err, MatchResult}
 use Rattle.std.specs.declared.alloc.Global.{Global}
 use Rattle.lotos_base.specs.WrittenView.{listed_operation_of}
 use Rattle.lotos_base.specs.declared.written_terms.OrderItem.{OrderItem}
-use Rattle.sentence_trees.specs.Reading.{IsOrderReadFault, IsOrderReading}
-use Rattle.lotos_grammar.specs.ShelfUse.{ShelfState, GivesFile}
-use Rattle.start_values.specs.Refusal.{Refused}
+use Rattle.refusal_lines.specs.HandedOn.{ShelfState, GivesFile, TextIsMisread, IsOrderReadFault, IsOrderReading, Refused}
 use Rattle.spec_acceptance.specs.Ending.{with_spec}
 use Rattle.spec_acceptance.specs.Part.{goes_on}
 use Rattle.spec_acceptance.specs.Texts.{GetsFile, text_told, Orders, ReadsOrder}
-use Rattle.lotos_grammar.specs.TextFault.{TextIsMisread}
 use Rattle.spec_acceptance.specs.Doing.{Did, Failed, Faulty, FileIsNotGot}
 use Rattle.spec_acceptance.specs.Known.{Resolved, KnowsRanks, ReadsItems, OrdersWith}
 use Rattle.spec_acceptance.specs.declared.not_accepted.NotAccepted.{NotAccepted}

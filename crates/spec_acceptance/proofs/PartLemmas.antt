@@ -1,8 +1,7 @@
 -- Parts are determined, and where memory is wanted the first ones of the files were got.
 use Rattle.std.proofs.Common.{refl, ap, sym, ◌∙◌, ◌≡◌, inl, inr, subst, List, [], ◌++◌, append_assoc}
-use Rattle.lotos_grammar.specs.Gathering.{GotFile}
-use Rattle.lotos_grammar.specs.GatheringLaws.{Files, AreGotFrom}
-use Rattle.lotos_grammar.proofs.OneOutcome.{front, back, joined}
+use Rattle.refusal_lines.specs.HandedOn.{GotFile, Files, AreGotFrom}
+use Rattle.refusal_lines.proofs.HandedOn.{front, back, joined}
 use Rattle.spec_acceptance.specs.Part.{Comes, goes_on, unread, stops, wants_memory, Part, ends_both, EndsSo, Then, Has, Looks}
 use Rattle.spec_acceptance.specs.PartLaws.{Lacks, IsDetermined, WantsBehindFirst, IsDecided}
 

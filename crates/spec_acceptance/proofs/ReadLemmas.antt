@@ -3,13 +3,10 @@ use Rattle.std.proofs.Common.{refl, sym, ◌≡◌, subst, ℕ, List, Option}
 use Rattle.std.specs.Prelude.{Result, Ok, Err, MatchResult}
 use Rattle.lotos_base.specs.WrittenTerm.{ListedOperation}
 use Rattle.lotos_base.specs.Term.{Term}
-use Rattle.sentence_trees.specs.Reading.{IsSpecificationReading, IsSpecificationFault}
 use Rattle.behaviour_tree.specs.BehaviourView.{terms_of}
-use Rattle.lotos_grammar.specs.TextFault.{TextIsMisread}
-use Rattle.lotos_grammar.specs.ShelfUse.{ShelfState, GivesFile}
+use Rattle.refusal_lines.specs.HandedOn.{TextIsMisread, ShelfState, GivesFile, IsSpecificationReading, IsSpecificationFault, Refused}
+use Rattle.refusal_lines.specs.HandedOn.{AreStartValues, IsStartFault}
 use Rattle.syntax_trees.specs.WrittenDefinition.{WrittenSpecification}
-use Rattle.start_values.specs.Refusal.{Refused}
-use Rattle.start_values.specs.StartValues.{AreStartValues, IsStartFault}
 use Rattle.spec_acceptance.specs.Ending.{at_first, with_spec}
 use Rattle.spec_acceptance.specs.Part.{goes_on, Part, Then, Has}
 use Rattle.spec_acceptance.specs.Texts.{GetsFile, text_told, ReadsSpecification}

@@ -28,19 +28,12 @@ use Rattle.behaviour_tree.specs.Over.{AreTermsOf, IsSpecOver, IsStateOf, IsStart
 use Rattle.behaviour_tree.specs.StateView.{node_profiles, state_of}
 use Rattle.behaviour_tree.specs.declared.definitions.Spec.{Spec as CodeSpec}
 use Rattle.behaviour_tree.specs.declared.states.State.{State}
-use Rattle.equation_book.specs.BookCanon.{book_canon}
-use Rattle.equation_book.specs.BookCanonFacts.{book_is_canon}
-use Rattle.equation_book.specs.declared.book.Book.{Book}
-use Rattle.start_values.specs.Refusal as plain
-use Rattle.start_values.specs.Refusal.{Refusal}
-use Rattle.start_values.specs.RefusalView.{refusal_of, with_known}
-use Rattle.start_values.specs.declared.spec_fault.SpecFault.{SpecFault}
-use Rattle.start_values.specs.StartValues.{Start, AreStartValues, IsStartFault}
-use Rattle.start_values.specs.StartView as code
-use Rattle.start_values.specs.StartView.{FailsAs, parameter_sorts}
-use Rattle.start_values.specs.declared.faults.StartFault.{StartFault}
-use Rattle.start_values.specs.declared.faults.StartFault.TheVariants as start_fault
-use Rattle.start_values.proofs.OutcomeLemmas.{start_values_are_ground}
+use Rattle.refusal_lines.specs.HandedOn.{book_canon, book_is_canon, Book, Refusal, refusal_of, with_known, SpecFault, Start, AreStartValues}
+use Rattle.refusal_lines.specs.HandedOn.{IsStartFault, FailsAs, parameter_sorts, StartFault}
+use Rattle.refusal_lines.specs.HandedOn.refusal as plain
+use Rattle.refusal_lines.specs.HandedOn.start_view as code
+use Rattle.refusal_lines.specs.HandedOn.start_faults as start_fault
+use Rattle.refusal_lines.proofs.HandedOn.{start_values_are_ground}
 use Rattle.spec_acceptance.specs.Acceptance.{start_of}
 use Rattle.spec_acceptance.specs.Ending.{with_spec}
 use Rattle.spec_acceptance.specs.Doing.{Faulty, with_spec_refused}

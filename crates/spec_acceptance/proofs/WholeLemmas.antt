@@ -10,8 +10,7 @@ use Rattle.scope_parts.specs.Resolution.{Resolution, resolved, faulty}
 use Rattle.scope_parts.specs.Definitions.{SpecificationIs}
 use Rattle.scope_parts.proofs.BehavioursOnce.{specification_once}
 use Rattle.lotos_base.specs.WrittenTerm.{ListedOperation}
-use Rattle.lotos_grammar.specs.Gathering.{Gathered}
-use Rattle.lotos_grammar.specs.GatheringLaws.{Files}
+use Rattle.refusal_lines.specs.HandedOn.{Gathered, Files, Start, AreStartValues, IsStartFault}
 use Rattle.spec_acceptance.specs.Ending.{with_spec}
 use Rattle.spec_acceptance.specs.PartLaws.{IsDetermined, WantsBehindFirst, IsDecided}
 use Rattle.spec_acceptance.specs.Texts.{GetsFile, ReadsSpecification, Gathers, Orders}
@@ -19,8 +18,7 @@ use Rattle.spec_acceptance.specs.Types.{HaveData, HaveFault, types_told, Flatten
 use Rattle.spec_acceptance.specs.Scopes.{StandsFor, Breaks, scopes_told, Resolves}
 use Rattle.spec_acceptance.specs.Checks.{FunctionalitiesAgree, Disagree, functionality_told, ComesToAgreement, Guarded, Cyclic, recursion_told, IsGuardedIn}
 use Rattle.spec_acceptance.specs.Book.{Opens, DoesNotOpen, opening_told, OpensBook}
-use Rattle.start_values.specs.StartValues.{Start, AreStartValues, IsStartFault}
-use Rattle.start_values.proofs.OutcomeLemmas.{starts_have_one_outcome}
+use Rattle.refusal_lines.proofs.HandedOn.{starts_have_one_outcome}
 use Rattle.spec_acceptance.specs.Acceptance.{Asked, Founded, founded_with, FoundedBy, Founds, start_of, StartsWithValues, accepted_with, AcceptsText, IsAccepted}
 use Rattle.spec_acceptance.specs.AcceptanceLaws.{TypesAreDecided, DataAreWellFormed, ExitsAreDecided, RanksAreDecided, BooksAreDecided, ScopesAreDecided, AcceptanceIsDetermined}
 use Rattle.spec_acceptance.proofs.PartLemmas.{has_determined, looks_determined, then_determined, has_wants, looks_wants, then_wants}

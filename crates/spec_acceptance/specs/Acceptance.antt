@@ -8,9 +8,7 @@ use Rattle.lotos_base.specs.Equation.{Data}
 use Rattle.lotos_base.specs.Term.{Term}
 use Rattle.syntax_trees.specs.WrittenDefinition.{WrittenSpecification}
 use Rattle.behaviour_semantics.specs.Behaviour.{Specification, sorts_of}
-use Rattle.lotos_grammar.specs.Gathering.{Gathered}
-use Rattle.start_values.specs.Refusal.{Refused}
-use Rattle.start_values.specs.StartValues.{Start, AreStartValues, IsStartFault}
+use Rattle.refusal_lines.specs.HandedOn.{Gathered, Refused, Start, AreStartValues, IsStartFault}
 use Rattle.spec_acceptance.specs.Ending.{with_spec}
 use Rattle.spec_acceptance.specs.Part.{Part, Then, Has, Looks}
 use Rattle.spec_acceptance.specs.Texts.{GetsFile, ReadsSpecification, Gathers, Orders}

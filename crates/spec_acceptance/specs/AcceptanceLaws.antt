@@ -5,7 +5,7 @@ use Rattle.lotos_base.specs.Equation.{Data, IsWellFormedData}
 use Rattle.syntax_trees.specs.WrittenDefinition.{WrittenSpecification}
 use Rattle.behaviour_semantics.specs.Behaviour.{Specification}
 use Rattle.type_definitions.specs.DeclaredTypes.{DeclaredType}
-use Rattle.lotos_grammar.specs.GatheringLaws.{Files}
+use Rattle.refusal_lines.specs.HandedOn.{Files}
 use Rattle.spec_acceptance.specs.PartLaws.{IsDecided, IsDetermined}
 use Rattle.spec_acceptance.specs.Types.{HaveData, HaveFault}
 use Rattle.spec_acceptance.specs.Scopes.{StandsFor, Breaks}

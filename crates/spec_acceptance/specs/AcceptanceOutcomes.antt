@@ -4,11 +4,7 @@ use Rattle.std.specs.Option.{option_map}
 use Rattle.lotos_base.specs.Counts.{Rises}
 use Rattle.lotos_base.specs.Limits.{text_limit}
 use Rattle.lotos_base.specs.Outside.{Texts}
-use Rattle.lotos_grammar.specs.Gathering.{GotFile}
-use Rattle.lotos_grammar.specs.GatheringLaws.{Files, AreGotFrom}
-use Rattle.lotos_grammar.specs.ShelfUse.{ShelfState}
-use Rattle.start_values.specs.Refusal.{Refused}
-use Rattle.start_values.specs.RefusalView.{refused_of}
+use Rattle.refusal_lines.specs.HandedOn.{GotFile, Files, AreGotFrom, ShelfState, Refused, refused_of}
 use Rattle.spec_acceptance.specs.Acceptance.{Asked, Acceptance, IsAccepted}
 use Rattle.spec_acceptance.specs.Part.{Comes, goes_on, unread, stops}
 use Rattle.spec_acceptance.specs.PartLaws.{Lacks, IsDetermined, WantsBehindFirst}

@@ -15,8 +15,7 @@ use Rattle.process_checks.specs.Functionality.{Functionality, Disagreement, all_
 use Rattle.process_checks.specs.Ranks.{IsUnguarded}
 use Rattle.static_scope.specs.TextPlaces.{text_places}
 use Rattle.static_scope.specs.KeptPlaces.{places_of}
-use Rattle.lotos_grammar.specs.Gathering.{Gathered}
-use Rattle.start_values.specs.Refusal.{Refusal, Refused, mismatch, unguarded}
+use Rattle.refusal_lines.specs.HandedOn.{Gathered, Refusal, Refused, mismatch, unguarded}
 use Rattle.spec_acceptance.specs.Ending.{with_spec}
 use Rattle.spec_acceptance.specs.Part.{Part, Looks}
 

@@ -17,15 +17,9 @@ use Rattle.behaviour_tree.specs.Closed.{IsClosedNode}
 use Rattle.behaviour_tree.specs.Over.{AreTermsOf, IsSpecOver, IsStateOf}
 use Rattle.behaviour_tree.specs.StateView.{state_of}
 use Rattle.process_checks.specs.Ranks.{AreRanksOf}
-use Rattle.lotos_grammar.specs.ShelfUse.{ShelfState}
-use Rattle.sentence_trees.specs.Reading.{IsOrderReading}
 use Rattle.path_order.specs.RulesView.{precedence_in, rules_in}
-use Rattle.equation_book.specs.BookCanon.{book_canon}
-use Rattle.equation_book.specs.Refusal.{IsOpenedBy}
-use Rattle.start_values.specs.Refusal.{Refused}
-use Rattle.start_values.specs.declared.spec_fault.SpecFault.{SpecFault}
-use Rattle.start_values.specs.StartValues.{AreStartValues}
-use Rattle.start_values.specs.StartView.{parameter_sorts}
+use Rattle.refusal_lines.specs.HandedOn.{book_canon, IsOpenedBy, ShelfState, IsOrderReading, Refused, SpecFault, AreStartValues}
+use Rattle.refusal_lines.specs.HandedOn.{parameter_sorts}
 use Rattle.spec_acceptance.specs.Acceptance.{Founded, start_of}
 use Rattle.spec_acceptance.specs.Checks.{KeepsSpecification}
 use Rattle.spec_acceptance.specs.Ending.{with_spec}

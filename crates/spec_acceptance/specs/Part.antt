@@ -1,6 +1,6 @@
 -- A part of the work on a specification: which files it gets, and what comes of it. It is generic in what a fault is.
 use Rattle.std.specs.Prelude.{◌≡◌, ◌⊎◌, ℕ, List, [], ◌++◌, Option, None, Some}
-use Rattle.lotos_grammar.specs.Gathering.{GotFile}
+use Rattle.refusal_lines.specs.HandedOn.{GotFile}
 
 -- what comes of it: something to go on with; a file that could not be got; a fault, which ends all; or memory was wanted
 pub data Comes (E B : Type 0) : Type 0 where

@@ -1,7 +1,6 @@
 -- Laws of parts: what comes of them is one thing, and what was got where memory is wanted is the beginning of what is got.
 use Rattle.std.specs.Prelude.{◌≡◌, List, ◌++◌, None}
-use Rattle.lotos_grammar.specs.Gathering.{GotFile}
-use Rattle.lotos_grammar.specs.GatheringLaws.{Files, AreGotFrom}
+use Rattle.refusal_lines.specs.HandedOn.{GotFile, Files, AreGotFrom}
 use Rattle.spec_acceptance.specs.Part.{Comes, goes_on, unread, stops, wants_memory, Part}
 
 -- A file that could not be got is one that nothing is got for, and memory was not wanted.

@@ -7,8 +7,7 @@ use Rattle.behaviour_semantics.specs.Behaviour.{Specification}
 use Rattle.scope_parts.specs.Resolution.{resolved, faulty}
 use Rattle.scope_parts.specs.ScopeFault.{ScopeFault}
 use Rattle.scope_parts.specs.Definitions.{SpecificationIs}
-use Rattle.lotos_grammar.specs.Gathering.{Gathered}
-use Rattle.start_values.specs.Refusal.{Refused, wrong_scopes}
+use Rattle.refusal_lines.specs.HandedOn.{Gathered, Refused, wrong_scopes}
 use Rattle.spec_acceptance.specs.Ending.{with_data}
 use Rattle.spec_acceptance.specs.Part.{Part, Looks}
 

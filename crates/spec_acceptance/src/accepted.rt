@@ -1,10 +1,9 @@
 //! The acceptance of a specification.
 
+ghost use Rattle.refusal_lines.specs.HandedOn.{are_within, shelf_state, words_of};
 ghost use Rattle.spec_acceptance.specs.Acceptance.{AcceptsText, IsAccepted};
-ghost use Rattle.lotos_grammar.specs.ShelfUse.{shelf_state};
 ghost use Rattle.spec_acceptance.specs.AcceptedView.{AcceptsWith, asked_for};
 ghost use Rattle.spec_acceptance.specs.Doing.{Failed};
-ghost use Rattle.start_values.specs.WordLimits.{are_within, words_of};
 ghost use Rattle.std.specs.Prelude.{IsTrue, MatchResult, option_map};
 
 use crate::files::file;
@@ -12,9 +11,9 @@ use crate::founded::founded;
 use crate::not_accepted::NotAccepted;
 use crate::starts::{started, valued};
 use behaviour_tree::{Spec, State};
-use equation_book::Book;
 use lotos_base::Shelf;
 use process_checks::Ranks;
+use refusal_lines::Book;
 use std::alloc::Global;
 
 /// A specification that is accepted.

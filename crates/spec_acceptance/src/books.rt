@@ -11,9 +11,9 @@ use crate::not_accepted::NotAccepted;
 use crate::refusals::book_refusal;
 use crate::stages::{WithOrder, WithRanks, WithSpec};
 use behaviour_tree::Spec;
-use equation_book::{Book, NotOpened};
 use lotos_base::Name;
 use process_checks::Ranks;
+use refusal_lines::{Book, NotOpened};
 
 /// The libraries that were read, the specification with its ranks, and the book of the data.
 #[derive(Drop)]

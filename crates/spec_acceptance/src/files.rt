@@ -1,6 +1,6 @@
 //! Getting a file from the shelf.
 
-ghost use Rattle.lotos_grammar.specs.ShelfUse.{GivesFile, shelf_state};
+ghost use Rattle.refusal_lines.specs.HandedOn.{GivesFile, shelf_state};
 ghost use Rattle.spec_acceptance.specs.Doing.{FileIsNotGot};
 ghost use Rattle.std.specs.Prelude.{MatchResult};
 

@@ -1,7 +1,6 @@
 //! A specification up to the book of its data.
 
-ghost use Rattle.lotos_grammar.specs.ShelfUse.{shelf_state};
-ghost use Rattle.sentence_trees.specs.Reading.{IsSpecificationReading};
+ghost use Rattle.refusal_lines.specs.HandedOn.{IsSpecificationReading, shelf_state};
 ghost use Rattle.spec_acceptance.specs.Acceptance.{FoundedBy, Founds};
 ghost use Rattle.spec_acceptance.specs.Doing.{Failed};
 ghost use Rattle.spec_acceptance.specs.Known.{FoundsWith};

@@ -21,3 +21,7 @@ pub mod types;
 
 pub use accepted::Accepted;
 pub use not_accepted::NotAccepted;
+pub use refusal_lines::{
+    Book, Refused, SpecFault, WORD_BYTES_LIMIT, WORDS_LIMIT, are_within_limits, refusal_line,
+    start_values_are_ground,
+};

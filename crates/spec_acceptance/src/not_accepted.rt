@@ -3,7 +3,7 @@
 ghost use Rattle.std.specs.Prelude.{◌≡◌};
 
 use lotos_base::NoMemory;
-use start_values::Refused;
+use refusal_lines::Refused;
 use std::alloc::{AllocError, AllocFailed};
 
 /// Why a specification is not accepted.

@@ -10,8 +10,8 @@ ghost use Rattle.std.specs.Prelude.{◌≡◌};
 use behaviour_tree::Spec;
 use lotos_base::{Name, OrderItem};
 use process_checks::Ranks;
+use refusal_lines::{Refused, SpecFault};
 use sort_terms::Flat;
-use start_values::{Refused, SpecFault};
 
 /// The libraries that were read, and the data.
 #[derive(Drop)]

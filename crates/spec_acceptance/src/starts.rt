@@ -1,9 +1,10 @@
 //! The start values, and the state in which the specification begins with them.
 
-ghost use Rattle.spec_acceptance.specs.Acceptance.{start_of};
-ghost use Rattle.spec_acceptance.specs.Ending.{with_spec};
 ghost use Rattle.lotos_base.specs.WrittenTerm.{ListedOperation};
+ghost use Rattle.refusal_lines.specs.HandedOn.{IsStartFault, are_within, words_of};
+ghost use Rattle.spec_acceptance.specs.Acceptance.{start_of};
 ghost use Rattle.spec_acceptance.specs.Doing.{Faulty};
+ghost use Rattle.spec_acceptance.specs.Ending.{with_spec};
 ghost use Rattle.spec_acceptance.specs.Known.{
   KnowsBook,
   KnowsValues,
@@ -12,8 +13,6 @@ ghost use Rattle.spec_acceptance.specs.Known.{
   Resolved,
   StartsWith,
 };
-ghost use Rattle.start_values.specs.StartValues.{IsStartFault};
-ghost use Rattle.start_values.specs.WordLimits.{are_within, words_of};
 ghost use Rattle.std.specs.Prelude.{IfOk, IsTrue, List, MatchResult};
 
 use crate::accepted::Accepted;
@@ -23,9 +22,8 @@ use crate::not_accepted::NotAccepted;
 use crate::stages::WithSpec;
 use behaviour_tree::State;
 use lotos_base::NoMemory;
+use refusal_lines::{SpecFault, StartFault, normal_values, start_values};
 use sort_terms::Sorted;
-use start_values::normal::normal_values;
-use start_values::{SpecFault, StartFault, start_values};
 use std::alloc::Global;
 
 /// What is known of the specification with its book, and the start values as they are read.

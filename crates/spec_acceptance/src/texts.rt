@@ -1,18 +1,18 @@
 //! Reading the texts.
 
-ghost use Rattle.spec_acceptance.specs.Ending.{at_first, with_spec};
-ghost use Rattle.spec_acceptance.specs.Part.{goes_on};
-ghost use Rattle.spec_acceptance.specs.Texts.{GathersTypes, Orders, text_told};
-ghost use Rattle.lotos_grammar.specs.GatheredView.{gathered_of};
-ghost use Rattle.lotos_grammar.specs.ShelfUse.{shelf_state};
-ghost use Rattle.lotos_grammar.specs.TextFault.{TextIsMisread};
-ghost use Rattle.sentence_trees.specs.Reading.{
+ghost use Rattle.refusal_lines.specs.HandedOn.{
   IsOrderReadFault,
   IsSpecificationFault,
   IsSpecificationReading,
+  TextIsMisread,
+  gathered_of,
+  shelf_state,
 };
 ghost use Rattle.spec_acceptance.specs.Doing.{Did, Failed, Faulty, IsLibraryRefusal};
+ghost use Rattle.spec_acceptance.specs.Ending.{at_first, with_spec};
 ghost use Rattle.spec_acceptance.specs.Known.{KnowsRanks, OrdersWith, ReadsItems, Resolved};
+ghost use Rattle.spec_acceptance.specs.Part.{goes_on};
+ghost use Rattle.spec_acceptance.specs.Texts.{GathersTypes, Orders, text_told};
 ghost use Rattle.std.specs.Prelude.{MatchResult, map, option_map};
 ghost use Rattle.syntax_trees.specs.TreeViews.{item_of, specification_of};
 
@@ -21,8 +21,7 @@ use crate::not_accepted::NotAccepted;
 use crate::refusals::{order_refusal, read_refusal};
 use crate::stages::{WithOrder, WithRanks, refused_early};
 use lotos_base::Shelf;
-use lotos_grammar::{Gathered, LibraryFault, gather_types, read_order, read_spec};
-use start_values::SpecFault;
+use refusal_lines::{Gathered, LibraryFault, SpecFault, gather_types, read_order, read_spec};
 use std::alloc::Global;
 use syntax_trees::{ItemText, SpecText};
 

@@ -1,17 +1,17 @@
 //! Flattening the types.
 
-ghost use Rattle.spec_acceptance.specs.Types.{HaveData, HaveFault, types_told};
-ghost use Rattle.lotos_grammar.specs.GatheredView.{gathered_of};
+ghost use Rattle.refusal_lines.specs.HandedOn.{gathered_of};
 ghost use Rattle.sort_terms.specs.EquationView.{data_of};
 ghost use Rattle.spec_acceptance.specs.Doing.{Faulty};
 ghost use Rattle.spec_acceptance.specs.Known.{KnowsData};
+ghost use Rattle.spec_acceptance.specs.Types.{HaveData, HaveFault, types_told};
 ghost use Rattle.std.specs.Prelude.{MatchResult};
 ghost use Rattle.type_definitions.specs.DeclaredTypes.{types_of};
 
 use crate::not_accepted::NotAccepted;
 use crate::refusals::types_refusal;
 use crate::stages::WithData;
-use lotos_grammar::Gathered;
+use refusal_lines::Gathered;
 use std::alloc::Global;
 use type_flatten::flatten;
 

@@ -2,3 +2,4 @@ pub mod ListLemmas
 pub mod OutcomeLemmas
 pub mod WordLemmas
 pub mod ValueLemmas
+pub mod HandedOn

@@ -12,7 +12,8 @@ use lotos_base::NoMemory;
 use sort_terms::Sorted;
 use std::alloc::Global;
 
-/// The normal forms of the values. The data and the rules of the book stay as they are.
+/// The normal forms of the values; want of memory where one is deeper than a state may have it. The
+/// data and the rules of the book stay as they are.
 pub fn normal_values(
     alloc: Global,
     book: &mut Book,
@@ -28,7 +29,7 @@ pub fn normal_values(
 {
     let mut made = Vec::with_capacity(alloc, values.len())?;
     for value in values {
-        made.push(book.normal_form(value)?)?;
+        made.push(book.value_form(value)?)?;
     }
     Ok(made)
 }

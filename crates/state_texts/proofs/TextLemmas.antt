@@ -15,7 +15,7 @@ use Rattle.behaviour_semantics.proofs.ListLemmas.{Every-append, Every-weaker}
 use Rattle.printed_texts.specs.Brackets.{begins_with, spaced, round, square, bracketed, after_commas, commas}
 use Rattle.printed_texts.specs.TermText.{sort_name, sort_text, variable_text, Phrase, phrase_text, operand_text, of_text, arguments_text, prefix_phrase, operator_text, between_text, infix_phrase, application_phrase, node_phrase, phrase_of, phrases_of, term_text}
 use Rattle.printed_texts.specs.MenuText.{name_text}
-use Rattle.printed_texts.specs.BehaviourText.{Naming, naming_in, gate_text, gates_text, process_name, declared_text, declarations_text, equation_text, test_text, predicate_text, offers_text, exit_value_text, round_list, square_list, sign_text, enable_sign, binding_text, pair_text, call_text, stands_in_brackets, unit_text, between_blanks, behaviour_text, state_text}
+use Rattle.printed_texts.specs.BehaviourText.{Naming, naming_in, gate_text, gates_text, process_names, called_text, declared_text, declarations_text, equation_text, test_text, predicate_text, offers_text, exit_value_text, round_list, square_list, sign_text, enable_sign, binding_text, pair_text, call_text, stands_in_brackets, unit_text, between_blanks, behaviour_text, state_text}
 use Rattle.state_texts.specs.BoundNames.{names_of_variables, bound_names}
 use Rattle.state_texts.specs.TextBytes.{AllPass, is_printable, IsOnOneLine}
 use Rattle.state_texts.specs.StateTexts.{HaveNames, StateTextsAreOfNames}
@@ -229,12 +229,10 @@ module _ (passes : ℕ → Bool) (fixed : (byte : ℕ) → is_printable byte ≡
     gates_fine : (listed : List ℕ) → Fine (gates_text naming listed)
     gates_fine listed = commas_fine (map (gate_text naming) listed) (each_fine (gate_text naming) gate_fine listed)
 
-    process_fine : (number : ℕ) → Fine (process_name (slice_get specification.processes number))
-    process_fine number = by (slice_get specification.processes number) refl
-      where
-        by : (found : Option Process) → slice_get specification.processes number ≡ found → Fine (process_name found)
-        by None e = tt
-        by (Some process) e = every_at (λ (p : Process). Fine p.name) specification.processes number process processes e
+    process_fine : (number : ℕ) → Fine (called_text naming number)
+    process_fine number =
+        name_there (process_names specification) number
+        (mapped_fine (λ (p : Process). Fine p.name) (λ (p : Process). p.name) (λ p fine. fine) specification.processes processes)
 
     declared_fine : (x : Variable) → Fine x.name → Fine (declared_text naming x)
     declared_fine x fine =
@@ -308,7 +306,7 @@ module _ (passes : ℕ → Bool) (fixed : (byte : ℕ) → is_printable byte ≡
     call_fine : (names : List Variable) → AreFine names → (process : ℕ) (listed : List ℕ) (values : List Term)
         → Fine (call_text naming names process listed values)
     call_fine names all process listed values =
-        three (process_name (slice_get specification.processes process)) (square_list (map (gate_text naming) listed))
+        three (called_text naming process) (square_list (map (gate_text naming) listed))
         (round_list (map (term_text signature names) values)) (process_fine process)
         (square_list_fine (map (gate_text naming) listed) (each_fine (gate_text naming) gate_fine listed))
         (round_list_fine (map (term_text signature names) values)

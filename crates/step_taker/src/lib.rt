@@ -4,6 +4,7 @@
 #![tactic(auto)]
 
 pub mod bodies;
+pub mod depths;
 pub mod enablings;
 pub mod events;
 pub mod moved;

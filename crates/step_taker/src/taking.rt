@@ -10,6 +10,7 @@ ghost use Rattle.behaviour_semantics.specs.Fault.{not_fitting};
 ghost use Rattle.step_parts.specs.StepFaults.{IsStepChecked, kept_number, UnlessMemory};
 ghost use Rattle.step_taker.specs.Taken.{ground_of, IsStepFault, IsTaken};
 
+use crate::depths::checked_depth;
 use crate::moved::Walk;
 use crate::walks::node_step;
 use behaviour_tree::{Derivation, Label, Node, Spec, State};
@@ -21,7 +22,8 @@ use step_parts::faults::{At, StepFault, misfit};
 
 /// The label and the target of the move that the derivation gives the state, with each value that
 /// is bound to a variable and each value of the label in canonical form, or the first fault of the
-/// derivation.
+/// derivation. A derivation whose rules nest more than 2,500 deep, each call counted twice, is want
+/// of memory.
 pub fn take<D: Deciding>(
     spec: &Spec,
     state: &State,
@@ -45,6 +47,7 @@ pub fn take<D: Deciding>(
         leaves: derivation.leaves.as_slice(),
         alloc: *derivation.leaves.allocator(),
     };
+    checked_depth(&derivation.shape)?;
     let at = At { node: 0, leaf: 0 };
     let moved = node_step(&walk, state.node(), &derivation.shape, at, data)?;
     none_left_over(walk.leaves, moved.behind)?;

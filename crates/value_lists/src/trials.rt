@@ -23,6 +23,7 @@ ghost use Rattle.value_lists.specs.RootTest.{no_rule_matches};
 ghost use Rattle.value_lists.specs.Search.{found_for, suits};
 ghost use Rattle.value_lists.specs.TrialView.{
   applied_in,
+  arguments_in,
   found_here,
   found_next,
   found_through,
@@ -39,9 +40,9 @@ use crate::list_fault::ListFault;
 use crate::value::Value;
 use lotos_base::NoMemory;
 use path_order::Rules;
-use sort_terms::copying::copies;
-use sort_terms::{Op, Term};
+use sort_terms::{Op, Parts, Term};
 use std::alloc::Global;
+use std::mem;
 use std::rc::Rc;
 use term_rewriter::first_match::first_match;
 
@@ -142,29 +143,42 @@ impl Trial<'_> {
         Ok(())
     }
 
-    // Adds the operation on the chosen arguments, if nothing is left and no rule matches it.
-    fn keep(&self, chosen: &Vec<Term>, left: u32, found: &mut Vec<Value>) -> Result<(), ListFault>
-        requires part { IsPart self.now chosen.now.items left }
+    // Adds the operation on the chosen arguments, if nothing is left and no rule matches it. It is
+    // tried on the arguments themselves, which are given back, and copied only if it is added.
+    fn keep(
+        &self,
+        chosen: &mut Vec<Term>,
+        left: u32,
+        found: &mut Vec<Value>,
+    ) -> Result<(), ListFault>
+        requires part { IsPart self.now chosen.old.items left }
         requires room { length found.old.items ≤ self.now.room }
+        ensures chosen { OnOk result (chosen.new.items ≡ chosen.old.items) }
         ensures found { OnOk result (values_in found.new.items
-            ≡ values_in found.old.items ++ found_here self.now chosen.now.items left) }
+            ≡ values_in found.old.items ++ found_here self.now chosen.old.items left) }
         ensures room { OnOk result (length found.new.items ≤ self.now.room) }
         ensures fault { IfErr result (λ fault. FaultMeans (self.now.room < length
-            (values_in found.old.items ++ found_here self.now chosen.now.items left)) ⊥ fault) }
+            (values_in found.old.items ++ found_here self.now chosen.old.items left)) ⊥ fault) }
     {
         if left != 0 {
             return Ok(());
         }
-        let term = self.applied(chosen)?;
-        let kept = is_kept(*chosen.allocator(), self.rules, &term)?;
+        let alloc = *chosen.allocator();
+        let term = self.applied(mem::replace(chosen, Vec::new(alloc)))?;
+        let kept = is_kept(alloc, self.rules, &term)?;
         if !kept {
+            *chosen = arguments_of(alloc, term);
             return Ok(());
         }
         if found.len() == self.room {
             return Err(ListFault::TooManyValues);
         }
         let size = self.size;
-        found.push(Value { term, size })?;
+        found.push(Value {
+            term: term.copy()?,
+            size,
+        })?;
+        *chosen = arguments_of(alloc, term);
         Ok(())
     }
 
@@ -194,14 +208,26 @@ impl Trial<'_> {
     }
 
     // The operation on these arguments.
-    fn applied(&self, chosen: &Vec<Term>) -> Result<Term, NoMemory>
-        ensures { IfOk result (λ t. profiled_of t ≡ applied_in self.now chosen.now.items) }
+    fn applied(&self, arguments: Vec<Term>) -> Result<Term, NoMemory>
+        ensures applied { IfOk result
+            (λ t. profiled_of t ≡ applied_in self.now arguments.items) }
+        ensures same { IfOk result (λ t. arguments_in t ≡ arguments.items) }
     {
         Ok(Term::Node {
             op: self.op,
             profile: self.profile.clone()?,
-            arguments: copies(chosen)?,
+            arguments,
         })
+    }
+}
+
+// The arguments of the term.
+fn arguments_of(alloc: Global, term: Term) -> Vec<Term>
+    ensures { result.items ≡ arguments_in term }
+{
+    match term.into_parts() {
+        Parts::Variable { .. } => Vec::new(alloc),
+        Parts::Operation { arguments, .. } => arguments,
     }
 }
 

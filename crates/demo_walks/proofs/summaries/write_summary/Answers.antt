@@ -1,6 +1,5 @@
 use Rattle.std.proofs.Common.{ap, ◌∙◌, subst}
-use Rattle.behaviour_tree.specs.declared.definitions.Spec.{Spec}
-use Rattle.equation_book.specs.BookCanon.{book_canon}
+use Rattle.history_lines.specs.HandedOn.{book_canon, Spec}
 use Rattle.sort_terms.specs.EquationView.{data_of}
 use Rattle.sort_terms.specs.SignatureView.{signature_of}
 use Rattle.sort_terms.specs.declared.equations.Flat.{Flat}

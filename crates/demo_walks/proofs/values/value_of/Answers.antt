@@ -2,7 +2,7 @@ use Rattle.std.proofs.Common.{[], refl, None}
 use Rattle.lotos_base.specs.WrittenView.{written_term_of}
 use Rattle.sort_terms.specs.SignatureView.{signature_of}
 use Rattle.sort_terms.specs.SortedView.{term_in}
-use Rattle.session_log.proofs.ReplayLemmas.{reading_ground}
+use Rattle.history_lines.proofs.HandedOn.{reading_ground}
 use Rattle.demo_walks.proofs.values.value_of.Goals as goal
 
 pub returns-in-Ok-clause-given : goal.returns-in-Ok-clause-given

@@ -1,6 +1,5 @@
 use Rattle.std.proofs.Common.{◌≡◌}
-use Rattle.session_log.specs.CourseView.{basis_over}
-use Rattle.event_offers.specs.Keeping.{KeepsData}
+use Rattle.history_lines.specs.HandedOn.{basis_over, KeepsData}
 use Rattle.demo_walks.specs.DemoWalk.{GoesThrough, round_steps}
 use Rattle.demo_walks.specs.WalkView.{IsOnWalk, reached, values_of}
 use Rattle.demo_walks.proofs.walking.round.Given as goal

@@ -1,8 +1,8 @@
 use Rattle.std.proofs.Common.{◌∙◌}
 use Rattle.lotos_base.specs.Equation.{Data}
 use Rattle.lotos_base.specs.Term.{Term}
-use Rattle.session_log.specs.CourseView.{basis_over}
-use Rattle.event_offers.proofs.KeepingLemmas.{held_before, holds_after, keeps_both}
+use Rattle.history_lines.specs.HandedOn.{basis_over}
+use Rattle.history_lines.proofs.HandedOn.{held_before, holds_after, keeps_both}
 use Rattle.demo_walks.specs.DemoWalk.{GoesThrough, round_steps}
 use Rattle.demo_walks.specs.WalkView.{AreGivenValues, IsOnWalk, reached, values_of}
 use Rattle.demo_walks.proofs.WalkLemmas.{one_round, over_same_spec}

@@ -1,8 +1,6 @@
 use Rattle.std.proofs.Common.{refl}
 use Rattle.std.proofs.lemmas.Result.{on_ok_weaker}
-use Rattle.behaviour_tree.specs.BehaviourView.{terms_of}
-use Rattle.behaviour_tree.specs.MoveView.{label_of}
-use Rattle.session_log.specs.CourseView.{basis_over}
+use Rattle.history_lines.specs.HandedOn.{basis_over, terms_of, label_of}
 use Rattle.demo_walks.specs.DemoWalk.{is_taken}
 use Rattle.demo_walks.specs.WalkView.{reached}
 use Rattle.demo_walks.proofs.WalkLemmas.{goes_nowhere, one_more, still_on_walk}

@@ -1,12 +1,10 @@
 use Rattle.std.proofs.Common.{List, Some, subst}
 use Rattle.std.proofs.lemmas.Result.{on_ok_weaker}
-use Rattle.session_log.proofs.ReplayLemmas.{over_same}
+use Rattle.history_lines.proofs.HandedOn.{over_same, held_before, holds_after}
 use Rattle.lotos_base.specs.Equation.{Data}
 use Rattle.lotos_base.specs.Term.{Term}
-use Rattle.behaviour_tree.specs.BehaviourView.{terms_of}
 use Rattle.sort_terms.specs.declared.sorted.Sorted.{Sorted}
-use Rattle.session_log.specs.CourseView.{basis_over}
-use Rattle.event_offers.proofs.KeepingLemmas.{held_before, holds_after}
+use Rattle.history_lines.specs.HandedOn.{basis_over, terms_of}
 use Rattle.demo_walks.specs.DemoWalk.{Goes, rounds_steps, store_step}
 use Rattle.demo_walks.specs.WalkView.{IsOnWalk, reached, values_of}
 use Rattle.demo_walks.proofs.WalkLemmas.{goes_once, over_same_spec}

@@ -1,9 +1,8 @@
 use Rattle.std.proofs.Common.{sym, subst}
 use Rattle.lotos_base.specs.Equation.{Data}
 use Rattle.lotos_base.specs.Term.{Term}
-use Rattle.event_offers.proofs.KeepingLemmas.{holds_after}
-use Rattle.session_log.specs.Entries.{AreGiven}
-use Rattle.session_log.specs.Kept.{IsLawfulSession}
+use Rattle.demo_walks.proofs.HandedOn.{holds_after}
+use Rattle.demo_walks.specs.HandedOn.{AreGiven, IsLawfulSession}
 use Rattle.direct_steps.proofs.sessions.is_refused_at_first.Goals as goal
 
 pub open-requires-clause-suited : goal.open-requires-clause-suited

@@ -17,4 +17,9 @@ returns c = record {
   normal = refl;
   normal_of_nothing = refl;
   equal = refl;
+  values = refl;
+  values_spaces = refl;
+  values_of_a_number = refl;
+  instances = refl;
+  instances_of_nought = refl;
 }

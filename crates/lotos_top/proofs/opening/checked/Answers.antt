@@ -1,10 +1,9 @@
 use Rattle.std.proofs.Common.{ℕ, List, Bor, option_map}
 use Rattle.std.proofs.lemmas.Result.{err_from_is_err_and}
-use Rattle.refusal_lines.specs.HandedOn.{words_of}
 use Rattle.spec_acceptance.specs.AcceptedView.{asked_for}
-use Rattle.spec_acceptance.specs.HandedOn.{shelf_state}
+use Rattle.spec_acceptance.specs.HandedOn.{shelf_state, words_of}
 use Rattle.spec_acceptance.specs.Part.{Has, goes_on}
-use Rattle.history_lines.specs.Beginning.{Beginning}
+use Rattle.demo_walks.specs.HandedOn.{Beginning}
 use Rattle.lotos_top.specs.Opening.{opening_text}
 use Rattle.lotos_top.specs.Prepared.{begun, print_in}
 use Rattle.lotos_top.specs.Work.{print, prints}

@@ -1,7 +1,7 @@
 use Rattle.std.proofs.Common.{List, ℕ, Bor, option_map, sym, ap, subst, ◌∙◌}
 use Rattle.std.proofs.lemmas.Result.{IfOk-weaker}
-use Rattle.printed_texts.specs.ReportLines.{unread_text}
-use Rattle.refusal_lines.specs.HandedOn.{refused_of}
+use Rattle.demo_walks.specs.HandedOn.{unread_text}
+use Rattle.spec_acceptance.specs.HandedOn.{refused_of}
 use Rattle.spec_acceptance.specs.declared.not_accepted.NotAccepted.{NotAccepted}
 use Rattle.lotos_top.specs.Prepared.{IsFaultPrinted, print_in}
 use Rattle.lotos_top.specs.declared.ended.Ended.TheVariants.{FileFault}

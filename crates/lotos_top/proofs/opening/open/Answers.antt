@@ -1,7 +1,6 @@
 use Rattle.std.proofs.Common.{ℕ, List, Bor, option_map}
-use Rattle.refusal_lines.specs.HandedOn.{words_of}
 use Rattle.spec_acceptance.specs.AcceptedView.{asked_for}
-use Rattle.spec_acceptance.specs.HandedOn.{shelf_state}
+use Rattle.spec_acceptance.specs.HandedOn.{shelf_state, words_of}
 use Rattle.spec_acceptance.specs.Acceptance.{IsAccepted}
 use Rattle.spec_acceptance.specs.declared.not_accepted.NotAccepted.TheVariants.{NoMemory}
 use Rattle.spec_acceptance.proofs.DoingLemmas.{err_out}

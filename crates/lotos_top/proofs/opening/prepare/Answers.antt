@@ -1,6 +1,5 @@
 use Rattle.std.proofs.Common.{Option, Some, MatchResult, sym, ap, subst, ◌∙◌}
-use Rattle.refusal_lines.specs.HandedOn.{words_of}
-use Rattle.spec_acceptance.specs.HandedOn.{shelf_state}
+use Rattle.spec_acceptance.specs.HandedOn.{shelf_state, words_of}
 use Rattle.lotos_top.specs.Prepared.{CameTo, IsReady}
 use Rattle.lotos_top.specs.Words.{CommandLine, command_line, line_of}
 use Rattle.lotos_top.specs.declared.commands.Command.{Command}

@@ -1,9 +1,6 @@
 use Rattle.std.proofs.Common.{ap}
-use Rattle.behaviour_tree.specs.declared.definitions.Spec.{Spec}
-use Rattle.event_offers.specs.declared.menus.Menu.{Menu}
 use Rattle.lotos_base.specs.Name.{spelling}
-use Rattle.printed_texts.specs.ReportLines.{head_text}
-use Rattle.printed_texts.specs.TextView.{written_menu}
+use Rattle.demo_walks.specs.HandedOn.{head_text, written_menu, Menu, Spec}
 use Rattle.sort_terms.specs.EquationView.{data_of}
 use Rattle.sort_terms.specs.declared.equations.Flat.{Flat}
 use Rattle.lotos_top.proofs.HeadLemmas.{named, opening_joined, shown_same}

@@ -1,6 +1,5 @@
 use Rattle.std.proofs.Common.{refl, subst}
-use Rattle.refusal_lines.specs.HandedOn.{words_of}
-use Rattle.spec_acceptance.specs.HandedOn.{shelf_state}
+use Rattle.spec_acceptance.specs.HandedOn.{shelf_state, words_of}
 use Rattle.line_server.specs.Writing.{stream}
 use Rattle.lotos_top.specs.Run.{streams}
 use Rattle.lotos_top.specs.Prepared.{IsReady}

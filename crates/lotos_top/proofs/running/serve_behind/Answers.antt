@@ -1,5 +1,5 @@
 use Rattle.std.proofs.Common.{refl}
-use Rattle.history_lines.specs.LinesView.{standing_of}
+use Rattle.demo_walks.specs.HandedOn.{standing_of}
 use Rattle.spec_acceptance.specs.HandedOn.{shelf_state}
 use Rattle.line_server.specs.Writing.{stream}
 use Rattle.lotos_top.specs.Run.{streams}

@@ -1,68 +1,24 @@
-use Rattle.std.proofs.Common.{ap, sym, subst, map}
+use Rattle.std.proofs.Common.{ap, sym, subst}
 use Rattle.std.specs.Prelude.{Vec}
 use Rattle.std.specs.declared.alloc.Global.{Global}
-use Rattle.lotos_base.specs.Equation.{Data}
-use Rattle.lotos_base.specs.Term.{Term}
-use Rattle.behaviour_semantics.specs.DraftOrder.{IsInOrder}
-use Rattle.behaviour_semantics.specs.Listing.{AllSolveTo}
 use Rattle.behaviour_semantics.specs.WellFormed.{Every}
-use Rattle.event_offers.specs.OfferView.{plain_entry}
 use Rattle.event_offers.specs.Offers.{IsEntryOver}
 use Rattle.event_offers.specs.declared.drafts.Entry.{Entry}
-use Rattle.draft_parts.specs.DraftTerms.{HasTermsOf}
-use Rattle.draft_parts.specs.Lists.{plain_drafts}
-use Rattle.process_checks.proofs.RankLemmas.{guarded_by}
-use Rattle.menu_builder.specs.OpenMenus.{lowered_drafts}
-use Rattle.menu_builder.proofs.MenuLemmas.{drafts_in_order, menu_exact, node_over, open_drafts}
+use Rattle.menu_builder.proofs.MenuLemmas.{known_node, menu_exact}
 use Rattle.menu_builder.proofs.menus.menu.Goals as goal
 
-pub node_moves-requires-clause-node : goal.node_moves-requires-clause-node
-node_moves-requires-clause-node g c =
-    node_over (g.D.Deciding.known_data c.args.decider.now) (g.D.Deciding.canon c.args.decider.now) c.args.spec.now c.args.state.now
-    c.node-node.result.now c.node-node.ensures c.in_ok-least.least c.in_ok-base.base c.requires.signature
-    (g.met.D.Deciding.is_canon c.args.decider.now) c.requires.over c.requires.state c.requires.closed c.in_ok-least.ensures.above
-    c.in_ok-base.ensures.least c.in_ok-base.ensures.above
-
-pub solved-requires-clause-terms : goal.solved-requires-clause-terms
-solved-requires-clause-terms g c =
-    subst (λ (d : Data). Every (HasTermsOf d.signature) c.in_ok-drafts.drafts.items) (sym c.node_moves.ensures.same_known.same_data)
-    c.in_ok-drafts.ensures.listed.over
-
-pub solved-requires-clause-order : goal.solved-requires-clause-order
-solved-requires-clause-order g c =
-    let known = g.D.Deciding.known_data c.args.decider.now in
-    let canon = g.D.Deciding.canon c.args.decider.now in
-    let spec = c.args.spec.now in
-    let state = c.args.state.now in
-    subst (λ (d : Data). Every (IsInOrder d.signature) (lowered_drafts c.in_ok-base.base (plain_drafts c.in_ok-drafts.drafts.items)))
-    (sym c.node_moves.ensures.same_known.same_data)
-    (drafts_in_order known canon spec state c.node-node.result.now c.node-node.ensures c.in_ok-base.base c.in_ok-drafts.drafts.items
-    (open_drafts known canon spec state c.node-node.result.now c.node-node.ensures c.in_ok-base.base c.in_ok-drafts.drafts.items
-    (node_over known canon spec state c.node-node.result.now c.node-node.ensures c.in_ok-least.least c.in_ok-base.base c.requires.signature
-    (g.met.D.Deciding.is_canon c.args.decider.now) c.requires.over c.requires.state c.requires.closed c.in_ok-least.ensures.above
-    c.in_ok-base.ensures.least c.in_ok-base.ensures.above)
-    (guarded_by spec c.args.ranks.now c.requires.ranks) c.in_ok-drafts.ensures.listed))
+pub node_entries-requires-clause-node : goal.node_entries-requires-clause-node
+node_entries-requires-clause-node g c =
+    known_node (g.D.Deciding.known_data c.args.decider.now) c.args.spec.now c.args.state.now c.node-node.result.now
+    c.node-node.ensures c.requires.state c.requires.closed
 
 pub returns-clause-exact : goal.returns-clause-exact
 returns-clause-exact g c =
-    let known = g.D.Deciding.known_data c.args.decider.now in
-    let canon = g.D.Deciding.canon c.args.decider.now in
-    let spec = c.args.spec.now in
-    let state = c.args.state.now in
-    menu_exact known canon spec state c.node-node.result.now c.node-node.ensures c.in_ok-base.base c.in_ok-drafts.drafts.items
-    c.in_ok-entries.entries.items c.of.result
-    (open_drafts known canon spec state c.node-node.result.now c.node-node.ensures c.in_ok-base.base c.in_ok-drafts.drafts.items
-    (node_over known canon spec state c.node-node.result.now c.node-node.ensures c.in_ok-least.least c.in_ok-base.base c.requires.signature
-    (g.met.D.Deciding.is_canon c.args.decider.now) c.requires.over c.requires.state c.requires.closed c.in_ok-least.ensures.above
-    c.in_ok-base.ensures.least c.in_ok-base.ensures.above)
-    (guarded_by spec c.args.ranks.now c.requires.ranks) c.in_ok-drafts.ensures.listed)
-    (subst (λ (k : Term → Term). AllSolveTo k (lowered_drafts c.in_ok-base.base (plain_drafts c.in_ok-drafts.drafts.items))
-    (map plain_entry c.in_ok-entries.entries.items)) c.node_moves.ensures.same_known.same_canon c.in_ok-entries.ensures.solved)
+    menu_exact (g.D.Deciding.known_data c.args.decider.now) (g.D.Deciding.canon c.args.decider.now) c.args.spec.now c.args.state.now
+    c.node-node.result.now c.in_ok-entries.entries.items c.of.result c.node-node.ensures c.in_ok-entries.ensures.exact
     (ap (λ (v : Vec Entry Global). v.items) c.of.ensures)
 
 pub returns-clause-over : goal.returns-clause-over
 returns-clause-over g c =
     subst (λ (v : Vec Entry Global). Every (IsEntryOver (g.D.Deciding.known_data c.args.decider.now).signature) v.items)
-    (sym c.of.ensures)
-    (subst (λ (d : Data). Every (IsEntryOver d.signature) c.in_ok-entries.entries.items) c.node_moves.ensures.same_known.same_data
-    c.in_ok-entries.ensures.over)
+    (sym c.of.ensures) c.in_ok-entries.ensures.over

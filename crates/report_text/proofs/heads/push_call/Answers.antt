@@ -14,5 +14,5 @@ returns c =
     on_ok_weaker c.push_round_list.result
     (λ h. three_pieces c.args.into.now.items _ _ _ _ _ _ c.in_ok-push_process.ensures c.in_ok-push_square_list.ensures
     (h ∙ ap (λ (ts : List (List ℕ)). c.push_square_list.new.into.items ++ round_list ts)
-    (map_twice (term_text (signature_of c.args.signature.now) (variables_of c.args.names.now)) term_in c.args.values.now.items)))
+    (map_twice (term_text (signature_of c.args.naming.now.signature.now) (variables_of c.args.names.now)) term_in c.args.values.now.items)))
     c.push_round_list.ensures

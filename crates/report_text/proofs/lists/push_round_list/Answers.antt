@@ -3,7 +3,7 @@ use Rattle.std.proofs.lemmas.Result.{on_ok_weaker}
 use Rattle.behaviour_tree.specs.BehaviourView.{variables_of}
 use Rattle.printed_texts.proofs.BracketLemmas.{closed_text}
 use Rattle.printed_texts.proofs.TermLemmas.{filled_list}
-use Rattle.report_text.specs.Members.{naming_of}
+use Rattle.report_text.specs.NamingView.{naming_of}
 use Rattle.report_text.proofs.ListLemmas.{round_filled}
 use Rattle.report_text.proofs.lists.push_round_list.Goals as goal
 use Rattle.std.specs.Prelude.{true}
@@ -14,7 +14,7 @@ returns g c =
     (λ h. closed_text true c.args.into.now.items _ _ _ _ _
     c.in_ok-position.ensures.opened c.in_ok-position.ensures.place c.in_ok-push_list.ensures h
     ∙ ap (λ (text : List ℕ). c.args.into.now.items ++ text)
-    (sym (round_filled g.M.Member.text (naming_of c.args.signature.now c.args.spec.now) (variables_of c.args.names.now)
+    (sym (round_filled g.M.Member.text (naming_of c.args.naming.now) (variables_of c.args.names.now)
     c.args.members.now.items
     (filled_list c.args.members.now.items _ c.args.members.now.ok.0 (sym c.is_empty.ensures ∙ c.if-is_empty.false)))))
     c.close_bracket.ensures

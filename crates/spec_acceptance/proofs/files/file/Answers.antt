@@ -1,4 +1,4 @@
-use Rattle.lotos_grammar.proofs.ShelfLemmas.{wanted_uncalled, wanted_by_get}
+use Rattle.refusal_lines.proofs.HandedOn.{wanted_uncalled, wanted_by_get}
 use Rattle.spec_acceptance.specs.declared.not_accepted.NotAccepted.TheVariants.{NoMemory}
 use Rattle.spec_acceptance.proofs.DoingLemmas.{err_out}
 use Rattle.spec_acceptance.proofs.files.file.Goals as goal

@@ -2,7 +2,7 @@ use Rattle.std.proofs.Common.{List, map, refl, sym, ap, subst, ◌∙◌}
 use Rattle.behaviour_tree.specs.BehaviourTerms.{profiles_of}
 use Rattle.behaviour_tree.specs.BehaviourView.{terms_of}
 use Rattle.behaviour_tree.specs.Over.{AreTermsOf}
-use Rattle.equation_book.specs.BookCanon.{book_canon}
+use Rattle.refusal_lines.specs.HandedOn.{book_canon}
 use Rattle.sort_terms.specs.EquationView.{data_of}
 use Rattle.sort_terms.specs.declared.sorted.Sorted.{Sorted}
 use Rattle.spec_acceptance.proofs.StartLemmas.{starts, started_so, start_fails}

@@ -1,5 +1,5 @@
 use Rattle.std.proofs.Common.{refl, ap, ℕ, Vec, Global}
-use Rattle.lotos_grammar.specs.declared.faults.LibraryFault.TheVariants as library
+use Rattle.refusal_lines.specs.HandedOn.library_faults as library
 use Rattle.spec_acceptance.specs.declared.not_accepted.NotAccepted.TheVariants.{File, Spec, NoMemory}
 use Rattle.spec_acceptance.proofs.KnownLemmas.{refusal_is}
 use Rattle.spec_acceptance.proofs.texts.library_refusal.Goals as goal

@@ -1,5 +1,5 @@
 use Rattle.std.proofs.Common.{map}
-use Rattle.lotos_grammar.specs.GatheredView.{gathered_of}
+use Rattle.refusal_lines.specs.HandedOn.{gathered_of}
 use Rattle.syntax_trees.specs.TreeViews.{item_of}
 use Rattle.spec_acceptance.proofs.LibraryLemmas.{gathered_did, library_failed}
 use Rattle.spec_acceptance.proofs.texts.types_of.Goals as goal

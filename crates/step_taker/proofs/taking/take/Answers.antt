@@ -37,7 +37,7 @@ node_step-requires-clause-node g c =
 
 pub returns-in_err-moved-clause-answer : goal.returns-in_err-moved-clause-answer
 returns-in_err-moved-clause-answer g c =
-    match_err _ _ c.from_residual.result c.in_err-moved.field-0.0 c.from_residual.ensures.1
+    match_err _ _ c.from_residual-in_err-moved.result c.in_err-moved.field-0.0 c.from_residual-in_err-moved.ensures.1
     (root_told (ground_of (g.D.Deciding.known_data c.args.data.now) (g.D.Deciding.canon c.args.data.now) c.args.spec.now)
     c.args.state.now c.args.derivation.now c.in_err-moved.field-0.0 (subst (λ (items : List Sorted). UnlessMemory (IsFirstStepFault
     (ground_of (g.D.Deciding.known_data c.args.data.now) (g.D.Deciding.canon c.args.data.now) c.args.spec.now) (terms_of items) (root

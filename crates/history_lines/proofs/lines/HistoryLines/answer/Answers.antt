@@ -1,5 +1,5 @@
 use Rattle.std.proofs.Common.{◌≤◌, [], length, refl, ap, arith}
-use Rattle.line_server.specs.Request.{take_step, undo, save, replay, show_normal, compare, show_menu, show_behaviour, show_trace, no_request, skip, leave}
+use Rattle.line_server.specs.Request.{take_step, undo, save, replay, show_normal, compare, show_menu, show_behaviour, show_trace, no_request, skip, leave, list_values, list_instances}
 use Rattle.line_server.specs.RequestView.{wants}
 use Rattle.history_lines.specs.Standing.{shown_menu, state_line, shown_trace}
 use Rattle.history_lines.specs.ShelfAnswer.{refusal_in}
@@ -7,7 +7,7 @@ use Rattle.history_lines.specs.CommandRefusal.{ill_formed}
 use Rattle.session_lines.specs.Refusal.{bad_command}
 use Rattle.history_lines.specs.LinesView.{basis_of, reached, standing_of}
 use Rattle.history_lines.specs.Serving.{moment_of}
-use Rattle.history_lines.proofs.ServingLemmas.{for_request, said_alone, left_alone, carried}
+use Rattle.history_lines.proofs.ServingLemmas.{for_request, said_alone, said_values, left_alone, carried}
 use Rattle.history_lines.proofs.CallLemmas.{called, calls_alike}
 use Rattle.history_lines.proofs.lines.HistoryLines.answer.Goals as goal
 
@@ -78,6 +78,23 @@ returns-in-Equal-clause-answered g c =
     for_request c.equal_line.result (moment_of (standing_of c.args.self.now texts) faults)
     (moment_of (standing_of c.equal_line.new.self texts) faults) (λ line. line.items) (compare c.in-Equal.terms.now)
     (wants c.args.request) (ap wants c.in-Equal.is) (c.equal_line.ensures.answered texts faults)
+
+pub returns-in-Values-clause-answered : goal.returns-in-Values-clause-answered
+returns-in-Values-clause-answered g c =
+    let before = standing_of c.args.self.now (g.F.Shelf.texts c.args.shelf.now) in
+    let faults = g.F.Shelf.faults c.args.shelf.now in
+    for_request c.values_line.result (moment_of before faults) (moment_of before faults) (λ line. line.items)
+    (list_values c.in-Values.name.now c.in-Values.size) (wants c.args.request) (ap wants c.in-Values.is)
+    (said_values c.values_line.result before faults (λ line. line.items) c.in-Values.name.now c.in-Values.size c.values_line.ensures)
+
+pub returns-in-Instances-clause-answered : goal.returns-in-Instances-clause-answered
+returns-in-Instances-clause-answered g c =
+    let texts = g.F.Shelf.texts c.args.shelf.now in
+    let faults = g.F.Shelf.faults c.args.shelf.now in
+    for_request c.instances_line.result (moment_of (standing_of c.args.self.now texts) faults)
+    (moment_of (standing_of c.instances_line.new.self texts) faults) (λ line. line.items)
+    (list_instances c.in-Instances.number c.in-Instances.size) (wants c.args.request) (ap wants c.in-Instances.is)
+    (c.instances_line.ensures.answered texts faults)
 
 pub returns-in-Menu-clause-answered : goal.returns-in-Menu-clause-answered
 returns-in-Menu-clause-answered g c =
@@ -154,6 +171,20 @@ returns-in-Equal-clause-called g c =
     let before = standing_of c.args.self.now (g.F.Shelf.texts c.args.shelf.now) in
     called c.equal_line.result before (compare c.in-Equal.terms.now) (wants c.args.request) _ _ (ap wants c.in-Equal.is)
     (calls_alike c.equal_line.result before (compare c.in-Equal.terms.now) _ _ refl refl)
+
+pub returns-in-Values-clause-called : goal.returns-in-Values-clause-called
+returns-in-Values-clause-called g c =
+    let before = standing_of c.args.self.now (g.F.Shelf.texts c.args.shelf.now) in
+    called c.values_line.result before (list_values c.in-Values.name.now c.in-Values.size) (wants c.args.request) _ _
+    (ap wants c.in-Values.is)
+    (calls_alike c.values_line.result before (list_values c.in-Values.name.now c.in-Values.size) _ _ refl refl)
+
+pub returns-in-Instances-clause-called : goal.returns-in-Instances-clause-called
+returns-in-Instances-clause-called g c =
+    let before = standing_of c.args.self.now (g.F.Shelf.texts c.args.shelf.now) in
+    called c.instances_line.result before (list_instances c.in-Instances.number c.in-Instances.size) (wants c.args.request) _ _
+    (ap wants c.in-Instances.is)
+    (calls_alike c.instances_line.result before (list_instances c.in-Instances.number c.in-Instances.size) _ _ refl refl)
 
 pub returns-in-Menu-clause-called : goal.returns-in-Menu-clause-called
 returns-in-Menu-clause-called g c =

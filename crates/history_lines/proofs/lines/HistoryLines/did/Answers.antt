@@ -1,7 +1,7 @@
 use Rattle.std.proofs.lemmas.Result.{IfOk-weaker}
 use Rattle.sort_terms.specs.EquationView.{data_of}
 use Rattle.sort_terms.specs.SignatureView.{signature_of}
-use Rattle.behaviour_tree.specs.MoveView.{label_of}
+use Rattle.session_log.specs.HandedOn.{label_of}
 use Rattle.history_lines.proofs.TextLemmas.{did_here}
 use Rattle.history_lines.proofs.lines.HistoryLines.did.Goals as goal
 

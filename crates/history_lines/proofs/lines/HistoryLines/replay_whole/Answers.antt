@@ -1,6 +1,6 @@
 use Rattle.std.proofs.Common.{◌≡◌, ◌++◌, ℕ, List, [], inl, inr, refl, ap, ◌∙◌, subst, codes, decimal}
 use Rattle.lotos_base.specs.Name.{spelling}
-use Rattle.behaviour_tree.specs.declared.definitions.Spec.{Spec}
+use Rattle.session_log.specs.HandedOn.{Spec}
 use Rattle.session_histories.specs.Session.{SessionBasis}
 use Rattle.line_server.specs.Request.{replay}
 use Rattle.history_lines.specs.Standing.{shown_menu}

@@ -1,7 +1,7 @@
 use Rattle.std.proofs.Common.{◌≡◌, ◌≤◌, length, subst}
 use Rattle.std.specs.Prelude.{MatchResult}
 use Rattle.lotos_base.specs.Signature.{Signature}
-use Rattle.behaviour_tree.specs.DefinitionView.{specification_of}
+use Rattle.session_log.specs.HandedOn.{specification_of}
 use Rattle.session_histories.specs.TraceText.{trace_text}
 use Rattle.session_log.specs.CourseView.{progress_of}
 use Rattle.session_log.specs.RefusalView.{TellsLength}

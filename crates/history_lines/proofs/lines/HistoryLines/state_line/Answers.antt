@@ -1,6 +1,5 @@
 use Rattle.std.proofs.Common.{sym, subst}
-use Rattle.behaviour_tree.specs.Closed.{IsClosedNode}
-use Rattle.behaviour_tree.specs.declared.states.State.{State}
+use Rattle.session_log.specs.HandedOn.{IsClosedNode, State}
 use Rattle.sort_terms.specs.EquationView.{data_of}
 use Rattle.sort_terms.specs.SignatureView.{signature_of}
 use Rattle.history_lines.proofs.StateLemmas.{state_here}

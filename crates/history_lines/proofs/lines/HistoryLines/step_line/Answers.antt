@@ -1,5 +1,5 @@
 use Rattle.std.proofs.Common.{◌≡◌, inl, inr, [], refl, ap, ◌∙◌}
-use Rattle.behaviour_tree.specs.MoveView.{label_of}
+use Rattle.session_log.specs.HandedOn.{label_of}
 use Rattle.sort_terms.specs.SignatureView.{signature_of}
 use Rattle.line_server.specs.Request.{take_step}
 use Rattle.session_histories.specs.Session.{SessionBasis}

@@ -1,5 +1,4 @@
-use Rattle.behaviour_tree.specs.BehaviourView.{terms_of}
-use Rattle.behaviour_tree.specs.MoveView.{label_of}
+use Rattle.session_log.specs.HandedOn.{terms_of, label_of}
 use Rattle.history_lines.specs.StepAnswer.{is_taken}
 use Rattle.session_log.proofs.ResultLemmas.{gave_up}
 use Rattle.history_lines.specs.LinesView.{basis_of, reached}

@@ -1,4 +1,4 @@
-use Rattle.behaviour_tree.specs.DefinitionView.{specification_of}
+use Rattle.session_log.specs.HandedOn.{specification_of}
 use Rattle.sort_terms.specs.EquationView.{data_of}
 use Rattle.sort_terms.specs.SignatureView.{signature_of}
 use Rattle.session_histories.specs.TraceText.{trace_text}

@@ -1,5 +1,5 @@
 use Rattle.std.proofs.Common.{◌≡◌, inr, refl, ap}
-use Rattle.behaviour_tree.specs.declared.definitions.Spec.{Spec}
+use Rattle.session_log.specs.HandedOn.{Spec}
 use Rattle.sort_terms.specs.EquationView.{data_of}
 use Rattle.session_lines.specs.HandedOn.{book_canon}
 use Rattle.session_log.specs.CourseView.{basis_over}

@@ -1,0 +1,22 @@
+use Rattle.std.proofs.Common.{arith}
+use Rattle.bisim_check.specs.Faults.{TellsFault}
+use Rattle.bisim_check.specs.Readings.{IsClosedOne, IsOpenFault}
+use Rattle.bisim_check.proofs.AnswerLemmas.{each_below, place_within}
+use Rattle.bisim_check.proofs.ReadingLemmas.{every_from}
+use Rattle.bisim_check.proofs.Results.{gave_up}
+use Rattle.bisim_check.proofs.named.closed_menu.Goals as goal
+
+pub returns-in_err-closed_at : goal.returns-in_err-closed_at
+returns-in_err-closed_at c =
+    gave_up _ (TellsFault (IsOpenFault c.args.menu.now c.args.line)) c.from_residual.result c.in_err-closed_at.field-0.0
+    c.from_residual.ensures.1 c.in_err-closed_at.ensures
+
+pub loop-position-preserved : goal.loop-position-preserved
+loop-position-preserved c =
+    each_below IsClosedOne c.args.menu.now.entries.items c.loop-position.position c.loop-position.invariant c.in_ok-closed_at.ensures
+
+pub returns : goal.returns
+returns c =
+    let entries = c.args.menu.now.entries.items in
+    every_from IsClosedOne entries (λ k entry there. c.loop-position.invariant k entry
+    (omega (arith, place_within entries k entry there, c.len-position-end.ensures)) there)

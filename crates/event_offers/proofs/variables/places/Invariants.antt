@@ -1,8 +1,0 @@
-use Rattle.std.proofs.Common.{◌≡◌, ◌≤◌, ◌++◌, drop}
-use Rattle.event_offers.specs.Variables.{places_in}
-use Rattle.event_offers.proofs.variables.places.Given as goal
-
-abbrev pub invariant-loop-i : goal.invariant-loop-i
-invariant-loop-i l =
-    (l.made.items ++ places_in l.first l.i (drop l.i l.sorts.items) ≡ places_in 0 0 l.sorts.items)
-    × (l.first ≤ l.i)

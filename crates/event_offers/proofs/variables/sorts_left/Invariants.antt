@@ -1,6 +1,0 @@
-use Rattle.std.proofs.Common.{◌≡◌, ◌++◌, drop}
-use Rattle.event_offers.specs.Variables.{found_sorts}
-use Rattle.event_offers.proofs.variables.sorts_left.Given as goal
-
-abbrev pub invariant-loop-i : goal.invariant-loop-i
-invariant-loop-i l = l.made.items ++ found_sorts (drop l.i l.sorts.items) ≡ found_sorts l.sorts.items

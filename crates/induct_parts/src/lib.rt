@@ -1,0 +1,22 @@
+//! Certificates of induction that were read, and whether they are right: each line of a tree of
+//! patterns and of a proof by cases deals with what is left first (ISO 8807:1989, data part; Baader
+//! and Nipkow, "Term Rewriting and All That", 4.2).
+#![tactic(auto)]
+
+pub mod at_line;
+pub mod cases;
+pub mod certificates;
+pub mod checking;
+pub mod covers;
+pub mod hypotheses;
+pub mod lacks;
+pub mod lemmas;
+pub mod line_fault;
+pub mod operations;
+pub mod patterns;
+pub mod piles;
+pub mod setting;
+pub mod splits;
+pub mod statements;
+pub mod trees;
+pub mod uses;

@@ -1,0 +1,4 @@
+pub mod OverLemmas
+pub mod FormLemmas
+pub mod KeptLemmas
+pub mod MakerLemmas

@@ -1,0 +1,9 @@
+use Rattle.std.proofs.Common.{subst}
+use Rattle.menu_parts.specs.KeptMenus.{IsKept}
+use Rattle.menu_parts.proofs.kept.Kept.first.Goals as goal
+
+pub returns-in-One : goal.returns-in-One
+returns-in-One c = λ basis h. (subst (IsKept basis) c.in-One.is h).1
+
+pub returns-in-Two : goal.returns-in-Two
+returns-in-Two c = λ basis h. (subst (IsKept basis) c.in-Two.is h).1

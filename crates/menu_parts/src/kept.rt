@@ -1,0 +1,83 @@
+//! Menus that are kept: for a node, and for its parts.
+
+ghost use Rattle.behaviour_tree.specs.StateView.{stands_for};
+ghost use Rattle.menu_parts.specs.KeptMenus.{IsKept, IsListed, listed_for};
+ghost use Rattle.std.specs.Prelude.{◌≡◌, ◌↔◌, IfSome, IsTrue};
+ghost use Rattle.step_taker.specs.Taken.{Ground};
+
+use behaviour_tree::Node;
+use same_behaviours::same_nodes;
+use shared_entries::Item;
+use std::rc::Rc;
+
+/// The exact menu of what a node stands for.
+#[derive(Drop)]
+pub struct Listed {
+    /// The node.
+    pub node: Rc<Node>,
+    /// The entries.
+    pub items: Vec<Item>,
+}
+
+/// The menu of a node, with those of its parts from which it was made.
+#[derive(Drop)]
+pub enum Kept {
+    /// It was made as a whole.
+    Whole(Listed),
+    /// It was made from that of one part.
+    One(Listed, Rc<Kept>),
+    /// It was made from those of two sides.
+    Two(Listed, Rc<Kept>, Rc<Kept>),
+}
+
+impl Kept {
+    /// The menu of the node itself.
+    pub fn listed(&self) -> &Listed
+        ensures same { result.now ≡ listed_for self.now }
+        ensures kept { (basis : Ground) → IsKept basis self.now → IsListed basis result.now }
+    {
+        match self {
+            Kept::Whole(listed) => listed,
+            Kept::One(listed, _) => listed,
+            Kept::Two(listed, _, _) => listed,
+        }
+    }
+
+    /// Whether it is the menu of what the other node stands for.
+    pub fn is_for(&self, node: &Node) -> bool
+        ensures { IsTrue result
+            ↔ (stands_for (listed_for self.now).node.value ≡ stands_for node.now) }
+    {
+        same_nodes(&self.listed().node, node)
+    }
+
+    /// The entries of the menu of the node itself.
+    pub fn items(&self) -> &Vec<Item>
+        ensures { result.now ≡ (listed_for self.now).items }
+    {
+        &self.listed().items
+    }
+
+    /// The menus of the one part, or of the left side, if it was made from parts.
+    pub fn first(&self) -> Option<&Rc<Kept>>
+        ensures { (basis : Ground) → IsKept basis self.now
+            → IfSome result (λ part. IsKept basis part.now.value) }
+    {
+        match self {
+            Kept::Whole(_) => None,
+            Kept::One(_, part) => Some(part),
+            Kept::Two(_, left, _) => Some(left),
+        }
+    }
+
+    /// The menus of the right side, if it was made from two sides.
+    pub fn second(&self) -> Option<&Rc<Kept>>
+        ensures { (basis : Ground) → IsKept basis self.now
+            → IfSome result (λ part. IsKept basis part.now.value) }
+    {
+        match self {
+            Kept::Whole(_) | Kept::One(_, _) => None,
+            Kept::Two(_, _, right) => Some(right),
+        }
+    }
+}

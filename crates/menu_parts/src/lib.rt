@@ -1,0 +1,12 @@
+//! A maker of menus that keeps the menus of components between steps: where a part of the state is
+//! the same as before, its menu is used again (ISO 8807:1989, dynamic semantics of behaviour
+//! expressions).
+#![tactic(auto)]
+
+pub mod forms;
+pub mod kept;
+pub mod makers;
+pub mod making;
+pub mod parts;
+
+pub use makers::PartMenus;

@@ -1,0 +1,82 @@
+//! A maker of menus that keeps them for the parts of states.
+
+ghost use Rattle.behaviour_semantics.specs.WellFormed.{Every};
+ghost use Rattle.lotos_base.specs.Equation.{Data};
+ghost use Rattle.lotos_base.specs.Signature.{Signature};
+ghost use Rattle.lotos_base.specs.Term.{Term};
+ghost use Rattle.menu_builder.specs.Menus.{entries_in};
+ghost use Rattle.menu_parts.specs.KeptMenus.{Suits, listed_for};
+ghost use Rattle.shared_entries.specs.Items.{HasEntryTerms, HasItemTerms, plain_item};
+ghost use Rattle.std.specs.Prelude.{◌≡◌, IfOk, map};
+
+use crate::kept::Kept;
+use crate::making::{LEVELS, Making, brought};
+use behaviour_tree::boxes::shared;
+use behaviour_tree::{Spec, State};
+use event_offers::Menu;
+use lotos_base::NoMemory;
+use menu_builder::MenuMaker;
+use menu_builder::numbers::above_processes;
+use process_checks::Ranks;
+use shared_entries::entries_of;
+use sort_terms::Deciding;
+use std::alloc::Global;
+use std::rc::Rc;
+
+/// A maker that keeps the menus of the parts of the last state, and uses them again where a part is
+/// the same. It is opened for a specification, and suits it with any of its data before the first
+/// menu, and with the data and the canon that were used from then on.
+#[derive(Drop)]
+pub struct PartMenus {
+    least: u64,
+    kept: Option<Rc<Kept>>,
+}
+
+impl PartMenus {
+    /// A maker of menus for the states of the specification, which keeps none yet.
+    pub fn open(spec: &Spec) -> Result<PartMenus, NoMemory>
+        ensures { IfOk result (λ maker. (data_ : Data) (canon : Term → Term)
+            → Suits maker spec.now data_ canon) }
+    {
+        let least = above_processes(spec, 0)?;
+        Ok(PartMenus { least, kept: None })
+    }
+}
+
+impl MenuMaker for PartMenus {
+    ghost suits = { Suits };
+
+    fn make<D: Deciding>(
+        &mut self,
+        alloc: Global,
+        spec: &Spec,
+        ranks: &Ranks,
+        state: &State,
+        decider: &mut D,
+    ) -> Result<Menu, NoMemory> {
+        let copy = state.node().copy(alloc)?;
+        let node = shared(alloc, copy)?;
+        let making = Making {
+            spec,
+            ranks,
+            least: self.least,
+            alloc,
+        };
+        let next = brought(&making, &node, self.kept.as_ref(), LEVELS, decider)?;
+        let menu = menu_of(&next)?;
+        self.kept = Some(next);
+        Ok(menu)
+    }
+}
+
+// The menu that is kept, which shares nothing.
+fn menu_of(kept: &Kept) -> Result<Menu, NoMemory>
+    ensures same { IfOk result (λ menu. entries_in menu
+        ≡ map plain_item (listed_for kept.now).items.items) }
+    ensures terms { IfOk result (λ menu. (signature : Signature)
+        → Every (HasItemTerms signature) (listed_for kept.now).items.items
+        → Every (HasEntryTerms signature) menu.entries.items) }
+{
+    let entries = entries_of(kept.items())?;
+    Ok(Menu::of(entries))
+}
