@@ -6,7 +6,8 @@ import subprocess
 import time
 
 MENU_LINE = re.compile(rb"(\d+): (.*?)( for ((?:\$\d+:[^,\n]*?(?:, )?)+))?( if .*)?")
-COMMANDS = (b"menu", b"step", b"undo", b"trace", b"save", b"replay", b"equal", b"normal", b"show", b"quit")
+COMMANDS = (b"menu", b"step", b"undo", b"trace", b"save", b"replay", b"equal", b"normal", b"show", b"values",
+            b"instances", b"quit")
 
 
 class Wrong(Exception):
@@ -182,6 +183,11 @@ class Session:
                                        (b"step 1 ", [10, 100, 500, 5000])])
             count = rng.choice(counts)
             return word + b"Succ(" * count + b"0" + b")" * count
+        if way == 18:
+            sort = (self.drawn.sort() if self.drawn else "Nat").encode()
+            size = rng.choice([b"1", b"2", b"3", b"5", b"9", b"11", b"64", b"0", b"65", b"03", b"", b"x", b"3 3"])
+            number = rng.choice([b"1", b"1", b"2", b"3", b"0", b"01", b"99999999999", b"x"])
+            return rng.choice([b"values " + sort, b"values " + sort, b"values Q", b"instances " + number]) + b" " + size
         if way == 17:
             return rng.choice([b"normal 0" + b" + 0" * 600, b"x" * rng.choice([4095, 4096, 4097, 100000]), b"normal " + b" " * 9000 + b"0",
                                b"step 1" + b" " * 5000, b"normal " + b"(" * 3000, b"normal " + b"0," * 3000])
@@ -280,6 +286,8 @@ class Session:
             self.expect(self.text_under(rest) == self.state[2], "what is saved is not the trace")
         elif word in (b"menu", b"show", b"trace") and stripped == word:
             self.expect(answer == self.state[(b"menu", b"show", b"trace").index(word)], f"{word} answers another text")
+        elif word in (b"values", b"instances") and not answer.startswith(b"refused "):
+            self.listed(word, rest, answer)
         elif not answer.startswith(b"refused "):
             self.expect(word in (b"equal", b"normal") and answer.count(b"\n") == 1, "an answer of no form")
             if word == b"normal":
@@ -292,7 +300,27 @@ class Session:
                                      rb"804 BadTerm (101|102|104|105|205|211|212|213)|806 Unmet .* is not .*|807 Unread .*|"
                                      rb"808 Unwritten .*|810 BadLine line \d+|811 LabelDiffers line \d+ kept .* found .*|"
                                      rb"813 OtherSpecification kept .* found .*|814 StateDiffers line \d+ kept .* found .*|"
+                                     rb"815 TooManyValues|816 TooManyInstances|817 NoSort .*|"
                                      rb"812 Step line \d+ (802|803|806))\n", answer, re.S) is not None, "a refusal of no form")
+
+    def listed(self, word, rest, answer):
+        """Looks at a list of values or of instances: some of its values are irreducible, and some of its instances are steps."""
+        lines = answer.split(b"\n")
+        self.expect(lines[0] == word + b" %d" % (len(lines) - 2) and lines[-1] == b"", "a list with another count")
+        listed = lines[1:-1]
+        self.expect(len(set(listed)) == len(listed), "a list has a line twice")
+        for line in self.rng.sample(listed, min(3, len(listed))):
+            if word == b"values":
+                sort = b" of " + rest.split(b" ")[0]
+                again = self.program.ask(b"normal " + line, b"normal (" + line + b")" + sort)
+                self.expect(again is None or line + b"\n" in again or again[1].startswith(b"refused 804 "),
+                            "a value that is listed is reducible")
+                continue
+            step, _, label = line.partition(b" => ")
+            self.expect(step.split(b" ")[0] == rest.split(b" ")[0], "an instance of another entry")
+            did = self.program.ask(b"step " + step, b"undo")
+            self.expect(did is None or did[0].split(b"\n")[0] == b"did " + label and did[1] == b"undone\n" + self.state[0],
+                        "an instance that is listed is no step")
 
     def states_before(self, trace):
         """The states before each step of a trace. Those that were not seen are found by undo, and the trace is replayed."""

@@ -155,10 +155,12 @@ class Completions(FolderTest):
 
     def test_bash(self):
         os.mkdir("cofolder")
-        for words, wanted in ((("lotos", ""), ["build", "check", "demo", "install", "run"]),
+        for words, wanted in ((("lotos", ""), ["bisim", "build", "check", "demo", "flatten", "install", "run"]),
                               (("lotos", "r"), ["run"]),
                               (("lotos", "run", "co"), ["cofolder", "countdown.lotos"]),
                               (("lotos", "run", "countdown.lotos", "co"), ["cofolder", "countdown.lotos", "countdown.order"]),
+                              (("lotos", "flatten", "co"), ["cofolder", "countdown.lotos"]),
+                              (("lotos", "flatten", "countdown.lotos", "co"), ["cofolder", "countdown.lotos", "countdown.order"]),
                               (("lotos", "run", "car_park.lotos", "w"), ["with"]),
                               (("lotos", "run", "car_park.lotos", "with", "S"), [""]),
                               (("lotos-shell", "--n"), ["--numbers"]),

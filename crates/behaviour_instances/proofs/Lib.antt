@@ -4,3 +4,4 @@ pub mod OccurrenceLemmas
 pub mod InstanceLemmas
 pub mod WeightLemmas
 pub mod FormLemmas
+pub mod NothingLemmas

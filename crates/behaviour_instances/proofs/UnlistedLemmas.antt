@@ -3,8 +3,10 @@ use Rattle.std.proofs.Common.{◌≡◌, ℕ, List, [], ◌∷◌, Bool, true, f
 use Rattle.std.proofs.Math.Path.{fun_ext}
 use Rattle.std.proofs.lemmas.Bool.{eqb-true}
 use Rattle.event_offers.proofs.ValueLemmas.{pairs_bare}
+use Rattle.lotos_base.specs.Equation.{Variable}
 use Rattle.lotos_base.specs.Term.{Term, variable}
 use Rattle.lotos_base.specs.Substitution.{binding, is_listed, without}
+use Rattle.behaviour_semantics.specs.Behaviour.{numbers_of}
 use Rattle.sort_terms.specs.ProfiledTerm.{ProfiledTerm, profiled_variable, bare, head_sort}
 use Rattle.sort_terms.specs.declared.sorted.Sorted.{Sorted}
 use Rattle.term_match.specs.ProfiledInstance.{profiled_binding}
@@ -63,6 +65,16 @@ module _ (numbers : List ℕ) (made given : List (ℕ × Sorted))
           ≡ (if b then variable n s else binding (environment_of given) n s)
       by n s true = refl
       by n s false = put_for given n s
+
+-- Where nothing is bound the environment stays.
+module _ (variables : List Variable) (pairs : List (ℕ × Sorted)) (none : variables ≡ []) where
+  pub none_profiled : profiled_binding (profiled_pairs pairs)
+      ≡ profiled_without (numbers_of variables) (profiled_binding (profiled_pairs pairs))
+  none_profiled =
+      ap (λ (vs : List Variable). profiled_without (numbers_of vs) (profiled_binding (profiled_pairs pairs))) (sym none)
+
+  pub none_plain : binding (environment_of pairs) ≡ without (numbers_of variables) (binding (environment_of pairs))
+  none_plain = ap (λ (vs : List Variable). without (numbers_of vs) (binding (environment_of pairs))) (sym none)
 
 -- An environment that suits what stands outside a binder suits what the binder leaves free inside.
 pub suits_below : (numbers : List ℕ) (inner outer : List (ℕ × Sorted)) (Inside : ℕ → ℕ → Type 0)

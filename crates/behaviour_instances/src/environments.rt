@@ -5,7 +5,7 @@ ghost use Rattle.behaviour_semantics.specs.Behaviour.{asked_variables, let_varia
 ghost use Rattle.behaviour_tree.specs.BehaviourView.{let_of, offer_of, variables_of};
 ghost use Rattle.behaviour_tree.specs.declared.behaviours.Offer.{Offer as OfferValue};
 ghost use Rattle.behaviour_tree.specs.StateView.{environment_of};
-ghost use Rattle.std.specs.Prelude.{◌≡◌, ◌++◌, ◌∷◌, [], ℕ, IfOk, List, map};
+ghost use Rattle.std.specs.Prelude.{◌≡◌, ◌++◌, ◌∷◌, [], ℕ, IfOk, IsTrue, List, map};
 ghost use Rattle.sort_terms.specs.ProfiledTerm.{ProfiledTerm};
 ghost use Rattle.lotos_base.specs.Substitution.{binding, is_listed, without};
 ghost use Rattle.term_match.specs.ProfiledInstance.{profiled_binding};
@@ -32,6 +32,19 @@ pub fn below_action(
         push_asked(&mut numbers, offer)?;
     }
     left_free(environment, numbers.as_slice())
+}
+
+/// Whether no offer asks for a variable.
+pub fn asks_nothing(offers: &Vec<Offer>) -> bool
+    ensures { IsTrue result → asked_variables (map offer_of offers.now.items) ≡ [] }
+{
+    for offer in offers {
+        match offer {
+            Offer::Give(_) => {}
+            Offer::Ask(_) => return false,
+        }
+    }
+    true
 }
 
 // The numbers with that of the variable that the offer asks for, if it asks.

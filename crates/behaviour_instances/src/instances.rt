@@ -36,11 +36,11 @@ ghost use Rattle.lotos_base.specs.Substitution.{binding, without};
 ghost use Rattle.term_match.specs.ProfiledInstance.{profiled_binding};
 ghost use Rattle.term_match.specs.SubstView.{profiled_pairs};
 
-use crate::environments::{below_accept, below_action, below_choice, below_let};
+use crate::environments::{asks_nothing, below_accept, below_action, below_choice, below_let};
 use crate::terms::{
     placed_bindings, placed_offers, placed_option, placed_results, placed_terms, placed_test,
 };
-use behaviour_tree::boxes::shared;
+use behaviour_tree::boxes::{owner, shared};
 use behaviour_tree::copies::variable_copies;
 use behaviour_tree::{Beh, Meet, Offer, Test};
 use lotos_base::{NoMemory, Place};
@@ -120,13 +120,16 @@ fn call_instance(
     })
 }
 
-// The same of a part, shared.
+// The same of a part, shared. Where there is no value to put in, it is the part itself.
 #[cycle(instance)]
 fn shared_instance(environment: &Vec<(u64, Sorted)>, part: &Rc<Beh>) -> Result<Rc<Beh>, NoMemory>
     requires { SuitsWhere (profiled_pairs environment.now.items)
         (λ n s. IsFree n s (behaviour_of part.now.value)) }
     ensures { IfOk result (λ b. IsInstance environment.now.items part.now.value b.value) }
 {
+    if environment.len() == 0 {
+        return owner(part);
+    }
     let made = instance(environment, part)?;
     shared(*environment.allocator(), made)
 }
@@ -183,6 +186,9 @@ fn action_instance(
         (profiled_binding (profiled_pairs environment.now.items)) offers.now.items test.now
         next.now.value) }
 {
+    if asks_nothing(offers) {
+        return action_below(environment, environment, gate, offers, test, next);
+    }
     let inner = below_action(environment, offers)?;
     action_below(environment, &inner, gate, offers, test, next)
 }

@@ -1,5 +1,5 @@
 -- Whether the sides of the listed pairs have one chosen form decides confluence.
-use Rattle.std.proofs.Common.{◌≡◌, ◌<◌, ℕ, zero, suc, List, [], ◌∷◌, map, length, get_or, refl, ap, sym, ◌∙◌, subst, arith}
+use Rattle.std.proofs.Common.{◌≡◌, ◌<◌, ℕ, zero, suc, List, [], ◌∷◌, ◌++◌, map, length, get_or, refl, ap, sym, ◌∙◌, subst, arith}
 use Rattle.std.specs.Prelude.{Some, None, slice_get}
 use Rattle.std.proofs.lemmas.Option.{same_Some}
 use Rattle.lotos_base.specs.Signature.{Signature}
@@ -9,9 +9,11 @@ use Rattle.rewriting_theory.specs.Rule.{Rule}
 use Rattle.rewriting_theory.specs.Rewriting.{AreConfluent}
 use Rattle.rewriting_theory.specs.ChosenForm.{Chosen}
 use Rattle.rewriting_theory.specs.CriticalPair.{CriticalPair}
-use Rattle.rewriting_theory.specs.PairList.{IsUnjoined}
+use Rattle.rewriting_theory.specs.PairList.{PairPlace, IsUnjoined}
+use Rattle.rewriting_theory.specs.Places.{places, no_place}
 use Rattle.rewriting_theory.specs.PairListLaws.{RewritesToTwo}
 use Rattle.rewriting_theory.proofs.PairListLemmas.{agreeing_joined, none_unjoined_confluent, unjoined_not_confluent, unjoined_two}
+use Rattle.rewriting_theory.proofs.PlaceListLemmas.{pairs_append, pairs_are_all}
 use Rattle.path_order.specs.HandedOn.{NumberedRule}
 use Rattle.sort_terms.specs.ProfiledTerm.{head_sort}
 use Rattle.sort_terms.specs.SortedView.{profiled_in, term_in}
@@ -21,7 +23,8 @@ use Rattle.path_order.specs.RulesView.{rules_in, plain_rules_in}
 use Rattle.path_order.specs.declared.rules.Rules.{Rules}
 use Rattle.path_order.proofs.RulesLemmas.{rules_well_formed, rules_end}
 use Rattle.critical_pairs.specs.Listing.{named_by, ListsAll, ArePairsOver}
-use Rattle.critical_pairs.specs.Joining.{ArePeaksOf, AreUnjoinedBy, NoneUnjoinedAmong, AnswersFirst}
+use Rattle.critical_pairs.specs.Extended.{AddsPairsOf}
+use Rattle.critical_pairs.specs.Joining.{AreJoinedAt, ArePeaksOf, AreUnjoinedBy, NoneUnjoinedAmong, AnswersFirst}
 use Rattle.critical_pairs.specs.PairView.{pair_of, pairs_in, terms_in}
 use Rattle.critical_pairs.specs.declared.pair.Pair.{Pair}
 use Rattle.critical_pairs.specs.declared.joining.Unjoined.{Unjoined}
@@ -72,6 +75,50 @@ joined_rules rules found listed none =
     none k (named_by (rules_in rules) pair) t u
     (ap (λ (ps : List CriticalPair). slice_get ps k) (sym listed.named) ∙ named_there (rules_in rules) listed.plain k pair is)
     (unjoined_named (rules_in rules) pair t u unjoined))
+
+-- ---- Pairs joined place by place
+
+pub joined_nothing : (rules : List Rule) → AreJoinedAt rules []
+joined_nothing rules = record {
+  pairs = [];
+  pairs_of = no_place;
+  none = λ k pair t u is unjoined. let none : None ≡ Some pair = is in cc;
+}
+
+none_append : (rules : List Rule) (pairs others : List CriticalPair) → NoneUnjoinedAmong rules pairs → NoneUnjoinedAmong rules others
+    → NoneUnjoinedAmong rules (pairs ++ others)
+none_append rules [] others none rest k pair t u is = rest k pair t u is
+none_append rules (p ∷ pairs) others none rest zero pair t u is = none 0 pair t u is
+none_append rules (p ∷ pairs) others none rest (suc k) pair t u is =
+    none_append rules pairs others (λ j q v w e. none (suc j) q v w e) rest k pair t u is
+
+pub joined_then : (rules : List Rule) (one two : List PairPlace) → AreJoinedAt rules one → AreJoinedAt rules two
+    → AreJoinedAt rules (one ++ two)
+joined_then rules one two first second = record {
+  pairs = first.pairs ++ second.pairs;
+  pairs_of = pairs_append first.pairs_of second.pairs_of;
+  none = none_append rules first.pairs second.pairs first.none second.none;
+}
+
+-- the pairs that the code found
+pub joined_found : (rules : Rules) (at : List PairPlace) (found : List Pair) → AddsPairsOf rules at [] found
+    → NoneUnjoinedAmong (plain_rules_in rules) (pairs_in found) → AreJoinedAt (plain_rules_in rules) at
+joined_found rules at found adds none = record {
+  pairs = adds.listed.plain;
+  pairs_of = adds.listed.pairs_of;
+  none = λ k pair t u is unjoined.
+      none k (named_by (rules_in rules) pair) t u
+      (ap (λ (ps : List CriticalPair). slice_get ps k) (sym adds.listed.named)
+      ∙ named_there (rules_in rules) adds.listed.plain k pair is)
+      (unjoined_named (rules_in rules) pair t u unjoined);
+}
+
+-- where those of all places are, the rules are confluent
+pub joined_all : (rules : Rules) → AreJoinedAt (plain_rules_in rules) (places (plain_rules_in rules))
+    → AreConfluent (plain_rules_in rules)
+joined_all rules joined =
+    none_unjoined_confluent (plain_rules_in rules) joined.pairs (rules_well_formed rules) (rules_end rules)
+    (pairs_are_all (plain_rules_in rules) joined.pairs joined.pairs_of) joined.none
 
 -- a pair of the code, where the list of what pairs stand for has one
 record IsSeen (found : List Pair) (k : ℕ) (seen : CriticalPair) : Type 0 where

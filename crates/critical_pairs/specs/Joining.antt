@@ -6,7 +6,8 @@ use Rattle.lotos_base.specs.Sorting.{IsTermOf}
 use Rattle.rewriting_theory.specs.Rule.{Rule}
 use Rattle.rewriting_theory.specs.Rewriting.{AreConfluent}
 use Rattle.rewriting_theory.specs.CriticalPair.{CriticalPair}
-use Rattle.rewriting_theory.specs.PairList.{AreCriticalPairs, IsUnjoined, IsFirstUnjoined}
+use Rattle.rewriting_theory.specs.PairList.{PairPlace, AreCriticalPairs, IsUnjoined, IsFirstUnjoined}
+use Rattle.rewriting_theory.specs.Places.{PairsOf}
 use Rattle.rewriting_theory.specs.PairListLaws.{RewritesToTwo}
 use Rattle.path_order.specs.HandedOn.{NumberedRule, rules_of}
 use Rattle.sort_terms.specs.SortedView.{profiled_in, term_in}
@@ -55,6 +56,12 @@ IsPairFaultOver signature NoMemory = Unit {0}
 abbrev pub NoneUnjoinedAmong : List Rule → List CriticalPair → Type 0
 NoneUnjoinedAmong rules pairs = (k : ℕ) (pair : CriticalPair) (t u : Term) → slice_get pairs k ≡ Some pair
     → ¬ IsUnjoined rules pair t u
+
+-- The pairs of the places have sides with one chosen form.
+pub record AreJoinedAt (rules : List Rule) (places : List PairPlace) : Type 0 where
+  pub pairs : List CriticalPair
+  pub pairs_of : PairsOf rules places pairs
+  pub none : NoneUnjoinedAmong rules pairs
 
 -- The terms of the answer are of the signature.
 abbrev pub IsAnswerOver : Signature → Unjoined → Type 0

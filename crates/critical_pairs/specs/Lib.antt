@@ -7,3 +7,4 @@ pub mod Joining
 pub mod TwoSides
 pub mod OverlapPair
 pub mod Contracted
+pub mod Finding

@@ -3,6 +3,7 @@
 
 pub mod candidates;
 pub mod contracting;
+pub mod finding;
 pub mod joined;
 pub mod joining;
 pub mod listing;

@@ -35,9 +35,9 @@ pub fn pairs(alloc: Global, rules: &Rules) -> Result<Vec<Pair>, NoMemory>
     Ok(found)
 }
 
-// The pairs found before and those of this first rule. Second rules are found by the operations in
-// the left side of the first one, so that rules with other heads or first arguments cost nothing.
-fn pairs_of_first(
+/// The pairs found before and those of this first rule. Second rules are found by the operations in
+/// the left side of the first one, so that rules with other heads or first arguments cost nothing.
+pub fn pairs_of_first(
     alloc: Global,
     rules: &Rules,
     index: &FirstIndex,

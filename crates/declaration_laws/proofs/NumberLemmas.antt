@@ -20,7 +20,7 @@ use Rattle.declaration_laws.proofs.FollowLemmas.{Gates, Variables, chosen, signe
 
 -- ---- How many variables a behaviour declares
 
-count_is : (w : WrittenBehaviour) → variable_count w ≡ length (variables_in w)
+pub count_is : (w : WrittenBehaviour) → variable_count w ≡ length (variables_in w)
 count_is (written.stop place) = refl
 count_is (written.exit place values) = refl
 count_is (written.call place name gates values) = refl
@@ -47,7 +47,7 @@ count_is (written.binary place sign left right) =
 
 -- ---- Behaviours
 
-record IsMade (numbers : Numbers) (w : WrittenBehaviour) (b : Behaviour) : Type 0 where
+pub record IsMade (numbers : Numbers) (w : WrittenBehaviour) (b : Behaviour) : Type 0 where
   pub gates : Gates numbers.gate (gates_in w) (gates_bound b)
   pub variables : Variables numbers.variable (variables_in w) (variables_bound b)
 
@@ -101,7 +101,7 @@ module _ (signature : Signature) where
             (variables_bound is.2.0) refl (listed_variables signature (past left numbers).variable given is.0 is.1) second.variables);
       })
 
-  behaviour_made : (w : WrittenBehaviour) (scope : Scope) (numbers : Numbers) (b : Behaviour)
+  pub behaviour_made : (w : WrittenBehaviour) (scope : Scope) (numbers : Numbers) (b : Behaviour)
       → BehaviourIs signature scope numbers w (resolved b) → IsMade numbers w b
   behaviour_made (written.stop place) scope numbers b is =
       subst (IsMade numbers (written.stop place)) (sym (one_value b stop is)) (record { gates = tt; variables = tt })
@@ -206,12 +206,12 @@ module _ (signature : Signature) where
       by (faulty fault) first variables second exit is = absurd (cc is)
 
   -- a definition beside its own `where`
-  record IsDefinitionMade (numbers : Numbers) (heading : WrittenHeading) (body : WrittenBehaviour) (made : Heading × Behaviour)
+  pub record IsDefinitionMade (numbers : Numbers) (heading : WrittenHeading) (body : WrittenBehaviour) (made : Heading × Behaviour)
       : Type 0 where
     pub gates : Gates numbers.gate (own_gates heading body) (made.0.gates ++ gates_bound made.1)
     pub variables : Variables numbers.variable (heading.parameters ++ variables_in body) (made.0.parameters ++ variables_bound made.1)
 
-  definition_made : (processes : List Callable) (numbers : Numbers) (heading : WrittenHeading) (body : WrittenBehaviour)
+  pub definition_made : (processes : List Callable) (numbers : Numbers) (heading : WrittenHeading) (body : WrittenBehaviour)
       (made : Heading × Behaviour) → DefinitionIs signature processes numbers heading body (resolved made)
       → IsDefinitionMade numbers heading body made
   definition_made processes numbers heading body made is =
@@ -227,14 +227,14 @@ module _ (signature : Signature) where
       })
 
   -- the numbers behind it
-  own_gate : (numbers : Numbers) (heading : WrittenHeading) (body : WrittenBehaviour)
+  pub own_gate : (numbers : Numbers) (heading : WrittenHeading) (body : WrittenBehaviour)
       → (past_own heading body numbers).gate ≡ numbers.gate + length (own_gates heading body)
   own_gate numbers heading body =
       let long = spelled_long heading.gates in
       let all = length-append (spelled heading.gates) (gates_in body) in
       omega (arith, long, all)
 
-  own_variable : (numbers : Numbers) (heading : WrittenHeading) (body : WrittenBehaviour)
+  pub own_variable : (numbers : Numbers) (heading : WrittenHeading) (body : WrittenBehaviour)
       → (past_own heading body numbers).variable ≡ numbers.variable + length (heading.parameters ++ variables_in body)
   own_variable numbers heading body =
       let count = count_is body in
@@ -242,7 +242,7 @@ module _ (signature : Signature) where
       omega (arith, count, all)
 
   mutual
-    inner_gate : (w : WrittenInner) (numbers : Numbers) → (past_inner w numbers).gate ≡ numbers.gate + length (inner_gates w)
+    pub inner_gate : (w : WrittenInner) (numbers : Numbers) → (past_inner w numbers).gate ≡ numbers.gate + length (inner_gates w)
     inner_gate (inner_item item) numbers = omega arith
     inner_gate (process heading body inner) numbers =
         let own = own_gate (past_name numbers) heading body in
@@ -250,7 +250,7 @@ module _ (signature : Signature) where
         let all = length-append (own_gates heading body) (inners_gates inner) in
         omega (arith, own, more, all)
 
-    inners_gate : (ws : WrittenInners) (numbers : Numbers) → (past_inners ws numbers).gate ≡ numbers.gate + length (inners_gates ws)
+    pub inners_gate : (ws : WrittenInners) (numbers : Numbers) → (past_inners ws numbers).gate ≡ numbers.gate + length (inners_gates ws)
     inners_gate no_inner numbers = omega arith
     inners_gate (inner_then inner others) numbers =
         let first = inner_gate inner numbers in
@@ -259,7 +259,7 @@ module _ (signature : Signature) where
         omega (arith, first, more, all)
 
   mutual
-    inner_variable : (w : WrittenInner) (numbers : Numbers)
+    pub inner_variable : (w : WrittenInner) (numbers : Numbers)
         → (past_inner w numbers).variable ≡ numbers.variable + length (inner_variables w)
     inner_variable (inner_item item) numbers = omega arith
     inner_variable (process heading body inner) numbers =
@@ -268,7 +268,7 @@ module _ (signature : Signature) where
         let all = length-append (heading.parameters ++ variables_in body) (inners_variables inner) in
         omega (arith, own, more, all)
 
-    inners_variable : (ws : WrittenInners) (numbers : Numbers)
+    pub inners_variable : (ws : WrittenInners) (numbers : Numbers)
         → (past_inners ws numbers).variable ≡ numbers.variable + length (inners_variables ws)
     inners_variable no_inner numbers = omega arith
     inners_variable (inner_then inner others) numbers =
@@ -290,12 +290,12 @@ module _ (signature : Signature) where
       ∙ sym (append_assoc (p.parameters ++ variables_bound p.body) (process_variables ps) (process_variables qs))
 
   -- processes of a `where`
-  record AreMade (numbers : Numbers) (gates : List (List ℕ)) (variables : List WrittenVariable) (ps : List Process) : Type 0 where
+  pub record AreMade (numbers : Numbers) (gates : List (List ℕ)) (variables : List WrittenVariable) (ps : List Process) : Type 0 where
     pub gates_are : Gates numbers.gate gates (process_gates ps)
     pub variables_are : Variables numbers.variable variables (process_variables ps)
 
   mutual
-    inner_made : (w : WrittenInner) (visible : List Callable) (before : List Binding) (numbers : Numbers) (ps : List Process)
+    pub inner_made : (w : WrittenInner) (visible : List Callable) (before : List Binding) (numbers : Numbers) (ps : List Process)
         → InnerIs signature visible before numbers w (resolved ps) → AreMade numbers (inner_gates w) (inner_variables w) ps
     inner_made (inner_item item) visible before numbers ps is =
         subst (AreMade numbers [] []) (sym (one_value ps [] is)) (record { gates_are = tt; variables_are = tt })
@@ -314,7 +314,7 @@ module _ (signature : Signature) where
               (process_variables is.2.2.0) (own_variable (past_name numbers) heading body) own.variables more.variables_are;
         })
 
-    inners_made : (ws : WrittenInners) (visible : List Callable) (before : List Binding) (numbers : Numbers) (ps : List Process)
+    pub inners_made : (ws : WrittenInners) (visible : List Callable) (before : List Binding) (numbers : Numbers) (ps : List Process)
         → InnersAre signature visible before numbers ws (resolved ps) → AreMade numbers (inners_gates ws) (inners_variables ws) ps
     inners_made no_inner visible before numbers ps is =
         subst (AreMade numbers [] []) (sym (one_value ps [] is)) (record { gates_are = tt; variables_are = tt })

@@ -4,3 +4,4 @@
 
 pub mod gates;
 pub mod numbers;
+pub mod same_data;

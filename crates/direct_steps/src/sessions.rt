@@ -17,7 +17,7 @@ use std::alloc::Global;
 use std::test::Fail;
 
 // The number 0 alone.
-fn nought(alloc: Global, signature: &Signature) -> Result<Vec<Sorted>, Fail>
+pub(crate) fn nought(alloc: Global, signature: &Signature) -> Result<Vec<Sorted>, Fail>
     ensures { IfOk result (λ made. AreGiven (signature_of signature.now) made.items) }
 {
     let values = CellValues::read(alloc, signature)?;

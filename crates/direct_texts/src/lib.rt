@@ -11,8 +11,6 @@ mod behaviour_page;
 #[cfg(test)]
 mod behaviour_trees;
 #[cfg(test)]
-mod certificates;
-#[cfg(test)]
 mod definition_page;
 #[cfg(test)]
 mod definition_trees;

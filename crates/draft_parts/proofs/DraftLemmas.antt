@@ -58,23 +58,20 @@ module _ (leaves : List Sorted) (bound : List (ℕ × Sorted)) (first : List (�
       (pairs_of signature bound (subst (ArePairsOf signature) (sym is) (first_pairs signature first pairs h)))
 
 -- the environment behind an action
-module _ (inner bound environment : List (ℕ × Sorted)) (first : List (ℕ × ProfiledTerm))
-    (is : profiled_pairs inner ≡ profiled_pairs bound ++ profiled_pairs environment) (same : profiled_pairs bound ≡ first) where
-  pub inner_is : profiled_pairs inner ≡ first ++ profiled_pairs environment
-  inner_is = is ∙ ap (λ (ps : List (ℕ × ProfiledTerm)). ps ++ profiled_pairs environment) same
-
-  pub inner_bare : environment_of inner ≡ bare_pairs (first ++ profiled_pairs environment)
-  inner_bare = sym (pairs_bare inner) ∙ ap bare_pairs inner_is
+module _ (inner bound environment : List (ℕ × Sorted))
+    (is : profiled_pairs inner ≡ profiled_pairs bound ++ profiled_pairs environment) where
+  pub inner_bare : environment_of inner ≡ bare_pairs (profiled_pairs bound ++ profiled_pairs environment)
+  inner_bare = sym (pairs_bare inner) ∙ ap bare_pairs is
 
 -- ---- An action.
-pub acted_is : (canon : Term → Term) (gate first : ℕ) (offers : List Offer) (test : Option Test) (environment inner : List (ℕ × Sorted))
-    (values leaves : List Term) (conditions : List plain.Test)
+pub acted_is : (canon : Term → Term) (gate first : ℕ) (offers : List Offer) (test : Option Test) (environment : List (ℕ × Sorted))
+    (pairs : List (ℕ × Term)) (values leaves : List Term) (conditions : List plain.Test)
     → values ≡ offered_at canon (binding (environment_of environment)) first offers → leaves ≡ pair_terms (asked_pairs first offers)
-    → conditions ≡ tests_of (binding (environment_of inner)) (option_map test_of test)
-    → environment_of inner ≡ bare_pairs (asked_pairs first offers ++ profiled_pairs environment)
+    → conditions ≡ tests_of (binding pairs) (option_map test_of test)
+    → pairs ≡ bare_pairs (asked_pairs first offers ++ profiled_pairs environment)
     → record { shape = act; label = gate_event gate values; leaves = leaves; conditions = conditions }
     ≡ acted canon gate offers test (profiled_pairs environment) first
-acted_is canon gate first offers test environment inner values leaves conditions of_values of_leaves of_conditions same =
+acted_is canon gate first offers test environment pairs values leaves conditions of_values of_leaves of_conditions same =
     let told : values ≡ offered_at canon (binding (bare_pairs (profiled_pairs environment))) first offers =
     of_values ∙ ap (λ (ps : List (ℕ × Term)). offered_at canon (binding ps) first offers) (sym (pairs_bare environment)) in
     let asked : conditions

@@ -14,6 +14,7 @@ ghost use Rattle.std.specs.Option.{option_map};
 ghost use Rattle.std.specs.Prelude.{◌≡◌, ◌++◌, IfOk};
 ghost use Rattle.lotos_base.specs.Signature.{Signature};
 ghost use Rattle.lotos_base.specs.Substitution.{binding};
+ghost use Rattle.term_match.specs.ProfiledInstance.{bare_pairs};
 ghost use Rattle.term_match.specs.SubstView.{profiled_pairs};
 
 use crate::environments::{extended, paired_terms, placed};
@@ -49,8 +50,7 @@ pub fn action_draft<D: Deciding>(
     let bound = asked(*environment.allocator(), offers, first)?;
     let leaves = paired_terms(&bound)?;
     let values = offered(offers, environment, first, decider)?;
-    let inner = extended(bound, environment)?;
-    let conditions = asked_conditions(test, &inner)?;
+    let conditions = asked_conditions(test, bound, environment)?;
     Ok(Draft {
         shape: Shape::Act,
         label: Label::Gate(gate, values),
@@ -59,8 +59,35 @@ pub fn action_draft<D: Deciding>(
     })
 }
 
-// The condition that a test asks under the environment, if there is a test.
+// The condition that a test asks under the environment with these pairs before it, if there is a
+// test. Without a test the values stay where they are.
 fn asked_conditions(
+    test: &Option<Test>,
+    pairs: Vec<(u64, Sorted)>,
+    environment: &Vec<(u64, Sorted)>,
+) -> Result<Vec<(Sorted, Sorted)>, NoMemory>
+    requires { SuitsTest (profiled_pairs pairs.items ++ profiled_pairs environment.now.items)
+        test.now }
+    ensures same { IfOk result (λ made. conditions_of made.items ≡ tests_of (binding (bare_pairs
+        (profiled_pairs pairs.items ++ profiled_pairs environment.now.items)))
+        (option_map test_of test.now)) }
+    ensures over { IfOk result (λ made. (signature : Signature)
+        → ArePairsOf signature (profiled_pairs pairs.items
+        ++ profiled_pairs environment.now.items)
+        → HasTests signature test.now
+        → AreConditionsOf signature (condition_profiles made.items)) }
+{
+    match test {
+        None => Ok(Vec::new(*environment.allocator())),
+        Some(_) => {
+            let inner = extended(pairs, environment)?;
+            conditions_under(test, &inner)
+        }
+    }
+}
+
+// The condition that a test asks under the environment, if there is a test.
+fn conditions_under(
     test: &Option<Test>,
     environment: &Vec<(u64, Sorted)>,
 ) -> Result<Vec<(Sorted, Sorted)>, NoMemory>

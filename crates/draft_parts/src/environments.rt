@@ -28,7 +28,8 @@ pub fn placed(environment: &Vec<(u64, Sorted)>, term: &Sorted) -> Result<Sorted,
     Values::Paired(environment.as_slice()).put_into(term)
 }
 
-/// The canon of the term with those of the environment put for its variables.
+/// The canon of the term with those of the environment put for its variables. Where there are none,
+/// the term is not copied.
 pub fn canonical<D: Deciding>(
     environment: &Vec<(u64, Sorted)>,
     term: &Sorted,
@@ -41,6 +42,9 @@ pub fn canonical<D: Deciding>(
     ensures is_of { IfOk result (λ t. IsOf (D.known_data decider.old).signature (profiled_in t)) }
     ensures same_known { KeepsData D.known_data D.canon decider.old decider.new }
 {
+    if environment.len() == 0 {
+        return decider.normal(term);
+    }
     let made = placed(environment, term)?;
     decider.normal(&made)
 }

@@ -17,7 +17,9 @@ use Rattle.sort_terms.specs.SortedView.{profiled_in, term_in}
 use Rattle.sort_terms.specs.ProfiledTerm.{IsOf}
 use Rattle.sort_terms.specs.declared.sorted.Sorted.{Sorted}
 use Rattle.behaviour_tree.specs.BehaviourTerms.{profiles_of}
-use Rattle.draft_solving.specs.Changing.{AreReady, changed_by}
+use Rattle.lotos_base.specs.Equation.{Data}
+use Rattle.lotos_base.specs.Canon.{IsCanon}
+use Rattle.draft_solving.specs.Changing.{AreReady, IsVariable, changed_by}
 use Rattle.event_offers.specs.OfferView.{condition_of, conditions_of, condition_profiles, condition_sides}
 use Rattle.event_offers.specs.Offers.{IsConditionOf, AreConditionsOf}
 use Rattle.behaviour_tree.specs.Over.{AreTermsOf}
@@ -85,3 +87,7 @@ tidied_fused canon values draft = λ i. record {
 pub stays_settled : (canon : Term → Term) (found : ℕ × Sorted) (t : Term) → canon t ≡ t
     → ((value : Term) → substituted (binding ((found.0, value) ∷ [])) t ≡ t) → t ≡ changed_by canon (Some found) t
 stays_settled canon found t is lacks = sym is ∙ ap canon (sym (lacks (term_in found.1)))
+
+-- a variable is its own canonical form
+pub variable_stays : (data_ : Data) (canon : Term → Term) → IsCanon data_ canon → (t : Term) → IsVariable t → t ≡ canon t
+variable_stays data_ canon is_canon t v = v.is ∙ (sym (is_canon.variables v.number v.sort) ∙ ap canon (sym v.is))

@@ -2,7 +2,7 @@
 use Rattle.std.specs.Prelude.{◌≡◌, ℕ, List, [], ◌∷◌, Option, None, Some}
 use Rattle.lotos_base.specs.Signature.{Signature}
 use Rattle.lotos_base.specs.Sorting.{Occurs}
-use Rattle.lotos_base.specs.Term.{Term}
+use Rattle.lotos_base.specs.Term.{Term, variable}
 use Rattle.lotos_base.specs.Substitution.{Substitution, substituted, binding}
 use Rattle.behaviour_semantics.specs.WellFormed.{Every}
 use Rattle.sort_terms.specs.ProfiledTerm.{ProfiledTerm, bare, head_sort, IsOf}
@@ -42,3 +42,9 @@ IsReadyPair signature canon put pair = IsReadyForChange signature canon put pair
 
 abbrev pub AreReadyPairs : Signature → (Term → Term) → Option (ℕ × Sorted) → List (ProfiledTerm × ProfiledTerm) → Type 0
 AreReadyPairs signature canon put pairs = Every (IsReadyPair signature canon put) pairs
+
+-- The term is a variable.
+pub record IsVariable (t : Term) : Type 0 where
+  pub number : ℕ
+  pub sort : ℕ
+  pub is : t ≡ variable number sort

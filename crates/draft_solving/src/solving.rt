@@ -1,9 +1,11 @@
 //! Solving: conditions that fix a variable are used up, and the rest is an entry of a menu.
 
+ghost use Rattle.behaviour_semantics.specs.Draft.{label_with};
 ghost use Rattle.behaviour_semantics.specs.DraftOrder.{LeavesMeet};
 ghost use Rattle.behaviour_semantics.specs.Solving.{entry_of as left_entry, SolvesTo, tidied};
 ghost use Rattle.behaviour_tree.specs.Over.{AreTermsOf};
 ghost use Rattle.behaviour_tree.specs.BehaviourTerms.{profiles_of};
+ghost use Rattle.behaviour_tree.specs.MoveView.{label_of};
 ghost use Rattle.draft_solving.specs.Changing.{AreReady, AreReadyPairs, changed_by};
 ghost use Rattle.event_offers.specs.Keeping.{KeepsData};
 ghost use Rattle.event_offers.specs.OfferView.{
@@ -13,14 +15,17 @@ ghost use Rattle.event_offers.specs.OfferView.{
   plain_entry,
 };
 ghost use Rattle.event_offers.specs.Offers.{AreConditionsOf, IsDraftOver, IsEntryOver};
+ghost use Rattle.event_offers.specs.Renaming.{profiled_renaming_of, renaming_of};
 ghost use Rattle.std.specs.Option.{option_map};
-ghost use Rattle.std.specs.Prelude.{◌≡◌, List, IfNone, IfOk, IfSome, Some};
+ghost use Rattle.std.specs.Prelude.{◌≡◌, List, IfNone, IfOk, IfSome, Some, map};
 ghost use Rattle.lotos_base.specs.Signature.{Signature};
 ghost use Rattle.lotos_base.specs.Term.{Term};
+ghost use Rattle.term_match.specs.ProfiledInstance.{profiled_instance};
 
 use crate::changing::changed_draft;
 use crate::replacements::{first_replacement, has_closed};
 use crate::variables::{places, sorts_by_number, sorts_left};
+use behaviour_tree::Label;
 use event_offers::drafts::{Draft, Entry};
 use event_offers::renaming::Renaming;
 use lotos_base::NoMemory;
@@ -99,9 +104,9 @@ pub fn entry_left(draft: Draft) -> Result<Entry, NoMemory>
     let sorts = sorts_by_number(&draft.leaves)?;
     let vars = sorts_left(&sorts)?;
     let renaming = Renaming::Placed(places(&sorts)?);
-    let label = renaming.label(&draft.label)?;
-    let leaves = renaming.terms(&draft.leaves)?;
-    let conditions = renaming.conditions(&draft.conditions)?;
+    let label = label_left(&renaming, draft.label)?;
+    let leaves = renaming.all_changed(draft.leaves)?;
+    let conditions = renaming.changed_conditions(draft.conditions)?;
     Ok(Entry {
         shape: draft.shape,
         label,
@@ -109,4 +114,18 @@ pub fn entry_left(draft: Draft) -> Result<Entry, NoMemory>
         leaves,
         conditions,
     })
+}
+
+// The label with other numbers for its variables. Values without variables stay where they are.
+fn label_left(renaming: &Renaming, label: Label) -> Result<Label, NoMemory>
+    ensures same { IfOk result
+        (λ made. label_of made ≡ label_with (renaming_of renaming.now) (label_of label)) }
+    ensures profiles { IfOk result (λ made. label_profiles made
+        ≡ map (profiled_instance (profiled_renaming_of renaming.now)) (label_profiles label)) }
+{
+    match label {
+        Label::Inner => Ok(Label::Inner),
+        Label::Gate(gate, values) => Ok(Label::Gate(gate, renaming.all_changed(values)?)),
+        Label::Exit(values) => Ok(Label::Exit(renaming.all_changed(values)?)),
+    }
 }

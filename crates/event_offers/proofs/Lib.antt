@@ -6,3 +6,4 @@ pub mod ValueLemmas
 pub mod InstanceLemmas
 pub mod SampleDrafts
 pub mod KeepingLemmas
+pub mod RebuildLemmas

@@ -1,4 +1,5 @@
 pub mod OfferView
+pub mod Rebuilt
 pub mod Renaming
 pub mod Offers
 pub mod Joining

@@ -10,6 +10,7 @@ pub mod joining;
 pub mod labels;
 pub mod lists;
 pub mod menus;
+pub mod rebuilding;
 pub mod renaming;
 pub mod shapes;
 pub mod valued;

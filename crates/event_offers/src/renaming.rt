@@ -17,7 +17,6 @@ ghost use Rattle.event_offers.specs.Renaming.{
   renaming_of,
 };
 ghost use Rattle.sort_terms.specs.SortedView.{profiled_in, term_in};
-ghost use Rattle.sort_terms.specs.TermView.{all_profiled, profiled_of};
 ghost use Rattle.std.specs.Prelude.{
   ◌≡◌,
   ◌+◌,
@@ -31,8 +30,9 @@ ghost use Rattle.std.specs.Prelude.{
   unwrap_or,
 };
 ghost use Rattle.lotos_base.specs.Substitution.{substituted};
-ghost use Rattle.term_match.specs.ProfiledInstance.{profiled_instance, profiled_instances};
+ghost use Rattle.term_match.specs.ProfiledInstance.{profiled_instance};
 
+use crate::rebuilding::{Replacing, rebuilt};
 use behaviour_tree::Label;
 use lotos_base::NoMemory;
 use sort_terms::{Sorted, Term};
@@ -73,7 +73,7 @@ impl Renaming {
         ensures profiles { IfOk result (λ t. profiled_in t
             ≡ profiled_instance (profiled_renaming_of self.now) (profiled_in term.now)) }
     {
-        Ok(Sorted::of(renamed(term.term(), self)?))
+        Ok(Sorted::of(rebuilt(term.term(), self)?))
     }
 
     /// The terms with the numbers of their variables changed.
@@ -196,6 +196,17 @@ impl Renaming {
     }
 }
 
+impl Replacing for Renaming {
+    ghost put_for = { λ it. profiled_renaming_of it };
+
+    fn put(&self, number: u64, sort: u32) -> Result<Term, NoMemory> {
+        Ok(Term::Var {
+            number: self.number(number)?,
+            sort,
+        })
+    }
+}
+
 // The number raised where it is not below the first one.
 fn raised(number: u64, from: u64, by: u64) -> Result<u64, NoMemory>
     ensures { IfOk result (λ n. n ≡ (if nat_lt number from then number else number + by)) }
@@ -217,41 +228,4 @@ fn placed(places: &Vec<u64>, number: u64) -> u64
         Some(place) => *place,
         None => number,
     }
-}
-
-// The term with the numbers of its variables changed.
-#[cycle(renamed)]
-fn renamed(term: &Term, renaming: &Renaming) -> Result<Term, NoMemory>
-    ensures { IfOk result (λ t. profiled_of t
-        ≡ profiled_instance (profiled_renaming_of renaming.now) (profiled_of term.now)) }
-{
-    match term {
-        Term::Var { number, sort } => Ok(Term::Var {
-            number: renaming.number(*number)?,
-            sort: *sort,
-        }),
-        Term::Node {
-            op,
-            profile,
-            arguments,
-        } => Ok(Term::Node {
-            op: *op,
-            profile: profile.clone()?,
-            arguments: all_renamed(arguments, renaming)?,
-        }),
-    }
-}
-
-// The terms with the numbers of their variables changed.
-#[cycle(renamed)]
-fn all_renamed(terms: &Vec<Term>, renaming: &Renaming) -> Result<Vec<Term>, NoMemory>
-    ensures { IfOk result (λ ts. all_profiled ts.items
-        ≡ profiled_instances (profiled_renaming_of renaming.now)
-        (all_profiled terms.now.items)) }
-{
-    let mut made = Vec::with_capacity(*terms.allocator(), terms.len())?;
-    for term in terms {
-        made.push(renamed(term, renaming)?)?;
-    }
-    Ok(made)
 }

@@ -2,17 +2,17 @@
 
 ghost use Rattle.event_offers.specs.Values.{profiled_listed, profiled_values, SuitsTerm, values_of};
 ghost use Rattle.sort_terms.specs.SortedView.{profiled_in, term_in};
-ghost use Rattle.sort_terms.specs.TermView.{all_profiled, profiled_of};
+ghost use Rattle.sort_terms.specs.TermView.{profiled_of};
 ghost use Rattle.std.specs.Prelude.{◌≡◌, ◌∷◌, [], IfOk};
 ghost use Rattle.lotos_base.specs.Substitution.{substituted};
 ghost use Rattle.term_match.specs.ProfiledInstance.{
   profiled_binding,
   profiled_instance,
-  profiled_instances,
 };
 ghost use Rattle.term_match.specs.SubstView.{profiled_pairs};
 ghost use Rattle.behaviour_tree.specs.BehaviourTerms.{profiles_of};
 
+use crate::rebuilding::{Replacing, rebuilt};
 use lotos_base::NoMemory;
 use sort_terms::{Sorted, Term};
 
@@ -36,13 +36,14 @@ impl Values<'_> {
         ensures profiles { IfOk result (λ t. profiled_in t
             ≡ profiled_instance (profiled_values self.now) (profiled_in term.now)) }
     {
-        Ok(Sorted::of(instance(term.term(), self)?))
+        Ok(Sorted::of(rebuilt(term.term(), self)?))
     }
+}
 
-    // What is put for the variable with this number and sort.
-    fn at(&self, number: u64, sort: u32) -> Result<Term, NoMemory>
-        ensures { IfOk result (λ t. profiled_of t ≡ profiled_values self.now number sort) }
-    {
+impl Replacing for Values<'_> {
+    ghost put_for = { λ it. profiled_values it };
+
+    fn put(&self, number: u64, sort: u32) -> Result<Term, NoMemory> {
         match self {
             Values::One(known, value) => one(*known, value, number, sort),
             Values::Paired(pairs) => paired(pairs, number, sort),
@@ -89,37 +90,4 @@ fn listed(values: &[Sorted], number: u64, sort: u32) -> Result<Term, NoMemory>
         number: number - values.len() as u64,
         sort,
     })
-}
-
-// The term with the terms put for its variables.
-#[cycle(valued)]
-fn instance(term: &Term, values: &Values<'_>) -> Result<Term, NoMemory>
-    ensures { IfOk result (λ t. profiled_of t
-        ≡ profiled_instance (profiled_values values.now) (profiled_of term.now)) }
-{
-    match term {
-        Term::Var { number, sort } => values.at(*number, *sort),
-        Term::Node {
-            op,
-            profile,
-            arguments,
-        } => Ok(Term::Node {
-            op: *op,
-            profile: profile.clone()?,
-            arguments: instances(arguments, values)?,
-        }),
-    }
-}
-
-// Each of the terms with the terms put for its variables.
-#[cycle(valued)]
-fn instances(terms: &Vec<Term>, values: &Values<'_>) -> Result<Vec<Term>, NoMemory>
-    ensures { IfOk result (λ ts. all_profiled ts.items
-        ≡ profiled_instances (profiled_values values.now) (all_profiled terms.now.items)) }
-{
-    let mut made = Vec::with_capacity(*terms.allocator(), terms.len())?;
-    for term in terms {
-        made.push(instance(term, values)?)?;
-    }
-    Ok(made)
 }

@@ -8,19 +8,22 @@ use Rattle.sort_terms.specs.EquationView.{data_of}
 use Rattle.spec_acceptance.specs.HandedOn.{book_canon, book_chooses, book_is_canon, Book, rules_in, precedence_in, rules_of, Chooses}
 use Rattle.spec_acceptance.specs.Acceptance.{Acceptance}
 use Rattle.demo_walks.specs.HandedOn.{Progress, Situation, first_situation, IsSituation, basis_over, progress_of, pasts_of, AreSuited}
-use Rattle.demo_walks.specs.HandedOn.{IsKeptState, IsLawfulSession, Past, Session, FreshMenus, specification_of, state_of, Spec, State}
+use Rattle.demo_walks.specs.HandedOn.{IsKeptState, IsLawfulSession, Past, Session, specification_of, state_of, Spec, State}
 use Rattle.demo_walks.specs.HandedOn.{CanBegin}
 use Rattle.spec_acceptance.specs.AcceptedView.{HoldsAccepted}
 use Rattle.spec_acceptance.specs.declared.accepted.Accepted.{Accepted}
+use Rattle.menu_parts.specs.KeptMenus.{Suits}
+use Rattle.menu_parts.specs.declared.makers.PartMenus.{PartMenus}
 use Rattle.lotos_top.specs.Opening.{SessionBegins}
-use Rattle.lotos_top.specs.Prepared.{begun, any_maker, IsLawfulAt}
+use Rattle.lotos_top.specs.Prepared.{begun, IsLawfulAt}
 
 -- ---- What was accepted can be opened
 
-pub suited : (acceptance : Acceptance) (accepted : Accepted) (maker : FreshMenus) → HoldsAccepted acceptance accepted
-    → AreSuited any_maker (data_of accepted.book.flat) (book_canon accepted.book) accepted.spec accepted.ranks maker
-suited acceptance accepted maker holds =
-    record { signature = holds.well_formed.signature; over = holds.over; ranked = holds.ranks_are; fitting = tt }
+pub suited : (acceptance : Acceptance) (accepted : Accepted) (maker : PartMenus) → HoldsAccepted acceptance accepted
+    → Suits maker accepted.spec (data_of accepted.book.flat) (book_canon accepted.book)
+    → AreSuited Suits (data_of accepted.book.flat) (book_canon accepted.book) accepted.spec accepted.ranks maker
+suited acceptance accepted maker holds fitting =
+    record { signature = holds.well_formed.signature; over = holds.over; ranked = holds.ranks_are; fitting = fitting }
 
 pub kept : (acceptance : Acceptance) (accepted : Accepted) → HoldsAccepted acceptance accepted
     → IsKeptState (data_of accepted.book.flat).signature accepted.spec accepted.start
@@ -29,19 +32,19 @@ kept acceptance accepted holds = record { over = holds.state; closed = holds.clo
 -- ---- And begins so
 
 -- a session that has taken no step, which was opened over these
-pub record IsOpenedAt (accepted : Accepted) (book : Book) (session : Session FreshMenus) : Type 0 where
+pub record IsOpenedAt (accepted : Accepted) (book : Book) (session : Session PartMenus) : Type 0 where
   pub same_data : data_of book.flat ≡ data_of accepted.book.flat
   pub same_canon : book_canon book ≡ book_canon accepted.book
-  pub lawful : IsLawfulSession any_maker (data_of accepted.book.flat) (book_canon accepted.book) session
+  pub lawful : IsLawfulSession Suits (data_of accepted.book.flat) (book_canon accepted.book) session
   pub spec : session.spec ≡ accepted.spec
   pub state : session.course.state ≡ accepted.start
   pub history : session.course.history.items ≡ []
 
-pub lawful_here : (accepted : Accepted) (book : Book) (session : Session FreshMenus) → IsOpenedAt accepted book session
+pub lawful_here : (accepted : Accepted) (book : Book) (session : Session PartMenus) → IsOpenedAt accepted book session
     → IsLawfulAt (record { session = session; book = book })
 lawful_here accepted book session is =
-    subst (λ (f : Term → Term). IsLawfulSession any_maker (data_of book.flat) f session) (sym is.same_canon)
-    (subst (λ (d : Data). IsLawfulSession any_maker d (book_canon accepted.book) session) (sym is.same_data) is.lawful)
+    subst (λ (f : Term → Term). IsLawfulSession Suits (data_of book.flat) f session) (sym is.same_canon)
+    (subst (λ (d : Data). IsLawfulSession Suits d (book_canon accepted.book) session) (sym is.same_data) is.lawful)
 
 first_here : (progress : Progress) → progress.steps ≡ [] → first_situation progress ≡ progress.situation
 first_here progress none = first progress.situation progress.steps none
@@ -50,10 +53,10 @@ first_here progress none = first progress.situation progress.steps none
         → first_situation (record { situation = situation; steps = steps }) ≡ situation
     first situation steps nothing = ap (λ (it : List _). first_situation (record { situation = situation; steps = it })) nothing
 
-can_begin : (accepted : Accepted) (book : Book) (session : Session FreshMenus) → IsOpenedAt accepted book session
+can_begin : (accepted : Accepted) (book : Book) (session : Session PartMenus) → IsOpenedAt accepted book session
     → CanBegin (begun (record { session = session; book = book }))
 can_begin accepted book session is =
-    let lawful : IsLawfulSession any_maker (data_of book.flat) (book_canon book) session = lawful_here accepted book session is in
+    let lawful : IsLawfulSession Suits (data_of book.flat) (book_canon book) session = lawful_here accepted book session is in
     let none : (progress_of session.course).steps ≡ [] = ap (λ (history : List Past). pasts_of history) is.history in
     record {
       over = record {
@@ -67,7 +70,7 @@ can_begin accepted book session is =
       at_start = none;
     }
 
-pub begins_so : (acceptance : Acceptance) (accepted : Accepted) (book : Book) (session : Session FreshMenus)
+pub begins_so : (acceptance : Acceptance) (accepted : Accepted) (book : Book) (session : Session PartMenus)
     → HoldsAccepted acceptance accepted
     → IsOpenedAt accepted book session
     → SessionBegins acceptance (begun (record { session = session; book = book })) × IsLawfulAt (record { session = session; book = book })

@@ -1,25 +1,29 @@
 -- Each answer of a run comes where its cause stands.
-use Rattle.std.proofs.Common.{◌≡◌, ◌⊎◌, inl, inr, ℕ, ◌+◌, ◌<◌, ◌≤◌, List, [], ◌∷◌, ◌++◌, length, Option, None, Some, IfSome, IsSomeAnd, refl, sym, ap, subst, ◌∙◌, arith, length-append}
+use Rattle.std.proofs.Common.{◌≡◌, ◌⊎◌, inl, inr, ℕ, ◌<◌, List, [], ◌∷◌, ◌++◌, length, Option, None, Some, IsSomeAnd, refl, sym, ap, subst, ◌∙◌, arith, length-append}
 use Rattle.std.proofs.lemmas.Option.{none-some}
 use Rattle.lotos_base.specs.Counts.{Rises}
-use Rattle.spec_acceptance.specs.HandedOn.{ShelfState, GotFile}
-use Rattle.spec_acceptance.specs.Acceptance.{Asked}
+use Rattle.spec_acceptance.specs.HandedOn.{ShelfState, GotFile, Refused}
+use Rattle.spec_acceptance.specs.Acceptance.{Asked, Founded, IsAccepted, IsFounded}
 use Rattle.spec_acceptance.specs.Doing.{Did}
-use Rattle.spec_acceptance.specs.Part.{Comes, goes_on, unread, stops, wants_memory}
+use Rattle.spec_acceptance.specs.Part.{Comes, goes_on, unread, stops, wants_memory, Part, Then, Has, Telling}
 use Rattle.line_server.specs.Limits.{input_limit}
-use Rattle.line_server.specs.Session.{SessionCame, finished, quit, input_failed, too_long, output_failed, closing_failed, wanted_memory, FailsToClose, of_failed_input, of_long_input}
+use Rattle.line_server.specs.Session.{SessionCame, finished, quit, input_failed, too_long, output_failed, closing_failed, wanted_memory}
 use Rattle.line_server.specs.Turn.{around, IsRead}
 use Rattle.line_server.specs.Writing.{Stream}
 use Rattle.line_server.specs.declared.ends.SessionEnd.{SessionEnd}
 use Rattle.demo_walks.specs.HandedOn.{SessionPoint, history_machine, Beginning}
 use Rattle.lotos_top.specs.Causes.{GivesWay, IsReadPast, ServesLines, IsDemonstration, IsUnread, AnswersHaveCauses}
+use Rattle.lotos_top.specs.Certificates.{bisimilar_printed}
+use Rattle.lotos_top.specs.Flattening.{flat_printed}
 use Rattle.lotos_top.specs.Opening.{opening_text}
+use Rattle.lotos_top.specs.Parts.{Opens}
 use Rattle.lotos_top.specs.Run.{Streams, Writes, whole, in_part, nothing, Prints, ServesSession, in_front, in_want, behind, Stops, Follows, Ran, ended_by}
-use Rattle.lotos_top.specs.Words.{CommandLine, check, session, demonstration}
-use Rattle.lotos_top.specs.Work.{Print, Finish, prints, serves, unread_printed, refusal_printed, work_of}
+use Rattle.lotos_top.specs.Words.{CommandLine, Compared, check, session, demonstration, flattening, bisimilarity}
+use Rattle.lotos_top.specs.Finishing.{Print, print, Finish, prints, serves, unread_printed, refusal_printed}
+use Rattle.lotos_top.specs.Work.{work_of}
 use Rattle.lotos_top.specs.declared.ended.Ended.{Ended}
-use Rattle.lotos_top.specs.declared.ended.Ended.TheVariants.{Done, SpecRefused, WordsRefused, FileFault, InputFault, OutputFault, NoMemory, InputTooLong}
-use Rattle.lotos_top.proofs.RunLemmas.{did_texts}
+use Rattle.lotos_top.specs.declared.ended.Ended.TheVariants.{Done, SpecRefused, WordsRefused, FileFault, InputFault, OutputFault, NoMemory, InputTooLong, CertificateRefused}
+use Rattle.lotos_top.proofs.BisimilarityLemmas.{checks_on, checks_refuses}
 
 -- ---- A text that is printed
 
@@ -95,22 +99,27 @@ printed_causes line shelf between shelf_after before after answer p kept fits do
 
 -- ---- Statuses
 
+-- a status that has no cause in the words and the outside
+abbrev pub EndsPlainly : Ended → Type 0
+EndsPlainly status = (status ≡ Done) ⊎ (status ≡ SpecRefused) ⊎ (status ≡ CertificateRefused)
+
 plain_status : (line : Option CommandLine) (shelf between : ShelfState) (status : Ended) → (line ≡ None → ⊥)
-    → between.faults ≡ shelf.faults → (status ≡ Done) ⊎ (status ≡ SpecRefused) → StatusFits line shelf between status
+    → between.faults ≡ shelf.faults → EndsPlainly status → StatusFits line shelf between status
 plain_status line shelf between status some kept is = record {
-  words = λ e. absurd (neither WordsRefused is e (λ h. cc h) (λ h. cc h));
+  words = λ e. absurd (neither WordsRefused is e (λ h. cc h) (λ h. cc h) (λ h. cc h));
   no_line = λ none. absurd (some none);
-  files = λ e. absurd (neither FileFault is e (λ h. cc h) (λ h. cc h));
+  files = λ e. absurd (neither FileFault is e (λ h. cc h) (λ h. cc h) (λ h. cc h));
   shelf_fault = λ rose. absurd (omega (arith, kept, rose));
-  input = λ e. neither InputFault is e (λ h. cc h) (λ h. cc h);
-  output = λ e. neither OutputFault is e (λ h. cc h) (λ h. cc h);
-  long = λ e. neither InputTooLong is e (λ h. cc h) (λ h. cc h);
+  input = λ e. neither InputFault is e (λ h. cc h) (λ h. cc h) (λ h. cc h);
+  output = λ e. neither OutputFault is e (λ h. cc h) (λ h. cc h) (λ h. cc h);
+  long = λ e. neither InputTooLong is e (λ h. cc h) (λ h. cc h) (λ h. cc h);
 }
   where
-    neither : (other : Ended) → (status ≡ Done) ⊎ (status ≡ SpecRefused) → status ≡ other → (other ≡ Done → ⊥)
-        → (other ≡ SpecRefused → ⊥) → ⊥
-    neither other (inl a) e no_done no_refusal = no_done (sym e ∙ a)
-    neither other (inr b) e no_done no_refusal = no_refusal (sym e ∙ b)
+    neither : (other : Ended) → EndsPlainly status → status ≡ other → (other ≡ Done → ⊥) → (other ≡ SpecRefused → ⊥)
+        → (other ≡ CertificateRefused → ⊥) → ⊥
+    neither other (inl a) e no_done no_refusal no_certificate = no_done (sym e ∙ a)
+    neither other (inr (inl b)) e no_done no_refusal no_certificate = no_refusal (sym e ∙ b)
+    neither other (inr (inr d)) e no_done no_refusal no_certificate = no_certificate (sym e ∙ d)
 
 words_status : (shelf between : ShelfState) (status : Ended) → between.faults ≡ shelf.faults → status ≡ WordsRefused
     → StatusFits None shelf between status
@@ -294,6 +303,47 @@ print_same p q e = cc e
 prints_and_serves : (p : Print) (begun : Beginning) → prints p ≡ serves begun → ⊥
 prints_and_serves p begun e = cc e
 
+-- texts alone come of the part, with such statuses
+record PrintsPlainly (part : Part Print Finish) : Type 0 where
+  pub finishes : (files : List GotFile) (finish : Finish) → part files (goes_on finish)
+      → (p : Print) × (finish ≡ prints p) × EndsPlainly p.status
+  pub refuses : (files : List GotFile) (p : Print) → part files (stops p) → EndsPlainly p.status
+
+-- so it is where something comes of a specification, and a text is printed for it
+told_plainly : {A : Type 0} (tell : Refused → Print) (part : Part Refused A) (made : A → Print)
+    → ((r : Refused) → EndsPlainly (tell r).status) → ((a : A) → EndsPlainly (made a).status)
+    → PrintsPlainly (Then (Telling tell part) (λ a. Has (prints (made a))))
+told_plainly {A} tell part made refusals texts =
+    record { finishes = λ files finish came. finishes files finish came; refuses = λ files p came. refuses files p came }
+  where
+    finishes : (files : List GotFile) (finish : Finish)
+        → Then (Telling tell part) (λ (a : A). Has (prints (made a))) files (goes_on finish)
+        → (p : Print) × (finish ≡ prints p) × EndsPlainly p.status
+    finishes files finish (inl ended) = absurd ended
+    finishes files finish (inr then_) = (made then_.0, then_.4.1, texts then_.0)
+
+    refuses : (files : List GotFile) (p : Print) → Then (Telling tell part) (λ (a : A). Has (prints (made a))) files (stops p)
+        → EndsPlainly p.status
+    refuses files p (inl ended) = subst (λ (it : Print). EndsPlainly it.status) (sym ended.2) (refusals ended.0)
+    refuses files p (inr then_) = absurd then_.4
+
+check_plainly : (asked : Asked) → PrintsPlainly (work_of (Some (check asked)))
+check_plainly asked =
+    told_plainly (refusal_printed asked.spec asked.order) (Opens (IsAccepted asked))
+    (λ (begun : Beginning). print (opening_text begun) Done) (λ r. inr (inl refl)) (λ begun. inl refl)
+
+flatten_plainly : (spec : List ℕ) (order : Option (List ℕ)) → PrintsPlainly (work_of (Some (flattening spec order)))
+flatten_plainly spec order =
+    told_plainly (refusal_printed spec order) (IsFounded spec order) (λ (founded : Founded). flat_printed founded) (λ r. inr (inl refl))
+    (λ founded. inl refl)
+
+certificate_plainly : (c : Compared) → PrintsPlainly (work_of (Some (bisimilarity c)))
+certificate_plainly c = record {
+  finishes = λ files finish came.
+      let shown = checks_on c files finish came in (bisimilar_printed shown.number, shown.finishes, inl refl);
+  refuses = λ files p came. inr (checks_refuses c files p came);
+}
+
 module _ (shelf between shelf_after : ShelfState) (before after : Streams) (answer : Ended) where
   no_line_causes : (comes : Comes Print Finish) → Did shelf between (work_of None) comes
       → Follows comes between shelf_after before after answer
@@ -307,27 +357,23 @@ module _ (shelf between shelf_after : ShelfState) (before after : Streams) (answ
   no_line_causes wants_memory did follows = stopped_causes None shelf between shelf_after before after answer did.1.texts did.1.faults
       follows
 
-  check_causes : (asked : Asked) (comes : Comes Print Finish) → Did shelf between (work_of (Some (check asked))) comes
-      → Follows comes between shelf_after before after answer → AnswersHaveCauses (Some (check asked)) shelf shelf_after before after answer
-  check_causes asked (goes_on (prints p)) (files, gives, inl ended) follows = absurd ended
-  check_causes asked (goes_on (prints p)) (files, gives, inr then_) follows =
-      printed_causes (Some (check asked)) shelf between shelf_after before after answer p gives.texts
-      (plain_status (Some (check asked)) shelf between p.status (some_line (check asked)) gives.faults
-      (inl (status_same p _ (print_same p _ then_.4.1)))) follows
-  check_causes asked (goes_on (serves begun)) (files, gives, inl ended) follows = absurd ended
-  check_causes asked (goes_on (serves begun)) (files, gives, inr then_) follows = absurd (prints_and_serves _ begun (sym then_.4.1))
-  check_causes asked (unread name) (files, gives, came) follows =
-      printed_causes (Some (check asked)) shelf between shelf_after before after answer (unread_printed name) gives.texts
-      (file_status (Some (check asked)) shelf between FileFault (some_line (check asked))
-      (inl (unread_cause shelf between name gives.cause))
-      refl) follows
-  check_causes asked (stops p) (files, gives, inl ended) follows =
-      printed_causes (Some (check asked)) shelf between shelf_after before after answer p gives.texts
-      (plain_status (Some (check asked)) shelf between p.status (some_line (check asked)) gives.faults (inr (status_same p _ ended.2)))
-      follows
-  check_causes asked (stops p) (files, gives, inr then_) follows = absurd then_.4
-  check_causes asked wants_memory did follows =
-      stopped_causes (Some (check asked)) shelf between shelf_after before after answer did.1.texts did.1.faults follows
+  -- a line that prints a text alone
+  plain_causes : (line : CommandLine) → PrintsPlainly (work_of (Some line)) → (comes : Comes Print Finish)
+      → Did shelf between (work_of (Some line)) comes → Follows comes between shelf_after before after answer
+      → AnswersHaveCauses (Some line) shelf shelf_after before after answer
+  plain_causes line plainly (goes_on finish) did follows =
+      let printed = plainly.finishes did.0 finish did.2 in
+      printed_causes (Some line) shelf between shelf_after before after answer printed.0 did.1.texts
+      (plain_status (Some line) shelf between printed.0.status (some_line line) did.1.faults printed.2)
+      (subst (λ (it : Finish). Follows (goes_on it) between shelf_after before after answer) printed.1 follows)
+  plain_causes line plainly (unread name) did follows =
+      printed_causes (Some line) shelf between shelf_after before after answer (unread_printed name) did.1.texts
+      (file_status (Some line) shelf between FileFault (some_line line) (inl (unread_cause shelf between name did.1.cause)) refl) follows
+  plain_causes line plainly (stops p) did follows =
+      printed_causes (Some line) shelf between shelf_after before after answer p did.1.texts
+      (plain_status (Some line) shelf between p.status (some_line line) did.1.faults (plainly.refuses did.0 p did.2)) follows
+  plain_causes line plainly wants_memory did follows =
+      stopped_causes (Some line) shelf between shelf_after before after answer did.1.texts did.1.faults follows
 
   session_causes : (asked : Asked) (comes : Comes Print Finish) → Did shelf between (work_of (Some (session asked))) comes
       → Follows comes between shelf_after before after answer
@@ -343,7 +389,7 @@ module _ (shelf between shelf_after : ShelfState) (before after : Streams) (answ
   session_causes asked (stops p) (files, gives, inl ended) follows =
       printed_causes (Some (session asked)) shelf between shelf_after before after answer p gives.texts
       (plain_status (Some (session asked)) shelf between p.status (some_line (session asked)) gives.faults
-      (inr (status_same p _ ended.2))) follows
+      (inr (inl (status_same p _ ended.2)))) follows
   session_causes asked (stops p) (files, gives, inr then_) follows = absurd then_.4
   session_causes asked wants_memory did follows =
       stopped_causes (Some (session asked)) shelf between shelf_after before after answer did.1.texts did.1.faults follows
@@ -362,7 +408,7 @@ module _ (shelf between shelf_after : ShelfState) (before after : Streams) (answ
   demo_causes cells (stops p) (files, gives, (none, inl (inl ended))) follows =
       printed_causes (Some (demonstration cells)) shelf between shelf_after before after answer p gives.texts
       (plain_status (Some (demonstration cells)) shelf between p.status (some_line (demonstration cells)) gives.faults
-      (inr (status_same p _ ended.2))) follows
+      (inr (inl (status_same p _ ended.2)))) follows
   demo_causes cells (stops p) (files, gives, (none, inl (inr then_))) follows = absurd then_.4
   demo_causes cells (stops p) (files, gives, (none, inr asks)) follows =
       printed_causes (Some (demonstration cells)) shelf between shelf_after before after answer p gives.texts
@@ -374,9 +420,12 @@ module _ (shelf between shelf_after : ShelfState) (before after : Streams) (answ
   causes_of : (line : Option CommandLine) (comes : Comes Print Finish) → Did shelf between (work_of line) comes
       → Follows comes between shelf_after before after answer → AnswersHaveCauses line shelf shelf_after before after answer
   causes_of None comes did follows = no_line_causes comes did follows
-  causes_of (Some (check asked)) comes did follows = check_causes asked comes did follows
+  causes_of (Some (check asked)) comes did follows = plain_causes (check asked) (check_plainly asked) comes did follows
   causes_of (Some (session asked)) comes did follows = session_causes asked comes did follows
   causes_of (Some (demonstration cells)) comes did follows = demo_causes cells comes did follows
+  causes_of (Some (flattening spec order)) comes did follows =
+      plain_causes (flattening spec order) (flatten_plainly spec order) comes did follows
+  causes_of (Some (bisimilarity c)) comes did follows = plain_causes (bisimilarity c) (certificate_plainly c) comes did follows
 
 pub causes : (line : Option CommandLine) (shelf shelf_after : ShelfState) (before after : Streams) (answer : Ended)
     → Ran line shelf shelf_after before after answer → AnswersHaveCauses line shelf shelf_after before after answer

@@ -1,9 +1,9 @@
 -- A session of an accepted specification, where all is told and nothing outside fails.
-use Rattle.std.proofs.Common.{◌≡◌, ◌⊎◌, inl, inr, ℕ, ◌+◌, ◌<◌, ◌≤◌, Bool, true, List, [], ◌∷◌, ◌++◌, length, Option, None, Some, IfSome, refl, sym, ap, subst, ◌∙◌, append_assoc, arith, length-append}
+use Rattle.std.proofs.Common.{◌≡◌, ◌⊎◌, inl, inr, ℕ, ◌≤◌, Bool, true, List, [], ◌∷◌, ◌++◌, length, Option, Some, IfSome, refl, sym, ap, subst, ◌∙◌, append_assoc, arith, length-append}
 use Rattle.std.proofs.lemmas.List.{append-nil}
-use Rattle.lotos_base.specs.Counts.{Rises, last_count}
+use Rattle.lotos_base.specs.Counts.{Rises}
 use Rattle.lotos_base.specs.Outside.{Texts}
-use Rattle.spec_acceptance.specs.HandedOn.{ShelfState, GotFile, Refused}
+use Rattle.spec_acceptance.specs.HandedOn.{ShelfState, Refused}
 use Rattle.spec_acceptance.specs.Acceptance.{Asked, Acceptance, IsAccepted}
 use Rattle.spec_acceptance.specs.AcceptanceOutcomes.{ComesOver}
 use Rattle.spec_acceptance.specs.Doing.{Did}
@@ -12,20 +12,20 @@ use Rattle.spec_acceptance.proofs.OneAnswer.{comes_over, outcomes_over_texts_are
 use Rattle.line_server.specs.Answered as served
 use Rattle.line_server.specs.Cutting.{complete, unfinished, last_line, lines_in}
 use Rattle.line_server.specs.Limits.{input_limit}
-use Rattle.line_server.specs.Session.{SessionCame, IsSessionServed, IsServedInTurns, finished, quit, input_failed, too_long, output_failed, closing_failed, wanted_memory}
-use Rattle.line_server.specs.Turn.{Surroundings, around, IsRead}
+use Rattle.line_server.specs.Session.{SessionCame, finished, quit, input_failed, too_long, output_failed, closing_failed, wanted_memory}
+use Rattle.line_server.specs.Turn.{around, IsRead}
 use Rattle.line_server.specs.Writing.{Stream, WritesAll}
 use Rattle.line_server.specs.declared.ends.SessionEnd.{SessionEnd}
-use Rattle.line_server.specs.declared.ends.SessionEnd.TheVariants as end_of
 use Rattle.line_server.proofs.Cuts.{complete-append}
 use Rattle.line_server.proofs.AnsweredLines.{answered_still}
-use Rattle.demo_walks.specs.HandedOn.{AreAnswered, Standing, SessionPoint, point, history_machine, Beginning, standing_at, IsReached}
+use Rattle.demo_walks.specs.HandedOn.{AreAnswered, Standing, SessionPoint, point, history_machine, Beginning, standing_at}
 use Rattle.demo_walks.specs.HandedOn.{LinesLeadOn, ServedLinesAreAnswered}
 use Rattle.lotos_top.specs.Headline.{Stands, IsSteady, Simulates, Headline}
 use Rattle.lotos_top.specs.Opening.{SessionBegins, opening_text}
 use Rattle.lotos_top.specs.Run.{Streams, ServesSession, in_front, in_want, behind, Follows, Ran, ended_by}
 use Rattle.lotos_top.specs.Words.{CommandLine, session}
-use Rattle.lotos_top.specs.Work.{Print, Finish, prints, serves, unread_printed, work_of}
+use Rattle.lotos_top.specs.Finishing.{Print, Finish}
+use Rattle.lotos_top.specs.Work.{work_of}
 use Rattle.lotos_top.proofs.RunLemmas.{follows_rise, rises_on}
 use Rattle.lotos_top.proofs.WorkLemmas.{session_on, session_unread, session_stops, opened_on}
 use Rattle.lotos_top.specs.declared.ended.Ended.{Ended}

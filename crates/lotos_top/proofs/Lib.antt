@@ -1,6 +1,10 @@
 mod BeginLemmas
 mod CauseLemmas
 mod CutLemmas
+mod FlatteningLemmas
+mod ComparingLemmas
+mod BisimilarityLemmas
+mod OneCertificate
 mod HeadLemmas
 mod HeadlineLemmas
 mod OpeningLemmas

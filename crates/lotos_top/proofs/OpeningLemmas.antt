@@ -1,12 +1,12 @@
 -- What is ready by what came of the acceptance.
-use Rattle.std.proofs.Common.{◌≡◌, ◌≤◌, inl, inr, ℕ, zero, suc, List, [], ◌∷◌, map, All, Option, None, Some, IfSome, IsSomeAnd, codes, refl, sym, ap, ◌∙◌, subst, arith}
+use Rattle.std.proofs.Common.{◌≡◌, inl, inr, ℕ, zero, List, [], ◌∷◌, map, All, Option, None, Some, IfSome, IsSomeAnd, codes, refl, sym, ap, ◌∙◌, subst, arith}
 use Rattle.std.proofs.lemmas.Option.{none-some}
 use Rattle.lotos_base.specs.MemShelf.{File, text_under, texts_of, faults_of, calls_of}
 use Rattle.lotos_base.specs.Outside.{Texts}
 use Rattle.lotos_base.specs.declared.memory_shelf.MemShelf.{MemShelf}
 use Rattle.demo_walks.specs.DemoSummary.{IsSummary}
 use Rattle.demo_walks.specs.DemoText.{demo_text}
-use Rattle.demo_walks.specs.HandedOn.{past_of, progress_of, Course, Past, usage_text, Beginning}
+use Rattle.demo_walks.specs.HandedOn.{past_of, progress_of, Course, Past, Beginning}
 use Rattle.spec_acceptance.specs.HandedOn.{ShelfState, shelf_state, GotFile, IsFileOf, Refused, refused_of, refusal_text}
 use Rattle.spec_acceptance.specs.Acceptance.{Acceptance, Asked, AcceptsText, IsAccepted}
 use Rattle.spec_acceptance.specs.Part.{Comes, goes_on, unread, stops, wants_memory, Part, Then, Has, Telling}
@@ -15,9 +15,11 @@ use Rattle.spec_acceptance.specs.declared.not_accepted.NotAccepted.{NotAccepted}
 use Rattle.spec_acceptance.specs.declared.not_accepted.NotAccepted.TheVariants.{File as Lacking, Spec, NoMemory}
 use Rattle.spec_acceptance.proofs.DoingLemmas.{did_then, has_done, wants_nothing, failed_first}
 use Rattle.lotos_top.specs.Opening.{SessionBegins, opening_text}
-use Rattle.lotos_top.specs.Prepared.{begun, IsLawfulAt, print_in, printed_by, CameTo, IsReady, IsFaultPrinted, FailsAlone}
-use Rattle.lotos_top.specs.Work.{Print, print, Finish, prints, serves, unread_printed, refusal_printed, word_or_none, Finds, Opens, OpensAsked, WithoutFiles, IsSummaryPrinted, Demonstrates, work_of}
-use Rattle.lotos_top.specs.Words.{CommandLine, check, session, demonstration}
+use Rattle.lotos_top.specs.Prepared.{begun, print_in, printed_by, CameTo, IsReady, IsFaultPrinted, FailsAlone}
+use Rattle.lotos_top.specs.Finishing.{Print, print, Finish, prints, serves, refusal_printed, word_or_none}
+use Rattle.lotos_top.specs.Parts.{Finds, Opens}
+use Rattle.lotos_top.specs.Work.{work_of}
+use Rattle.lotos_top.specs.Words.{CommandLine, check, session, demonstration, usage_text}
 use Rattle.lotos_top.specs.declared.opening.Opened.{Opened}
 use Rattle.lotos_top.specs.declared.opening.Alone.{Alone}
 use Rattle.lotos_top.specs.declared.opening.Ready.TheVariants as ready
@@ -68,43 +70,51 @@ refused_print found_ told_ p spec order is made = rw is at made
 
 -- ---- The lines of words
 
--- what comes behind the opening of what is asked for
-module _ (asked : Asked) (next : Beginning → Part Print Finish) (before after : ShelfState) where
+-- what comes behind a part whose refusals are told by these names
+module _ {A : Type 0} (spec : List ℕ) (order : Option (List ℕ)) (part : Part Refused A) (next : A → Part Print Finish)
+    (before after : ShelfState) where
+  -- it was fine, and what is printed for it follows
+  pub goes_on_to : (a : A) (finish : Finish) → Did before after part (goes_on a) → Did after after (next a) (goes_on finish)
+      → Did before after (Then (Telling (refusal_printed spec order) part) next) (goes_on finish)
+  goes_on_to a finish did follows =
+      did_then before after after (Telling (refusal_printed spec order) part) next a (goes_on finish)
+      (told before after (refusal_printed spec order) part a did) follows
+
   -- a fault is printed
-  pub fault_ready : (fault : NotAccepted) (p : Print) → Failed before after (Opens (IsAccepted asked)) fault
-      → IsFaultPrinted asked.spec asked.order fault p
-      → (comes : Comes Print Finish) × Did before after (Then (OpensAsked asked) next) comes × (printed_by comes ≡ Some p)
+  pub fault_ready : (fault : NotAccepted) (p : Print) → Failed before after part fault → IsFaultPrinted spec order fault p
+      → (comes : Comes Print Finish) × Did before after (Then (Telling (refusal_printed spec order) part) next) comes
+      × (printed_by comes ≡ Some p)
   fault_ready (Lacking name) p failed is = (
     unread name.items,
-    ended_unread before after (OpensAsked asked) next name.items
-        (told_unread before after (refusal_printed asked.spec asked.order) (Opens (IsAccepted asked)) name.items failed),
+    ended_unread before after (Telling (refusal_printed spec order) part) next name.items
+        (told_unread before after (refusal_printed spec order) part name.items failed),
     ap (λ (it : Print). Some it) (sym is),
   )
   fault_ready (Spec r) p failed is = (
-    stops (refusal_printed asked.spec asked.order failed.0),
-    ended_stops before after (OpensAsked asked) next (refusal_printed asked.spec asked.order failed.0)
-        (told_stops before after (refusal_printed asked.spec asked.order) (Opens (IsAccepted asked)) failed.0 failed.2),
-    ap (λ (it : Print). Some it) (sym (refused_print (refused_of r) failed.0 p asked.spec asked.order failed.1 is)),
+    stops (refusal_printed spec order failed.0),
+    ended_stops before after (Telling (refusal_printed spec order) part) next (refusal_printed spec order failed.0)
+        (told_stops before after (refusal_printed spec order) part failed.0 failed.2),
+    ap (λ (it : Print). Some it) (sym (refused_print (refused_of r) failed.0 p spec order failed.1 is)),
   )
   fault_ready NoMemory p failed is = absurd is
 
   -- and where it is not, for want of memory, it came
-  pub fault_came : (fault : NotAccepted) → Failed before after (Opens (IsAccepted asked)) fault
-      → (comes : Comes Print Finish) × Did before after (Then (OpensAsked asked) next) comes
+  pub fault_came : (fault : NotAccepted) → Failed before after part fault
+      → (comes : Comes Print Finish) × Did before after (Then (Telling (refusal_printed spec order) part) next) comes
   fault_came (Lacking name) failed = (
     unread name.items,
-    ended_unread before after (OpensAsked asked) next name.items
-        (told_unread before after (refusal_printed asked.spec asked.order) (Opens (IsAccepted asked)) name.items failed),
+    ended_unread before after (Telling (refusal_printed spec order) part) next name.items
+        (told_unread before after (refusal_printed spec order) part name.items failed),
   )
   fault_came (Spec r) failed = (
-    stops (refusal_printed asked.spec asked.order failed.0),
-    ended_stops before after (OpensAsked asked) next (refusal_printed asked.spec asked.order failed.0)
-        (told_stops before after (refusal_printed asked.spec asked.order) (Opens (IsAccepted asked)) failed.0 failed.2),
+    stops (refusal_printed spec order failed.0),
+    ended_stops before after (Telling (refusal_printed spec order) part) next (refusal_printed spec order failed.0)
+        (told_stops before after (refusal_printed spec order) part failed.0 failed.2),
   )
   fault_came NoMemory failed = (
     wants_memory,
-    want_first before after (OpensAsked asked) next
-        (told_wants before after (refusal_printed asked.spec asked.order) (Opens (IsAccepted asked)) failed),
+    want_first before after (Telling (refusal_printed spec order) part) next
+        (told_wants before after (refusal_printed spec order) part failed),
   )
 
 -- `check` and `run` of what is accepted
@@ -112,10 +122,8 @@ pub checked_came : (asked : Asked) (before after : ShelfState) (begins : Beginni
     → Did before after (Opens (IsAccepted asked)) (goes_on begins)
     → Did before after (work_of (Some (check asked))) (goes_on (prints (print (opening_text begins) Done)))
 checked_came asked before after begins did =
-    did_then before after after (OpensAsked asked) (λ (it : Beginning). Has (prints (print (opening_text it) Done))) begins
-    (goes_on (prints (print (opening_text begins) Done)))
-    (told before after (refusal_printed asked.spec asked.order) (Opens (IsAccepted asked)) begins did)
-    (has_done Print after (prints (print (opening_text begins) Done)))
+    goes_on_to asked.spec asked.order (Opens (IsAccepted asked)) (λ (it : Beginning). Has (prints (print (opening_text it) Done)))
+    before after begins (prints (print (opening_text begins) Done)) did (has_done Print after (prints (print (opening_text begins) Done)))
 
 pub checked_ready : (asked : Asked) (before after : ShelfState) (opened : Opened) (alone : Alone)
     → Did before after (Opens (IsAccepted asked)) (goes_on (begun opened)) → alone.text.items ≡ opening_text (begun opened)
@@ -130,9 +138,8 @@ pub session_came : (asked : Asked) (before after : ShelfState) (begins : Beginni
     → Did before after (Opens (IsAccepted asked)) (goes_on begins)
     → Did before after (work_of (Some (session asked))) (goes_on (serves begins))
 session_came asked before after begins did =
-    did_then before after after (OpensAsked asked) (λ (it : Beginning). Has (serves it)) begins (goes_on (serves begins))
-    (told before after (refusal_printed asked.spec asked.order) (Opens (IsAccepted asked)) begins did)
-    (has_done Print after (serves begins))
+    goes_on_to asked.spec asked.order (Opens (IsAccepted asked)) (λ (it : Beginning). Has (serves it)) before after begins (serves begins)
+    did (has_done Print after (serves begins))
 
 -- words that are no line
 pub no_line_ready : (line : Option CommandLine) (now : ShelfState) (alone : Alone) → line ≡ None → alone.text.items ≡ usage_text

@@ -1,5 +1,5 @@
 -- A session that is served behind its head.
-use Rattle.std.proofs.Common.{◌≡◌, ℕ, List, Option, subst, sym, refl}
+use Rattle.std.proofs.Common.{◌≡◌, ℕ, List, subst, refl}
 use Rattle.lotos_base.specs.Counts.{Rises}
 use Rattle.spec_acceptance.specs.HandedOn.{ShelfState}
 use Rattle.line_server.specs.Session.{IsSessionServed}

@@ -1,24 +1,31 @@
 -- What a run does over texts that its shelf tells.
-use Rattle.std.proofs.Common.{◌≡◌, ◌⊎◌, inl, inr, ℕ, List, [], ◌++◌, Option, None, Some, refl, sym, ap, ◌∙◌, subst}
+use Rattle.std.proofs.Common.{◌≡◌, ◌⊎◌, inl, inr, ℕ, List, Option, None, Some, refl, sym, ◌∙◌, subst}
 use Rattle.lotos_base.specs.Counts.{Rises}
 use Rattle.lotos_base.specs.Outside.{Texts}
 use Rattle.spec_acceptance.specs.HandedOn.{ShelfState, GotFile, AreGotFrom, Refused}
 use Rattle.spec_acceptance.specs.Acceptance.{Asked, Acceptance, IsAccepted}
-use Rattle.spec_acceptance.specs.AcceptanceOutcomes.{got_from, ComesOver}
+use Rattle.spec_acceptance.specs.AcceptanceOutcomes.{got_from, ComesOfPart, ComesOver}
 use Rattle.spec_acceptance.specs.Doing.{Did}
-use Rattle.spec_acceptance.specs.Part.{Comes, goes_on, unread, stops, wants_memory, Part, Then, Has}
+use Rattle.spec_acceptance.specs.Part.{Comes, goes_on, unread, stops, wants_memory, Then, Has}
 use Rattle.spec_acceptance.specs.PartLaws.{Lacks}
-use Rattle.spec_acceptance.proofs.OneAnswer.{got_told, lacks_told, outcomes_over_texts_are_one}
+use Rattle.spec_acceptance.proofs.OneAnswer.{part_comes_over, outcomes_over_texts_are_one}
 use Rattle.demo_walks.specs.HandedOn.{Beginning}
+use Rattle.lotos_top.specs.Flattening.{IsByFounding}
 use Rattle.lotos_top.specs.Opening.{SessionBegins, opening_text}
+use Rattle.bisimulation_theory.specs.CertificateLaws.{CertificatesComeToOneThing}
+use Rattle.lotos_top.specs.Comparing.{IsOneCheck}
+use Rattle.lotos_top.proofs.OneCertificate.{checks_over_texts_are_one}
 use Rattle.lotos_top.specs.Run.{Streams, Follows, Ran}
 use Rattle.lotos_top.specs.Settled.{WorkOver, IsFinishFor, IsByAcceptance, AsksFor, DoesWorkOver, IsSettled}
-use Rattle.lotos_top.specs.Words.{CommandLine, check, session, demonstration}
-use Rattle.lotos_top.specs.Work.{Print, print, Finish, prints, serves, OpensAsked, refusal_printed, work_of}
+use Rattle.lotos_top.specs.Words.{CommandLine, check, session, demonstration, flattening, bisimilarity, Compared}
+use Rattle.lotos_top.specs.Finishing.{Print, print, Finish, prints, serves, refusal_printed}
+use Rattle.lotos_top.specs.Parts.{OpensAsked}
+use Rattle.lotos_top.specs.Work.{work_of}
 use Rattle.lotos_top.specs.declared.ended.Ended.{Ended}
 use Rattle.lotos_top.specs.declared.ended.Ended.TheVariants.{Done, NoMemory}
+use Rattle.lotos_top.proofs.FlatteningLemmas.{flattens_over}
 use Rattle.lotos_top.proofs.RunLemmas.{did_texts, follows_rise, rises_on}
-use Rattle.lotos_top.proofs.WorkLemmas.{Opened, opened_on, opened_unread, opened_stops, got_alone}
+use Rattle.lotos_top.proofs.WorkLemmas.{opened_on, opened_unread, opened_stops, got_alone}
 
 -- ---- What a line asks for
 
@@ -92,44 +99,56 @@ by_acceptance texts (Some (session one)) comes work asked outcome asks over =
     (by_opening texts (Some (session one)) one (λ (it : Beginning). serves it) (λ begun. (refl, refl)) work.files comes
     work.came work.got_files work.lacks outcome (subst (λ (it : Asked). ComesOver texts it outcome) (sym asks) over))
 by_acceptance texts (Some (demonstration cells)) comes work asked outcome asks over = absurd asks
+by_acceptance texts (Some (flattening spec order)) comes work asked outcome asks over = absurd asks
+by_acceptance texts (Some (bisimilarity c)) comes work asked outcome asks over = absurd asks
+
+by_founding : (texts : Texts) (line : Option CommandLine) (comes : Comes Print Finish) → WorkOver texts line comes → (spec : List ℕ)
+    (order : Option (List ℕ)) → line ≡ Some (flattening spec order) → IsByFounding texts spec order comes
+by_founding texts line comes work spec order is = λ outcome over.
+    flattens_over texts spec order comes
+    (subst (λ (it : Option CommandLine). ComesOfPart texts (work_of it) comes) is work) outcome over
+
+by_certificate : CertificatesComeToOneThing → (texts : Texts) (line : Option CommandLine) (comes : Comes Print Finish)
+    → WorkOver texts line comes → (c : Compared) → line ≡ Some (bisimilarity c) → IsOneCheck texts c comes
+by_certificate once texts line comes work c is = λ other over.
+    checks_over_texts_are_one once texts c comes other
+    (subst (λ (it : Option CommandLine). ComesOfPart texts (work_of it) comes) is work) over
 
 -- ---- What a run did
 
-does : (texts : Texts) (line : Option CommandLine) (shelf between shelf_after : ShelfState) (before after : Streams) (answer : Ended)
-    (comes : Comes Print Finish) → shelf.texts ≡ Some texts → Did shelf between (work_of line) comes → WorkOver texts line comes
+does : CertificatesComeToOneThing → (texts : Texts) (line : Option CommandLine) (shelf between shelf_after : ShelfState)
+    (before after : Streams) (answer : Ended) (comes : Comes Print Finish) → shelf.texts ≡ Some texts → Did shelf between (work_of line) comes → WorkOver texts line comes
     → Follows comes between shelf_after before after answer → DoesWorkOver texts line shelf_after before after answer
-does texts line shelf between shelf_after before after answer comes told did work follows = record {
+does once texts line shelf between shelf_after before after answer comes told did work follows = record {
   comes = comes;
   work = work;
   by_acceptance = by_acceptance texts line comes work;
+  by_founding = by_founding texts line comes work;
+  by_certificate = by_certificate once texts line comes work;
   between = between;
   texts_between = did_texts shelf between (work_of line) comes did ∙ told;
   follows = follows;
 }
 
-settled_by : (line : Option CommandLine) (shelf between shelf_after : ShelfState) (before after : Streams) (answer : Ended) (texts : Texts)
-    → shelf.texts ≡ Some texts → (¬ Rises shelf.faults between.faults) → (comes : Comes Print Finish)
+settled_by : CertificatesComeToOneThing → (line : Option CommandLine) (shelf between shelf_after : ShelfState) (before after : Streams)
+    (answer : Ended) (texts : Texts) → shelf.texts ≡ Some texts → (¬ Rises shelf.faults between.faults) → (comes : Comes Print Finish)
     → Did shelf between (work_of line) comes → Follows comes between shelf_after before after answer
     → (answer ≡ NoMemory) ⊎ DoesWorkOver texts line shelf_after before after answer
-settled_by line shelf between shelf_after before after answer texts told steady (goes_on finish) did follows =
-    inr (does texts line shelf between shelf_after before after answer (goes_on finish) told did
-    (record { files = did.0; came = did.2; got_files = got_told texts shelf.texts did.0 told did.1.content; lacks = tt }) follows)
-settled_by line shelf between shelf_after before after answer texts told steady (unread name) did follows =
-    inr (does texts line shelf between shelf_after before after answer (unread name) told did (record {
-      files = did.0;
-      came = did.2;
-      got_files = got_told texts shelf.texts did.0 told did.1.content;
-      lacks = lacks_told texts shelf.texts shelf.faults between.faults name told steady did.1.cause;
-    }) follows)
-settled_by line shelf between shelf_after before after answer texts told steady (stops p) did follows =
-    inr (does texts line shelf between shelf_after before after answer (stops p) told did
-    (record { files = did.0; came = did.2; got_files = got_told texts shelf.texts did.0 told did.1.content; lacks = tt }) follows)
-settled_by line shelf between shelf_after before after answer texts told steady wants_memory did follows = inl follows.is
+settled_by once line shelf between shelf_after before after answer texts told steady (goes_on finish) did follows =
+    inr (does once texts line shelf between shelf_after before after answer (goes_on finish) told did
+    (part_comes_over texts (work_of line) shelf between (goes_on finish) told steady tt did) follows)
+settled_by once line shelf between shelf_after before after answer texts told steady (unread name) did follows =
+    inr (does once texts line shelf between shelf_after before after answer (unread name) told did
+    (part_comes_over texts (work_of line) shelf between (unread name) told steady tt did) follows)
+settled_by once line shelf between shelf_after before after answer texts told steady (stops p) did follows =
+    inr (does once texts line shelf between shelf_after before after answer (stops p) told did
+    (part_comes_over texts (work_of line) shelf between (stops p) told steady tt did) follows)
+settled_by once line shelf between shelf_after before after answer texts told steady wants_memory did follows = inl follows.is
 
-pub settled : (line : Option CommandLine) (shelf shelf_after : ShelfState) (before after : Streams) (answer : Ended)
-    → Ran line shelf shelf_after before after answer → IsSettled line shelf shelf_after before after answer
-settled line shelf shelf_after before after answer ran = λ texts told steady.
-    settled_by line shelf ran.between shelf_after before after answer texts told
+pub settled : CertificatesComeToOneThing → (line : Option CommandLine) (shelf shelf_after : ShelfState) (before after : Streams)
+    (answer : Ended) → Ran line shelf shelf_after before after answer → IsSettled line shelf shelf_after before after answer
+settled once line shelf shelf_after before after answer ran = λ texts told steady.
+    settled_by once line shelf ran.between shelf_after before after answer texts told
     (λ rises.
     steady (rises_on shelf.faults ran.between.faults shelf_after.faults
     (follows_rise ran.comes ran.between shelf_after before after answer ran.follows) rises)) ran.comes ran.did ran.follows

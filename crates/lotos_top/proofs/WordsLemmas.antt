@@ -8,7 +8,7 @@ use Rattle.spec_acceptance.specs.HandedOn.{words_limit, word_bytes_limit, total_
 use Rattle.spec_acceptance.specs.Acceptance.{Asked}
 use Rattle.lotos_top.specs.declared.commands.Task.{Task}
 use Rattle.lotos_top.specs.declared.commands.Task.TheVariants as task
-use Rattle.lotos_top.specs.Words.{CommandLine, Verb, check, session, demonstration, WordsBehind, words_behind, ends_files, file_before, cut_at_with, takes_words, asked_with, number_up_to, or_this, most_cells, cells_with, line_with, line_of, line_of_verb, verb_named, verbs, words_line, command_line, values_in}
+use Rattle.lotos_top.specs.Words.{CommandLine, Verb, check, session, demonstration, flattening_of, bisimilarity, compared_with, WordsBehind, words_behind, ends_files, file_before, cut_at_with, takes_words, asked_with, number_up_to, or_this, most_cells, cells_with, line_with, line_of_verb, verb_named, verbs, words_line, command_line, values_in}
 
 -- fewer words and bytes
 record IsPart (words more : List (List ℕ)) : Type 0 where
@@ -69,10 +69,14 @@ of_asked make None values line kept are is = absurd (none-some line is)
 of_asked make (Some asked) values line kept are is =
     ap (λ (it : CommandLine). values_in it) (sym (same_Some (make asked) line is)) ∙ kept asked ∙ are asked refl
 
--- a demonstration has none
-of_cells : (cells : Option ℕ) (line : CommandLine) → option_map demonstration cells ≡ Some line → values_in line ≡ []
-of_cells None line is = absurd (none-some line is)
-of_cells (Some cells) line is = ap (λ (it : CommandLine). values_in it) (sym (same_Some (demonstration cells) line is))
+-- a line that is made without start values has none
+of_none : {A : Type 0} (make : A → CommandLine) (found : Option A) (line : CommandLine) → ((a : A) → values_in (make a) ≡ [])
+    → option_map make found ≡ Some line → values_in line ≡ []
+of_none make None line none is = absurd (none-some line is)
+of_none make (Some a) line none is = ap (λ (it : CommandLine). values_in it) (sym (same_Some (make a) line is)) ∙ none a
+
+none_part : (words : List (List ℕ)) (line : CommandLine) → values_in line ≡ [] → IsPart (values_in line) words
+none_part words line none = subst (λ (vs : List (List ℕ)). IsPart vs words) (sym none) (no_part words)
 
 with_part : (work : Task) (files values words : List (List ℕ)) (line : CommandLine) → IsPart values words
     → line_with work files values ≡ Some line → IsPart (values_in line) words
@@ -83,7 +87,11 @@ with_part task.Run files values words line part is =
     subst (λ (vs : List (List ℕ)). IsPart vs words)
     (sym (of_asked session (asked_with files values) values line (λ asked. refl) (asked_values files values) is)) part
 with_part task.Demo files values words line part is =
-    subst (λ (vs : List (List ℕ)). IsPart vs words) (sym (of_cells (cells_with files) line is)) (no_part words)
+    none_part words line (of_none demonstration (cells_with files) line (λ cells. refl) is)
+with_part task.Flatten files values words line part is =
+    none_part words line (of_none flattening_of (asked_with files values) line (λ asked. refl) is)
+with_part task.Bisim files values words line part is =
+    none_part words line (of_none bisimilarity (compared_with files) line (λ c. refl) is)
 
 -- what is there where a test holds
 where_true : {A : Type 0} (b : Bool) (x : Option A) (a : A) → (if b then x else None) ≡ Some a → (IsTrue b) × (x ≡ Some a)

@@ -1,15 +1,17 @@
 -- Parts of the work, one after another, over a shelf.
-use Rattle.std.proofs.Common.{◌≡◌, ◌⊎◌, inl, inr, ℕ, List, [], ◌++◌, Option, None, Some, refl, sym, ap, ◌∙◌, subst}
+use Rattle.std.proofs.Common.{◌≡◌, ◌⊎◌, inl, inr, ℕ, List, [], ◌++◌, Some, refl, sym, ap, ◌∙◌, subst}
 use Rattle.std.proofs.lemmas.List.Elements.{All-nil}
 use Rattle.std.proofs.lemmas.List.{append-nil}
 use Rattle.lotos_base.specs.Counts.{next_count}
 use Rattle.spec_acceptance.specs.HandedOn.{ShelfState, GotFile, IsFileOf, Gives, GivesSome, calls_after, Refused}
 use Rattle.spec_acceptance.specs.Acceptance.{Asked, Acceptance, IsAccepted}
 use Rattle.spec_acceptance.specs.Doing.{AsksBehind, Did}
-use Rattle.spec_acceptance.specs.Part.{Comes, goes_on, unread, stops, wants_memory, Part, Then, Has, Telling}
+use Rattle.spec_acceptance.specs.Part.{goes_on, unread, stops, wants_memory, Part, Then, Telling}
 use Rattle.demo_walks.specs.HandedOn.{Beginning}
 use Rattle.lotos_top.specs.Opening.{SessionBegins}
-use Rattle.lotos_top.specs.Work.{Print, Finish, prints, serves, Finds, Opens, OpensAsked, refusal_printed, work_of}
+use Rattle.lotos_top.specs.Finishing.{Print, Finish, serves}
+use Rattle.lotos_top.specs.Parts.{Finds, Opens, OpensAsked}
+use Rattle.lotos_top.specs.Work.{work_of}
 use Rattle.lotos_top.specs.Words.{session}
 
 -- ---- What comes of parts
@@ -49,7 +51,7 @@ pub ended_stops : {E A B : Type 0} (a b : ShelfState) (First : Part E A) (next :
 ended_stops a b First next e did = (did.0, did.1, inl did.2)
 
 -- or memory was wanted in it
-some_asked : (a b : ShelfState) (files : List GotFile) (Here There : Type 0) → (Here → There) → GivesSome a b files Here
+pub some_asked : (a b : ShelfState) (files : List GotFile) (Here There : Type 0) → (Here → There) → GivesSome a b files Here
     → GivesSome a b files There
 some_asked a b files Here There leads is = record { texts = is.texts; content = is.content; faults = is.faults; calls = by is.calls }
   where

@@ -1,5 +1,5 @@
 -- Where the session of what was accepted begins, and what is printed before it.
-use Rattle.std.specs.Prelude.{◌≡◌, ℕ, List, [], ◌++◌, map, Option, Some, None}
+use Rattle.std.specs.Prelude.{◌≡◌, ℕ, List, ◌++◌, map}
 use Rattle.lotos_base.specs.Term.{Term}
 use Rattle.behaviour_semantics.specs.Replacement.{with_values, binding_of}
 use Rattle.spec_acceptance.specs.HandedOn.{IsOpenedBy, Precedence, NumberedRule, rules_of, Chooses}

@@ -1,26 +1,25 @@
 -- Over texts that a shelf tells a run does what comes of its work over them.
-use Rattle.std.specs.Prelude.{◌≡◌, ◌⊎◌, List, Option, Some, None}
+use Rattle.std.specs.Prelude.{◌≡◌, ◌⊎◌, ℕ, List, Option, Some}
 use Rattle.lotos_base.specs.Counts.{Rises}
 use Rattle.lotos_base.specs.Outside.{Texts}
-use Rattle.spec_acceptance.specs.HandedOn.{ShelfState, GotFile, AreGotFrom, Refused}
+use Rattle.spec_acceptance.specs.HandedOn.{ShelfState, Refused}
 use Rattle.spec_acceptance.specs.Acceptance.{Asked, Acceptance}
-use Rattle.spec_acceptance.specs.AcceptanceOutcomes.{got_from, ComesOver}
-use Rattle.spec_acceptance.specs.Part.{Comes, goes_on, unread, stops, wants_memory}
-use Rattle.spec_acceptance.specs.PartLaws.{Lacks}
+use Rattle.spec_acceptance.specs.AcceptanceOutcomes.{ComesOfPart, ComesOver}
+use Rattle.spec_acceptance.specs.Part.{Comes, goes_on, unread, stops}
 use Rattle.demo_walks.specs.HandedOn.{Beginning}
+use Rattle.lotos_top.specs.Comparing.{IsOneCheck}
+use Rattle.lotos_top.specs.Flattening.{IsByFounding}
 use Rattle.lotos_top.specs.Opening.{SessionBegins, opening_text}
 use Rattle.lotos_top.specs.Run.{Streams, Follows}
-use Rattle.lotos_top.specs.Words.{CommandLine, check, session, demonstration}
-use Rattle.lotos_top.specs.Work.{Print, print, Finish, prints, serves, refusal_printed, work_of}
+use Rattle.lotos_top.specs.Words.{CommandLine, Compared, check, session, flattening, bisimilarity}
+use Rattle.lotos_top.specs.Finishing.{Print, print, Finish, prints, serves, refusal_printed}
+use Rattle.lotos_top.specs.Work.{work_of}
 use Rattle.lotos_top.specs.declared.ended.Ended.{Ended}
 use Rattle.lotos_top.specs.declared.ended.Ended.TheVariants.{Done, NoMemory}
 
--- This comes of the work of the line over these texts, where memory is there.
-pub record WorkOver (texts : Texts) (line : Option CommandLine) (comes : Comes Print Finish) : Type 0 where
-  pub files : List GotFile
-  pub came : work_of line files comes
-  pub got_files : AreGotFrom (got_from texts) files
-  pub lacks : Lacks (got_from texts) comes
+-- this comes of the work of the line over these texts, where memory is there
+abbrev pub WorkOver : Texts → Option CommandLine → Comes Print Finish → Type 0
+WorkOver texts line comes = ComesOfPart texts (work_of line) comes
 
 -- what is done for an accepted specification, by the line
 abbrev pub IsFinishFor : Option CommandLine → Asked → Beginning → Finish → Type 0
@@ -44,7 +43,8 @@ AsksFor (Some (session one)) asked = one ≡ asked
 AsksFor line asked = ⊥
 
 -- The run did what comes of the work over these texts, which are still there between the work and what follows from it. Where a
--- specification is asked for, that is by the one thing that comes of its acceptance over them.
+-- specification is asked for, that is by the one thing that comes of its acceptance over them; where it is flattened, by the one
+-- thing that comes of it up to the book of its data; and one thing comes of a certificate that is checked.
 pub record DoesWorkOver (texts : Texts) (line : Option CommandLine) (shelf_after : ShelfState) (before after : Streams) (answer : Ended)
     : Type 0 where
   pub comes : Comes Print Finish
@@ -52,6 +52,8 @@ pub record DoesWorkOver (texts : Texts) (line : Option CommandLine) (shelf_after
   pub by_acceptance :
       (asked : Asked) (outcome : Comes Refused Acceptance) → AsksFor line asked → ComesOver texts asked outcome
       → IsByAcceptance line asked outcome comes
+  pub by_founding : (spec : List ℕ) (order : Option (List ℕ)) → line ≡ Some (flattening spec order) → IsByFounding texts spec order comes
+  pub by_certificate : (c : Compared) → line ≡ Some (bisimilarity c) → IsOneCheck texts c comes
   pub between : ShelfState
   pub texts_between : between.texts ≡ Some texts
   pub follows : Follows comes between shelf_after before after answer

@@ -1,7 +1,7 @@
 -- The number that the program ends with, for each way that a run ends.
 use Rattle.std.specs.Prelude.{ℕ}
 use Rattle.lotos_top.specs.declared.ended.Ended.{Ended}
-use Rattle.lotos_top.specs.declared.ended.Ended.TheVariants.{Done, SpecRefused, WordsRefused, FileFault, InputFault, OutputFault, NoMemory, InputTooLong}
+use Rattle.lotos_top.specs.declared.ended.Ended.TheVariants.{Done, SpecRefused, WordsRefused, FileFault, InputFault, OutputFault, NoMemory, InputTooLong, CertificateRefused}
 
 -- the status of the program
 abbrev pub status_number : Ended → ℕ
@@ -13,3 +13,4 @@ status_number InputFault = 4
 status_number OutputFault = 5
 status_number NoMemory = 6
 status_number InputTooLong = 7
+status_number CertificateRefused = 8

@@ -1,22 +1,33 @@
 -- The lines of words that the program takes: the table of verbs, and what a verb asks for with the words behind it.
-use Rattle.std.specs.Prelude.{ℕ, zero, suc, Bool, true, false, not, ◌&&◌, ◌||◌, List, [], ◌∷◌, length, nat_le, codes, decimal, if◌then◌else◌, Option, Some, None, option_map}
+use Rattle.std.specs.Prelude.{ℕ, zero, suc, Bool, true, false, not, ◌&&◌, ◌||◌, List, [], ◌∷◌, ◌++◌, length, nat_le, codes, decimal, if◌then◌else◌, Option, Some, None, option_map}
 use Rattle.std.specs.Str.{bytes_eq}
 use Rattle.spec_acceptance.specs.HandedOn.{words_of, are_within}
 use Rattle.spec_acceptance.specs.Acceptance.{Asked}
 use Rattle.spec_acceptance.specs.AcceptedView.{asked_for}
 use Rattle.lotos_top.specs.declared.commands.Command.{Command}
-use Rattle.lotos_top.specs.declared.commands.Command.TheVariants.{Check, Run, Demo}
+use Rattle.lotos_top.specs.declared.commands.Command.TheVariants.{Check, Run, Demo, Flatten, Bisim}
 use Rattle.lotos_top.specs.declared.commands.Behind.{Behind}
 use Rattle.lotos_top.specs.declared.commands.Files.{Files}
 use Rattle.lotos_top.specs.declared.commands.Task.{Task}
 use Rattle.lotos_top.specs.declared.commands.Task.TheVariants as task
 use Rattle.lotos_top.specs.declared.commands.Verb.{Verb as CodeVerb}
 
+-- the names of two specifications, and of a certificate of bisimulation
+pub record Compared : Type 0 where
+  pub spec : List ℕ
+  pub other : List ℕ
+  pub pairs : List ℕ
+
+abbrev pub compared : (spec other pairs : List ℕ) → Compared
+compared spec other pairs = record { spec = spec; other = other; pairs = pairs }
+
 -- a line of words
 pub data CommandLine : Type 0 where
   check : Asked → CommandLine
   session : Asked → CommandLine
   demonstration : (cells : ℕ) → CommandLine
+  flattening : (spec : List ℕ) (order : Option (List ℕ)) → CommandLine
+  bisimilarity : Compared → CommandLine
 
 -- A verb: the first word of a line. It has its word, the fewest and the most words that may stand behind it up to `with`, whether
 -- `with` and start values may stand behind these, and its task.
@@ -37,7 +48,15 @@ verbs =
     verb_row (codes "check") 1 2 true task.Check
     ∷ verb_row (codes "run") 1 2 true task.Run
     ∷ verb_row (codes "demo") 1 1 false task.Demo
+    ∷ verb_row (codes "flatten") 1 2 false task.Flatten
+    ∷ verb_row (codes "bisim") 3 3 false task.Bisim
     ∷ []
+
+-- the line that says what may stand behind each verb
+abbrev pub usage_text : List ℕ
+usage_text =
+    codes "usage: lotos check SPEC [ORDER] [with TERM...] | run SPEC [ORDER] [with TERM...] | demo N | flatten SPEC [ORDER]"
+    ++ codes " | bisim SPEC OTHER PAIRS\n"
 
 -- ---- The words behind a verb
 
@@ -95,11 +114,22 @@ abbrev pub cells_with : (files : List (List ℕ)) → Option ℕ
 cells_with (word ∷ []) = cells_said word
 cells_with files = None
 
+-- the names alone, for a line without start values
+abbrev pub flattening_of : Asked → CommandLine
+flattening_of asked = flattening asked.spec asked.order
+
+-- the three names, in their order
+abbrev pub compared_with : (files : List (List ℕ)) → Option Compared
+compared_with (spec ∷ other ∷ pairs ∷ []) = Some (compared spec other pairs)
+compared_with files = None
+
 -- the line of a task with these files and start values
 abbrev pub line_with : Task → (files values : List (List ℕ)) → Option CommandLine
 line_with task.Check files values = option_map check (asked_with files values)
 line_with task.Run files values = option_map session (asked_with files values)
 line_with task.Demo files values = option_map demonstration (cells_with files)
+line_with task.Flatten files values = option_map flattening_of (asked_with files values)
+line_with task.Bisim files values = option_map bisimilarity (compared_with files)
 
 -- ---- The line
 
@@ -130,6 +160,8 @@ abbrev pub values_in : CommandLine → List (List ℕ)
 values_in (check asked) = asked.values
 values_in (session asked) = asked.values
 values_in (demonstration cells) = []
+values_in (flattening spec order) = []
+values_in (bisimilarity c) = []
 
 -- whether a line is that of a demonstration
 abbrev pub is_demonstration : Option CommandLine → Bool
@@ -151,6 +183,8 @@ abbrev pub line_of : Command → CommandLine
 line_of (Check spec order values) = check (asked_for spec.now (option_map (λ name. name.now) order) (words_of values.now))
 line_of (Run spec order values) = session (asked_for spec.now (option_map (λ name. name.now) order) (words_of values.now))
 line_of (Demo cells) = demonstration cells
+line_of (Flatten spec order) = flattening spec.now (option_map (λ name. name.now) order)
+line_of (Bisim spec other pairs) = bisimilarity (compared spec.now other.now pairs.now)
 
 -- the words behind a verb of the code
 abbrev pub behind_by : Behind → WordsBehind

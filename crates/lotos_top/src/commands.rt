@@ -4,13 +4,16 @@ ghost use Rattle.lotos_top.specs.Words.{
   asked_by,
   asked_with,
   behind_by,
+  bisimilarity,
   cells_said,
   cells_with,
   check,
   command_line,
+  compared_with,
   cut_at_with,
   demonstration,
   ends_files,
+  flattening_of,
   line_of,
   line_of_cut,
   line_with,
@@ -53,6 +56,22 @@ pub enum Command<'a> {
         /// How many cells, from 1 to 64.
         cells: u32,
     },
+    /// Print the flat text of a specification.
+    Flatten {
+        /// The name of the specification's file.
+        spec: &'a str,
+        /// The name of the order file, if there is one.
+        order: Option<&'a str>,
+    },
+    /// Check a certificate of bisimulation.
+    Bisim {
+        /// The name of the one specification's file.
+        spec: &'a str,
+        /// The name of the other specification's file.
+        other: &'a str,
+        /// The name of the certificate's file.
+        pairs: &'a str,
+    },
 }
 
 /// The names of files and the start values that words have.
@@ -75,6 +94,10 @@ pub enum Task {
     Run,
     /// What `Command::Demo` asks for.
     Demo,
+    /// What `Command::Flatten` asks for.
+    Flatten,
+    /// What `Command::Bisim` asks for.
+    Bisim,
 }
 
 /// A verb: the first word of a command line, and what may stand behind it.
@@ -93,7 +116,7 @@ pub struct Verb {
 }
 
 /// The verbs.
-pub const VERBS: [Verb; 3] = [
+pub const VERBS: [Verb; 5] = [
     Verb {
         word: "check",
         least: 1,
@@ -115,12 +138,28 @@ pub const VERBS: [Verb; 3] = [
         takes_values: false,
         task: Task::Demo,
     },
+    Verb {
+        word: "flatten",
+        least: 1,
+        most: 2,
+        takes_values: false,
+        task: Task::Flatten,
+    },
+    Verb {
+        word: "bisim",
+        least: 3,
+        most: 3,
+        takes_values: false,
+        task: Task::Bisim,
+    },
 ];
 
 /// The usage line: what may stand behind each verb.
 pub const USAGE: &[u8] = b"usage: lotos check SPEC [ORDER] [with TERM...] \
     | run SPEC [ORDER] [with TERM...] \
-    | demo N\n";
+    | demo N \
+    | flatten SPEC [ORDER] \
+    | bisim SPEC OTHER PAIRS\n";
 
 /// The words behind a verb.
 #[derive(Clone, Copy, Debug)]
@@ -135,10 +174,10 @@ pub struct Behind<'a> {
 
 /// What the words ask for, and `None` exactly where they are no line that is built.
 ///
-/// Built are `check SPEC`, `check SPEC ORDER`, `run SPEC` and `run SPEC ORDER`, where neither SPEC
-/// nor ORDER is `with`, each of these with `with` and any number of words behind it, and `demo N`
-/// with N from 1 to 64 in decimal without a leading zero. The words are at most 65,536 and have at
-/// most 1,048,576 bytes together. Takes no memory.
+/// Built are `check SPEC`, `check SPEC ORDER`, `run SPEC` and `run SPEC ORDER`, each of these with
+/// `with` and any number of words behind it, `demo N` with N from 1 to 64 in decimal without a
+/// leading zero, `flatten SPEC` and `flatten SPEC ORDER`, and `bisim SPEC OTHER PAIRS`, where no
+/// name of a file is `with`. The words are at most 65,536 and have at most 1,048,576 bytes together. Takes no memory.
 pub fn parse_command(words: &[String]) -> Option<Command<'_>>
     ensures { MatchOption result (command_line (words_of words.now) ≡ None)
         (λ command. command_line (words_of words.now) ≡ Some (line_of command)) }
@@ -230,6 +269,8 @@ fn with_task<'a>(task: Task, files: &'a [String], values: &'a [String]) -> Optio
         Task::Check => checked(named_files(files, values)),
         Task::Run => served(named_files(files, values)),
         Task::Demo => demonstrated(number_of_cells(files)),
+        Task::Flatten => flattened(named_files(files, values)),
+        Task::Bisim => compared(files),
     }
 }
 
@@ -287,6 +328,35 @@ fn demonstrated(cells: Option<u32>) -> Option<Command<'static>>
     match cells {
         Some(cells) => Some(Command::Demo { cells }),
         None => None,
+    }
+}
+
+// The command that prints the flat text of the files.
+fn flattened(files: Option<Files<'_>>) -> Option<Command<'_>>
+    ensures { option_map line_of result
+        ≡ option_map flattening_of (option_map asked_by files.entry) }
+{
+    match files {
+        Some(files) => Some(Command::Flatten {
+            spec: files.spec,
+            order: files.order,
+        }),
+        None => None,
+    }
+}
+
+// The command that checks a certificate of bisimulation.
+fn compared(files: &[String]) -> Option<Command<'_>>
+    ensures { option_map line_of result
+        ≡ option_map bisimilarity (compared_with (words_of files.now)) }
+{
+    match files {
+        [spec, other, pairs] => Some(Command::Bisim {
+            spec: spec.as_str(),
+            other: other.as_str(),
+            pairs: pairs.as_str(),
+        }),
+        _ => None,
     }
 }
 

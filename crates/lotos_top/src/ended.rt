@@ -22,10 +22,12 @@ pub enum Ended {
     NoMemory,
     /// The input has more than 16,777,216 bytes.
     InputTooLong,
+    /// A certificate was refused, and the line of the refusal is written.
+    CertificateRefused,
 }
 
 impl Ended {
-    /// The number that the program ends with: 0 to 7, in the order of the variants.
+    /// The number that the program ends with: 0 to 8, in the order of the variants.
     pub fn status(self) -> u8
         ensures { result ≡ status_number self }
     {
@@ -38,6 +40,7 @@ impl Ended {
             Ended::OutputFault => 5,
             Ended::NoMemory => 6,
             Ended::InputTooLong => 7,
+            Ended::CertificateRefused => 8,
         }
     }
 }

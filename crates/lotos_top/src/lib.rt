@@ -2,7 +2,9 @@
 #![tactic(auto)]
 
 pub mod commands;
+mod comparing;
 mod ended;
+mod flattening;
 mod opening;
 mod running;
 

@@ -2,7 +2,7 @@
 //! line that says why there is none.
 
 ghost use Rattle.demo_walks.specs.DemoSummary.{IsSummary};
-ghost use Rattle.demo_walks.specs.HandedOn.{head_text, unread_text, usage_text};
+ghost use Rattle.demo_walks.specs.HandedOn.{head_text, unread_text};
 ghost use Rattle.lotos_base.specs.Name.{spelling};
 ghost use Rattle.lotos_top.specs.Opening.{SessionBegins, opening_text};
 ghost use Rattle.lotos_top.specs.Prepared.{
@@ -20,8 +20,10 @@ ghost use Rattle.lotos_top.specs.Words.{
   command_line,
   demonstration,
   session,
+  usage_text,
 };
-ghost use Rattle.lotos_top.specs.Work.{Opens, word_or_none};
+ghost use Rattle.lotos_top.specs.Parts.{Opens};
+ghost use Rattle.lotos_top.specs.Finishing.{word_or_none};
 ghost use Rattle.lotos_top.specs.declared.ended.Ended.TheVariants.{
   Done as done,
   FileFault as file_fault,
@@ -58,11 +60,12 @@ ghost use Rattle.std.specs.Prelude.{
 };
 
 use crate::commands::{Command, USAGE, parse_command};
+use crate::comparing::compared;
 use crate::ended::Ended;
-use demo_walks::{
-    FreshMenus, Session, Spec, demo_text, menu_text, push_number, push_text, write_summary,
-};
+use crate::flattening::flattened;
+use demo_walks::{Session, Spec, demo_text, menu_text, push_number, push_text, write_summary};
 use lotos_base::{MemShelf, NoMemory, Shelf};
+use menu_parts::PartMenus;
 use sort_terms::Signature;
 use spec_acceptance::{Accepted, Book, NotAccepted, Refused, refusal_line};
 use std::alloc::Global;
@@ -71,7 +74,7 @@ use std::alloc::Global;
 #[derive(Drop)]
 pub struct Opened {
     /// The session at its start.
-    pub session: Session<FreshMenus>,
+    pub session: Session<PartMenus>,
     /// The data, whose equality is decided.
     pub book: Book,
 }
@@ -130,6 +133,10 @@ pub fn prepare<F: Shelf>(alloc: Global, words: &[String], shelf: &mut F) -> Resu
             },
         ) => served(alloc, spec, order, values, shelf),
         Some(Command::Demo { cells }) => demonstrated(alloc, cells),
+        Some(Command::Flatten { spec, order }) => flattened(alloc, spec, order, shelf),
+        Some(Command::Bisim { spec, other, pairs }) => {
+            compared(alloc, spec, other, pairs, shelf)
+        }
         None => usage_ready(alloc),
     }
 }
@@ -233,7 +240,8 @@ fn begin(alloc: Global, accepted: Accepted) -> Result<Opened, NoMemory>
         start,
     } = accepted;
     let mut book = book;
-    let session = Session::open(alloc, spec, ranks, start, FreshMenus, &mut book)?;
+    let maker = PartMenus::open(&spec)?;
+    let session = Session::open(alloc, spec, ranks, start, maker, &mut book)?;
     Ok(Opened { session, book })
 }
 

@@ -2,22 +2,29 @@
 
 ghost use Rattle.demo_walks.specs.HandedOn.{IsServing};
 ghost use Rattle.line_server.specs.Writing.{stream};
+ghost use Rattle.lotos_top.specs.Bisimilarity.{YesMeansBisimilar};
 ghost use Rattle.lotos_top.specs.Causes.{AnswersHaveCauses};
 ghost use Rattle.lotos_top.specs.Headline.{Headline};
 ghost use Rattle.lotos_top.specs.Opening.{opening_text};
-ghost use Rattle.lotos_top.specs.Prepared.{IsLawfulAt, any_maker, beginning_of, begun, print_in};
+ghost use Rattle.lotos_top.specs.Prepared.{IsLawfulAt, beginning_of, begun, print_in};
 ghost use Rattle.lotos_top.specs.Run.{Ran, ServesSession, Writes, ended_by, streams};
 ghost use Rattle.lotos_top.specs.Settled.{IsSettled};
 ghost use Rattle.lotos_top.specs.Words.{command_line};
+ghost use Rattle.menu_parts.specs.KeptMenus.{Suits};
 ghost use Rattle.sort_terms.specs.SignatureView.{signature_of};
 ghost use Rattle.spec_acceptance.specs.HandedOn.{shelf_state, words_of};
 ghost use Rattle.std.specs.Prelude.{◌≡◌, MatchResult};
 
 use crate::ended::Ended;
 use crate::opening::{Alone, Front, Opened, Ready, front_of, prepare};
-use demo_walks::{FreshMenus, HistoryLines, lines_lead_on, serve_input, served_lines_are_answered};
+use bisimulation_theory::certificates::{
+    accepted_certificates_show_bisimilarity, accepted_starts_do_the_same,
+    certificates_come_to_one_thing,
+};
+use demo_walks::{HistoryLines, lines_lead_on, serve_input, served_lines_are_answered};
 use line_server::{SessionEnd, write_whole};
 use lotos_base::{Failed, NoMemory, Shelf, Sink, Source};
+use menu_parts::PartMenus;
 use sort_terms::Reader;
 use std::alloc::Global;
 
@@ -27,7 +34,8 @@ use std::alloc::Global;
 /// head of the report and the exact menu of the state in which the specification begins. `run` goes
 /// on with the session of the input: it answers each line and prints the answer before it reads on.
 /// `demo` makes a specification of so many cells, walks through its session and prints the summary;
-/// it asks nothing of the shelf and reads no input.
+/// it asks nothing of the shelf and reads no input. `flatten` gets the files that `check` gets and
+/// prints the flat text of the specification, whatever start values its parameters get.
 ///
 /// The answer is `WordsRefused` exactly where the words are no line of the usage, `FileFault` where
 /// a file could not be got, `SpecRefused` where the specification is refused, whose first fault is
@@ -74,10 +82,21 @@ pub fn run<F: Shelf, S: Source, K: Sink>(
         (streams (stream (S.left input.new) (S.faults input.new))
         (stream (K.written output.new) (K.faults output.new)))
         result }
+    ensures bisimilar { YesMeansBisimilar (command_line (words_of words.now))
+        (shelf_state (F.texts shelf.old) (F.faults shelf.old) (F.calls shelf.old))
+        (shelf_state (F.texts shelf.new) (F.faults shelf.new) (F.calls shelf.new))
+        (streams (stream (S.left input.old) (S.faults input.old))
+        (stream (K.written output.old) (K.faults output.old)))
+        (streams (stream (S.left input.new) (S.faults input.new))
+        (stream (K.written output.new) (K.faults output.new)))
+        result }
 {
-    // (These two do nothing. They carry the laws that the clauses stand on.)
+    // (These do nothing. They carry the laws that the clauses stand on.)
     lines_lead_on();
     served_lines_are_answered();
+    accepted_certificates_show_bisimilarity();
+    accepted_starts_do_the_same();
+    certificates_come_to_one_thing();
     run_over(alloc, words, shelf, input, output)
 }
 
@@ -197,13 +216,13 @@ fn serve_front<F: Shelf, S: Source, K: Sink>(
 fn serve_behind<F: Shelf, S: Source, K: Sink>(
     alloc: Global,
     text: &[u8],
-    lines: &mut HistoryLines<'_, FreshMenus>,
+    lines: &mut HistoryLines<'_, PartMenus>,
     shelf: &mut F,
     input: &mut S,
     output: &mut K,
 ) -> Ended
     requires text { text.now ≡ opening_text (beginning_of lines.old) }
-    requires serving { IsServing any_maker lines.old }
+    requires serving { IsServing Suits lines.old }
     ensures { ServesSession (beginning_of lines.old)
         (shelf_state (F.texts shelf.old) (F.faults shelf.old) (F.calls shelf.old))
         (shelf_state (F.texts shelf.new) (F.faults shelf.new) (F.calls shelf.new))

@@ -28,7 +28,7 @@ use Rattle.kept_menu_laws.specs.PartMenus.{hide_menu, relabel_menu, call_menu, e
 use Rattle.kept_menu_laws.specs.PartMenuLaws.{MakeTheMenu}
 use Rattle.kept_menu_laws.proofs.PartMenuLemmas.{make_the_menu}
 use Rattle.behaviour_semantics.specs.Label.{gate_under}
-use Rattle.draft_parts.specs.Rows.{call_pairs}
+use Rattle.shared_entries.specs.HandedOn.{call_pairs}
 use Rattle.step_parts.specs.TargetNodes.{HasClosedParts}
 use Rattle.step_parts.proofs.TargetLemmas.{closed_state}
 use Rattle.step_taker.specs.Sides.{IsSideState, side_of, side_profiles}

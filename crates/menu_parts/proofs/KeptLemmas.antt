@@ -8,8 +8,8 @@ use Rattle.behaviour_semantics.specs.WellFormed.{Every}
 use Rattle.behaviour_tree.specs.StateView.{stands_for}
 use Rattle.behaviour_tree.specs.declared.states.Node.{Node}
 use Rattle.lotos_base.specs.Signature.{Signature}
-use Rattle.event_offers.specs.Offers.{IsEntryOver}
-use Rattle.event_offers.specs.declared.drafts.Entry.{Entry}
+use Rattle.shared_entries.specs.HandedOn.{IsEntryOver}
+use Rattle.shared_entries.specs.HandedOn.{Entry}
 use Rattle.kept_menu_laws.specs.PartMenus.{parallel_menu, sides_menu}
 use Rattle.shared_entries.specs.Items.{AreTerms, HasEntryTerms, HasItemTerms, IsItemOver, Terms, entry_terms, item_terms, plain_item}
 use Rattle.shared_entries.specs.Joined.{AreBeside}

@@ -23,9 +23,8 @@ ghost use Rattle.step_taker.specs.Walked.{IsPassable, IsPassableNode};
 use crate::parts::own_node;
 use behaviour_tree::boxes::shared;
 use behaviour_tree::{Beh, Meet, Node, Process};
-use draft_parts::{Call, Variant};
 use lotos_base::NoMemory;
-use shared_entries::PartRule;
+use shared_entries::{Call, PartRule, Variant};
 use sort_terms::{Deciding, Sorted, Variable};
 use std::alloc::Global;
 use std::rc::Rc;
@@ -208,6 +207,9 @@ fn relabel_form<'a>(
     Ok(Form::One(PartRule::Relabelled(pairs, Variant::Relabelled), inner))
 }
 
+// A gate `par` of more copies is one component: its copies side by side would nest as deep.
+const MOST_COPIES: usize = 100;
+
 // The form of a gate `par`: that of its copies side by side.
 fn copies_form<'a>(
     formal: u32,
@@ -221,13 +223,30 @@ fn copies_form<'a>(
         → IsForm basis (plain.par_gate formal gates.now.items (meet_of meet.now)
         (behaviour_of part.now.value)) form) }
 {
+    if gates.len() > MOST_COPIES {
+        return Ok(Form::Whole);
+    }
     let alloc = *gates.allocator();
     let copies = side_by_side(formal, gates, meet, part)?;
     let inner = shared(alloc, copies)?;
     Ok(Form::One(PartRule::Same, inner))
 }
 
-// The form of a `let`: its body with the values put in.
+// Whether the menu of the behaviour is made from those of its parts.
+fn has_parts(behaviour: &Beh) -> bool {
+    match behaviour {
+        Beh::Parallel(_, _, _, _)
+        | Beh::Hide(_, _)
+        | Beh::Enable(_, _, _, _)
+        | Beh::Disable(_, _, _)
+        | Beh::Let(_, _)
+        | Beh::ParGate(_, _, _, _)
+        | Beh::Call { .. } => true,
+        _ => false,
+    }
+}
+
+// The form of a `let`: its body with the values put in, where the body has parts.
 fn let_form<'a, D: Deciding>(
     walk: &Walk<'_>,
     bindings: &Vec<(Variable, Sorted)>,
@@ -245,12 +264,15 @@ fn let_form<'a, D: Deciding>(
         (plain.let_be (map let_of bindings.now.items) (behaviour_of part.now)) form) }
     ensures same_known { KeepsData D.known_data D.canon decider.old decider.new }
 {
+    if !has_parts(part) {
+        return Ok(Form::Whole);
+    }
     let body = let_body(walk, bindings, part, decider)?;
     let inner = own_node(walk.alloc, body)?;
     Ok(Form::One(PartRule::Below(Variant::Bound), inner))
 }
 
-// The form of a call: the body of its process with the values put in.
+// The form of a call: the body of its process with the values put in, where the body has parts.
 fn call_form<'a, D: Deciding>(
     walk: &Walk<'_>,
     process: u32,
@@ -272,6 +294,9 @@ fn call_form<'a, D: Deciding>(
     let Some(called) = called_at(walk.spec, process) else {
         return Ok(Form::Whole);
     };
+    if !has_parts(&called.body) {
+        return Ok(Form::Whole);
+    }
     let body = call_body(walk, called, values, decider)?;
     let inner = own_node(walk.alloc, body)?;
     let pairs = relabelling(walk.alloc, called, gates)?;

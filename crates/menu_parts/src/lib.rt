@@ -7,6 +7,8 @@ pub mod forms;
 pub mod kept;
 pub mod makers;
 pub mod making;
+pub mod moving;
 pub mod parts;
+pub mod widths;
 
 pub use makers::PartMenus;

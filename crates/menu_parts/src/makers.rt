@@ -11,12 +11,12 @@ ghost use Rattle.std.specs.Prelude.{◌≡◌, IfOk, map};
 
 use crate::kept::Kept;
 use crate::making::{LEVELS, Making, brought};
+use crate::widths::is_wide;
 use behaviour_tree::boxes::shared;
 use behaviour_tree::{Spec, State};
-use event_offers::Menu;
 use lotos_base::NoMemory;
-use menu_builder::MenuMaker;
 use menu_builder::numbers::above_processes;
+use menu_builder::{Menu, MenuMaker, menu};
 use process_checks::Ranks;
 use shared_entries::entries_of;
 use sort_terms::Deciding;
@@ -25,11 +25,13 @@ use std::rc::Rc;
 
 /// A maker that keeps the menus of the parts of the last state, and uses them again where a part is
 /// the same. It is opened for a specification, and suits it with any of its data before the first
-/// menu, and with the data and the canon that were used from then on.
+/// menu, and with the data and the canon that were used from then on. Where the specification has a
+/// gate `par` of very many gates it keeps nothing.
 #[derive(Drop)]
 pub struct PartMenus {
     least: u64,
     kept: Option<Rc<Kept>>,
+    is_wide: bool,
 }
 
 impl PartMenus {
@@ -39,7 +41,11 @@ impl PartMenus {
             → Suits maker spec.now data_ canon) }
     {
         let least = above_processes(spec, 0)?;
-        Ok(PartMenus { least, kept: None })
+        Ok(PartMenus {
+            least,
+            kept: None,
+            is_wide: is_wide(spec),
+        })
     }
 }
 
@@ -54,6 +60,9 @@ impl MenuMaker for PartMenus {
         state: &State,
         decider: &mut D,
     ) -> Result<Menu, NoMemory> {
+        if self.is_wide {
+            return menu(alloc, spec, ranks, state, decider);
+        }
         let copy = state.node().copy(alloc)?;
         let node = shared(alloc, copy)?;
         let making = Making {
@@ -62,7 +71,7 @@ impl MenuMaker for PartMenus {
             least: self.least,
             alloc,
         };
-        let next = brought(&making, &node, self.kept.as_ref(), LEVELS, decider)?;
+        let next = brought(&making, &node, self.kept.as_ref(), false, LEVELS, decider)?;
         let menu = menu_of(&next)?;
         self.kept = Some(next);
         Ok(menu)

@@ -11,7 +11,8 @@ ghost use Rattle.step_taker.specs.Walked.{IsPassableNode};
 
 use crate::forms::{Form, node_form};
 use crate::kept::{Kept, Listed};
-use crate::parts::{closed_node, first_of, going_on, second_of};
+use crate::moving::{part_moved, sides_moved};
+use crate::parts::{closed_node, compared, first_of, going_on, second_of};
 use behaviour_tree::boxes::{owner, shared};
 use behaviour_tree::{Meet, Node, Spec};
 use lotos_base::NoMemory;
@@ -25,8 +26,8 @@ use std::rc::Rc;
 use step_taker::moved::Walk;
 
 /// Parts of a state are looked at one by one down to so many levels; what stands deeper is one
-/// component.
-pub const LEVELS: u32 = 1_000;
+/// component, since the menu of each part above it is kept, and is as long as all that stands below.
+pub const LEVELS: u32 = 128;
 
 /// What menus are made over: the specification with the ranks of its processes, and a number above
 /// those of all variables that processes declare.
@@ -43,12 +44,13 @@ pub struct Making<'a> {
 }
 
 /// The menu of the node, with those of its parts down to so many levels. Where a kept menu is for
-/// the same behaviour it is used again.
+/// the same behaviour it is used again; a node that is known to have moved is not compared.
 #[cycle(bringing)]
 pub fn brought<D: Deciding>(
     making: &Making<'_>,
     node: &Rc<Node>,
     kept: Option<&Rc<Kept>>,
+    moved: bool,
     levels: u32,
     decider: &mut D,
 ) -> Result<Rc<Kept>, NoMemory>
@@ -66,7 +68,7 @@ pub fn brought<D: Deciding>(
         node.now.value made.value) }
     ensures same_known { KeepsData D.known_data D.canon decider.old decider.new }
 {
-    if let Some(earlier) = kept {
+    if let Some(earlier) = compared(kept, moved) {
         if earlier.is_for(node) {
             return owner(earlier);
         }
@@ -145,8 +147,8 @@ fn formed<D: Deciding>(
     }
 }
 
-// The menu of a node that is one component, where so many levels are left. One that was used takes
-// as much of the stack as two of those of a menu.
+// The menu of a node that is one component, where so many levels are left. One that was used counts
+// as one of those of a menu.
 fn whole<D: Deciding>(
     making: &Making<'_>,
     node: &Rc<Node>,
@@ -165,7 +167,7 @@ fn whole<D: Deciding>(
     ensures same_known { KeepsData D.known_data D.canon decider.old decider.new }
 {
     let used = LEVELS.saturating_sub(levels);
-    let left = Levels::all().below_many(used)?.below_many(used)?;
+    let left = Levels::all().below_many(used)?;
     let entries = node_entries(
         making.alloc,
         making.spec,
@@ -208,20 +210,22 @@ fn one<D: Deciding>(
         node.now.value made.value) }
     ensures same_known { KeepsData D.known_data D.canon decider.old decider.new }
 {
-    let below = brought(making, part, first_of(kept), levels, decider)?;
+    let moved = part_moved(node, kept);
+    let below = brought(making, part, first_of(kept), moved, levels, decider)?;
     let given = below.items();
     let items = rule.apply_to_all(given)?;
     let node = owner(node)?;
     shared(making.alloc, Kept::One(Listed { node, items }, below))
 }
 
-// The menus of both sides.
+// The menus of both sides, of which some are known to have moved.
 #[cycle(bringing)]
 fn both<D: Deciding>(
     making: &Making<'_>,
     left: &Rc<Node>,
     right: &Rc<Node>,
     kept: Option<&Rc<Kept>>,
+    moved: (bool, bool),
     levels: u32,
     decider: &mut D,
 ) -> Result<(Rc<Kept>, Rc<Kept>), NoMemory>
@@ -245,8 +249,8 @@ fn both<D: Deciding>(
         right.now.value made.1.value) }
     ensures same_known { KeepsData D.known_data D.canon decider.old decider.new }
 {
-    let first = brought(making, left, first_of(kept), levels, decider)?;
-    let second = brought(making, right, second_of(kept), levels, decider)?;
+    let first = brought(making, left, first_of(kept), moved.0, levels, decider)?;
+    let second = brought(making, right, second_of(kept), moved.1, levels, decider)?;
     Ok((first, second))
 }
 
@@ -281,7 +285,8 @@ fn of_either<D: Deciding>(
         node.now.value made.value) }
     ensures same_known { KeepsData D.known_data D.canon decider.old decider.new }
 {
-    let sides = both(making, left, right, kept, levels, decider)?;
+    let moved = sides_moved(node, kept);
+    let sides = both(making, left, right, kept, moved, levels, decider)?;
     let lefts = sides.0.items();
     let rights = sides.1.items();
     let items = either(lefts, rights)?;
@@ -325,7 +330,8 @@ fn of_parallel<D: Deciding>(
         node.now.value made.value) }
     ensures same_known { KeepsData D.known_data D.canon decider.old decider.new }
 {
-    let sides = both(making, left, right, kept, levels, decider)?;
+    let moved = sides_moved(node, kept);
+    let sides = both(making, left, right, kept, moved, levels, decider)?;
     let lefts = sides.0.items();
     let rights = sides.1.items();
     let items = beside(meet, lefts, rights, decider)?;

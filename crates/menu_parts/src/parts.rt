@@ -85,6 +85,17 @@ pub fn own_node(alloc: Global, behaviour: Beh) -> Result<Rc<Node>, NoMemory>
     Ok(made)
 }
 
+/// The kept menus with which a node is compared: none where it is known to have moved.
+pub fn compared(kept: Option<&Rc<Kept>>, moved: bool) -> Option<&Rc<Kept>>
+    ensures { (basis : Ground) → IfSome kept.entry (λ k. IsKept basis k.now.value)
+        → IfSome result (λ k. IsKept basis k.now.value) }
+{
+    if moved {
+        return None;
+    }
+    kept
+}
+
 /// The kept menus of the one part or of the left side, if there are any.
 pub fn first_of(kept: Option<&Rc<Kept>>) -> Option<&Rc<Kept>>
     ensures { (basis : Ground) → IfSome kept.entry (λ k. IsKept basis k.now.value)

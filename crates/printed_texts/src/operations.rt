@@ -55,10 +55,10 @@ fn is_twin(one: &Op, other: &Op) -> bool
     if !is_one_form(one.form, other.form) {
         return false;
     }
-    if one.arguments.as_slice() != other.arguments.as_slice() {
+    if !one.name.same(&other.name) {
         return false;
     }
-    one.name.same(&other.name)
+    one.arguments.as_slice() == other.arguments.as_slice()
 }
 
 /// Whether the operation has a twin in the signature.

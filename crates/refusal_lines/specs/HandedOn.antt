@@ -19,7 +19,7 @@ pub use Rattle.start_values.specs.Refusal.{unorientable, unjoined, mismatch, ung
 pub use Rattle.start_values.specs.Refusal.{too_deep, wrong_names, wrong_types}
 pub use Rattle.start_values.specs.RefusalView.{refused_of, told_of_text, told_of_scopes, with_known, refusal_of}
 pub use Rattle.start_values.specs.StartLaws.{StartValuesAreGround}
-pub use Rattle.start_values.specs.StartValues.{AreStartValues, IsStartFault, Start}
+pub use Rattle.start_values.specs.StartValues.{AreStartValues, IsStartFault, Start, HaveValues, WordTerm}
 pub use Rattle.start_values.specs.StartView as start_view
 pub use Rattle.start_values.specs.StartView.{FailsAs, parameter_sorts}
 pub use Rattle.start_values.specs.WordLimits.{words_of, are_within, words_limit, word_bytes_limit, total_length}

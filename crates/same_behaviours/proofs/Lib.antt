@@ -3,3 +3,4 @@ pub mod TermLists
 pub mod BinderLemmas
 pub mod NodeLemmas
 pub mod ActionLemmas
+pub mod ClosedValues

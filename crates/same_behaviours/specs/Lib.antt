@@ -1,2 +1,5 @@
 pub mod Placings
 pub mod Placed
+pub mod Mixing
+pub mod TermDigests
+pub mod Digests

@@ -1,2 +1,13 @@
+pub mod SamePlaces
 pub mod SameMoves
 pub mod SameMenus
+pub mod SameOrders
+pub mod SameFunctionalities
+pub mod SameReadings
+pub mod SameChecks
+pub mod SpelledAlike
+pub mod SameTexts
+pub mod SameStates
+pub mod SameSessions
+pub mod SameTerms
+pub mod SameResolutions

@@ -1,25 +1,24 @@
 -- Same specifications over same data have the same drafts and exact menus.
-use Rattle.std.proofs.Common.{◌≡◌, ℕ, zero, suc, List, [], ◌∷◌, map, Option, None, Some, option_map, refl, ap, sym, ◌∙◌, subst}
+use Rattle.std.proofs.Common.{◌≡◌, ℕ, zero, suc, List, [], ◌∷◌, map, option_map, refl, ap, sym, ◌∙◌}
 use Rattle.std.specs.Prelude.{max, slice_get}
 use Rattle.lotos_base.specs.Term.{Term}
 use Rattle.lotos_base.specs.Equation.{Data, Variable}
-use Rattle.lotos_base.specs.Substitution.{Substitution}
 use Rattle.behaviour_semantics.specs.Behaviour.{Behaviour, Test, Process, Specification}
 use Rattle.behaviour_semantics.specs.Label.{Label, inner_event, gate_event, exit_event}
 use Rattle.behaviour_semantics.specs.Replacement.{test_with}
 use Rattle.behaviour_semantics.specs.Rule.{AllHold, as_given}
 use Rattle.behaviour_semantics.specs.Shape.{Shape, Derivation}
-use Rattle.behaviour_semantics.specs.Move.{Setting, move_of}
+use Rattle.behaviour_semantics.specs.Move.{move_of}
 use Rattle.behaviour_semantics.specs.Derives.{GivesMove, leaves_in}
-use Rattle.behaviour_semantics.specs.Draft.{Draft, above, above_variables, above_processes, first_apart, leaves_from, draft_by, draft_of}
+use Rattle.behaviour_semantics.specs.Draft.{above, above_variables, above_processes, first_apart, leaves_from, draft_by, draft_of}
 use Rattle.behaviour_semantics.specs.Solving.{Entry}
 use Rattle.behaviour_semantics.specs.Menu.{EqualTerms, EqualLabels, Meets, label_at, derivation_at, HasEntry, Exact}
-use Rattle.behaviour_semantics.specs.Guardedness.{HasEdge, IsWalk, IsCycle, IsGuarded, unguarded_calls}
+use Rattle.behaviour_semantics.specs.Guardedness.{HasEdge, IsWalk, IsCycle, unguarded_calls}
 use Rattle.behaviour_semantics.proofs.OptionLemmas.{some_value}
 use Rattle.bisimulation_theory.specs.SameData.{AreSameData}
-use Rattle.bisimulation_theory.proofs.SameSignatures.{AgreeSignatures, are_values}
+use Rattle.bisimulation_theory.proofs.SameSignatures.{are_values}
 use Rattle.bisimulation_theory.proofs.InterchangeableData.{signatures_agree, data_turned, equal_over}
-use Rattle.same_specifications.specs.SameSpecification.{AreOneProcess, AreSameProcesses, AreSameSpecifications}
+use Rattle.declaration_laws.specs.SameSpecification.{AreOneProcess, AreSameProcesses, AreSameSpecifications}
 use Rattle.same_specifications.specs.SameSpecificationLaws.{SameSpecificationsDoTheSame}
 use Rattle.same_specifications.proofs.SameMoves.{moves_alike}
 
@@ -33,7 +32,7 @@ processes_turned (p ∷ processes) (q ∷ others) same = (process_turned p q sam
 processes_turned [] (q ∷ others) same = absurd same
 processes_turned (p ∷ processes) [] same = absurd same
 
-turned : (one other : Specification) → AreSameSpecifications one other → AreSameSpecifications other one
+pub turned : (one other : Specification) → AreSameSpecifications one other → AreSameSpecifications other one
 turned one other same = record {
   name = sym same.name;
   gate_names = sym same.gate_names;
@@ -77,14 +76,14 @@ module _ (data_ other : Data) (same : AreSameData data_ other) where
   labels_over (exit_event us) inner_event h = absurd h
   labels_over (exit_event us) (gate_event e vs) h = absurd h
 
-  meets_over : (entry : Entry) (values : List Term) → Meets data_ entry values → Meets other entry values
+  pub meets_over : (entry : Entry) (values : List Term) → Meets data_ entry values → Meets other entry values
   meets_over entry values meets = record {
     sorted = are_values data_.signature other.signature (signatures_agree data_ other same) entry.variables values meets.sorted;
     met = all_over (map (test_with (leaves_in values)) entry.conditions) meets.met;
   }
 
   module _ (processes others : List Process) (alike : AreSameProcesses processes others) where
-    move_over : (represent : Term → Term) (b : Behaviour) (d : Derivation) (label : Label) (target : Behaviour)
+    pub move_over : (represent : Term → Term) (b : Behaviour) (d : Derivation) (label : Label) (target : Behaviour)
         → GivesMove data_ represent processes b d label target → GivesMove other represent others b d label target
     move_over represent b d label target gives = record {
       asked = gives.asked;
@@ -117,7 +116,7 @@ module _ (data_ other : Data) (same : AreSameData data_ other) where
 
 -- ---- Both ways.
 
-menu_over : (data_ other : Data) (canon : Term → Term) (processes others : List Process) (b : Behaviour) (entries : List Entry)
+pub menu_over : (data_ other : Data) (canon : Term → Term) (processes others : List Process) (b : Behaviour) (entries : List Entry)
     → AreSameData data_ other → AreSameProcesses processes others → Exact data_ canon processes b entries
     → Exact other canon others b entries
 menu_over data_ other canon processes others b entries same alike exact =

@@ -1,6 +1,6 @@
 -- Settings that differ in names and origins alone have the same table of moves.
-use Rattle.std.proofs.Common.{◌≡◌, ◌+◌, ℕ, zero, suc, List, [], ◌∷◌, ◌++◌, length, map, Bool, if◌then◌else◌, Option, None, Some, option_map, refl, ap, sym, ◌∙◌}
-use Rattle.std.specs.Prelude.{◌&&◌, max, nat_eq, slice_get, zip, option_and_then}
+use Rattle.std.proofs.Common.{◌≡◌, ◌+◌, ℕ, suc, List, ◌++◌, length, map, Bool, if◌then◌else◌, Option, None, Some, option_map, refl, ap, ◌∙◌}
+use Rattle.std.specs.Prelude.{◌&&◌, nat_eq, slice_get, zip, option_and_then}
 use Rattle.lotos_base.specs.Term.{Term}
 use Rattle.lotos_base.specs.Equation.{Data, Variable}
 use Rattle.lotos_base.specs.Substitution.{Substitution}
@@ -9,29 +9,16 @@ use Rattle.behaviour_semantics.specs.Label.{Label, inner_event, gate_event, exit
 use Rattle.behaviour_semantics.specs.Replacement.{with_values, binding_of}
 use Rattle.behaviour_semantics.specs.Rule.{move_together, pairwise, label_values, synchronises}
 use Rattle.behaviour_semantics.specs.Shape.{Shape, act, quit, inner_step, guarded, left_side, right_side, both_sides, hidden, enabled, passed, let_bound, with_value, at_gate, called, relabelled}
-use Rattle.behaviour_semantics.specs.Move.{Setting, Move, opened, together, enabling, relabelling, act_move, quit_move, inner_move, guarded_move, left_move, right_move, both_move, hidden_move, enabled_move, passed_move, let_move, value_move, gate_move, called_move, relabelled_move, move_of}
+use Rattle.behaviour_semantics.specs.Move.{Setting, Move, opened, together, enabling, relabelling, act_move, quit_move, guarded_move, left_move, right_move, both_move, hidden_move, enabled_move, passed_move, let_move, value_move, gate_move, called_move, relabelled_move, move_of}
 use Rattle.bisimulation_theory.specs.SameData.{AreSameData}
 use Rattle.bisimulation_theory.proofs.SameSignatures.{AgreeSignatures, sorts_asked, same_sorts_asked}
 use Rattle.bisimulation_theory.proofs.InterchangeableData.{signatures_agree}
-use Rattle.same_specifications.specs.SameSpecification.{AreOneProcess, AreSameProcesses}
+use Rattle.declaration_laws.specs.SameSpecification.{AreOneProcess, AreSameProcesses}
+use Rattle.same_specifications.proofs.SamePlaces.{Both, processes_found}
 
 -- two functions that have the same values are the same
 pub pointwise : {X Y : Type 0} (f g : X → Y) → ((x : X) → f x ≡ g x) → f ≡ g
 pointwise f g same = λ i x. same x i
-
--- what two lists have at one place
-abbrev SameFound : Option Process → Option Process → Type 0
-SameFound None None = Unit {0}
-SameFound (Some p) (Some q) = AreOneProcess p q
-SameFound _ _ = ⊥
-
-found_at : (processes others : List Process) → AreSameProcesses processes others → (n : ℕ)
-    → SameFound (slice_get processes n) (slice_get others n)
-found_at [] [] same n = tt
-found_at (p ∷ processes) (q ∷ others) same zero = same.0
-found_at (p ∷ processes) (q ∷ others) same (suc n) = found_at processes others same.1 n
-found_at [] (q ∷ others) same n = absurd same
-found_at (p ∷ processes) [] same n = absurd same
 
 module _ (data_ other : Data) (same : AreSameData data_ other) (processes others : List Process)
     (alike : AreSameProcesses processes others) (represent : Term → Term) where
@@ -202,7 +189,7 @@ module _ (data_ other : Data) (same : AreSameData data_ other) (processes others
   call_with moves gates arguments formals parameters body = option_map (relabelling (zip formals gates))
       (moves (with_values (binding_of parameters (map represent arguments)) body))
 
-  call_alike : (moves : Behaviour → Option Move) (gates : List ℕ) (arguments : List Term) (p q : Option Process) → SameFound p q
+  call_alike : (moves : Behaviour → Option Move) (gates : List ℕ) (arguments : List Term) (p q : Option Process) → Both AreOneProcess p q
       → option_and_then (λ (process : Process). call_with moves gates arguments process.gates process.parameters process.body) p
       ≡ option_and_then (λ (process : Process). call_with moves gates arguments process.gates process.parameters process.body) q
   call_alike moves gates arguments None None one = refl
@@ -229,7 +216,7 @@ module _ (data_ other : Data) (same : AreSameData data_ other) (processes others
   called_alike moves (choose_gate g gates b) = refl
   called_alike moves (par_gate g gates meet b) = refl
   called_alike moves (call number gates arguments) = call_alike moves gates arguments (slice_get processes number) (slice_get others number)
-      (found_at processes others alike number)
+      (processes_found processes others alike number)
   called_alike moves (relabel pairs b) = refl
 
   -- ---- The table.

@@ -22,7 +22,7 @@ use Rattle.scope_parts.specs.Behaviours.{SignIs, BehaviourIs}
 use Rattle.scope_parts.specs.Definitions.{Heading, DefinitionIs, InnerIs, InnersAre, SpecificationIs}
 use Rattle.declaration_laws.proofs.ScopeLemmas.{one_value, beside_there}
 use Rattle.state_texts.specs.BoundNames.{names_of_variables, bound_names}
-use Rattle.label_readings.specs.HandedOn.{IsWordSpelling}
+use Rattle.specification_laws.specs.HandedOn.{IsWordSpelling}
 use Rattle.session_laws.specs.PrintedStates.{IsNamedProcess}
 use Rattle.session_laws.proofs.WrittenNames.{every_joined}
 use Rattle.session_laws.proofs.VariableSpellings.{IsVariableSpelled, IsOfferSpelled, IsLetSpelled, DeclaresWords, AreVariablesSpelled, IsInnerNamed, AreInnersNamed, IsTreeNamed}

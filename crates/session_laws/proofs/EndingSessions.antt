@@ -14,9 +14,9 @@ use Rattle.behaviour_semantics.specs.WellFormed.{IsSpecification}
 use Rattle.session_histories.specs.Lawful.{LeadTo}
 use Rattle.session_histories.specs.Session.{Situation, derivations_of}
 use Rattle.session_histories.specs.SessionLaws.{SessionsFollowDerivations, IsStateOver}
-use Rattle.functionality_laws.specs.HasFunctionality.{EndsWithin, AllAgree}
-use Rattle.functionality_laws.specs.ExitLaws.{EndsWith, ExitsHaveTheirSorts}
-use Rattle.functionality_laws.specs.AgreementLaws.{NoDisagreementIsAgreement}
+use Rattle.specification_laws.specs.HasFunctionality.{EndsWithin, AllAgree}
+use Rattle.specification_laws.specs.ExitLaws.{EndsWith, ExitsHaveTheirSorts}
+use Rattle.specification_laws.specs.AgreementLaws.{NoDisagreementIsAgreement}
 use Rattle.lotos_top.specs.HandedOn.{Beginning, Standing, IsReached, Asked, Founded, FoundedBy, Acceptance, IsAccepted, start_of, goes_on}
 use Rattle.lotos_top.specs.HandedOn.{StartValuesAreGround, GotFile}
 use Rattle.lotos_top.specs.Opening.{SessionBegins}

@@ -23,7 +23,7 @@ use Rattle.type_definitions.specs.DeclaredTypes.{DeclaredType}
 use Rattle.type_definitions.specs.Flattened.{presentation_named, mention_of, mentions_with, IsPresentation, declared_with, ArePresented, all_presented, next_presented, without_formals, types_at, IsFlattening}
 use Rattle.type_definitions.proofs.FaultLemmas.{none_first, not_past}
 use Rattle.behaviour_semantics.specs.WellFormed.{Every}
-use Rattle.label_readings.specs.HandedOn.{IsWordSpelling, IsOperationSpelling, HasTextNames}
+use Rattle.specification_laws.specs.HandedOn.{IsWordSpelling, IsOperationSpelling, HasTextNames}
 use Rattle.session_laws.proofs.WrittenNames.{every_joined, IsWord, IsOperatorDeclared, GivesWord, GivesOperator, ArePairsSpelled, AreSectionsSpelled, IsBodySpelled}
 use Rattle.session_laws.proofs.GatheredNames.{IsTypeSpelled}
 

@@ -15,7 +15,7 @@ use Rattle.scope_parts.specs.Numbering.{own_gates, inner_gates, inners_gates}
 use Rattle.scope_parts.specs.Definitions.{declared_gates}
 use Rattle.behaviour_semantics.specs.WellFormed.{Every}
 use Rattle.behaviour_semantics.proofs.EveryLemmas.{every_front, every_back}
-use Rattle.label_readings.specs.HandedOn.{IsWordSpelling}
+use Rattle.specification_laws.specs.HandedOn.{IsWordSpelling}
 use Rattle.session_laws.proofs.TokenSpellings.{tokens_spelled}
 use Rattle.session_laws.proofs.WrittenNames.{every_joined, IsBodySpelled, IsItemSpelled, items_spelled, specification_spelled}
 

@@ -4,7 +4,7 @@ use Rattle.lotos_base.specs.Term.{Term}
 use Rattle.behaviour_semantics.specs.WellFormed.{Every}
 use Rattle.behaviour_semantics.specs.Label.{Label}
 use Rattle.sentence_trees.specs.Reading.{node_limit}
-use Rattle.label_readings.specs.HandedOn.{term_depth, IsWithinLine}
+use Rattle.specification_laws.specs.HandedOn.{term_depth, IsWithinLine}
 use Rattle.line_server.specs.Request.{Request, skip, show_menu, show_behaviour, show_trace, undo, leave, no_request, take_step, save, replay, show_normal, compare, list_values, list_instances, request_of}
 use Rattle.line_server.specs.Machine.{Reply}
 use Rattle.line_server.specs.Answered as served

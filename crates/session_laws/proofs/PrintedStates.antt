@@ -22,7 +22,7 @@ use Rattle.lotos_top.specs.Opening.{SessionBegins}
 use Rattle.state_texts.specs.BoundNames.{bound_names, names_in_bodies, names_at_hand, MovesKeepNames}
 use Rattle.state_texts.specs.StateTexts.{StateTextsAreOfNames}
 use Rattle.state_texts.specs.TextBytes.{AllPass, is_printable}
-use Rattle.label_readings.specs.HandedOn.{IsWordSpelling, IsOperationSpelling}
+use Rattle.specification_laws.specs.HandedOn.{IsWordSpelling, IsOperationSpelling}
 use Rattle.session_laws.specs.AcceptedNames.{HasAcceptedNames, AcceptedNamesAreOfText}
 use Rattle.session_laws.specs.PrintedStates.{IsNamedProcess, HasNamedDefinitions, AcceptedDefinitionsAreNamed, IsPrintedLine, StatesPrintOnOneLine}
 use Rattle.session_laws.proofs.AcceptedParts.{StandsOn, accepted_on}

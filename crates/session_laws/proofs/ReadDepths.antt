@@ -11,7 +11,7 @@ use Rattle.sort_terms.specs.Reading.{Reads, AllRead}
 use Rattle.sort_terms.specs.ReadingOutcome.{ReadingRefusal, ComesTo, answered, unknown_in, IsReading}
 use Rattle.behaviour_semantics.specs.WellFormed.{Every}
 use Rattle.session_histories.specs.Replay.{AreRead}
-use Rattle.label_readings.specs.HandedOn.{term_depth, depth_among}
+use Rattle.specification_laws.specs.HandedOn.{term_depth, depth_among}
 
 -- no node is deeper than the limit
 abbrev IsShallow : ℕ → List TreeNode → Type 0

@@ -5,8 +5,8 @@ use Rattle.type_definitions.specs.DeclaredTypes.{types_of}
 use Rattle.behaviour_semantics.specs.Behaviour.{Behaviour, Specification}
 use Rattle.declaration_laws.specs.VisibleGates.{IsOneOf, UsesOnly, MovesStayAtGates}
 use Rattle.declaration_laws.specs.DeclaredGates.{HasDeclaredGates, TextsHaveDeclaredGates}
-use Rattle.label_readings.specs.LabelLaws.{HasReadableNames}
-use Rattle.label_readings.specs.MenuReadings.{IsShownMenu, MenuIsReadBack, MenusAreReadBack}
+use Rattle.specification_laws.specs.LabelLaws.{HasReadableNames}
+use Rattle.specification_laws.specs.MenuReadings.{IsShownMenu, MenuIsReadBack, MenusAreReadBack}
 use Rattle.session_histories.specs.Lawful.{LeadTo}
 use Rattle.session_histories.specs.Session.{Situation, derivations_of}
 use Rattle.session_histories.specs.SessionLaws.{SessionsFollowDerivations}

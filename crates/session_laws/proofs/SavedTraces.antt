@@ -13,7 +13,7 @@ use Rattle.session_histories.specs.Session.{SessionBasis, Situation, Progress, f
 use Rattle.session_histories.specs.Lawful.{LeadTo}
 use Rattle.session_histories.specs.Replay.{LinesOutcome, ReplayRefusal, ReplayIs, goes_on, stops}
 use Rattle.session_histories.specs.TraceLaws.{trace_of}
-use Rattle.label_readings.specs.HandedOn.{IsWordSpelling, HasTextNames, HasNamesOfText, HasTextTrace, TracesAreReplayed}
+use Rattle.specification_laws.specs.HandedOn.{IsWordSpelling, HasTextNames, HasNamesOfText, HasTextTrace, TracesAreReplayed}
 use Rattle.lotos_top.specs.HandedOn.{Standing, shown_trace, Befallen, SaveComesTo, is_too_long, is_unwritten, is_saved, ReplayComesTo}
 use Rattle.lotos_top.specs.HandedOn.{is_failed, is_missing, is_long, is_refused, is_replayed, trace_limit, HasPut, StandsUnder, saved_text}
 use Rattle.lotos_top.specs.HandedOn.{replayed_text, RequestComesTo, ShelfCounts, SessionPoint, history_machine, Beginning, CanBegin}

@@ -15,7 +15,7 @@ use Rattle.lotos_rows.specs.Definitions.{IsHeading, heading, IsProcess, a_proces
 use Rattle.lotos_rows.specs.Starts.{IsWrittenSpecification, a_specification}
 use Rattle.behaviour_semantics.specs.WellFormed.{Every}
 use Rattle.behaviour_semantics.proofs.EveryLemmas.{every_front, every_back}
-use Rattle.label_readings.specs.HandedOn.{IsWordSpelling}
+use Rattle.specification_laws.specs.HandedOn.{IsWordSpelling}
 use Rattle.session_laws.proofs.TokenSpellings.{IsSpelledIn}
 use Rattle.session_laws.proofs.WrittenNames.{every_joined, flat_every, IsWord, AreSpelled, Gives, front, back, optional_gives, many_gives, separated_gives, between_gives, token_word, names_words}
 

@@ -21,7 +21,7 @@ use Rattle.scope_parts.specs.Numbering.{spelled, each_once_from, each_once, choi
 use Rattle.scope_parts.specs.Definitions.{declared_gates}
 use Rattle.behaviour_semantics.specs.WellFormed.{Every}
 use Rattle.behaviour_semantics.proofs.EveryLemmas.{every_front, every_back}
-use Rattle.label_readings.specs.HandedOn.{IsWordSpelling, IsOperationSpelling}
+use Rattle.specification_laws.specs.HandedOn.{IsWordSpelling, IsOperationSpelling}
 use Rattle.session_laws.proofs.TokenSpellings.{IsSpelledIn}
 
 -- ---- Lists

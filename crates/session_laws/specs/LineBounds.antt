@@ -1,7 +1,7 @@
 -- The numbers of entries and the values that a session got by its lines are such as a line of a trace can hold.
 use Rattle.std.specs.Prelude.{◌≡◌, ℕ, Bool, List, []}
 use Rattle.behaviour_semantics.specs.WellFormed.{Every}
-use Rattle.label_readings.specs.HandedOn.{IsWithinLine}
+use Rattle.specification_laws.specs.HandedOn.{IsWithinLine}
 use Rattle.line_server.specs.Answered as served
 use Rattle.session_histories.specs.Session.{Progress, items_of}
 use Rattle.lotos_top.specs.HandedOn.{Standing, Befallen, LineComesTo, SessionPoint, history_machine}

@@ -5,7 +5,7 @@ use Rattle.behaviour_semantics.specs.WellFormed.{Every}
 use Rattle.printed_texts.specs.BehaviourText.{state_text}
 use Rattle.state_texts.specs.BoundNames.{bound_names}
 use Rattle.state_texts.specs.TextBytes.{AllPass, is_printable, IsOnOneLine}
-use Rattle.label_readings.specs.HandedOn.{IsWordSpelling}
+use Rattle.specification_laws.specs.HandedOn.{IsWordSpelling}
 use Rattle.lotos_top.specs.HandedOn.{Beginning, Standing, IsReached, Asked, Acceptance, IsAccepted, goes_on, GotFile}
 use Rattle.lotos_top.specs.Opening.{SessionBegins}
 

@@ -7,7 +7,7 @@ use Rattle.lotos_top.specs.HandedOn.{goes_on, GotFile}
 use Rattle.lotos_top.specs.Opening.{SessionBegins}
 use Rattle.lotos_top.specs.Run.{Streams, Ran}
 use Rattle.lotos_top.specs.Words.{session}
-use Rattle.lotos_top.specs.Work.{serves}
+use Rattle.lotos_top.specs.Finishing.{serves}
 use Rattle.lotos_top.specs.declared.ended.Ended.{Ended}
 
 -- the shelf gave the files with which the specification was accepted, and its session begins so

@@ -13,9 +13,9 @@ use behaviour_semantics::transition::transitions_are_derived;
 use declaration_laws::gates::{
     entries_stay_at_gates, moves_stay_at_gates, texts_have_declared_gates,
 };
-use label_readings::traces_are_replayed;
 use lotos_top::{data_are_well_formed, lines_lead_on};
 use session_histories::laws::sessions_follow_derivations;
+use specification_laws::traces_are_replayed;
 use state_texts::laws::moves_keep_names;
 
 /// Numbers of entries and values that the lines of a session give keep within what a line of a

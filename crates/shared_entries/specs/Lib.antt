@@ -1,3 +1,4 @@
 pub mod Items
 pub mod Rules
 pub mod Joined
+pub mod HandedOn

@@ -8,6 +8,7 @@ pub mod labels;
 pub mod rules;
 pub mod shapes;
 
+pub use draft_parts::{Call, Variant};
 pub use items::{Item, entries_of, items_of};
 pub use joins::{beside, either};
 pub use rules::PartRule;

@@ -13,11 +13,10 @@ use Rattle.behaviour_tree.specs.Over.{IsSpecOver, IsStateOf}
 use Rattle.behaviour_tree.specs.declared.definitions.Spec.{Spec as CodeSpec}
 use Rattle.process_checks.specs.Ranks.{AreRanksOf}
 use Rattle.process_checks.specs.declared.rank_table.Ranks.{Ranks}
-use Rattle.refusal_lines.specs.HandedOn.{book_canon, IsOpenedBy, Gathered, ShelfState, Refused}
+use Rattle.refusal_lines.specs.HandedOn.{book_canon, Gathered, ShelfState, Refused}
 use Rattle.refusal_lines.proofs.HandedOn.{canon_stays, opened_stays}
 use Rattle.sort_terms.specs.declared.equations.Flat.{Flat}
 use Rattle.lotos_base.specs.Term.{Term}
-use Rattle.path_order.specs.RulesView.{precedence_in, rules_in}
 use Rattle.type_definitions.specs.DeclaredTypes.{types_of}
 use Rattle.spec_acceptance.specs.Ending.{with_spec}
 use Rattle.spec_acceptance.specs.Part.{Comes, goes_on, Part, Then, Has}

@@ -6,12 +6,14 @@ use Rattle.lotos_base.specs.Equation.{Place, Data, IsWellFormedData}
 use Rattle.lotos_base.specs.Term.{Term}
 use Rattle.rewriting_theory.specs.Rule.{AreWellFormedRules}
 use Rattle.rewriting_theory.specs.Rewriting.{AreConfluent}
+use Rattle.rewriting_theory.specs.ChosenForm.{Chosen, Chooses}
+use Rattle.rewriting_theory.proofs.ChosenLemmas.{chosen_one}
 use Rattle.termination_theory.specs.Precedence.{Precedence}
 use Rattle.termination_theory.specs.Orientation.{NumberedRule, rules_of, IsOrientation, IsFirstUnorientable}
 use Rattle.termination_theory.proofs.OrientationLemmas.{oriented_well_formed, rules_of_data}
 use Rattle.path_order.specs.Listing.{IsFirstWrong, listed_name, listed_status}
 use Rattle.path_order.specs.OrderedBy.{IsPrecedenceBy}
-use Rattle.refusal_lines.specs.HandedOn.{AreUnjoinedBy}
+use Rattle.refusal_lines.specs.HandedOn.{AreUnjoinedBy, IsOpenedBy}
 use Rattle.spec_acceptance.specs.AcceptanceLaws.{BooksAreDecided}
 use Rattle.spec_acceptance.specs.Book.{Opens, OpeningFault, names_none, names_twice, names_no_status, not_oriented, not_joined, DoesNotOpen}
 use Rattle.spec_acceptance.specs.PartLaws.{IsDecided}
@@ -182,3 +184,19 @@ module _ (items : List ListedOperation) (data_ : Data) (well : IsWellFormedData 
 
 pub books_are_decided : BooksAreDecided
 books_are_decided items data_ well = decided items data_ well
+
+-- ---- Normal forms
+
+-- the normal forms by the rules of well-formed data are one function
+pub normal_forms_once : (items : List ListedOperation) (data_ : Data) → IsWellFormedData data_ → (p q : Precedence)
+    (rules others : List NumberedRule) → IsOpenedBy items data_ p rules → IsOpenedBy items data_ q others → (canon other : Term → Term)
+    → Chooses (rules_of rules) canon → Chooses (rules_of others) other → canon ≡ other
+normal_forms_once items data_ well p q rules others is also canon other chooses chooses_too =
+    let same : rules ≡ others =
+    rules_once (count_of data_) p q (alike items data_ p q is.ordered also.ordered) data_ rules others (data_within data_ well) is.joined.0
+    also.joined.0 in
+    let each : (t : Term) → canon t ≡ other t = λ t.
+    chosen_one (well_formed p data_ rules is.joined.0) (chooses t)
+    (subst (λ (rs : List NumberedRule). Chosen (rules_of rs) t (other t)) (sym same) (chooses_too t))
+    in
+    (λ i t. each t i)

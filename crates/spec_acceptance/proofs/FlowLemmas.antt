@@ -1,5 +1,5 @@
 -- The layers behind the text up to the book, one after another: what each of them was given, and where it may end.
-use Rattle.std.proofs.Common.{refl, sym, ◌≡◌, inl, subst, ℕ, List, [], map, Option}
+use Rattle.std.proofs.Common.{refl, sym, ◌≡◌, inl, subst, ℕ, List, map, Option}
 use Rattle.std.specs.Prelude.{Result, Ok, Err, MatchResult}
 use Rattle.lotos_base.specs.WrittenTerm.{ListedOperation}
 use Rattle.lotos_base.specs.WrittenView.{listed_operation_of}

@@ -20,3 +20,4 @@ pub mod DecidedOrders
 pub mod DecidedRules
 pub mod DecidedPairs
 pub mod DecidedBooks
+pub mod AgainLemmas

@@ -4,8 +4,8 @@ use Rattle.std.specs.String.{string_bytes}
 use Rattle.lotos_base.specs.Name.{spelling}
 use Rattle.lotos_base.specs.WrittenView.{text_place_of}
 use Rattle.syntax_trees.specs.WrittenItem.{WrittenItem}
-use Rattle.refusal_lines.specs.HandedOn.{Gathered, item, too_many, misread, GatheringOutcome, all_gathered, faulty, without_file}
-use Rattle.refusal_lines.specs.HandedOn.{memory_wanted, gathered_of, IsGathered, AsksInAll, FailsBy, ShelfState, LibraryFault, Refused}
+use Rattle.refusal_lines.specs.HandedOn.{Gathered, item, too_many, misread, all_gathered, faulty, without_file}
+use Rattle.refusal_lines.specs.HandedOn.{memory_wanted, gathered_of, IsGathered, AsksInAll, FailsBy, ShelfState, LibraryFault}
 use Rattle.refusal_lines.specs.HandedOn.{too_many_libraries, with_known}
 use Rattle.refusal_lines.specs.HandedOn.library_faults as library
 use Rattle.refusal_lines.specs.HandedOn.gathered as code

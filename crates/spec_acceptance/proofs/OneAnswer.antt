@@ -1,16 +1,17 @@
 -- Over a shelf that tells its texts there is one answer.
-use Rattle.std.proofs.Common.{refl, ap, sym, ◌≡◌, ◌+◌, ◌⊎◌, inl, inr, subst, ℕ, zero, suc, List, [], ◌∷◌, take, All, Option, None, Some, IsSomeAnd, Ok, Err, arith}
+use Rattle.std.proofs.Common.{ap, sym, ◌≡◌, ◌+◌, ◌⊎◌, inl, inr, subst, ℕ, zero, suc, List, [], ◌∷◌, take, All, Option, None, Some, IsSomeAnd, Ok, Err, arith}
 use Rattle.std.specs.Option.{option_map}
 use Rattle.lotos_base.specs.Counts.{Rises}
 use Rattle.lotos_base.specs.Limits.{text_limit}
 use Rattle.lotos_base.specs.Outside.{Texts}
 use Rattle.refusal_lines.specs.HandedOn.{GotFile, AreGotFrom, ShelfState, IsFileOf, Refused}
-use Rattle.spec_acceptance.specs.Acceptance.{Asked, Acceptance, IsAccepted}
-use Rattle.spec_acceptance.specs.Part.{Comes, goes_on, unread, stops, wants_memory}
+use Rattle.spec_acceptance.specs.Acceptance.{Asked, Acceptance, IsAccepted, IsFounded}
+use Rattle.spec_acceptance.specs.Part.{Comes, goes_on, unread, stops, wants_memory, Part}
+use Rattle.spec_acceptance.specs.PartLaws.{IsDetermined}
 use Rattle.spec_acceptance.specs.Doing.{Did}
 use Rattle.spec_acceptance.specs.declared.not_accepted.NotAccepted.TheVariants.{File, Spec, NoMemory}
-use Rattle.spec_acceptance.specs.AcceptanceOutcomes.{got_from, ComesOver, OutcomesOverTextsAreOne, ReadsAreOne}
-use Rattle.spec_acceptance.proofs.OneFault.{acceptance_has_one_outcome}
+use Rattle.spec_acceptance.specs.AcceptanceOutcomes.{got_from, ComesOver, OutcomesOverTextsAreOne, ComesOfPart, FoundingsOverTextsAreOne, ReadsAreOne}
+use Rattle.spec_acceptance.proofs.OneFault.{acceptance_has_one_outcome, founding_is_determined}
 
 -- ---- What was got
 
@@ -47,38 +48,53 @@ lacks_told texts told before after name same not (inr lacks) =
 -- ---- What came of it
 
 -- memory was there
-abbrev pub IsThere : Comes Refused Acceptance → Type 0
-IsThere (goes_on acceptance) = Unit {0}
+abbrev pub IsThere : {E B : Type 0} → Comes E B → Type 0
+IsThere (goes_on b) = Unit {0}
 IsThere (unread name) = Unit {0}
-IsThere (stops r) = Unit {0}
+IsThere (stops e) = Unit {0}
 IsThere wants_memory = ⊥
 
-pub comes_over : (texts : Texts) (asked : Asked) (before after : ShelfState) (comes : Comes Refused Acceptance) → before.texts ≡ Some texts
-    → (¬ Rises before.faults after.faults) → IsThere comes → Did before after (IsAccepted asked) comes → ComesOver texts asked comes
-comes_over texts asked before after (goes_on acceptance) told not there did = record {
+pub part_comes_over : {E B : Type 0} (texts : Texts) (part : Part E B) (before after : ShelfState) (comes : Comes E B)
+    → before.texts ≡ Some texts → (¬ Rises before.faults after.faults) → IsThere comes → Did before after part comes
+    → ComesOfPart texts part comes
+part_comes_over texts part before after (goes_on b) told not there did = record {
   files = did.0;
   came = did.2;
   got_files = got_told texts before.texts did.0 told did.1.content;
   lacks = tt;
 }
-comes_over texts asked before after (unread name) told not there did = record {
+part_comes_over texts part before after (unread name) told not there did = record {
   files = did.0;
   came = did.2;
   got_files = got_told texts before.texts did.0 told did.1.content;
   lacks = lacks_told texts before.texts before.faults after.faults name told not did.1.cause;
 }
-comes_over texts asked before after (stops r) told not there did = record {
+part_comes_over texts part before after (stops e) told not there did = record {
   files = did.0;
   came = did.2;
   got_files = got_told texts before.texts did.0 told did.1.content;
   lacks = tt;
 }
-comes_over texts asked before after wants_memory told not there did = absurd there
+part_comes_over texts part before after wants_memory told not there did = absurd there
+
+pub comes_over : (texts : Texts) (asked : Asked) (before after : ShelfState) (comes : Comes Refused Acceptance) → before.texts ≡ Some texts
+    → (¬ Rises before.faults after.faults) → IsThere comes → Did before after (IsAccepted asked) comes → ComesOver texts asked comes
+comes_over texts asked before after comes told not there did =
+    part_comes_over texts (IsAccepted asked) before after comes told not there did
+
+-- where the part is determined, it is one thing
+pub one_of_part : {E B : Type 0} (texts : Texts) (part : Part E B) → IsDetermined (got_from texts) part → (one other : Comes E B)
+    → ComesOfPart texts part one → ComesOfPart texts part other → one ≡ other
+one_of_part texts part determined one other is also =
+    (determined is.files also.files one other is.came also.came is.got_files also.got_files is.lacks also.lacks).1
 
 pub outcomes_over_texts_are_one : OutcomesOverTextsAreOne
 outcomes_over_texts_are_one texts asked one other is also =
-    (acceptance_has_one_outcome asked (got_from texts) is.files also.files one other is.came also.came is.got_files also.got_files
-    is.lacks also.lacks).1
+    one_of_part texts (IsAccepted asked) (acceptance_has_one_outcome asked (got_from texts)) one other is also
+
+pub foundings_over_texts_are_one : FoundingsOverTextsAreOne
+foundings_over_texts_are_one texts spec order one other is also =
+    one_of_part texts (IsFounded spec order) (founding_is_determined spec order (got_from texts)) one other is also
 
 -- ---- The answer
 

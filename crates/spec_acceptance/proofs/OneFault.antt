@@ -1,5 +1,5 @@
 -- Types have one thing that is wrong at most, and none where they have data.
-use Rattle.std.proofs.Common.{ap, ◌≡◌, List, []}
+use Rattle.std.proofs.Common.{ap, ◌≡◌, ℕ, List, [], Option}
 use Rattle.lotos_base.proofs.Options.{none_and_some}
 use Rattle.lotos_base.specs.Equation.{Data}
 use Rattle.type_definitions.specs.DeclaredTypes.{DeclaredType, mention_graph}
@@ -10,9 +10,12 @@ use Rattle.type_definitions.proofs.NumberLists.{among_at}
 use Rattle.type_definitions.specs.TypeFault.{TypeFault}
 use Rattle.type_laws.proofs.OneOutcome.{flattening_is_decided}
 use Rattle.type_laws.proofs.TypesFine.{flattened_data}
+use Rattle.refusal_lines.specs.HandedOn.{Files}
+use Rattle.spec_acceptance.specs.Acceptance.{IsFounded}
 use Rattle.spec_acceptance.specs.AcceptanceLaws.{TypesAreDecided, DataAreWellFormed}
+use Rattle.spec_acceptance.specs.PartLaws.{IsDetermined}
 use Rattle.spec_acceptance.specs.Types.{AreNamesFine, HaveData, TypesFault, of_names, of_declarations, HaveFault}
-use Rattle.spec_acceptance.proofs.WholeLemmas.{acceptance_is_determined, wanted_files_are_first_so}
+use Rattle.spec_acceptance.proofs.WholeLemmas.{acceptance_is_determined, founding_is_determined_so, wanted_files_are_first_so}
 use Rattle.spec_acceptance.proofs.DecidedBooks.{books_are_decided}
 use Rattle.spec_acceptance.proofs.DecidedLemmas.{exits_are_decided, ranks_are_decided}
 use Rattle.spec_acceptance.specs.AcceptanceOutcomes.{AcceptanceHasOneOutcome, WantedFilesAreFirst}
@@ -60,3 +63,7 @@ acceptance_has_one_outcome asked got =
 pub wanted_files_are_first : WantedFilesAreFirst
 wanted_files_are_first asked got =
     wanted_files_are_first_so types_are_decided data_are_well_formed exits_are_decided ranks_are_decided books_are_decided asked got
+
+pub founding_is_determined : (spec : List ℕ) (order : Option (List ℕ)) (got : Files) → IsDetermined got (IsFounded spec order)
+founding_is_determined spec order got =
+    founding_is_determined_so types_are_decided data_are_well_formed exits_are_decided ranks_are_decided books_are_decided spec order got

@@ -10,7 +10,7 @@ use Rattle.syntax_trees.specs.WrittenDefinition.{WrittenSpecification}
 use Rattle.spec_acceptance.specs.Ending.{at_first, with_spec}
 use Rattle.spec_acceptance.specs.Part.{goes_on, Part, Then, Has}
 use Rattle.spec_acceptance.specs.Texts.{GetsFile, text_told, ReadsSpecification}
-use Rattle.spec_acceptance.specs.Acceptance.{Founded, FoundedBy, Founds, start_of, StartsWithValues, Acceptance, accepted_with, AcceptsText, IsAccepted}
+use Rattle.spec_acceptance.specs.Acceptance.{Founded, FoundedBy, Founds, start_of, StartsWithValues, Acceptance, accepted_with, AcceptsText, IsAccepted, IsFounded}
 use Rattle.spec_acceptance.specs.AcceptedView.{AcceptsWith, asked_for}
 use Rattle.spec_acceptance.specs.Doing.{Failed, Faulty, FileIsNotGot}
 use Rattle.spec_acceptance.specs.Known.{Resolved, resolved_in, KnowsBook, FoundsWith, KnowsValues, MayStart, StartsWith}
@@ -48,6 +48,35 @@ text_read a b text tree order (Ok known) read is = record {
 text_read a b text tree order (Err fault) read is =
     failed_then a a b (ReadsSpecification text) (λ t. FoundedBy order t) tree fault
     (looked a (IsSpecificationReading 0 text) (TextIsMisread IsSpecificationFault 0 text) (text_told at_first 0) tree read) is
+
+-- ---- Its file
+
+-- the specification is not got
+pub founding_not_got : (a b : ShelfState) (name : List ℕ) (order : Option (List ℕ)) (fault : NotAccepted) → FileIsNotGot a b name fault
+    → Failed a b (IsFounded name order) fault
+founding_not_got a b name order fault is =
+    failed_first a b (GetsFile name) (λ text. Founds text order) fault (file_failed a b name fault is)
+
+-- it is got, and what comes of its text comes of it
+founding_behind : (a b c : ShelfState) (name text : List ℕ) (order : Option (List ℕ)) (r : Result WithBook NotAccepted)
+    → GivesFile a b name text → MatchResult r (FoundsWith b c (Founds text order)) (Failed b c (Founds text order))
+    → MatchResult r (FoundsWith a c (IsFounded name order)) (Failed a c (IsFounded name order))
+founding_behind a b c name text order (Ok known) gives is = record {
+  founded = is.founded;
+  came = did_then a b c (GetsFile name) (λ t. Founds t order) text (goes_on is.founded) (file_did a b name text gives) is.came;
+  tree = is.tree;
+  known = is.known;
+}
+founding_behind a b c name text order (Err fault) gives is =
+    failed_then a b c (GetsFile name) (λ t. Founds t order) text fault (file_did a b name text gives) is
+
+pub founding_whole : (a b c : ShelfState) (name text given : List ℕ) (order : Option (List ℕ)) (r : Result WithBook NotAccepted)
+    → GivesFile a b name text → given ≡ text
+    → MatchResult r (FoundsWith b c (Founds given order)) (Failed b c (Founds given order))
+    → MatchResult r (FoundsWith a c (IsFounded name order)) (Failed a c (IsFounded name order))
+founding_whole a b c name text given order r gives all is =
+    founding_behind a b c name text order r gives
+    (subst (λ (t : List ℕ). MatchResult r (FoundsWith b c (Founds t order)) (Failed b c (Founds t order))) all is)
 
 -- ---- A text with start values
 

@@ -1,5 +1,5 @@
 -- Start values, and the state in which the specification begins with them.
-use Rattle.std.proofs.Common.{refl, ap, sym, ◌∙◌, ◌≡◌, subst, ℕ, List, [], ◌∷◌, ◌++◌, map, length, Option, None, Some, option_map}
+use Rattle.std.proofs.Common.{refl, ap, sym, ◌∙◌, ◌≡◌, subst, ℕ, List, [], ◌∷◌, ◌++◌, map, length, Option, option_map}
 use Rattle.std.specs.Prelude.{Result, Ok, Err, IsErrAnd}
 use Rattle.scope_parts.proofs.FormedDefinitions.{every_both}
 use Rattle.lotos_base.specs.Name.{spelling}
@@ -26,11 +26,9 @@ use Rattle.behaviour_tree.specs.Closed.{IsClosedNode}
 use Rattle.behaviour_tree.specs.DefinitionView.{specification_of}
 use Rattle.behaviour_tree.specs.Over.{AreTermsOf, IsSpecOver, IsStateOf, IsStart}
 use Rattle.behaviour_tree.specs.StateView.{node_profiles, state_of}
-use Rattle.behaviour_tree.specs.declared.definitions.Spec.{Spec as CodeSpec}
 use Rattle.behaviour_tree.specs.declared.states.State.{State}
-use Rattle.refusal_lines.specs.HandedOn.{book_canon, book_is_canon, Book, Refusal, refusal_of, with_known, SpecFault, Start, AreStartValues}
+use Rattle.refusal_lines.specs.HandedOn.{book_canon, book_is_canon, Book, Refusal, with_known, SpecFault, Start, AreStartValues}
 use Rattle.refusal_lines.specs.HandedOn.{IsStartFault, FailsAs, parameter_sorts, StartFault}
-use Rattle.refusal_lines.specs.HandedOn.refusal as plain
 use Rattle.refusal_lines.specs.HandedOn.start_view as code
 use Rattle.refusal_lines.specs.HandedOn.start_faults as start_fault
 use Rattle.refusal_lines.proofs.HandedOn.{start_values_are_ground}
@@ -41,7 +39,7 @@ use Rattle.spec_acceptance.specs.Known.{Resolved, KnowsBook, KnowsValues, MaySta
 use Rattle.spec_acceptance.specs.declared.accepted.Accepted.{Accepted}
 use Rattle.spec_acceptance.specs.declared.books.WithBook.{WithBook}
 use Rattle.spec_acceptance.specs.declared.not_accepted.NotAccepted.{NotAccepted}
-use Rattle.spec_acceptance.specs.declared.not_accepted.NotAccepted.TheVariants.{Spec, NoMemory}
+use Rattle.spec_acceptance.specs.declared.not_accepted.NotAccepted.TheVariants.{NoMemory}
 use Rattle.spec_acceptance.specs.declared.starts.WithValues.{WithValues}
 use Rattle.spec_acceptance.specs.declared.stages.WithSpec.{WithSpec}
 use Rattle.spec_acceptance.proofs.KnownLemmas.{told_spec}

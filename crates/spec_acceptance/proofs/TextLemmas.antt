@@ -3,7 +3,7 @@ use Rattle.std.proofs.Common.{refl, ap, sym, ◌∙◌, ◌≡◌, subst, ℕ, L
 use Rattle.std.proofs.lemmas.Option.{none-some, same_Some}
 use Rattle.syntax_trees.specs.WrittenDefinition.{WrittenSpecification}
 use Rattle.syntax_trees.specs.TakenItems.{items_of_specification}
-use Rattle.refusal_lines.specs.HandedOn.{TextFault, TextIsMisread, GotFile, Gathered, nothing_yet, item, Becomes, GatheringOutcome}
+use Rattle.refusal_lines.specs.HandedOn.{TextIsMisread, GotFile, Gathered, nothing_yet, item, Becomes, GatheringOutcome}
 use Rattle.refusal_lines.specs.HandedOn.{all_gathered, faulty, without_file, memory_wanted, Files, AreGotFrom, LacksFrom, ComesFrom}
 use Rattle.refusal_lines.specs.HandedOn.{IsSpecificationReading, IsSpecificationFault, IsOrderReading, IsOrderReadFault, HasOneOutcome}
 use Rattle.refusal_lines.specs.HandedOn.{ReadFault, Refusal, Refused}

@@ -7,7 +7,6 @@ use Rattle.behaviour_semantics.specs.Behaviour.{Specification}
 use Rattle.type_definitions.specs.DeclaredTypes.{types_of}
 use Rattle.scope_parts.specs.ScopeFault.{ScopeFault}
 use Rattle.scope_parts.specs.Resolution.{Resolution, resolved, faulty}
-use Rattle.scope_parts.specs.Definitions.{SpecificationIs}
 use Rattle.scope_parts.proofs.BehavioursOnce.{specification_once}
 use Rattle.lotos_base.specs.WrittenTerm.{ListedOperation}
 use Rattle.refusal_lines.specs.HandedOn.{Gathered, Files, Start, AreStartValues, IsStartFault}
@@ -19,7 +18,7 @@ use Rattle.spec_acceptance.specs.Scopes.{StandsFor, Breaks, scopes_told, Resolve
 use Rattle.spec_acceptance.specs.Checks.{FunctionalitiesAgree, Disagree, functionality_told, ComesToAgreement, Guarded, Cyclic, recursion_told, IsGuardedIn}
 use Rattle.spec_acceptance.specs.Book.{Opens, DoesNotOpen, opening_told, OpensBook}
 use Rattle.refusal_lines.proofs.HandedOn.{starts_have_one_outcome}
-use Rattle.spec_acceptance.specs.Acceptance.{Asked, Founded, founded_with, FoundedBy, Founds, start_of, StartsWithValues, accepted_with, AcceptsText, IsAccepted}
+use Rattle.spec_acceptance.specs.Acceptance.{Asked, Founded, founded_with, FoundedBy, Founds, start_of, StartsWithValues, accepted_with, AcceptsText, IsAccepted, IsFounded}
 use Rattle.spec_acceptance.specs.AcceptanceLaws.{TypesAreDecided, DataAreWellFormed, ExitsAreDecided, RanksAreDecided, BooksAreDecided, ScopesAreDecided, AcceptanceIsDetermined}
 use Rattle.spec_acceptance.proofs.PartLemmas.{has_determined, looks_determined, then_determined, has_wants, looks_wants, then_wants}
 use Rattle.spec_acceptance.proofs.TextLemmas.{gets_determined, gets_wants, reads_determined, reads_wants, gathers_determined, gathers_wants, orders_determined, orders_wants}
@@ -154,6 +153,13 @@ pub acceptance_is_determined : AcceptanceIsDetermined
 acceptance_is_determined types fine exits ranks books asked got =
     then_determined (GetsFile asked.spec) _ got (gets_determined asked.spec got) (λ text f0 i0.
     accepts_determined types fine exits ranks books got text asked.order asked.values)
+
+-- up to the book
+pub founding_is_determined_so : TypesAreDecided → DataAreWellFormed → ExitsAreDecided → RanksAreDecided → BooksAreDecided
+    → (spec : List ℕ) (order : Option (List ℕ)) (got : Files) → IsDetermined got (IsFounded spec order)
+founding_is_determined_so types fine exits ranks books spec order got =
+    then_determined (GetsFile spec) _ got (gets_determined spec got) (λ text f0 i0.
+    founds_determined types fine exits ranks books got text order)
 
 pub wanted_files_are_first_so : TypesAreDecided → DataAreWellFormed → ExitsAreDecided → RanksAreDecided → BooksAreDecided
     → (asked : Asked) (got : Files) → WantsBehindFirst got (IsAccepted asked)

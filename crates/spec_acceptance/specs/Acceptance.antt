@@ -88,6 +88,10 @@ AcceptsText text order words =
     Then (StartsWithValues founded words) (λ values.
     Has (accepted_with founded values)))
 
--- one whose text is got under its name
+-- one whose text is got under its name, up to the book: whatever start values its parameters get
+abbrev pub IsFounded : (spec : List ℕ) (order : Option (List ℕ)) → Part Refused Founded
+IsFounded spec order = Then (GetsFile spec) (λ text. Founds text order)
+
+-- and with start values
 abbrev pub IsAccepted : Asked → Part Refused Acceptance
 IsAccepted asked = Then (GetsFile asked.spec) (λ text. AcceptsText text asked.order asked.values)

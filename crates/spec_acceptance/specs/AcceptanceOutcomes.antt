@@ -1,12 +1,12 @@
 -- What a specification comes to is one thing: by what is got under each name, and over a shelf that tells its texts.
-use Rattle.std.specs.Prelude.{◌≡◌, ◌+◌, ℕ, List, Some, take, Result, Ok, Err, MatchResult}
+use Rattle.std.specs.Prelude.{◌≡◌, ◌+◌, ℕ, List, Option, Some, take, Result, Ok, Err, MatchResult}
 use Rattle.std.specs.Option.{option_map}
 use Rattle.lotos_base.specs.Counts.{Rises}
 use Rattle.lotos_base.specs.Limits.{text_limit}
 use Rattle.lotos_base.specs.Outside.{Texts}
 use Rattle.refusal_lines.specs.HandedOn.{GotFile, Files, AreGotFrom, ShelfState, Refused, refused_of}
-use Rattle.spec_acceptance.specs.Acceptance.{Asked, Acceptance, IsAccepted}
-use Rattle.spec_acceptance.specs.Part.{Comes, goes_on, unread, stops}
+use Rattle.spec_acceptance.specs.Acceptance.{Asked, Acceptance, IsAccepted, Founded, IsFounded}
+use Rattle.spec_acceptance.specs.Part.{Comes, goes_on, unread, stops, Part}
 use Rattle.spec_acceptance.specs.PartLaws.{Lacks, IsDetermined, WantsBehindFirst}
 use Rattle.spec_acceptance.specs.AcceptedView.{HoldsAccepted, AcceptsWith}
 use Rattle.spec_acceptance.specs.Doing.{Failed}
@@ -29,17 +29,26 @@ WantedFilesAreFirst = (asked : Asked) (got : Files) → WantsBehindFirst got (Is
 abbrev pub got_from : Texts → Files
 got_from texts name = option_map (λ (text : List ℕ). take (text_limit + 1) text) (texts name)
 
--- This comes of accepting it over these texts, where memory is there.
-pub record ComesOver (texts : Texts) (asked : Asked) (comes : Comes Refused Acceptance) : Type 0 where
+-- This comes of a part over these texts, where memory is there.
+pub record ComesOfPart {E B : Type 0} (texts : Texts) (part : Part E B) (comes : Comes E B) : Type 0 where
   pub files : List GotFile
-  pub came : IsAccepted asked files comes
+  pub came : part files comes
   pub got_files : AreGotFrom (got_from texts) files
   pub lacks : Lacks (got_from texts) comes
+
+-- this comes of accepting it over these texts
+abbrev pub ComesOver : Texts → Asked → Comes Refused Acceptance → Type 0
+ComesOver texts asked comes = ComesOfPart texts (IsAccepted asked) comes
 
 -- and nothing else does
 abbrev pub OutcomesOverTextsAreOne : Type 0
 OutcomesOverTextsAreOne = (texts : Texts) (asked : Asked) (one other : Comes Refused Acceptance) → ComesOver texts asked one
     → ComesOver texts asked other → one ≡ other
+
+-- What comes of a specification up to the book, whatever start values its parameters get, is one thing too.
+abbrev pub FoundingsOverTextsAreOne : Type 0
+FoundingsOverTextsAreOne = (texts : Texts) (spec : List ℕ) (order : Option (List ℕ)) (one other : Comes Refused Founded)
+    → ComesOfPart texts (IsFounded spec order) one → ComesOfPart texts (IsFounded spec order) other → one ≡ other
 
 -- ---- The answer of a call
 

@@ -13,3 +13,4 @@ pub mod Acceptance
 pub mod AcceptanceLaws
 pub mod AcceptanceOutcomes
 pub mod HandedOn
+pub mod Again

@@ -1,7 +1,7 @@
 //! A specification up to the book of its data.
 
 ghost use Rattle.refusal_lines.specs.HandedOn.{IsSpecificationReading, shelf_state};
-ghost use Rattle.spec_acceptance.specs.Acceptance.{FoundedBy, Founds};
+ghost use Rattle.spec_acceptance.specs.Acceptance.{FoundedBy, Founds, IsFounded};
 ghost use Rattle.spec_acceptance.specs.Doing.{Failed};
 ghost use Rattle.spec_acceptance.specs.Known.{FoundsWith};
 ghost use Rattle.std.specs.Prelude.{ℕ, List, MatchResult, option_map};
@@ -9,6 +9,7 @@ ghost use Rattle.syntax_trees.specs.TreeViews.{specification_of};
 
 use crate::books::{WithBook, opened};
 use crate::definitions::{agreed, ranked, resolved};
+use crate::files::file;
 use crate::not_accepted::NotAccepted;
 use crate::texts::{order_items, specification, types_of};
 use crate::types::data;
@@ -37,6 +38,26 @@ pub fn founded<F: Shelf>(
     let known = with_book(alloc, &mut tree, order, shelf);
     discard(tree);
     known
+}
+
+/// The same of the specification under the name `spec`, whatever start values its parameters get.
+/// It gets the specification before the other files.
+pub fn founded_under<F: Shelf>(
+    alloc: Global,
+    spec: &str,
+    order: Option<&str>,
+    shelf: &mut F,
+) -> Result<WithBook, NotAccepted>
+    ensures { MatchResult result
+        (FoundsWith (shelf_state (F.texts shelf.old) (F.faults shelf.old) (F.calls shelf.old))
+        (shelf_state (F.texts shelf.new) (F.faults shelf.new) (F.calls shelf.new))
+        (IsFounded spec.now (option_map (λ word. word.now) order.entry)))
+        (Failed (shelf_state (F.texts shelf.old) (F.faults shelf.old) (F.calls shelf.old))
+        (shelf_state (F.texts shelf.new) (F.faults shelf.new) (F.calls shelf.new))
+        (IsFounded spec.now (option_map (λ word. word.now) order.entry))) }
+{
+    let text = file(alloc, spec, shelf)?;
+    founded(alloc, text.as_slice(), order, shelf)
 }
 
 // The specification of the tree, whose types are taken out of it, with its book.

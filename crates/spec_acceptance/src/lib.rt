@@ -4,6 +4,7 @@
 #![tactic(auto)]
 
 pub mod accepted;
+pub mod again;
 pub mod books;
 pub mod copies;
 pub mod decided_laws;
@@ -20,6 +21,8 @@ pub mod texts;
 pub mod types;
 
 pub use accepted::Accepted;
+pub use books::WithBook;
+pub use founded::founded_under;
 pub use not_accepted::NotAccepted;
 pub use refusal_lines::{
     Book, Refused, SpecFault, WORD_BYTES_LIMIT, WORDS_LIMIT, are_within_limits, refusal_line,

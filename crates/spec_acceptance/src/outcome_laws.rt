@@ -3,6 +3,7 @@
 ghost use Rattle.spec_acceptance.specs.AcceptanceLaws.{DataAreWellFormed, TypesAreDecided};
 ghost use Rattle.spec_acceptance.specs.AcceptanceOutcomes.{
   AcceptanceHasOneOutcome,
+  FoundingsOverTextsAreOne,
   OutcomesOverTextsAreOne,
   ReadsAreOne,
   WantedFilesAreFirst,
@@ -32,4 +33,10 @@ pub fn acceptance_has_one_outcome()
 pub fn reads_are_one()
     ensures outcomes { OutcomesOverTextsAreOne }
     ensures answers { ReadsAreOne }
+{}
+
+/// Over a shelf that tells its texts one thing comes of a specification up to the book of its data,
+/// whatever start values its parameters get, where no file fails and memory is there.
+pub fn foundings_are_one()
+    ensures { FoundingsOverTextsAreOne }
 {}

@@ -1,13 +1,14 @@
 -- Keys in a set that keeps their order.
-use Rattle.std.proofs.Common.{arith, ◌≡◌, ◌<◌, ◌≤◌, ◌||◌, ℕ, zero, suc, Bool, true, false, List, [], ◌∷◌, ◌++◌, map, length, get_or, drop, Vec, refl, ap, sym, ◌∙◌, inl, inr}
+use Rattle.std.proofs.Common.{arith, ◌≡◌, ◌<◌, ◌≤◌, ◌||◌, ℕ, zero, suc, Bool, true, false, List, [], ◌∷◌, ◌++◌, map, length, get_or, drop, Vec, refl, ap, sym, subst, ◌∙◌, inl, inr}
 use Rattle.std.specs.Prelude.{None, Some, slice_get, if◌then◌else◌}
 use Rattle.std.specs.declared.alloc.Global.{Global}
-use Rattle.std.specs.List.{list_any}
+use Rattle.std.specs.List.{list_any, position}
 use Rattle.std.specs.Str.{bytes_eq}
 use Rattle.std.proofs.lemmas.List.{map-append}
-use Rattle.std.proofs.lemmas.Option.{same_Some}
+use Rattle.std.proofs.lemmas.List.Quantifiers.{position-Some}
+use Rattle.std.proofs.lemmas.Option.{none-some, same_Some}
 use Rattle.std.proofs.lemmas.Slice.Eq.{bytes_eq-Decides}
-use Rattle.term_store.specs.Cells.{IsCell, HasOneMore, operation_in}
+use Rattle.term_store.specs.Cells.{IsCell, HasOneMore, StandsAt, operation_in}
 
 -- the items of each key
 abbrev pub items_of : List (Vec ℕ Global) → List (List ℕ)
@@ -55,9 +56,27 @@ pub stored_key : (keys : List (Vec ℕ Global)) (key : Vec ℕ Global) (n : ℕ)
 stored_key keys key n stored =
     at_number keys n stored.0 stored.1 ∙ sym ((bytes_eq-Decides key.items stored.0.items).0 stored.2)
 
+-- what is found by its items
+items_at : (keys : List (Vec ℕ Global)) (n : ℕ) (other : Vec ℕ Global) → n < length keys
+    → get_or (items_of keys) n [] ≡ (get_or keys n other).items
+items_at [] n other below = absurd (omega (arith, below))
+items_at (key ∷ keys) zero other below = refl
+items_at (key ∷ keys) (suc n) other below = items_at keys n other (omega (arith, below))
+
 pub as_many_keys : (keys : List (Vec ℕ Global)) → length (items_of keys) ≡ length keys
 as_many_keys [] = refl
 as_many_keys (key ∷ keys) = ap suc (as_many_keys keys)
+
+pub found_key : (keys : List (Vec ℕ Global)) (key : List ℕ) (n : ℕ) → Some n ≡ position (has_items key) keys
+    → StandsAt (items_of keys) key n
+found_key [] key n found = absurd (none-some n (sym found))
+found_key (first ∷ keys) key n found =
+    let it = position-Some (has_items key) (first ∷ keys) n first (sym found) in
+    record {
+      within = subst (λ (many : ℕ). n < many) (sym (as_many_keys (first ∷ keys))) it.0;
+      is = items_at (first ∷ keys) n first it.0
+          ∙ sym ((bytes_eq-Decides key (get_or (first ∷ keys) n first).items).0 it.1);
+    }
 
 -- ---- The head of a term
 

@@ -1,7 +1,8 @@
 -- Numbers of instances of terms, from those of their parts.
-use Rattle.std.proofs.Common.{arith, refl, ap, sym, ◌∙◌, ◌≡◌, ◌≤◌, ◌+◌, subst, ℕ, List, [], ◌∷◌, ◌++◌, length, append_assoc, append-nil, Option, None, Some}
+use Rattle.std.proofs.Common.{arith, refl, ap, sym, ◌∙◌, ◌≡◌, ◌≤◌, ◌+◌, subst, ℕ, List, [], ◌∷◌, ◌++◌, length, drop, take, append_assoc, append-nil, Option, None, Some}
 use Rattle.std.specs.Prelude.{Result, IfOk}
 use Rattle.std.specs.Option.{option_map}
+use Rattle.std.proofs.Math.Seq.{drop-append_seam, take-append_seam}
 use Rattle.std.proofs.lemmas.List.{length-append}
 use Rattle.std.proofs.lemmas.Result.{IfOk-weaker}
 use Rattle.lotos_base.specs.Signature.{Signature, Operation, IsOperation}
@@ -106,16 +107,35 @@ pub record IsReadied (values : Signature → ProfiledSubstitution) (f : ℕ) (ts
   pub terms : (signature : Signature) → AreOf signature ts → HaveTermsOf signature before
       → members (key_terms signature middle) numbers ≡ profiled_instances (values signature) ts
 
-pub readied : (values : Signature → ProfiledSubstitution) (f : ℕ) (ts : ProfiledTerms) (before middle : List (List ℕ))
-    (head key : List ℕ) → head ≡ operation_key f [] → TakeIn ts before middle → AreInstancesOf values ts before middle head key
-    → IsReadied values f ts before middle key
-readied values f ts before middle head key is takes numbers = record {
+numbers_behind : (old : List ℕ) (f : ℕ) (numbers begun more : List ℕ) → begun ≡ old ++ operation_key f [] → more ≡ begun ++ numbers
+    → more ≡ old ++ operation_key f numbers
+numbers_behind old f numbers begun more is behind =
+    behind ∙ ap (λ (h : List ℕ). h ++ numbers) is ∙ append_assoc old (operation_key f []) numbers
+
+-- their numbers stand behind those of other keys
+pub readied_behind : (values : Signature → ProfiledSubstitution) (f : ℕ) (ts : ProfiledTerms) (before middle : List (List ℕ))
+    (old begun more : List ℕ) (start : ℕ) → start ≡ length old → begun ≡ old ++ operation_key f [] → TakeIn ts before middle
+    → AreInstancesOf values ts before middle begun more → IsReadied values f ts before middle (drop start more)
+readied_behind values f ts before middle old begun more start at is takes numbers = record {
   takes = takes;
   numbers = numbers.numbers;
-  made = numbers.behind ∙ ap (λ (h : List ℕ). h ++ numbers.numbers) is;
+  made = ap (λ (k : ℕ). drop k more) at ∙ ap (drop (length old)) (numbers_behind old f numbers.numbers begun more is numbers.behind)
+      ∙ drop-append_seam old (operation_key f numbers.numbers);
   within = numbers.within;
   terms = numbers.terms;
 }
+
+-- and taking them off leaves these
+pub left_before : (values : Signature → ProfiledSubstitution) (f : ℕ) (ts : ProfiledTerms) (before middle : List (List ℕ))
+    (old begun more : List ℕ) (start : ℕ) → start ≡ length old → begun ≡ old ++ operation_key f []
+    → AreInstancesOf values ts before middle begun more → (start ≤ length more) × (take start more ≡ old)
+left_before values f ts before middle old begun more start at is numbers =
+    let whole = numbers_behind old f numbers.numbers begun more is numbers.behind in
+    let long : length more ≡ length old + length (operation_key f numbers.numbers) =
+    ap length whole ∙ length-append old (operation_key f numbers.numbers) in (
+      omega (arith, at, long),
+      ap (λ (k : ℕ). take k more) at ∙ ap (take (length old)) whole ∙ take-append_seam old (operation_key f numbers.numbers),
+    )
 
 pub operation_taken : (values : Signature → ProfiledSubstitution) (t : ProfiledTerm) (f : ℕ) (operation : Operation) (ts : ProfiledTerms)
     (before middle : List (List ℕ)) (key : List ℕ) (after : List (List ℕ)) → t ≡ profiled_node f operation ts

@@ -1,8 +1,8 @@
 //! The numbers of terms, and of terms with others put for their variables.
 
 ghost use Rattle.sort_terms.specs.TermView.{all_profiled, profiled_of};
-ghost use Rattle.std.specs.Prelude.{[], IfOk, length};
-ghost use Rattle.term_store.specs.Cells.{AreBelow};
+ghost use Rattle.std.specs.Prelude.{◌≡◌, ◌≤◌, ◌++◌, [], IfOk, OnOk, drop, length, take};
+ghost use Rattle.term_store.specs.Cells.{AreBelow, HasOneMore, StandsAt, operation_key, variable_key};
 ghost use Rattle.term_store.specs.Numbered.{
   AreInstancesOf,
   IsInstanceOf,
@@ -31,7 +31,6 @@ pub fn number_of(alloc: Global, shared: &mut SharedTerms, term: &Term) -> Result
 
 /// The number of the term with what the pairs have put for its variables. What was not kept before
 /// is kept.
-#[cycle(instance)]
 pub fn instance(
     alloc: Global,
     shared: &mut SharedTerms,
@@ -43,38 +42,104 @@ pub fn instance(
     ensures number { IfOk result (λ n. IsInstanceOf (values_of pairs.now (keys_in shared.old))
         (profiled_of term.now) (keys_in shared.old) (keys_in shared.new) n) }
 {
+    let mut key = Vec::new(alloc);
+    instance_by(alloc, shared, term, pairs, &mut key)
+}
+
+// The same, by a list at whose end keys are made.
+#[cycle(instance)]
+fn instance_by(
+    alloc: Global,
+    shared: &mut SharedTerms,
+    term: &Term,
+    pairs: &[(u64, usize)],
+    key: &mut Vec<usize>,
+) -> Result<usize, NoMemory>
+    requires { AreBelow (length (keys_in shared.old)) (numbers_in pairs.now) }
+    ensures takes { TakesIn (profiled_of term.now) (keys_in shared.old) (keys_in shared.new) }
+    ensures number { IfOk result (λ n. IsInstanceOf (values_of pairs.now (keys_in shared.old))
+        (profiled_of term.now) (keys_in shared.old) (keys_in shared.new) n) }
+    ensures same { OnOk result (key.new.items ≡ key.old.items) }
+{
     match term {
         Term::Var { number, sort } => match value_of(pairs, *number) {
             Some(known) => Ok(known),
-            None => shared.number(vec![in alloc; 0, *number as usize, *sort as usize]?),
+            None => variable(alloc, shared, *number, *sort),
         },
         Term::Node { op, arguments, .. } => {
-            let key = vec![in alloc; 1, *op as usize]?;
-            let key = instances(alloc, shared, arguments, pairs, key)?;
-            shared.number(key)
+            let start = key.len();
+            begin(key, *op as usize)?;
+            add_instances(alloc, shared, arguments, pairs, key)?;
+            number_behind(alloc, shared, start, key)
         }
     }
 }
 
-// The key with the numbers of the instances of the terms behind it.
+// Puts the numbers of the instances of the terms at the end.
 #[cycle(instance)]
-fn instances(
+fn add_instances(
     alloc: Global,
     shared: &mut SharedTerms,
     terms: &Vec<Term>,
     pairs: &[(u64, usize)],
-    mut key: Vec<usize>,
-) -> Result<Vec<usize>, NoMemory>
+    key: &mut Vec<usize>,
+) -> Result<(), NoMemory>
     requires { AreBelow (length (keys_in shared.old)) (numbers_in pairs.now) }
     ensures takes { TakeIn (all_profiled terms.now.items) (keys_in shared.old)
         (keys_in shared.new) }
-    ensures numbers { IfOk result (λ more. AreInstancesOf
+    ensures numbers { OnOk result (AreInstancesOf
         (values_of pairs.now (keys_in shared.old)) (all_profiled terms.now.items)
-        (keys_in shared.old) (keys_in shared.new) key.items more.items) }
+        (keys_in shared.old) (keys_in shared.new) key.old.items key.new.items) }
 {
     for term in terms {
-        let number = instance(alloc, shared, term, pairs)?;
+        let number = instance_by(alloc, shared, term, pairs, key)?;
         key.push(number)?;
     }
-    Ok(key)
+    Ok(())
+}
+
+// Begins the key of an operation at the end.
+fn begin(key: &mut Vec<usize>, op: usize) -> Result<(), NoMemory>
+    ensures { OnOk result (key.new.items ≡ key.old.items ++ operation_key op []) }
+{
+    key.push(1)?;
+    key.push(op)?;
+    Ok(())
+}
+
+// The number of a variable. This is a call of its own, as the next function is, so that an operation
+// of a term takes little of the stack.
+#[inline(never)]
+fn variable(
+    alloc: Global,
+    shared: &mut SharedTerms,
+    number: u64,
+    sort: u32,
+) -> Result<usize, NoMemory>
+    ensures more { HasOneMore (keys_in shared.old) (variable_key number sort)
+        (keys_in shared.new) }
+    ensures stands { IfOk result
+        (λ n. StandsAt (keys_in shared.new) (variable_key number sort) n) }
+{
+    shared.number_copied(alloc, &[0, number as usize, sort as usize])
+}
+
+// The number of the term whose key is what stands from this position on, which is taken off.
+#[inline(never)]
+fn number_behind(
+    alloc: Global,
+    shared: &mut SharedTerms,
+    start: usize,
+    key: &mut Vec<usize>,
+) -> Result<usize, NoMemory>
+    requires { start ≤ length key.old.items }
+    ensures more { HasOneMore (keys_in shared.old) (drop start key.old.items)
+        (keys_in shared.new) }
+    ensures stands { IfOk result
+        (λ number. StandsAt (keys_in shared.new) (drop start key.old.items) number) }
+    ensures left { OnOk result (key.new.items ≡ take start key.old.items) }
+{
+    let number = shared.number_copied(alloc, &key.as_slice()[start..])?;
+    key.truncate(start);
+    Ok(number)
 }

@@ -70,4 +70,15 @@ impl SharedTerms {
         let (number, _) = self.keys.insert_full(key)?;
         Ok(number)
     }
+
+    /// The same, by a key of which a copy is kept if the term was not kept before.
+    pub fn number_copied(&mut self, alloc: Global, key: &[usize]) -> Result<usize, NoMemory>
+        ensures more { HasOneMore (keys_in self.old) key.now (keys_in self.new) }
+        ensures stands { IfOk result (λ number. StandsAt (keys_in self.new) key.now number) }
+    {
+        match self.keys.get_index_of(key) {
+            Some(number) => Ok(number),
+            None => self.number(Vec::from_slice(alloc, key)?),
+        }
+    }
 }

@@ -1,7 +1,7 @@
 //! Operations on the chosen forms of their arguments.
 
-ghost use Rattle.std.specs.Prelude.{◌≡◌, ◌++◌, ◌<◌, IfOk, length};
-ghost use Rattle.term_store.specs.Cells.{AreCells, HasOneMore, StandsAt};
+ghost use Rattle.std.specs.Prelude.{◌≡◌, ◌++◌, ◌<◌, [], IfOk, length};
+ghost use Rattle.term_store.specs.Cells.{AreCells, HasOneMore, StandsAt, operation_key};
 ghost use Rattle.term_store.specs.Kept.{forms_of};
 ghost use Rattle.term_store.specs.SharedView.{keys_in};
 ghost use Rattle.term_store.specs.Tasks.{whole_key};
@@ -35,7 +35,9 @@ fn key_of_whole(alloc: Global, forms: &Forms, number: usize) -> Result<Vec<usize
 {
     match forms.shared.operation(number) {
         None => Ok(Vec::from_slice(alloc, forms.shared.key(number))?),
-        Some((op, arguments)) => with_forms(forms, arguments, vec![in alloc; 1, op]?),
+        Some((op, arguments)) => {
+            with_forms(forms, arguments, head_key(alloc, op, arguments.len())?)
+        }
     }
 }
 
@@ -47,5 +49,16 @@ fn with_forms(forms: &Forms, numbers: &[usize], mut key: Vec<usize>) -> Result<V
     for number in numbers {
         key.push(forms.form_or_same(*number))?;
     }
+    Ok(key)
+}
+
+// The key of an operation, with room for the numbers of so many arguments, none of which stands
+// there yet.
+fn head_key(alloc: Global, op: usize, count: usize) -> Result<Vec<usize>, NoMemory>
+    ensures { IfOk result (λ key. key.items ≡ operation_key op []) }
+{
+    let mut key = Vec::with_capacity(alloc, count.saturating_add(2))?;
+    key.push(1)?;
+    key.push(op)?;
     Ok(key)
 }

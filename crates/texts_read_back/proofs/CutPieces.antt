@@ -22,7 +22,7 @@ IsCut number before bytes rest tokens =
     cut number 0 false (behind_bytes before) (bytes ++ rest)
     ≡ with_tokens tokens (cut number 0 false (behind_bytes (before ++ bytes)) rest)
 
-behind_joined : (xs ys : List ℕ) (position : Position) → behind_all (xs ++ ys) position ≡ behind_all ys (behind_all xs position)
+pub behind_joined : (xs ys : List ℕ) (position : Position) → behind_all (xs ++ ys) position ≡ behind_all ys (behind_all xs position)
 behind_joined [] ys position = refl
 behind_joined (x ∷ xs) ys position = behind_joined xs ys (behind x position)
 

@@ -55,9 +55,11 @@ at_most : (depth a limit : ℕ) → depth + suc a ≤ suc limit → depth ≤ li
 at_most depth a limit h = omega arith
 
 mutual
-  pub term_shallow : (signature : Signature) (limit : ℕ) (t : Term) (depth : ℕ) (w : WrittenTerm) → IsWrittenAs signature t w
+  pub term_shallow : (signature : Signature) (limit : ℕ) (t : Term) (depth : ℕ) (w : WrittenTerm) → IsWrittenAs signature [] t w
       → depth + term_depth t ≤ suc limit → IsShallow limit (term_nodes depth w)
-  term_shallow signature limit (variable n s) depth (written head ws) writes within = absurd writes
+  term_shallow signature limit (variable n s) depth (written head no_written) writes within =
+      shallow_node limit depth head.place (at_most depth 0 limit within)
+  term_shallow signature limit (variable n s) depth (written head (written_then w ws)) writes within = absurd writes
   term_shallow signature limit (node f no_terms) depth (written head no_written) writes within =
       shallow_node limit depth head.place (at_most depth (depth_among no_terms) limit within)
   term_shallow signature limit (node f no_terms) depth (written head (written_then w ws)) writes within = absurd writes.3
@@ -70,7 +72,7 @@ mutual
       (term_shallow signature limit t (depth + 1) w writes.3.0 (max_left (term_depth t) (depth_among ts) (suc limit) (depth + 1) below))
       (terms_shallow signature limit ts (depth + 1) ws writes.3.1 (max_right (term_depth t) (depth_among ts) (suc limit) (depth + 1) below))
 
-  pub terms_shallow : (signature : Signature) (limit : ℕ) (ts : Terms) (depth : ℕ) (ws : WrittenTerms) → AreWrittenAs signature ts ws
+  pub terms_shallow : (signature : Signature) (limit : ℕ) (ts : Terms) (depth : ℕ) (ws : WrittenTerms) → AreWrittenAs signature [] ts ws
       → depth + depth_among ts ≤ suc limit → IsShallow limit (terms_nodes depth ws)
   terms_shallow signature limit no_terms depth no_written writes within = refl
   terms_shallow signature limit no_terms depth (written_then w ws) writes within = absurd writes
@@ -82,7 +84,7 @@ mutual
 
 -- terms each by itself
 pub list_shallow : (signature : Signature) (limit : ℕ) (ts : List Term) (ws : List WrittenTerm)
-    → AreWrittenAs signature (terms_of ts) (written_terms ws)
+    → AreWrittenAs signature [] (terms_of ts) (written_terms ws)
     → ((i : ℕ) (t : Term) → slice_get ts i ≡ Some t → term_depth t ≤ limit) → IsShallow limit (nodes_of_terms ws)
 list_shallow signature limit [] [] writes within = refl
 list_shallow signature limit [] (w ∷ ws) writes within = absurd writes

@@ -8,4 +8,5 @@ pub mod ReadBackLemmas
 pub mod PlainNames
 pub mod SampleLemmas
 pub mod WrittenLemmas
+pub mod TermMeanings
 pub mod TraceLemmas

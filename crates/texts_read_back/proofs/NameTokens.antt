@@ -187,7 +187,7 @@ below_letters b lower upper digit past = by (nat_le lower b) refl
     by true above = absurd (omega (arith, leb-true lower b above, leb-true b 57 digit, past))
     by false above = refl
 
-digit_no_letter : (b : ℕ) → is_ascii_digit b ≡ true → is_ascii_alphabetic b ≡ false
+pub digit_no_letter : (b : ℕ) → is_ascii_digit b ≡ true → is_ascii_alphabetic b ≡ false
 digit_no_letter b is =
     let small : nat_le b 57 ≡ true = (and_parts (nat_le 48 b) (nat_le b 57) is).1 in
     neither (is_in_range 65 90 b) (is_in_range 97 122 b) (below_letters b 65 90 small (omega arith))
@@ -197,10 +197,10 @@ digit_no_letter b is =
     neither true lower h k = h
     neither false lower h k = k
 
-sign_no_letter : (b : ℕ) → is_sign b ≡ true → is_ascii_alphabetic b ≡ false
+pub sign_no_letter : (b : ℕ) → is_sign b ≡ true → is_ascii_alphabetic b ≡ false
 sign_no_letter b is = not-true (is_ascii_alphabetic b) (each_in (codes "#%&*+-./<=>@\\^~{}") (λ x. not (is_ascii_alphabetic x)) refl b is)
 
-sign_no_digit : (b : ℕ) → is_sign b ≡ true → is_ascii_digit b ≡ false
+pub sign_no_digit : (b : ℕ) → is_sign b ≡ true → is_ascii_digit b ≡ false
 sign_no_digit b is = not-true (is_ascii_digit b) (each_in (codes "#%&*+-./<=>@\\^~{}") (λ x. not (is_ascii_digit x)) refl b is)
 
 sign_no_operator : (b : ℕ) → is_sign b ≡ true → DiffersFrom operators b

@@ -129,7 +129,7 @@ sort_stands number text name is before rest there apart_rest = record {
 -- ---- Brackets
 
 -- behind a bracket that is opened stands no `*`
-abbrev BeginsOtherwise : List ℕ → Type 0
+abbrev pub BeginsOtherwise : List ℕ → Type 0
 BeginsOtherwise bytes = begins_with 42 bytes ≡ false
 
 not_star : (b : ℕ) → nat_eq b 42 ≡ false → nat_eq 42 b ≡ false
@@ -143,12 +143,12 @@ unless : (t : Bool) (one other : Piece) → t ≡ false → (if (t && true) then
 unless true one other h = cc
 unless false one other h = refl
 
-opened_piece : (bytes : List ℕ) → BeginsOtherwise bytes → piece_at false (40 ∷ bytes) ≡ piece.Token (lexeme_of LEFT_PARENTHESIS 1)
+pub opened_piece : (bytes : List ℕ) → BeginsOtherwise bytes → piece_at false (40 ∷ bytes) ≡ piece.Token (lexeme_of LEFT_PARENTHESIS 1)
 opened_piece [] other = refl
 opened_piece (b ∷ bytes) other =
     unless (nat_eq 42 b) (comment (close_at bytes)) (piece.Token (lexeme_of LEFT_PARENTHESIS 1)) (not_star b other)
 
-opened_other : (bytes more : List ℕ) (star : Bool) → begins_with 42 bytes ≡ star
+pub opened_other : (bytes more : List ℕ) (star : Bool) → begins_with 42 bytes ≡ star
     → BeginsOtherwise ((if star then codes " " ++ bytes else bytes) ++ (41 ∷ more))
 opened_other bytes more true is = refl
 opened_other [] more false is = refl

@@ -3,6 +3,7 @@ use Rattle.std.proofs.Common.{◌≡◌, ℕ, Bool, true, false, List, [], ◌�
 use Rattle.std.specs.Prelude.{slice_get}
 use Rattle.lotos_base.specs.Signature.{Signature, Sort, Operation, IsOperation}
 use Rattle.lotos_base.specs.Twins.{HasTwin}
+use Rattle.lotos_base.specs.Equation.{Variable}
 use Rattle.lotos_base.specs.Term.{Term, Terms, node}
 use Rattle.lotos_base.specs.WrittenTerm.{PlacedName, WrittenHead, WrittenTerm, WrittenTerms, written}
 use Rattle.lotos_lexer.specs.declared.tokens.Token.{Token}
@@ -18,20 +19,21 @@ use Rattle.texts_read_back.proofs.CutPieces.{IsCut, cut_joined}
 use Rattle.texts_read_back.proofs.PartsOfText.{Stands, StandsAnywhere, first_part, second_part, apart, IsSortBehind, sort_behind, sort_stands, round_stands}
 
 -- what an operation with its arguments is written as, but for the sort that stands behind it
-pub record IsUnmarked (signature : Signature) (operation : Operation) (ts : Terms) (w : WrittenTerm) : Type 0 where
+pub record IsUnmarked (signature : Signature) (names : List Variable) (operation : Operation) (ts : Terms) (w : WrittenTerm) : Type 0 where
   pub head : WrittenHead
   pub arguments : WrittenTerms
   pub parts : w ≡ written head arguments
   pub named : head.name ≡ operation.name
   pub formed : head.form ≡ operation.form
   pub bare : head.sorts ≡ []
-  pub each : AreWrittenAs signature ts arguments
+  pub each : AreWrittenAs signature names ts arguments
 
 -- no sort stands behind an operation that has no twin
-pub unmarked_is : (signature : Signature) (f : ℕ) (operation : Operation) (ts : Terms) (w : WrittenTerm) → IsOperation signature f operation
-    → ¬ HasTwin signature operation → IsUnmarked signature operation ts w → IsWrittenAs signature (node f ts) w
-unmarked_is signature f operation ts w is_there alone un =
-    subst (IsWrittenAs signature (node f ts)) (sym un.parts) (operation, is_there, is_head, un.each)
+pub unmarked_is : (signature : Signature) (names : List Variable) (f : ℕ) (operation : Operation) (ts : Terms) (w : WrittenTerm)
+    → IsOperation signature f operation
+    → ¬ HasTwin signature operation → IsUnmarked signature names operation ts w → IsWrittenAs signature names (node f ts) w
+unmarked_is signature names f operation ts w is_there alone un =
+    subst (IsWrittenAs signature names (node f ts)) (sym un.parts) (operation, is_there, is_head, un.each)
   where
     is_head : IsHeadOf signature operation un.head
     is_head = record {
@@ -41,11 +43,13 @@ unmarked_is signature f operation ts w is_there alone un =
     }
 
 -- the sort of the result stands behind one that has
-marked_is : (signature : Signature) (f : ℕ) (operation : Operation) (sort : Sort) (ts : Terms) (w : WrittenTerm) (placed : PlacedName)
+pub marked_is : (signature : Signature) (names : List Variable) (f : ℕ) (operation : Operation) (sort : Sort) (ts : Terms) (w : WrittenTerm)
+    (placed : PlacedName)
     → IsOperation signature f operation → HasTwin signature operation → slice_get signature.sorts operation.result ≡ Some sort
-    → placed.name ≡ sort.name → IsUnmarked signature operation ts w → IsWrittenAs signature (node f ts) (of_sort placed w)
-marked_is signature f operation sort ts w placed is_there twin found is_named un =
-    subst (λ (v : WrittenTerm). IsWrittenAs signature (node f ts) (of_sort placed v)) (sym un.parts) (operation, is_there, is_head, un.each)
+    → placed.name ≡ sort.name → IsUnmarked signature names operation ts w → IsWrittenAs signature names (node f ts) (of_sort placed w)
+marked_is signature names f operation sort ts w placed is_there twin found is_named un =
+    subst (λ (v : WrittenTerm). IsWrittenAs signature names (node f ts) (of_sort placed v)) (sym un.parts)
+    (operation, is_there, is_head, un.each)
   where
     head : WrittenHead
     head = record { place = un.head.place; name = un.head.name; form = un.head.form; sorts = un.head.sorts ++ placed ∷ [] }
@@ -68,7 +72,7 @@ OneOf text false = IsFactor text
 module _ (number : ℕ) (text : List ℕ) (signature : Signature) where
   -- the phrase of a term stands anywhere
   abbrev pub PhraseStands : Term → Phrase → Type 0
-  PhraseStands t phrase = StandsAnywhere number text phrase.text (OneOf text phrase.is_infix) (IsWrittenAs signature t)
+  PhraseStands t phrase = StandsAnywhere number text phrase.text (OneOf text phrase.is_infix) (IsWrittenAs signature [] t)
 
   factor_term : (tokens : List Token) (w : WrittenTerm) → IsFactor text tokens w → IsTerm text tokens w
   factor_term tokens w factor = grouped_factors (one_factor factor) only
@@ -79,7 +83,7 @@ module _ (number : ℕ) (text : List ℕ) (signature : Signature) where
 
   -- a phrase by itself is a term
   pub phrase_term : (t : Term) (phrase : Phrase) → PhraseStands t phrase
-      → StandsAnywhere number text phrase.text (IsTerm text) (IsWrittenAs signature t)
+      → StandsAnywhere number text phrase.text (IsTerm text) (IsWrittenAs signature [] t)
   phrase_term t phrase stands before rest there apart_rest = record {
     tokens = part.tokens;
     thing = part.thing;
@@ -88,7 +92,7 @@ module _ (number : ℕ) (text : List ℕ) (signature : Signature) where
     fitting = part.fitting;
   }
     where
-      part : Stands number before phrase.text rest (OneOf text phrase.is_infix) (IsWrittenAs signature t)
+      part : Stands number before phrase.text rest (OneOf text phrase.is_infix) (IsWrittenAs signature [] t)
       part = stands before rest there apart_rest
 
   between_base : (tokens : List Token) (w : WrittenTerm) → Between LEFT_PARENTHESIS RIGHT_PARENTHESIS (IsTerm text) tokens w
@@ -124,10 +128,11 @@ module _ (number : ℕ) (text : List ℕ) (signature : Signature) where
 
   -- an operand is a factor
   pub operand_stands : (t : Term) (bytes : List ℕ) (is_infix : Bool)
-      → StandsAnywhere number text bytes (OneOf text is_infix) (IsWrittenAs signature t)
-      → StandsAnywhere number text (operand_text (record { text = bytes; is_infix = is_infix })) (IsFactor text) (IsWrittenAs signature t)
+      → StandsAnywhere number text bytes (OneOf text is_infix) (IsWrittenAs signature [] t)
+      → StandsAnywhere number text (operand_text (record { text = bytes; is_infix = is_infix })) (IsFactor text)
+      (IsWrittenAs signature [] t)
   operand_stands t bytes true stands =
-      base_factor (round bytes) (IsWrittenAs signature t) (round_base bytes (IsWrittenAs signature t) stands)
+      base_factor (round bytes) (IsWrittenAs signature [] t) (round_base bytes (IsWrittenAs signature [] t) stands)
   operand_stands t bytes false stands = stands
 
   -- ---- The sort behind an operation
@@ -135,13 +140,13 @@ module _ (number : ℕ) (text : List ℕ) (signature : Signature) where
   -- an operation with its arguments stands, and behind it its sort if it has a twin
   pub marked_stands : (f : ℕ) (operation : Operation) (sort : Sort) (ts : Terms) (bytes : List ℕ) → IsOperation signature f operation
       → HasTwin signature operation → slice_get signature.sorts operation.result ≡ Some sort → IsWordSpelling sort.name
-      → StandsAnywhere number text bytes (IsBase text) (IsUnmarked signature operation ts)
-      → StandsAnywhere number text (bytes ++ (codes " of " ++ sort.name)) (IsFactor text) (IsWrittenAs signature (node f ts))
+      → StandsAnywhere number text bytes (IsBase text) (IsUnmarked signature [] operation ts)
+      → StandsAnywhere number text (bytes ++ (codes " of " ++ sort.name)) (IsFactor text) (IsWrittenAs signature [] (node f ts))
   marked_stands f operation sort ts bytes is_there twin found spelling stands before rest there apart_rest =
       joined part.tokens part.thing part.is_cut part.is_one part.fitting behind.tokens behind.thing behind.is_cut behind.is_one
       behind.fitting
     where
-      part : Stands number before bytes ((codes " of " ++ sort.name) ++ rest) (IsBase text) (IsUnmarked signature operation ts)
+      part : Stands number before bytes ((codes " of " ++ sort.name) ++ rest) (IsBase text) (IsUnmarked signature [] operation ts)
       part =
           stands before ((codes " of " ++ sort.name) ++ rest) (first_part text before bytes (codes " of " ++ sort.name) rest there)
           (apart 32 ((codes "of " ++ sort.name) ++ rest) refl refl)
@@ -153,15 +158,15 @@ module _ (number : ℕ) (text : List ℕ) (signature : Signature) where
           (second_part text before bytes (codes " of " ++ sort.name) rest there) apart_rest
 
       joined : (ts_tokens : List Token) (w : WrittenTerm) → IsCut number before bytes ((codes " of " ++ sort.name) ++ rest) ts_tokens
-          → IsBase text ts_tokens w → IsUnmarked signature operation ts w → (us : List Token) (placed : PlacedName)
+          → IsBase text ts_tokens w → IsUnmarked signature [] operation ts w → (us : List Token) (placed : PlacedName)
           → IsCut number (before ++ bytes) (codes " of " ++ sort.name) rest us → IsSortBehind text us placed → placed.name ≡ sort.name
-          → Stands number before (bytes ++ (codes " of " ++ sort.name)) rest (IsFactor text) (IsWrittenAs signature (node f ts))
+          → Stands number before (bytes ++ (codes " of " ++ sort.name)) rest (IsFactor text) (IsWrittenAs signature [] (node f ts))
       joined ts_tokens w cut base un us placed cut_behind (sort_behind word sort_token) is_named = record {
         tokens = ts_tokens ++ us;
         thing = of_sort placed w;
         is_cut = cut_joined number before bytes (codes " of " ++ sort.name) rest ts_tokens us cut cut_behind;
         is_one = with_sort base word sort_token;
-        fitting = marked_is signature f operation sort ts w placed is_there twin found is_named un;
+        fitting = marked_is signature [] f operation sort ts w placed is_there twin found is_named un;
       }
 
   -- nothing more is written behind an operation without a twin

@@ -20,7 +20,7 @@ use Rattle.printed_texts.specs.Brackets.{commas}
 use Rattle.printed_texts.specs.TermText.{phrase_text, phrases_of}
 use Rattle.printed_texts.specs.MenuText.{entry_term_text, term_texts}
 use Rattle.texts_read_back.specs.WrittenAs.{AreWrittenAs}
-use Rattle.texts_read_back.proofs.WrittenLemmas.{terms_have_one_reading}
+use Rattle.texts_read_back.proofs.WrittenLemmas.{ground_terms_have_one_reading}
 use Rattle.texts_read_back.specs.TextNames.{HasTextNames}
 use Rattle.texts_read_back.specs.TermDepth.{term_depth}
 use Rattle.texts_read_back.specs.ReadBack.{AreReadBackAt, IsReadBack, AreReadBack}
@@ -49,14 +49,16 @@ texts_same signature [] = refl
 texts_same signature (t ∷ ts) = ap (λ (texts : List (List ℕ)). entry_term_text signature t ∷ texts) (texts_same signature ts)
 
 values_read : (signature : Signature) → IsWellFormedSignature signature → (sorts : List ℕ) (ts : List Term) (ws : List WrittenTerm)
-    → AreValues signature sorts ts → AreWrittenAs signature (terms_of ts) (written_terms ws) → AreReadBackAt signature sorts ws ts
+    → AreValues signature sorts ts → AreWrittenAs signature [] (terms_of ts) (written_terms ws) → AreReadBackAt signature sorts ws ts
 values_read signature well [] [] [] values writes = tt
 values_read signature well [] [] (w ∷ ws) values writes = absurd writes
 values_read signature well [] (t ∷ ts) ws values writes = absurd values
 values_read signature well (s ∷ ss) [] ws values writes = absurd values
 values_read signature well (s ∷ ss) (t ∷ ts) [] values writes = absurd writes
-values_read signature well (s ∷ ss) (t ∷ ts) (w ∷ ws) values writes =
-    (terms_have_one_reading signature s t w (Some s) well values.0 writes.0 refl, values_read signature well ss ts ws values.1 writes.1)
+values_read signature well (s ∷ ss) (t ∷ ts) (w ∷ ws) values writes = (
+  ground_terms_have_one_reading signature s t w (Some s) well values.0 writes.0 refl,
+  values_read signature well ss ts ws values.1 writes.1,
+)
 
 -- the list of terms that a text is
 record IsListed (signature : Signature) (number : ℕ) (text : List ℕ) (ts : List Term) : Type 0 where
@@ -64,7 +66,7 @@ record IsListed (signature : Signature) (number : ℕ) (text : List ℕ) (ts : L
   terms : List WrittenTerm
   cut_into : tokens_of number text ≡ lexed.Tokens tokens
   sentence : AreOptionalTerms text tokens terms
-  writes : AreWrittenAs signature (terms_of ts) (written_terms terms)
+  writes : AreWrittenAs signature [] (terms_of ts) (written_terms terms)
 
 whole_cut : (number : ℕ) (text : List ℕ) (tokens : List Token) → IsCut number [] text [] tokens
     → tokens_of number text ≡ lexed.Tokens tokens
@@ -89,7 +91,7 @@ listed signature well spelled number sorts (t ∷ ts) values = subst (λ (all : 
     same = ap commas (texts_same signature (t ∷ ts))
 
     part : Stands number [] text [] (AreTerms text) (λ (ws : List WrittenTerm).
-        AreWrittenAs signature (terms_of (t ∷ ts)) (written_terms ws))
+        AreWrittenAs signature [] (terms_of (t ∷ ts)) (written_terms ws))
     part =
         list_stands number text signature well spelled [] t (terms_of ts)
         (terms_stand number text signature well spelled [] (terms_of (t ∷ ts)) sorts (values_sorted signature sorts (t ∷ ts) values)

@@ -1,5 +1,5 @@
 -- The phrase of each ground term stands in the text as what the term is written as.
-use Rattle.std.proofs.Common.{◌≡◌, ℕ, zero, suc, ◌<◌, Bool, true, false, not, List, [], ◌∷◌, ◌++◌, map, length, refl, sym, subst, arith, codes, Option, Some}
+use Rattle.std.proofs.Common.{◌≡◌, ℕ, Bool, true, false, not, List, [], ◌∷◌, ◌++◌, map, length, refl, sym, subst, arith, codes, Option, Some}
 use Rattle.std.specs.Prelude.{slice_get, if◌then◌else◌}
 use Rattle.lotos_base.specs.Signature.{Signature, Sort, Operation, Form, prefix_form, infix_form, IsOperation, IsWellFormedSignature}
 use Rattle.lotos_base.specs.Equation.{Variable}
@@ -56,11 +56,11 @@ module _ (number : ℕ) (text : List ℕ) (signature : Signature) (well : IsWell
   abbrev pub ListStands : Term → Terms → Type 0
   ListStands t ts =
       StandsAnywhere number text (commas (texts_of (term_then t ts))) (AreTerms text)
-      (λ (ws : List WrittenTerm). AreWrittenAs signature (term_then t ts) (written_terms ws))
+      (λ (ws : List WrittenTerm). AreWrittenAs signature [] (term_then t ts) (written_terms ws))
 
   one_listed : (t : Term) → PhraseStands number text signature t (phrase_of signature names t)
       → StandsAnywhere number text (phrase_of signature names t).text (AreTerms text)
-      (λ (ws : List WrittenTerm). AreWrittenAs signature (term_then t no_terms) (written_terms ws))
+      (λ (ws : List WrittenTerm). AreWrittenAs signature [] (term_then t no_terms) (written_terms ws))
   one_listed t stands before rest there apart_rest = record {
     tokens = part.tokens;
     thing = part.thing ∷ [];
@@ -69,7 +69,7 @@ module _ (number : ℕ) (text : List ℕ) (signature : Signature) (well : IsWell
     fitting = (part.fitting, tt);
   }
     where
-      part : Stands number before (phrase_of signature names t).text rest (IsTerm text) (IsWrittenAs signature t)
+      part : Stands number before (phrase_of signature names t).text rest (IsTerm text) (IsWrittenAs signature [] t)
       part = phrase_term number text signature t (phrase_of signature names t) stands before rest there apart_rest
 
   more_listed : (t u : Term) (us : Terms) → PhraseStands number text signature t (phrase_of signature names t) → ListStands u us
@@ -92,13 +92,13 @@ module _ (number : ℕ) (text : List ℕ) (signature : Signature) (well : IsWell
       listed : List ℕ
       listed = commas (texts_of (term_then u us))
 
-      part : Stands number before first ((codes ", " ++ listed) ++ rest) (IsTerm text) (IsWrittenAs signature t)
+      part : Stands number before first ((codes ", " ++ listed) ++ rest) (IsTerm text) (IsWrittenAs signature [] t)
       part =
           phrase_term number text signature t (phrase_of signature names t) stands before ((codes ", " ++ listed) ++ rest)
           (first_part text before first (codes ", " ++ listed) rest there) (apart 44 ((codes " " ++ listed) ++ rest) refl refl)
 
       behind : Stands number ((before ++ first) ++ codes ", ") listed rest (AreTerms text)
-          (λ (ws : List WrittenTerm). AreWrittenAs signature (term_then u us) (written_terms ws))
+          (λ (ws : List WrittenTerm). AreWrittenAs signature [] (term_then u us) (written_terms ws))
       behind =
           others ((before ++ first) ++ codes ", ") rest
           (second_part text (before ++ first) (codes ", ") listed rest (second_part text before first (codes ", " ++ listed) rest there))
@@ -107,13 +107,13 @@ module _ (number : ℕ) (text : List ℕ) (signature : Signature) (well : IsWell
   pub list_stands : (t : Term) (ts : Terms) → AllStand (term_then t ts) → ListStands t ts
   list_stands t no_terms all =
       alone_stands number text signature (phrase_of signature names t).text [] (AreTerms text)
-      (λ (ws : List WrittenTerm). AreWrittenAs signature (term_then t no_terms) (written_terms ws)) refl (one_listed t all.0)
+      (λ (ws : List WrittenTerm). AreWrittenAs signature [] (term_then t no_terms) (written_terms ws)) refl (one_listed t all.0)
   list_stands t (term_then u us) all = more_listed t u us all.0 (list_stands u us all.1)
 
   -- ---- Operations before their arguments
 
   applied_alone : (operation : Operation) → operation.form ≡ prefix_form → IsOperationSpelling operation.name
-      → StandsAnywhere number text operation.name (IsBase text) (IsUnmarked signature operation no_terms)
+      → StandsAnywhere number text operation.name (IsBase text) (IsUnmarked signature [] operation no_terms)
   applied_alone operation form spelling before rest there apart_rest = record {
     tokens = part.tokens;
     thing = applied part.thing [];
@@ -137,8 +137,8 @@ module _ (number : ℕ) (text : List ℕ) (signature : Signature) (well : IsWell
       → Stands number before operation.name (bytes ++ rest) (IsOperationName text) (λ (placed : PlacedName). placed.name ≡ operation.name)
       → (us : List Token) (ws : List WrittenTerm) → IsCut number (before ++ operation.name) bytes rest us
       → Between LEFT_PARENTHESIS RIGHT_PARENTHESIS (AreTerms text) us ws
-      → AreWrittenAs signature (term_then t ts) (written_terms ws)
-      → Stands number before (operation.name ++ bytes) rest (IsBase text) (IsUnmarked signature operation (term_then t ts))
+      → AreWrittenAs signature [] (term_then t ts) (written_terms ws)
+      → Stands number before (operation.name ++ bytes) rest (IsBase text) (IsUnmarked signature [] operation (term_then t ts))
   applied_joined operation t ts before rest bytes form part us ws cut (between left terms right) each = record {
     tokens = part.tokens ++ us;
     thing = applied part.thing ws;
@@ -158,9 +158,9 @@ module _ (number : ℕ) (text : List ℕ) (signature : Signature) (well : IsWell
   applied_stands : (operation : Operation) (ts : Terms) → operation.form ≡ prefix_form → IsOperationSpelling operation.name
       → AllStand ts
       → StandsAnywhere number text (operation.name ++ arguments_text (phrases_of signature names ts)) (IsBase text)
-      (IsUnmarked signature operation ts)
+      (IsUnmarked signature [] operation ts)
   applied_stands operation no_terms form spelling all before rest there apart_rest =
-      alone_stands number text signature operation.name [] (IsBase text) (IsUnmarked signature operation no_terms) refl
+      alone_stands number text signature operation.name [] (IsBase text) (IsUnmarked signature [] operation no_terms) refl
       (applied_alone operation form spelling) before rest there apart_rest
   applied_stands operation (term_then t ts) form spelling all before rest there apart_rest =
       applied_joined operation t ts before rest bytes form part arguments.tokens arguments.thing arguments.is_cut arguments.is_one
@@ -179,10 +179,10 @@ module _ (number : ℕ) (text : List ℕ) (signature : Signature) (well : IsWell
           (apart 40 ((spaced 42 listed ++ codes ")") ++ rest) refl refl)
 
       arguments : Stands number (before ++ operation.name) bytes rest (Between LEFT_PARENTHESIS RIGHT_PARENTHESIS (AreTerms text))
-          (λ (ws : List WrittenTerm). AreWrittenAs signature (term_then t ts) (written_terms ws))
+          (λ (ws : List WrittenTerm). AreWrittenAs signature [] (term_then t ts) (written_terms ws))
       arguments =
           round_stands number text listed (AreTerms text)
-          (λ (ws : List WrittenTerm). AreWrittenAs signature (term_then t ts) (written_terms ws)) (list_stands t ts all)
+          (λ (ws : List WrittenTerm). AreWrittenAs signature [] (term_then t ts) (written_terms ws)) (list_stands t ts all)
           (before ++ operation.name) rest (second_part text before operation.name bytes rest there)
 
   -- ---- Operations between their arguments
@@ -197,10 +197,10 @@ module _ (number : ℕ) (text : List ℕ) (signature : Signature) (well : IsWell
       (apart 32 rest refl refl)))
 
   between_stands : (operation : Operation) (t u : Term) (left right : List ℕ) → operation.form ≡ infix_form
-      → IsOperationSpelling operation.name → StandsAnywhere number text left (IsFactor text) (IsWrittenAs signature t)
-      → StandsAnywhere number text right (IsFactor text) (IsWrittenAs signature u)
+      → IsOperationSpelling operation.name → StandsAnywhere number text left (IsFactor text) (IsWrittenAs signature [] t)
+      → StandsAnywhere number text right (IsFactor text) (IsWrittenAs signature [] u)
       → StandsAnywhere number text ((left ++ operator_text operation.name) ++ right) (IsTerm text)
-      (IsUnmarked signature operation (term_then t (term_then u no_terms)))
+      (IsUnmarked signature [] operation (term_then t (term_then u no_terms)))
   between_stands operation t u left right form spelling first second before rest there apart_rest = record {
     tokens = (l.tokens ++ o.tokens) ++ r.tokens;
     thing = infix_term o.thing l.thing r.thing;
@@ -227,7 +227,7 @@ module _ (number : ℕ) (text : List ℕ) (signature : Signature) (well : IsWell
       at_first : text ≡ before ++ ((left ++ operator) ++ (right ++ rest))
       at_first = first_part text before (left ++ operator) right rest there
 
-      l : Stands number before left (operator ++ (right ++ rest)) (IsFactor text) (IsWrittenAs signature t)
+      l : Stands number before left (operator ++ (right ++ rest)) (IsFactor text) (IsWrittenAs signature [] t)
       l =
           first before (operator ++ (right ++ rest)) (first_part text before left operator (right ++ rest) at_first)
           (apart 32 ((operation.name ++ codes " ") ++ (right ++ rest)) refl refl)
@@ -237,7 +237,7 @@ module _ (number : ℕ) (text : List ℕ) (signature : Signature) (well : IsWell
       o = operator_stands operation.name spelling (before ++ left) (right ++ rest)
           (second_part text before left operator (right ++ rest) at_first)
 
-      r : Stands number (before ++ (left ++ operator)) right rest (IsFactor text) (IsWrittenAs signature u)
+      r : Stands number (before ++ (left ++ operator)) right rest (IsFactor text) (IsWrittenAs signature [] u)
       r = second (before ++ (left ++ operator)) rest (second_part text before (left ++ operator) right rest there) apart_rest
 
   -- ---- The sort behind an operation
@@ -251,11 +251,11 @@ module _ (number : ℕ) (text : List ℕ) (signature : Signature) (well : IsWell
 
     -- a base with the sort behind it
     sorted_stands : (ts : Terms) (bytes : List ℕ) → has_twin signature operation ≡ true
-        → StandsAnywhere number text bytes (IsBase text) (IsUnmarked signature operation ts)
-        → StandsAnywhere number text (bytes ++ of_shown signature operation true) (IsFactor text) (IsWrittenAs signature (node f ts))
+        → StandsAnywhere number text bytes (IsBase text) (IsUnmarked signature [] operation ts)
+        → StandsAnywhere number text (bytes ++ of_shown signature operation true) (IsFactor text) (IsWrittenAs signature [] (node f ts))
     sorted_stands ts bytes twin stands =
         subst (λ (o : Option Sort). StandsAnywhere number text (bytes ++ (codes " of " ++ sort_name o)) (IsFactor text)
-        (IsWrittenAs signature (node f ts)))
+        (IsWrittenAs signature [] (node f ts)))
         (sym sort.1)
         (marked_stands number text signature f operation sort.0 ts bytes is_there (twin_of twin) sort.1
         (spelled.sorts operation.result sort.0 sort.1) stands)
@@ -271,17 +271,17 @@ module _ (number : ℕ) (text : List ℕ) (signature : Signature) (well : IsWell
         bytes : List ℕ
         bytes = operation.name ++ arguments_text (phrases_of signature names ts)
 
-        base : StandsAnywhere number text bytes (IsBase text) (IsUnmarked signature operation ts)
+        base : StandsAnywhere number text bytes (IsBase text) (IsUnmarked signature [] operation ts)
         base = applied_stands operation ts form (spelled.operations f operation is_there) all
 
         by : (twin : Bool) → has_twin signature operation ≡ twin
-            → StandsAnywhere number text (bytes ++ of_shown signature operation twin) (IsFactor text) (IsWrittenAs signature (node f ts))
+            → StandsAnywhere number text (bytes ++ of_shown signature operation twin) (IsFactor text) (IsWrittenAs signature [] (node f ts))
         by true is = sorted_stands ts bytes is base
         by false is =
-            alone_stands number text signature bytes [] (IsFactor text) (IsWrittenAs signature (node f ts)) refl
-            (stands_as number text signature bytes (IsBase text) (IsFactor text) (IsUnmarked signature operation ts)
-            (IsWrittenAs signature (node f ts)) (λ tokens w base_is. without_sort base_is)
-            (λ w un. unmarked_is signature f operation ts w is_there (no_twin is) un) base)
+            alone_stands number text signature bytes [] (IsFactor text) (IsWrittenAs signature [] (node f ts)) refl
+            (stands_as number text signature bytes (IsBase text) (IsFactor text) (IsUnmarked signature [] operation ts)
+            (IsWrittenAs signature [] (node f ts)) (λ tokens w base_is. without_sort base_is)
+            (λ w un. unmarked_is signature [] f operation ts w is_there (no_twin is) un) base)
 
     -- an operation between its arguments
     infix_stands : (t u : Term) → operation.form ≡ infix_form → AllStand (term_then t (term_then u no_terms))
@@ -295,7 +295,7 @@ module _ (number : ℕ) (text : List ℕ) (signature : Signature) (well : IsWell
         bytes : List ℕ
         bytes = between_text operation (phrase_of signature names t) (phrase_of signature names u)
 
-        term : StandsAnywhere number text bytes (IsTerm text) (IsUnmarked signature operation ts)
+        term : StandsAnywhere number text bytes (IsTerm text) (IsUnmarked signature [] operation ts)
         term =
             between_stands operation t u (operand_text (phrase_of signature names t)) (operand_text (phrase_of signature names u)) form
             (spelled.operations f operation is_there)
@@ -304,13 +304,13 @@ module _ (number : ℕ) (text : List ℕ) (signature : Signature) (well : IsWell
 
         by : (twin : Bool) → has_twin signature operation ≡ twin
             → StandsAnywhere number text (bracketed twin bytes ++ of_shown signature operation twin) (OneOf text (not twin))
-            (IsWrittenAs signature (node f ts))
-        by true is = sorted_stands ts (round bytes) is (round_base number text signature bytes (IsUnmarked signature operation ts) term)
+            (IsWrittenAs signature [] (node f ts))
+        by true is = sorted_stands ts (round bytes) is (round_base number text signature bytes (IsUnmarked signature [] operation ts) term)
         by false is =
-            alone_stands number text signature bytes [] (IsTerm text) (IsWrittenAs signature (node f ts)) refl
-            (stands_as number text signature bytes (IsTerm text) (IsTerm text) (IsUnmarked signature operation ts)
-            (IsWrittenAs signature (node f ts)) (λ tokens w is_term. is_term)
-            (λ w un. unmarked_is signature f operation ts w is_there (no_twin is) un) term)
+            alone_stands number text signature bytes [] (IsTerm text) (IsWrittenAs signature [] (node f ts)) refl
+            (stands_as number text signature bytes (IsTerm text) (IsTerm text) (IsUnmarked signature [] operation ts)
+            (IsWrittenAs signature [] (node f ts)) (λ tokens w is_term. is_term)
+            (λ w un. unmarked_is signature [] f operation ts w is_there (no_twin is) un) term)
 
     application_stands : (ts : Terms) → HaveSorts signature ts operation.arguments → AllStand ts
         → PhraseStands number text signature (node f ts)

@@ -4,5 +4,6 @@ pub mod ReadBack
 pub mod ReadBackLaws
 pub mod SampleTexts
 pub mod WrittenAs
+pub mod TermMeanings
 pub mod WrittenLaws
 pub mod TraceReadings

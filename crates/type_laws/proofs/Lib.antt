@@ -12,3 +12,17 @@ pub mod TypesFine
 pub mod OneOrder
 pub mod OneOutcome
 pub mod OneReading
+pub mod CauseLemmas
+pub mod ActualisationCauseLemmas
+pub mod RenamingCauseLemmas
+pub mod NameLemmas
+pub mod CycleLemmas
+pub mod ReadingChoices
+pub mod ReadingLemmas
+pub mod EquationLemmas
+pub mod AskedLemmas
+pub mod OrderLemmas
+pub mod FlatteningLemmas
+pub mod CoincidingLemmas
+pub mod TextOrderLemmas
+mod VariableNumbers

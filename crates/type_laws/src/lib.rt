@@ -1,10 +1,16 @@
 //! Nothing executable: laws of what flattening gives (ISO 8807:1989, data part), which say of
 //! unions, renamings and actualisations of presentations what their definitions come to; flattened
-//! data are well formed, and flattening comes to one thing.
+//! data are well formed, and flattening comes to one thing. Each fault of types comes where its
+//! cause stands and none stands before it; types are flattened in the order of the text as far as
+//! mentions allow; and the variables of an equation are renamed apart and numbered by first
+//! appearance.
 #![tactic(auto)]
 
+pub mod equations;
+pub mod faults;
 pub mod flattened_data_laws;
 pub mod laws;
+pub mod order;
 
 ghost use Rattle.type_laws.specs.Contributions.{ContributionsAreExact};
 ghost use Rattle.type_laws.specs.ImagesOfRenamings.{RenamingsAreImages};

@@ -1,4 +1,4 @@
-use Rattle.std.proofs.Common.{◌+◌, List, ◌++◌, [], ◌∷◌, inl, inr, map, option_map, ap, sym, ◌∙◌, subst}
+use Rattle.std.proofs.Common.{arith, ◌+◌, List, ◌++◌, [], ◌∷◌, inl, inr, map, option_map, ap, sym, ◌∙◌, subst}
 use Rattle.std.proofs.lemmas.Result.{IfOk-weaker}
 use Rattle.lotos_base.specs.Substitution.{Substitution, binding}
 use Rattle.behaviour_semantics.specs.Behaviour.{action, asked_variables, choice, choose_gate, choose_value, disable, enable, exit_with, guard, hide, inner_action, let_be, let_variables, numbers_of, par_gate, parallel}
@@ -12,8 +12,10 @@ use Rattle.behaviour_tree.specs.Closed.{IsFree}
 use Rattle.behaviour_tree.specs.StateView.{environment_of}
 use Rattle.behaviour_tree.specs.declared.behaviours.Beh.{Beh}
 use Rattle.behaviour_instances.specs.InstanceTerms.{instance_profiles, terms_placed}
+use Rattle.std.proofs.lemmas.List.{nil_from_length}
+use Rattle.behaviour_instances.proofs.NothingLemmas.{instance_by_nothing}
 use Rattle.behaviour_instances.proofs.FormLemmas.{inside_same, inside_terms, read_instance, read_suits, same_three, same_two}
-use Rattle.behaviour_instances.proofs.UnlistedLemmas.{suits_below}
+use Rattle.behaviour_instances.proofs.UnlistedLemmas.{none_plain, none_profiled, suits_below}
 use Rattle.behaviour_instances.proofs.WeightLemmas.{below_inside, shared_part, form_lighter, inside_part, left_below, left_part, right_below, right_part, held_lighter, weight}
 use Rattle.behaviour_instances.proofs.instances.+instance.Goals as goal
 
@@ -277,6 +279,13 @@ shared_instance-instance-requires t c = (
   read_suits c.args.environment.now.items _ _ c.deref.ensures c.requires,
 )
 
+pub shared_instance-returns-then-len-eq0 : goal.shared_instance-returns-then-len-eq0
+shared_instance-returns-then-len-eq0 t c =
+    IfOk-weaker c.owner.result _ _
+    (λ made e. instance_by_nothing c.args.environment.now.items c.args.part.now.value made.value
+    (nil_from_length c.args.environment.now.items (omega (arith, c.if-len-eq0.true, c.len.ensures, c.args.environment.now.ok.0))) e)
+    c.owner.ensures
+
 pub shared_instance-returns : goal.shared_instance-returns
 shared_instance-returns t c =
     IfOk-weaker c.shared.result _ _
@@ -473,7 +482,17 @@ value_instance-returns-clause-terms t c =
     c.in_ok-next.ensures
 
 pub action_instance-action_below-requires : goal.action_instance-action_below-requires
-action_instance-action_below-requires t c = (
+action_instance-action_below-requires t c =
+    let nothing = c.asks_nothing.ensures c.if-asks_nothing.true in (
+      inside_part (weight (behaviour_of c.args.next.now.value)) _ c.decreases,
+      (
+        c.requires,
+        (none_profiled _ c.args.environment.now.items nothing, none_plain _ c.args.environment.now.items nothing),
+      ),
+    )
+
+pub action_instance-action_below-requires-2 : goal.action_instance-action_below-requires-2
+action_instance-action_below-requires-2 t c = (
   inside_part (weight (behaviour_of c.args.next.now.value)) _ c.decreases,
   (c.requires, (c.in_ok-inner.ensures.profiled, c.in_ok-inner.ensures.plain)),
 )

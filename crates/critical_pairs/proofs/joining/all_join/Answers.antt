@@ -9,19 +9,25 @@ use Rattle.critical_pairs.proofs.JoinedLemmas.{joined_confluent}
 use Rattle.critical_pairs.proofs.JoiningLemmas.{joined_rules, unjoined_rules}
 use Rattle.critical_pairs.proofs.joining.all_join.Goals as goal
 
-pub first_unjoined-requires : goal.first_unjoined-requires
-first_unjoined-requires c = λ k pair is.
+pub first_unjoined-requires-clause-over : goal.first_unjoined-requires-clause-over
+first_unjoined-requires-clause-over c = λ k pair is.
     c.in_ok-found.ensures.is_of k pair (ap (λ (xs : List Pair). slice_get xs k) (sym c.as_slice.ensures.value) ∙ is)
 
 pub of-requires : goal.of-requires
-of-requires c =
+of-requires c = ∣ c.in_ok-joined.ensures.joined c.if-joined.true ∣₁
+
+pub returns-then-joined-clause-confluent : goal.returns-then-joined-clause-confluent
+returns-then-joined-clause-confluent c = joined_confluent c.of.result
+
+pub of-requires-in-None : goal.of-requires-in-None
+of-requires-in-None c =
     ∣ joined_rules c.args.rules c.in_ok-found.found.items c.in_ok-found.ensures.listed
     (subst (λ (xs : List Pair). NoneUnjoinedAmong (plain_rules_in c.args.rules) (pairs_in xs)) c.as_slice.ensures.value
     (subst (λ (o : Option Unjoined). IfNone o (NoneUnjoinedAmong (plain_rules_in c.args.rules) (pairs_in c.as_slice.result.now)))
     c.in-None.is c.in_ok-first_unjoined.ensures.none)) ∣₁
 
 pub returns-in-None-clause-confluent : goal.returns-in-None-clause-confluent
-returns-in-None-clause-confluent c = joined_confluent c.of.result
+returns-in-None-clause-confluent c = joined_confluent c.of-in-None.result
 
 pub returns-in-Some-clause-unjoined : goal.returns-in-Some-clause-unjoined
 returns-in-Some-clause-unjoined c =

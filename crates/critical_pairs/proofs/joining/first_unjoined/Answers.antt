@@ -8,9 +8,9 @@ use Rattle.critical_pairs.specs.declared.joining.Unjoined.{Unjoined}
 use Rattle.critical_pairs.proofs.JoiningLemmas.{pair_listed, item_there, listed_within, alone}
 use Rattle.critical_pairs.proofs.joining.first_unjoined.Goals as goal
 
-pub unjoined_at-requires : goal.unjoined_at-requires
-unjoined_at-requires c =
-    c.requires c.loop-pair.pair-index c.pair-item.result
+pub unjoined_at-requires-clause-over : goal.unjoined_at-requires-clause-over
+unjoined_at-requires-clause-over c =
+    c.requires.over c.loop-pair.pair-index c.pair-item.result
     (item_there c.args.pairs.now c.loop-pair.pair-index c.pair-item.result c.loop-pair-test.true c.pair-item.is)
 
 pub returns-in-Some-clause-some : goal.returns-in-Some-clause-some
@@ -22,7 +22,7 @@ returns-in-Some-clause-some c = record {
   answers = subst (λ (o : Option Unjoined). IfSome o
       (λ answer. AnswersPair (plain_rules_in c.args.rules.now) (pair_of c.pair-item.result) answer))
       c.in-Some.is c.in_ok-unjoined.ensures.some;
-  none_before = λ k earlier t u less is. c.loop-pair.invariant k less earlier t u is;
+  none_before = λ k earlier t u less is. c.loop-pair.invariant.0 k less earlier t u is;
 }
 
 pub returns-in-Some-clause-over : goal.returns-in-Some-clause-over
@@ -36,12 +36,14 @@ loop-pair-preserved c =
     subst (λ (o : Option Unjoined). IfNone o (NoneUnjoinedAmong (plain_rules_in c.args.rules.now) (pair_of c.pair-item.result ∷ [])))
     c.in_default.is c.in_ok-unjoined.ensures.none in
     let there = pair_listed c.args.pairs.now c.loop-pair.pair-index c.pair-item.result
-    (item_there c.args.pairs.now c.loop-pair.pair-index c.pair-item.result c.loop-pair-test.true c.pair-item.is) in
-    below_more _ _ c.loop-pair.invariant
-    (λ pair t u is. alone (plain_rules_in c.args.rules.now) (pair_of c.pair-item.result) pair t u none (same_Some _ _ (sym there ∙ is)))
+    (item_there c.args.pairs.now c.loop-pair.pair-index c.pair-item.result c.loop-pair-test.true c.pair-item.is) in (
+      below_more _ _ c.loop-pair.invariant.0
+          (λ pair t u is. alone (plain_rules_in c.args.rules.now) (pair_of c.pair-item.result) pair t u none (same_Some _ _ (sym there ∙ is))),
+      c.unjoined_at.ensures.finder,
+    )
 
 pub returns-clause-none : goal.returns-clause-none
 returns-clause-none c = λ k pair t u is.
     let within = listed_within c.args.pairs.now k pair is in
     let less : k < c.loop-pair.pair-index = omega (arith, within) in
-    c.loop-pair.invariant k less pair t u is
+    c.loop-pair.invariant.0 k less pair t u is

@@ -1,6 +1,4 @@
 use Rattle.std.proofs.Common.{ap, ◌∙◌, sym}
-use Rattle.std.proofs.lemmas.Result.{IfOk-weaker}
-use Rattle.sort_terms.specs.ProfiledTerm.{bare}
 use Rattle.sort_terms.specs.SortedView.{profiled_in, term_in}
 use Rattle.sort_terms.specs.TermView.{profiled_of}
 use Rattle.term_match.specs.Disagreement.{has_number}
@@ -10,7 +8,6 @@ use Rattle.draft_solving.proofs.changing.settled.Goals as goal
 
 pub returns-clause-same : goal.returns-clause-same
 returns-clause-same g c =
-    IfOk-weaker c.copy.result _ _ (λ t e. ap bare e
-    ∙ stays_settled (g.D.Deciding.canon c.args.decider.now) c.args.found.now (term_in c.args.term.now) c.requires.1.0
-    (λ value. lacking_stays c.args.found.now.0 value (profiled_in c.args.term.now)
-    (ap (λ u. has_number c.args.found.now.0 (profiled_of u)) (sym c.term.ensures) ∙ sym c.if-occurs.ensures))) c.copy.ensures
+    stays_settled (g.D.Deciding.canon c.args.decider.now) c.args.found.now (term_in c.args.term) c.requires.1.0
+    (λ value. lacking_stays c.args.found.now.0 value (profiled_in c.args.term)
+    (ap (λ u. has_number c.args.found.now.0 (profiled_of u)) (sym c.term.ensures) ∙ sym c.if-occurs.ensures))

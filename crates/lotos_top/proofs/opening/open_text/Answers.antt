@@ -5,7 +5,7 @@ use Rattle.spec_acceptance.specs.Acceptance.{AcceptsText}
 use Rattle.spec_acceptance.specs.declared.not_accepted.NotAccepted.TheVariants.{NoMemory}
 use Rattle.spec_acceptance.proofs.DoingLemmas.{err_out}
 use Rattle.lotos_top.specs.Prepared.{begun}
-use Rattle.lotos_top.specs.Work.{Opens}
+use Rattle.lotos_top.specs.Parts.{Opens}
 use Rattle.lotos_top.proofs.OpeningLemmas.{no_files, did_open, open_failed, alone_on, alone_failed}
 use Rattle.lotos_top.proofs.opening.open_text.Goals as goal
 

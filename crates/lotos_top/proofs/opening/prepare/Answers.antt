@@ -50,6 +50,28 @@ returns-in-Some-Demo g c =
     (c.demonstrated.ensures (shelf_state (g.F.Shelf.texts c.args.shelf.now) (g.F.Shelf.faults c.args.shelf.now)
     (g.F.Shelf.calls c.args.shelf.now)))
 
+pub returns-in-Some-Flatten : goal.returns-in-Some-Flatten
+returns-in-Some-Flatten g c =
+    subst (λ (line : Option CommandLine). MatchResult c.flattened.result
+    (IsReady line (shelf_state (g.F.Shelf.texts c.args.shelf.now) (g.F.Shelf.faults c.args.shelf.now) (g.F.Shelf.calls c.args.shelf.now))
+    (shelf_state (g.F.Shelf.texts c.flattened.new.shelf) (g.F.Shelf.faults c.flattened.new.shelf) (g.F.Shelf.calls c.flattened.new.shelf)))
+    (λ _. CameTo line (shelf_state (g.F.Shelf.texts c.args.shelf.now) (g.F.Shelf.faults c.args.shelf.now)
+    (g.F.Shelf.calls c.args.shelf.now))
+    (shelf_state (g.F.Shelf.texts c.flattened.new.shelf) (g.F.Shelf.faults c.flattened.new.shelf) (g.F.Shelf.calls c.flattened.new.shelf))))
+    (sym (c.in-Some-Flatten.ensures ∙ ap (λ (command : Command). Some (line_of command)) c.in-Some-Flatten.field-0-is))
+    c.flattened.ensures
+
+pub returns-in-Some-Bisim : goal.returns-in-Some-Bisim
+returns-in-Some-Bisim g c =
+    subst (λ (line : Option CommandLine). MatchResult c.compared.result
+    (IsReady line (shelf_state (g.F.Shelf.texts c.args.shelf.now) (g.F.Shelf.faults c.args.shelf.now) (g.F.Shelf.calls c.args.shelf.now))
+    (shelf_state (g.F.Shelf.texts c.compared.new.shelf) (g.F.Shelf.faults c.compared.new.shelf) (g.F.Shelf.calls c.compared.new.shelf)))
+    (λ _. CameTo line (shelf_state (g.F.Shelf.texts c.args.shelf.now) (g.F.Shelf.faults c.args.shelf.now)
+    (g.F.Shelf.calls c.args.shelf.now))
+    (shelf_state (g.F.Shelf.texts c.compared.new.shelf) (g.F.Shelf.faults c.compared.new.shelf) (g.F.Shelf.calls c.compared.new.shelf))))
+    (sym (c.in-Some-Bisim.ensures ∙ ap (λ (command : Command). Some (line_of command)) c.in-Some-Bisim.field-0-is))
+    c.compared.ensures
+
 pub returns-in-None : goal.returns-in-None
 returns-in-None g c = c.usage_ready.ensures (command_line (words_of c.args.words.now))
     (shelf_state (g.F.Shelf.texts c.args.shelf.now) (g.F.Shelf.faults c.args.shelf.now) (g.F.Shelf.calls c.args.shelf.now))

@@ -1,11 +1,13 @@
 use Rattle.std.proofs.Common.{ℕ, List, Bor, option_map}
 use Rattle.std.proofs.lemmas.Result.{err_from_is_err_and}
+use Rattle.spec_acceptance.specs.Acceptance.{IsAccepted}
 use Rattle.spec_acceptance.specs.AcceptedView.{asked_for}
 use Rattle.spec_acceptance.specs.HandedOn.{shelf_state, words_of}
-use Rattle.spec_acceptance.specs.Part.{Has, goes_on}
+use Rattle.spec_acceptance.specs.Part.{Has}
 use Rattle.demo_walks.specs.HandedOn.{Beginning}
+use Rattle.lotos_top.specs.Parts.{Opens}
 use Rattle.lotos_top.specs.Prepared.{begun, print_in}
-use Rattle.lotos_top.specs.Work.{serves}
+use Rattle.lotos_top.specs.Finishing.{serves}
 use Rattle.lotos_top.proofs.OpeningLemmas.{session_came, fault_ready, fault_came}
 use Rattle.lotos_top.proofs.opening.served.Goals as goal
 
@@ -23,7 +25,9 @@ returns-in-Ok g c = (
 
 pub returns-in_ok-failed_alone-in-Err : goal.returns-in_ok-failed_alone-in-Err
 returns-in_ok-failed_alone-in-Err g c =
-    fault_ready (asked_for c.args.spec.now (option_map (λ (word : Bor (List ℕ)). word.now) c.args.order) (words_of c.args.values.now))
+    fault_ready c.args.spec.now (option_map (λ (word : Bor (List ℕ)). word.now) c.args.order)
+    (Opens (IsAccepted (asked_for c.args.spec.now (option_map (λ (word : Bor (List ℕ)). word.now) c.args.order)
+    (words_of c.args.values.now))))
     (λ (it : Beginning). Has (serves it))
     (shelf_state (g.F.Shelf.texts c.args.shelf.now) (g.F.Shelf.faults c.args.shelf.now) (g.F.Shelf.calls c.args.shelf.now))
     (shelf_state (g.F.Shelf.texts c.open.new.shelf) (g.F.Shelf.faults c.open.new.shelf) (g.F.Shelf.calls c.open.new.shelf))
@@ -33,8 +37,9 @@ pub returns-in_err-failed_alone-in-Err : goal.returns-in_err-failed_alone-in-Err
 returns-in_err-failed_alone-in-Err g c =
     let stopped = err_from_is_err_and c.from_residual.result
     c.from_residual.ensures.1 in
-    rw stopped.1 (fault_came (asked_for c.args.spec.now (option_map (λ (word : Bor (List ℕ)). word.now) c.args.order)
-    (words_of c.args.values.now))
+    rw stopped.1 (fault_came c.args.spec.now (option_map (λ (word : Bor (List ℕ)). word.now) c.args.order)
+    (Opens (IsAccepted (asked_for c.args.spec.now (option_map (λ (word : Bor (List ℕ)). word.now) c.args.order)
+    (words_of c.args.values.now))))
     (λ (it : Beginning). Has (serves it))
     (shelf_state (g.F.Shelf.texts c.args.shelf.now) (g.F.Shelf.faults c.args.shelf.now) (g.F.Shelf.calls c.args.shelf.now))
     (shelf_state (g.F.Shelf.texts c.open.new.shelf) (g.F.Shelf.faults c.open.new.shelf) (g.F.Shelf.calls c.open.new.shelf))

@@ -1,3 +1,4 @@
+use Rattle.lotos_top.proofs.BisimilarityLemmas.{yes_means}
 use Rattle.lotos_top.proofs.CauseLemmas.{causes}
 use Rattle.lotos_top.proofs.HeadlineLemmas.{headline}
 use Rattle.lotos_top.proofs.SettledLemmas.{settled}
@@ -7,8 +8,12 @@ pub returns-clause-causes : goal.returns-clause-causes
 returns-clause-causes g c = causes _ _ _ _ _ _ c.run_over.ensures
 
 pub returns-clause-settled : goal.returns-clause-settled
-returns-clause-settled g c = settled _ _ _ _ _ _ c.run_over.ensures
+returns-clause-settled g c = settled c.certificates_come_to_one_thing.ensures _ _ _ _ _ _ c.run_over.ensures
 
 pub returns-clause-headline : goal.returns-clause-headline
 returns-clause-headline g c =
     headline c.served_lines_are_answered.ensures c.lines_lead_on.ensures _ _ _ _ _ _ c.run_over.ensures
+
+pub returns-clause-bisimilar : goal.returns-clause-bisimilar
+returns-clause-bisimilar g c =
+    yes_means c.accepted_certificates_show_bisimilarity.ensures c.accepted_starts_do_the_same.ensures _ _ _ _ _ _ c.run_over.ensures

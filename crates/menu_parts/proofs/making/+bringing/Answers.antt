@@ -10,7 +10,7 @@ use Rattle.behaviour_semantics.specs.WellFormed.{Every}
 use Rattle.behaviour_tree.specs.BehaviourView.{meet_of}
 use Rattle.behaviour_tree.specs.StateView.{stands_for}
 use Rattle.behaviour_tree.specs.declared.states.Node.{Node}
-use Rattle.event_offers.proofs.KeepingLemmas.{held_before, holds_after}
+use Rattle.shared_entries.proofs.HandedOn.{held_before, holds_after}
 use Rattle.shared_entries.specs.Items.{IsItemOver}
 use Rattle.shared_entries.specs.Joined.{AreBeside}
 use Rattle.step_taker.specs.Taken.{ground_of}
@@ -31,7 +31,8 @@ brought-returns-then-is_for-clause-kept g t c =
     (subst (λ (o : Option (Bor (Rc Kept Global))). IfSome o
     (λ (k : Bor (Rc Kept Global)). IsKept (ground_of (g.D.Deciding.known_data c.args.decider.now)
     (g.D.Deciding.canon c.args.decider.now) c.args.making.now.spec.now) k.now.value)) c.in-Some.is
-    c.requires.kept)
+    (c.compared.ensures (ground_of (g.D.Deciding.known_data c.args.decider.now) (g.D.Deciding.canon c.args.decider.now)
+    c.args.making.now.spec.now) c.requires.kept))
     (ap (λ (k : Kept). stands_for (listed_for k).node.value) (sym c.deref.ensures) ∙ c.if-is_for.ensures.0 refl
     ∙ ap stands_for c.deref-in-Some.ensures)) c.owner.ensures
 

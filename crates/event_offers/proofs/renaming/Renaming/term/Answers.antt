@@ -9,10 +9,10 @@ use Rattle.event_offers.proofs.renaming.Renaming.term.Goals as goal
 
 pub of-requires : goal.of-requires
 of-requires c =
-    let is = c.in_ok-renamed.ensures ∙ (λ i. profiled_instance (profiled_renaming_of c.args.self.now) (profiled_of (c.term.ensures i))) in
+    let is = c.in_ok-rebuilt.ensures ∙ (λ i. profiled_instance (profiled_renaming_of c.args.self.now) (profiled_of (c.term.ensures i))) in
     subst (λ (p : ProfiledTerm). FitsProfiles p) (sym is) (renamed_fits c.args.self.now c.args.term.now)
 
 pub returns-clause-same : goal.returns-clause-same
 returns-clause-same c =
-    let is = c.in_ok-renamed.ensures ∙ (λ i. profiled_instance (profiled_renaming_of c.args.self.now) (profiled_of (c.term.ensures i))) in
+    let is = c.in_ok-rebuilt.ensures ∙ (λ i. profiled_instance (profiled_renaming_of c.args.self.now) (profiled_of (c.term.ensures i))) in
     ap (λ (t : Term). bare (profiled_of t)) c.of.ensures ∙ ap bare is ∙ renamed_bare c.args.self.now (profiled_of c.args.term.now.term)

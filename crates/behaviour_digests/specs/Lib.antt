@@ -1,3 +1,0 @@
-pub mod Mixing
-pub mod TermDigests
-pub mod Digests

@@ -1,0 +1,10 @@
+pub mod Appearance
+pub mod Signatures
+pub mod Declared
+pub mod Variables
+pub mod Alone
+pub mod Given
+pub mod ReadBack
+pub mod ExampleLemmas
+pub mod Numbered
+pub mod Small

@@ -1,0 +1,3 @@
+pub mod WrittenData
+pub mod DataLaws
+pub mod WrittenExample

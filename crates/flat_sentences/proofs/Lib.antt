@@ -1,0 +1,13 @@
+pub mod WordParts
+pub mod TermSentences
+pub mod PartSentences
+pub mod BehaviourSentences
+pub mod SpecificationSentences
+pub mod PiecesCut
+pub mod NamingLemmas
+pub mod ReadLists
+pub mod FormLemmas
+pub mod TakenLemmas
+pub mod Extending
+pub mod TermTexts
+pub mod FlatReadings

@@ -1,0 +1,10 @@
+pub mod PrintedWords
+pub mod WordLaws
+pub mod FlatWords
+pub mod FlatWordLaws
+pub mod TextPieces
+pub mod PieceLaws
+pub mod FlatNamings
+pub mod FullLists
+pub mod TermTextLaws
+pub mod FlatReadings

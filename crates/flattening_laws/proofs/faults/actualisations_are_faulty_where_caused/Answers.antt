@@ -1,5 +1,0 @@
-use Rattle.flattening_laws.proofs.ActualisationLemmas.{actualisations_faulty}
-use Rattle.flattening_laws.proofs.faults.actualisations_are_faulty_where_caused.Goals as goal
-
-pub returns : goal.returns
-returns c = actualisations_faulty

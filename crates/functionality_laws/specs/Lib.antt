@@ -1,3 +1,0 @@
-pub mod HasFunctionality
-pub mod ExitLaws
-pub mod AgreementLaws

@@ -1,0 +1,199 @@
+-- What lines that ask for something give, and when they give nothing.
+use Rattle.std.proofs.Common.{◌≡◌, ◌≢◌, ◌++◌, ℕ, zero, List, [], ◌∷◌, Option, None, Some, Bor, slice_index_or, arith, length, reverse, refl, ap, sym, ◌∙◌, subst}
+use Rattle.std.proofs.lemmas.List.{reverse-append}
+use Rattle.lotos_base.specs.Equation.{Variable}
+use Rattle.lotos_base.specs.Signature.{Signature, Operation, IsOperation}
+use Rattle.lotos_base.specs.WrittenTerm.{WrittenTerm}
+use Rattle.sentence_trees.specs.ReadingLaws.{TextsHaveOneOutcome}
+use Rattle.sort_terms.specs.Reading.{IsSortNamed}
+use Rattle.induction_theory.specs.Certificate.{Cover, split_pattern, Statement, split_variable}
+use Rattle.induct_check.specs.CertificateReading.{ItemsList, AreOperationsOf, AreLemmaVariables, IsWrittenSide, AreSides, number_named, cases_behind, Task, read_cover, read_tree, read_variables, read_left, read_right, proof_line, no_task, pattern_split, variable_split, among_covers_task, in_tree_task, left_task, right_task, Piece, new_cover, new_tree, new_tree_line, new_variables, new_left, new_lemma, Gives, FailsWithLeft}
+use Rattle.induct_check.specs.FormView.{form_in}
+use Rattle.induct_check.specs.declared.forms.Form.{Form}
+use Rattle.induct_check.specs.declared.forms.Form.TheVariants as line
+use Rattle.induct_check.specs.NameView.{named_case_in, named_cases_in}
+use Rattle.induct_check.specs.PieceView.{AreKnownVariables}
+use Rattle.induct_check.specs.declared.names.NamedCase.{NamedCase as CodeCase}
+use Rattle.induct_check.proofs.ItemLemmas.{one_listed, first_listed}
+use Rattle.induct_check.proofs.StatedLemmas.{known_variables, no_variables}
+
+-- the line gives nothing, and is no right side either
+abbrev pub GivesNothing : Signature → Task → Type 0
+GivesNothing signature task = ((piece : Piece) → ¬ Gives signature task piece) × (¬ FailsWithLeft signature task)
+
+-- ---- Covers and trees
+
+pub no_cover_sort : (signature : Signature) (sort items : List ℕ) → ((s : ℕ) → IsSortNamed signature s sort → ⊥)
+    → GivesNothing signature (read_cover sort items)
+no_cover_sort signature sort items none = ((λ p h. none h.0.sort h.1.named), (λ h. h))
+
+pub no_cover_items : (signature : Signature) (sort items : List ℕ) → ((fs : List ℕ) → AreOperationsOf signature items fs → ⊥)
+    → GivesNothing signature (read_cover sort items)
+no_cover_items signature sort items none = ((λ p h. none h.0.operations h.1.listed), (λ h. h))
+
+pub gives_cover : (signature : Signature) (sort items : List ℕ) (n : ℕ) (fs : List ℕ) → IsSortNamed signature n sort
+    → AreOperationsOf signature items fs → Gives signature (read_cover sort items) (new_cover (record { sort = n; operations = fs }))
+gives_cover signature sort items n fs named listed =
+    (record { sort = n; operations = fs }, record { named = named; listed = listed }, refl)
+
+pub no_tree_item : (signature : Signature) (item : List ℕ) → ((fs : List ℕ) → AreOperationsOf signature item fs → ⊥)
+    → GivesNothing signature (read_tree item)
+no_tree_item signature item none = ((λ p h. none (h.0 ∷ []) h.1), (λ h. h))
+
+one_operation : TextsHaveOneOutcome → (signature : Signature) (item : List ℕ) (fs : List ℕ) (f : ℕ) → AreOperationsOf signature item fs
+    → AreOperationsOf signature item (f ∷ []) → fs ≡ f ∷ []
+one_operation laws signature item fs f some one =
+    let same : some.0 ≡ one.0 = laws.order.one_tree 0 item some.0 one.0 some.1 one.1 in
+    one_listed signature one.0 fs f one.2 (subst (λ items. ItemsList signature items fs) same some.2)
+
+pub several_operations : TextsHaveOneOutcome → (signature : Signature) (item : List ℕ) (fs : List ℕ) → AreOperationsOf signature item fs
+    → length fs ≢ 1 → GivesNothing signature (read_tree item)
+several_operations laws signature item fs listed several =
+    ((λ p h. several (ap length (one_operation laws signature item fs h.0 listed h.1))), (λ h. h))
+
+pub gives_tree : (signature : Signature) (item : List ℕ) (fs : List ℕ) (f : ℕ) → AreOperationsOf signature item fs → fs ≡ f ∷ []
+    → Gives signature (read_tree item) (new_tree f) × ((operation : Operation) × IsOperation signature f operation)
+gives_tree signature item fs f listed is =
+    let one : AreOperationsOf signature item (f ∷ []) = subst (λ gs. AreOperationsOf signature item gs) is listed in
+    ((f, one, refl), first_listed signature one.0 f [] one.2)
+
+-- ---- Heads of lemmas
+
+pub no_variables_there : (signature : Signature) (text : Option (List ℕ)) → ((vs : List Variable) → AreLemmaVariables signature text vs → ⊥)
+    → GivesNothing signature (read_variables text)
+no_variables_there signature text none = ((λ p h. none h.0 h.1), (λ h. h))
+
+pub known_here : (signature : Signature) (text : Option (List ℕ)) (vs : List Variable) → AreLemmaVariables signature text vs
+    → AreKnownVariables signature vs
+known_here signature None vs are = subst (λ us. AreKnownVariables signature us) (sym are) (no_variables signature)
+known_here signature (Some text) vs are = known_variables signature are.0 vs are.3
+
+pub gives_variables : (signature : Signature) (text : Option (List ℕ)) (vs : List Variable) → AreLemmaVariables signature text vs
+    → Gives signature (read_variables text) (new_variables vs) × AreKnownVariables signature vs
+gives_variables signature text vs are = ((vs, are, refl), known_here signature text vs are)
+
+pub no_left_side : (signature : Signature) (vs : List Variable) (term : List ℕ)
+    → ((side : WrittenTerm) → IsWrittenSide signature vs term side → ⊥) → GivesNothing signature (read_left vs term)
+no_left_side signature vs term none = ((λ p h. none h.0 h.1), (λ h. h))
+
+pub gives_left : (signature : Signature) (vs us : List Variable) (term : List ℕ) (left : WrittenTerm) → us ≡ vs
+    → AreKnownVariables signature vs → IsWrittenSide signature vs term left
+    → Gives signature (read_left vs term) (new_left us left) × AreKnownVariables signature us
+gives_left signature vs us term left same known side =
+    ((left, side, ap (λ xs. new_left xs left) same), subst (λ xs. AreKnownVariables signature xs) (sym same) known)
+
+pub no_right_side : (signature : Signature) (vs : List Variable) (left : WrittenTerm) (term : List ℕ)
+    → ((side : WrittenTerm) → IsWrittenSide signature vs term side → ⊥) → GivesNothing signature (read_right vs left term)
+no_right_side signature vs left term none = ((λ p h. none h.0 h.2), (λ h. none h.0 h.1))
+
+pub fails_with_left : (signature : Signature) (vs : List Variable) (left right : WrittenTerm) (term : List ℕ)
+    → IsWrittenSide signature vs term right → ((statement : Statement) → AreSides signature vs left right statement → ⊥)
+    → FailsWithLeft signature (read_right vs left term)
+fails_with_left signature vs left right term side none = (right, side, none)
+
+pub gives_lemma : (signature : Signature) (vs us : List Variable) (left right : WrittenTerm) (term : List ℕ) (statement : Statement)
+    → us ≡ vs
+    → IsWrittenSide signature vs term right → AreSides signature vs left right statement
+    → Gives signature (read_right vs left term) (new_lemma us statement)
+gives_lemma signature vs us left right term statement same side sides =
+    (right, statement, side, sides, ap (λ xs. new_lemma xs statement) same)
+
+-- ---- Splits
+
+pub no_split : (signature : Signature) (path : Option (List ℕ)) → path ≡ None → GivesNothing signature (pattern_split path)
+no_split signature None is = ((λ p h. h), (λ h. h))
+no_split signature (Some path) is = absurd (cc is)
+
+pub gives_split : (signature : Signature) (path : Option (List ℕ)) (p : List ℕ) → path ≡ Some p
+    → Gives signature (pattern_split path) (new_tree_line (split_pattern p))
+gives_split signature None p is = absurd (cc is)
+gives_split signature (Some path) p is = ap (λ (o : Option (List ℕ)). by_option o) (sym is)
+  where
+    by_option : Option (List ℕ) → Piece
+    by_option None = new_tree zero
+    by_option (Some q) = new_tree_line (split_pattern q)
+
+pub nothing_left : (signature : Signature) (covers : List Cover) (left : List CodeCase) (name : List ℕ) → left ≡ []
+    → variable_split signature covers (named_cases_in (reverse left)) name ≡ proof_line (split_variable zero) (Some [])
+nothing_left signature covers left name is =
+    ap (λ (cs : List CodeCase). variable_split signature covers (named_cases_in (reverse cs)) name) is
+
+pub last_left : (signature : Signature) (covers : List Cover) (left before : List CodeCase) (point : CodeCase) (name : List ℕ)
+    → left ≡ before ++ point ∷ []
+    → variable_split signature covers (named_cases_in (reverse left)) name
+    ≡ proof_line (split_variable (number_named (named_case_in point).names name))
+    (Some (cases_behind signature covers (named_case_in point) name))
+last_left signature covers left before point name is =
+    ap (λ (cs : List CodeCase). variable_split signature covers (named_cases_in cs) name)
+    (ap reverse is ∙ reverse-append before (point ∷ []))
+
+pub one_item : (fs : List ℕ) (f : ℕ) → length fs ≡ 1 → f ≡ slice_index_or fs 0 f → fs ≡ f ∷ []
+one_item [] f one is = absurd (cc one)
+one_item (g ∷ []) f one is = ap (λ (n : ℕ). n ∷ []) (sym is)
+one_item (g ∷ h ∷ hs) f one is = absurd (omega (arith, one))
+
+-- ---- Forms that ask for nothing
+
+nothing : (signature : Signature) → GivesNothing signature no_task
+nothing signature = ((λ p h. h), (λ h. h))
+
+pub none_among_covers : (signature : Signature) (form : Form)
+    → ((s t : Bor (List ℕ)) → form ≡ line.Cover s t → ⊥)
+    → ((t : Bor (List ℕ)) → form ≡ line.Tree t → ⊥)
+    → ((o : Option (Bor (List ℕ))) → form ≡ line.Lemma o → ⊥)
+    → GivesNothing signature (among_covers_task (form_in form))
+none_among_covers signature (line.Cover s t) not_cover not_tree not_lemma = absurd (not_cover s t refl)
+none_among_covers signature (line.Tree t) not_cover not_tree not_lemma = absurd (not_tree t refl)
+none_among_covers signature (line.Split t) not_cover not_tree not_lemma = nothing signature
+none_among_covers signature (line.Lemma o) not_cover not_tree not_lemma = absurd (not_lemma o refl)
+none_among_covers signature (line.Left t) not_cover not_tree not_lemma = nothing signature
+none_among_covers signature (line.Right t) not_cover not_tree not_lemma = nothing signature
+none_among_covers signature (line.Use u) not_cover not_tree not_lemma = nothing signature
+none_among_covers signature line.Leaf not_cover not_tree not_lemma = nothing signature
+none_among_covers signature line.Same not_cover not_tree not_lemma = nothing signature
+none_among_covers signature line.Nothing not_cover not_tree not_lemma = nothing signature
+
+pub none_in_tree : (signature : Signature) (form : Form)
+    → ((t : Bor (List ℕ)) → form ≡ line.Tree t → ⊥)
+    → ((t : Bor (List ℕ)) → form ≡ line.Split t → ⊥)
+    → ((o : Option (Bor (List ℕ))) → form ≡ line.Lemma o → ⊥)
+    → (form ≡ line.Leaf → ⊥)
+    → GivesNothing signature (in_tree_task (form_in form))
+none_in_tree signature (line.Cover s t) not_tree not_split not_lemma not_leaf = nothing signature
+none_in_tree signature (line.Tree t) not_tree not_split not_lemma not_leaf = absurd (not_tree t refl)
+none_in_tree signature (line.Split t) not_tree not_split not_lemma not_leaf = absurd (not_split t refl)
+none_in_tree signature (line.Lemma o) not_tree not_split not_lemma not_leaf = absurd (not_lemma o refl)
+none_in_tree signature (line.Left t) not_tree not_split not_lemma not_leaf = nothing signature
+none_in_tree signature (line.Right t) not_tree not_split not_lemma not_leaf = nothing signature
+none_in_tree signature (line.Use u) not_tree not_split not_lemma not_leaf = nothing signature
+none_in_tree signature line.Leaf not_tree not_split not_lemma not_leaf = absurd (not_leaf refl)
+none_in_tree signature line.Same not_tree not_split not_lemma not_leaf = nothing signature
+none_in_tree signature line.Nothing not_tree not_split not_lemma not_leaf = nothing signature
+
+pub none_behind_variables : (signature : Signature) (vs : List Variable) (form : Form)
+    → ((t : Bor (List ℕ)) → form ≡ line.Left t → ⊥)
+    → GivesNothing signature (left_task vs (form_in form))
+none_behind_variables signature vs (line.Cover s t) not_left = nothing signature
+none_behind_variables signature vs (line.Tree t) not_left = nothing signature
+none_behind_variables signature vs (line.Split t) not_left = nothing signature
+none_behind_variables signature vs (line.Lemma o) not_left = nothing signature
+none_behind_variables signature vs (line.Left t) not_left = absurd (not_left t refl)
+none_behind_variables signature vs (line.Right t) not_left = nothing signature
+none_behind_variables signature vs (line.Use u) not_left = nothing signature
+none_behind_variables signature vs line.Leaf not_left = nothing signature
+none_behind_variables signature vs line.Same not_left = nothing signature
+none_behind_variables signature vs line.Nothing not_left = nothing signature
+
+pub none_behind_left : (signature : Signature) (vs : List Variable) (left : WrittenTerm) (form : Form)
+    → ((t : Bor (List ℕ)) → form ≡ line.Right t → ⊥)
+    → GivesNothing signature (right_task vs left (form_in form))
+none_behind_left signature vs left (line.Cover s t) not_right = nothing signature
+none_behind_left signature vs left (line.Tree t) not_right = nothing signature
+none_behind_left signature vs left (line.Split t) not_right = nothing signature
+none_behind_left signature vs left (line.Lemma o) not_right = nothing signature
+none_behind_left signature vs left (line.Left t) not_right = nothing signature
+none_behind_left signature vs left (line.Right t) not_right = absurd (not_right t refl)
+none_behind_left signature vs left (line.Use u) not_right = nothing signature
+none_behind_left signature vs left line.Leaf not_right = nothing signature
+none_behind_left signature vs left line.Same not_right = nothing signature
+none_behind_left signature vs left line.Nothing not_right = nothing signature

@@ -1,0 +1,26 @@
+use Rattle.std.proofs.Common.{Ok, refl, ap, sym}
+use Rattle.induct_check.specs.CertificateReading.{in_tree_task}
+use Rattle.induct_check.specs.FormView.{form_in}
+use Rattle.induct_check.specs.KnownView.{known_signature}
+use Rattle.induct_check.specs.declared.pieces.LineOutcome.TheVariants.{Nothing}
+use Rattle.induct_check.proofs.OutcomeLemmas.{moved}
+use Rattle.induct_check.proofs.PieceLemmas.{none_in_tree}
+use Rattle.induct_check.proofs.LeafSteps.{leaf_moved}
+use Rattle.induct_check.proofs.pieces.in_tree.Goals.{in-Tree, in-Split, in-Lemma, in-Leaf, in_default}
+use Rattle.induct_check.proofs.pieces.in_tree.Goals as goal
+
+pub returns : goal.returns
+returns c =
+    let signature = known_signature c.args.known.now in
+    elim c.match-form.branch [
+      | in-Tree w ↦ moved signature _ (in_tree_task (form_in c.args.form)) w.tree_piece.result c.match-form.result
+          (sym (ap (λ f. in_tree_task (form_in f)) w.in-Tree.is)) w.result-is w.tree_piece.ensures
+      | in-Split w ↦ moved signature _ (in_tree_task (form_in c.args.form)) w.pattern_split.result c.match-form.result
+          (sym (ap (λ f. in_tree_task (form_in f)) w.in-Split.is)) w.result-is w.pattern_split.ensures
+      | in-Lemma w ↦ moved signature _ (in_tree_task (form_in c.args.form)) w.variables_piece.result c.match-form.result
+          (sym (ap (λ f. in_tree_task (form_in f)) w.in-Lemma.is)) w.result-is w.variables_piece.ensures
+      | in-Leaf w ↦ leaf_moved signature c.args.form c.match-form.result w.in-Leaf.is w.result-is
+      | in_default w ↦ moved signature (in_tree_task (form_in c.args.form)) (in_tree_task (form_in c.args.form))
+          (Ok Nothing) c.match-form.result refl w.result-is
+          (none_in_tree signature c.args.form w.in_default.not-Tree w.in_default.not-Split w.in_default.not-Lemma w.in_default.not-Leaf)
+    ]

@@ -1,0 +1,23 @@
+use Rattle.std.proofs.Common.{sym, ◌∙◌}
+use Rattle.induct_parts.proofs.Outcomes.{match_none_at, match_some_at}
+use Rattle.induct_check.specs.KnownView.{known_signature}
+use Rattle.induct_check.proofs.PieceLemmas.{no_tree_item, several_operations, gives_tree, one_item}
+use Rattle.induct_check.proofs.pieces.tree_piece.Goals as goal
+
+pub returns-in_default : goal.returns-in_default
+returns-in_default c =
+    no_tree_item (known_signature c.args.known.now) c.args.item.now
+    (match_none_at _ _ c.in_ok-operations.field-0 c.in_default.is c.in_ok-operations.ensures)
+
+pub returns-then-len-ne1 : goal.returns-then-len-ne1
+returns-then-len-ne1 c =
+    several_operations c.texts_have_one_outcome.ensures (known_signature c.args.known.now) c.args.item.now c.in-Some.operations.items
+    (match_some_at _ _ c.in_ok-operations.field-0 c.in-Some.operations c.in-Some.is c.in_ok-operations.ensures)
+    (λ one. c.if-len-ne1.true (c.len.ensures ∙ c.in-Some.operations.ok.0 ∙ one))
+
+pub returns : goal.returns
+returns c =
+    gives_tree (known_signature c.args.known.now) c.args.item.now c.in-Some.operations.items c.index.result.now
+    (match_some_at _ _ c.in_ok-operations.field-0 c.in-Some.operations c.in-Some.is c.in_ok-operations.ensures)
+    (one_item c.in-Some.operations.items c.index.result.now
+    (sym (c.len.ensures ∙ c.in-Some.operations.ok.0) ∙ c.if-len-ne1.false) c.index.ensures)

@@ -1,0 +1,9 @@
+use Rattle.std.proofs.Common.{◌≡◌, ◌++◌, drop, map}
+use Rattle.lotos_base.specs.Equation.{Variable}
+use Rattle.sort_terms.specs.EquationView.{variable_of}
+use Rattle.induct_check.proofs.reading.sorts_of.Given as goal
+
+abbrev pub invariant-loop-variable : goal.invariant-loop-variable
+invariant-loop-variable l =
+    l.sorts.items ++ map (λ (v : Variable). v.sort) (map variable_of (drop l.variable-index l.variables))
+    ≡ map (λ (v : Variable). v.sort) (map variable_of l.variables)

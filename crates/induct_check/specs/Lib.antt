@@ -1,0 +1,14 @@
+pub mod BookView
+pub mod CertificateLines
+pub mod CertificateReading
+pub mod CheckView
+pub mod FormView
+pub mod ItemView
+pub mod KnownView
+pub mod LineCases
+pub mod NameView
+pub mod PieceView
+pub mod ReadingView
+pub mod TextFaults
+pub mod VariableStates
+pub mod VariableView

@@ -1,0 +1,26 @@
+-- What was read by the code, and what is known of it.
+use Rattle.std.specs.Option.{option_map}
+use Rattle.lotos_base.specs.Signature.{Signature}
+use Rattle.induct_parts.specs.CertificateView.{certificate_in}
+use Rattle.induct_parts.specs.SettingView.{IsKnownCertificate}
+use Rattle.induct_check.specs.CertificateReading.{ReadSoFar}
+use Rattle.induct_check.specs.PieceView.{part_in, IsKnownPart}
+use Rattle.induct_check.specs.TextFaults as plain
+use Rattle.induct_check.specs.TextFaults.{ReadText}
+use Rattle.induct_check.specs.declared.reading.Reading.{Reading}
+use Rattle.induct_check.specs.declared.reading.Read.{Read}
+use Rattle.induct_check.specs.declared.reading.Stop.{Stop}
+
+abbrev pub reading_in : Reading → ReadSoFar
+reading_in reading = record { certificate = certificate_in reading.certificate; part = part_in reading.part }
+
+abbrev pub stop_of : Stop → plain.Stop
+stop_of stop = record { line = stop.line; early = stop.early }
+
+abbrev pub read_text : Read → ReadText
+read_text read = record { certificate = certificate_in read.certificate; stop = option_map stop_of read.stop }
+
+-- The certificate and the open part are known.
+pub record IsKnownReading (signature : Signature) (reading : Reading) : Type 0 where
+  pub certificate : IsKnownCertificate signature reading.certificate
+  pub part : IsKnownPart signature (part_in reading.part)

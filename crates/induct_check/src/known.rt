@@ -1,0 +1,19 @@
+//! What lines of a certificate are read over.
+
+use sort_terms::name_index::NameIndex;
+use sort_terms::{Reader, Signature};
+use std::alloc::Global;
+
+/// What lines of a certificate are read over: a signature, a reader of terms over it, and its
+/// operations by their names.
+#[derive(Clone, Copy)]
+pub struct Known<'a> {
+    /// The allocator.
+    pub alloc: Global,
+    /// The signature.
+    pub signature: &'a Signature,
+    /// The reader.
+    pub reader: &'a Reader<'a>,
+    /// The numbers of the operations by their names.
+    pub operations: &'a NameIndex,
+}

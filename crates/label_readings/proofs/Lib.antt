@@ -1,4 +1,0 @@
-pub mod LabelStands
-pub mod LabelsOnce
-pub mod LabelLemmas
-pub mod MenuLemmas

@@ -1,4 +1,0 @@
-pub mod LabelReading
-pub mod LabelLaws
-pub mod MenuReadings
-pub mod HandedOn

@@ -1,0 +1,31 @@
+-- Parts of the work, of which the lines of words are made.
+use Rattle.std.specs.Prelude.{◌≡◌, ◌⊎◌, ℕ, List, []}
+use Rattle.spec_acceptance.specs.Acceptance.{Asked, Acceptance, IsAccepted}
+use Rattle.spec_acceptance.specs.Part.{goes_on, unread, stops, wants_memory, Part, Then, Telling}
+use Rattle.spec_acceptance.specs.HandedOn.{Refused}
+use Rattle.demo_walks.specs.HandedOn.{Beginning}
+use Rattle.lotos_top.specs.Opening.{SessionBegins}
+use Rattle.lotos_top.specs.Finishing.{Print, Finish, unread_printed, refusal_printed}
+
+-- something with this property, for which no file is got, and which nothing refuses
+abbrev pub Finds : {E B : Type 0} → (B → Type 0) → Part E B
+Finds Is files (goes_on b) = (files ≡ []) × Is b
+Finds Is files (unread name) = ⊥
+Finds Is files (stops e) = ⊥
+Finds Is files wants_memory = files ≡ []
+
+-- a specification is accepted, and its session begins
+abbrev pub Opens : Part Refused Acceptance → Part Refused Beginning
+Opens accepts = Then accepts (λ acceptance. Finds (SessionBegins acceptance))
+
+-- the same, where a refusal is printed as its line
+abbrev pub OpensAsked : Asked → Part Print Beginning
+OpensAsked asked = Telling (refusal_printed asked.spec asked.order) (Opens (IsAccepted asked))
+
+-- The same part where there is no file: none is got, and where one is asked for, the line that it could not be got is printed.
+abbrev pub WithoutFiles : Part Print Finish → Part Print Finish
+WithoutFiles whole files (goes_on finish) = (files ≡ []) × whole [] (goes_on finish)
+WithoutFiles whole files (unread name) = ⊥
+WithoutFiles whole files (stops p) = (files ≡ []) × (whole [] (stops p) ⊎
+    ((name : List ℕ) × whole [] (unread name) × (p ≡ unread_printed name)))
+WithoutFiles whole files wants_memory = files ≡ []

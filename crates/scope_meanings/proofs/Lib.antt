@@ -1,0 +1,9 @@
+pub mod PartsResolved
+pub mod BehavioursResolved
+pub mod PartsMeant
+pub mod TermsMeant
+pub mod ChoicesMeant
+pub mod BehavioursMeant
+pub mod DefinitionsMeant
+pub mod FlatResolved
+pub mod ExampleLemmas

@@ -1,0 +1,5 @@
+use Rattle.scope_meanings.proofs.BehavioursResolved.{behaviours_are_resolved}
+use Rattle.scope_meanings.proofs.behaviour_meanings.written_behaviours_are_resolved.Goals as goal
+
+pub returns : goal.returns
+returns c = behaviours_are_resolved

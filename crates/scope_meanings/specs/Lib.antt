@@ -1,0 +1,6 @@
+pub mod Meanings
+pub mod WrittenBehaviours
+pub mod MeaningLaws
+pub mod WrittenSpecifications
+pub mod FlatLaws
+pub mod MeaningExamples

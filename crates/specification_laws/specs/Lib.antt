@@ -1,0 +1,9 @@
+pub mod Cuttings
+pub mod LongestTokens
+pub mod HasFunctionality
+pub mod ExitLaws
+pub mod AgreementLaws
+pub mod LabelReading
+pub mod LabelLaws
+pub mod MenuReadings
+pub mod HandedOn

@@ -1,2 +1,0 @@
-pub mod Cuttings
-pub mod LongestTokens
