@@ -1,17 +1,10 @@
-//! Values in boxes, and values with several owners.
+//! Values with several owners.
 
 ghost use Rattle.std.specs.Prelude.{◌≡◌, IfOk};
 
 use lotos_base::NoMemory;
 use std::alloc::Global;
 use std::rc::Rc;
-
-/// The value in a box.
-pub fn boxed<T: Drop>(alloc: Global, value: T) -> Result<Box<T>, NoMemory>
-    ensures { IfOk result (λ it. it.value ≡ value) }
-{
-    Ok(Box::new(alloc, value)?)
-}
 
 /// The value with an owner that can be copied.
 pub fn shared<T: Drop>(alloc: Global, value: T) -> Result<Rc<T>, NoMemory>

@@ -8,6 +8,7 @@ pub mod copies;
 pub mod definitions;
 pub mod moves;
 pub mod order;
+pub mod shapes;
 pub mod states;
 
 pub use behaviours::{Beh, ExitValue, Meet, Offer, Test};

@@ -1,6 +1,7 @@
 //! Labels of moves, and derivations: which rules a move uses, and the values that it chooses.
 
 use sort_terms::Sorted;
+use std::rc::Rc;
 
 /// The label of a move.
 #[derive(Debug, Drop)]
@@ -13,7 +14,8 @@ pub enum Label {
     Exit(Vec<Sorted>),
 }
 
-/// The shape of a derivation: which rules it uses and where, without the values that are chosen.
+/// The shape of a derivation: which rules it uses and where, without the values that are chosen. Its
+/// parts have several owners.
 #[derive(Debug, Drop)]
 pub enum Shape {
     /// An action.
@@ -23,29 +25,29 @@ pub enum Shape {
     /// `i`.
     Inner,
     /// A guard that holds.
-    Guarded(Box<Shape>),
+    Guarded(Rc<Shape>),
     /// The left side of a binary behaviour.
-    Left(Box<Shape>),
+    Left(Rc<Shape>),
     /// Its right side.
-    Right(Box<Shape>),
+    Right(Rc<Shape>),
     /// Both sides of a parallel.
-    Both(Box<Shape>, Box<Shape>),
+    Both(Rc<Shape>, Rc<Shape>),
     /// Under `hide`.
-    Hidden(Box<Shape>),
+    Hidden(Rc<Shape>),
     /// A left side of `>>` that ended.
-    Enabled(Box<Shape>),
+    Enabled(Rc<Shape>),
     /// A left side of `>>` that goes on.
-    Passed(Box<Shape>),
+    Passed(Rc<Shape>),
     /// Under `let`.
-    Bound(Box<Shape>),
+    Bound(Rc<Shape>),
     /// Under a value choice, whose value is a leaf.
-    Value(Box<Shape>),
+    Value(Rc<Shape>),
     /// A gate choice, by the position of the gate from 0.
-    Gate(u32, Box<Shape>),
+    Gate(u32, Rc<Shape>),
     /// A called process.
-    Called(Box<Shape>),
+    Called(Rc<Shape>),
     /// Under a relabelling.
-    Relabelled(Box<Shape>),
+    Relabelled(Rc<Shape>),
 }
 
 /// A derivation. Its leaves stand in preorder: the value of a value choice before what is under it,

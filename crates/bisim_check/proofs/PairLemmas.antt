@@ -15,8 +15,7 @@ use Rattle.bisimulation_theory.specs.AgreementLaws.{ClosedEntriesAreEvents, Clos
 use Rattle.bisimulation_theory.specs.Bisimulation.{turned_round}
 use Rattle.bisimulation_theory.specs.Certificate.{CertificateFault, ListedPair, AreListed, ComparedSide}
 use Rattle.bisimulation_theory.specs.MatchedPairs.{PairIsMatched, PairFails, left_fails, right_fails}
-use Rattle.event_offers.specs.OfferView.{plain_entry}
-use Rattle.event_offers.specs.declared.drafts.Entry.{Entry}
+use Rattle.menu_builder.specs.HandedOn.{plain_entry, Entry}
 use Rattle.menu_builder.specs.Menus.{entries_in}
 use Rattle.bisim_check.specs.Events.{IsEventOf, HasNewEvent, IsUnanswered}
 use Rattle.bisim_check.specs.Matching.{Event, AreEvents, ListedTowards, AllAnswered}

@@ -10,10 +10,7 @@ use Rattle.behaviour_semantics.proofs.InstanceLemmas.{every_at}
 use Rattle.behaviour_tree.specs.declared.definitions.Spec.{Spec}
 use Rattle.bisimulation_theory.specs.Certificate.{CertificateFault, no_state, no_entry, open_menu, no_start_pair}
 use Rattle.bisimulation_theory.specs.NamedStates.{numbered_entry, EntryLeads, NamesState, NamesNoState, state_is_missing, entry_is_missing, entry_is_open}
-use Rattle.event_offers.specs.OfferView.{plain_entry}
-use Rattle.event_offers.specs.Offers.{IsEntryOf, IsEntryOver}
-use Rattle.event_offers.specs.declared.drafts.Entry.{Entry}
-use Rattle.event_offers.specs.declared.menus.Menu.{Menu}
+use Rattle.menu_builder.specs.HandedOn.{plain_entry, IsEntryOf, IsEntryOver, Entry, Menu}
 use Rattle.menu_builder.specs.Menus.{entries_in}
 use Rattle.bisim_check.specs.Faults.{TellsFault, unmatched_on}
 use Rattle.bisim_check.specs.Readings.{IsNumbered}

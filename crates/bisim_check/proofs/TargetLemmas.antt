@@ -24,9 +24,7 @@ use Rattle.bisimulation_theory.specs.AgreementLaws.{IsClosedEntryOf, ClosedEntri
 use Rattle.bisimulation_theory.specs.Certificate.{ComparedSide}
 use Rattle.bisimulation_theory.specs.NamedStates.{EntryLeads}
 use Rattle.bisimulation_theory.proofs.ClosedEntries.{leaves_stay}
-use Rattle.event_offers.specs.Instances.{canonical_derivation}
-use Rattle.event_offers.specs.OfferView.{plain_entry}
-use Rattle.event_offers.specs.declared.drafts.Entry.{Entry}
+use Rattle.menu_builder.specs.HandedOn.{canonical_derivation, plain_entry, Entry}
 use Rattle.menu_builder.specs.Menus.{entries_in}
 use Rattle.step_taker.specs.Taken.{IsStepFault, IsTaken, ground_of}
 use Rattle.step_taker.specs.HandedOn.{StepFault}

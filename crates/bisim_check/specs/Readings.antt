@@ -7,8 +7,7 @@ use Rattle.behaviour_semantics.specs.WellFormed.{Every}
 use Rattle.behaviour_tree.specs.DefinitionView.{specification_of}
 use Rattle.behaviour_tree.specs.declared.definitions.Spec.{Spec}
 use Rattle.bisimulation_theory.specs.Certificate.{CertificateFault, open_menu, Comparison, ListedPair, Reading as PlainReading}
-use Rattle.event_offers.specs.declared.drafts.Entry.{Entry}
-use Rattle.event_offers.specs.declared.menus.Menu.{Menu}
+use Rattle.menu_builder.specs.HandedOn.{Entry, Menu}
 use Rattle.bisim_check.specs.Surveys.{AreSurveyed, behaviours_in}
 use Rattle.bisim_check.specs.declared.readings.Listed.{Listed}
 use Rattle.bisim_check.specs.declared.readings.Reading.{Reading}

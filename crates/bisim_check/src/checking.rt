@@ -29,8 +29,8 @@ ghost use Rattle.bisimulation_theory.specs.MatchedPairs.{
   PairsFail,
 };
 ghost use Rattle.bisimulation_theory.specs.NamedStates.{LinesAreRead, LinesFail};
-ghost use Rattle.event_offers.specs.Keeping.{KeepsData};
 ghost use Rattle.lotos_base.specs.Equation.{HasSortedSides};
+ghost use Rattle.menu_builder.specs.HandedOn.{KeepsData};
 ghost use Rattle.process_checks.specs.Ranks.{AreRanksOf};
 ghost use Rattle.std.specs.Prelude.{
   ◌≡◌,

@@ -6,18 +6,14 @@ ghost use Rattle.bisim_check.specs.Events.{event_of, HasNewEvent, IsEventOf};
 ghost use Rattle.bisim_check.specs.Matching.{AreEvents};
 ghost use Rattle.bisim_check.specs.Readings.{HasClosedEntries};
 ghost use Rattle.bisim_check.specs.Surveys.{IsSideOf, IsSurveyed, side_over};
-ghost use Rattle.event_offers.specs.declared.drafts.Entry.{Entry};
-ghost use Rattle.event_offers.specs.Keeping.{KeepsData};
-ghost use Rattle.event_offers.specs.OfferView.{plain_entry};
-ghost use Rattle.event_offers.specs.Offers.{IsEntryOf};
+ghost use Rattle.menu_builder.specs.HandedOn.{Entry, IsEntryOf, KeepsData, plain_entry};
 ghost use Rattle.menu_builder.specs.Menus.{entries_in};
 ghost use Rattle.std.specs.Prelude.{◌≡◌, ◌++◌, ◌∷◌, [], IfOk, OnOk, Some, map, slice_get};
 
 use crate::surveys::{Surveyed, target};
 use behaviour_tree::{Label, Spec, State};
-use event_offers::Entry;
-use event_offers::labels::label_copy;
 use lotos_base::NoMemory;
+use menu_builder::{Entry, label_copy};
 use sort_terms::Deciding;
 use std::alloc::Global;
 

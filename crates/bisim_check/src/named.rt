@@ -30,10 +30,9 @@ ghost use Rattle.bisimulation_theory.specs.NamedStates.{
   NamesState,
   numbered_entry,
 };
-ghost use Rattle.event_offers.specs.declared.drafts.Entry.{Entry};
-ghost use Rattle.event_offers.specs.Keeping.{KeepsData};
 ghost use Rattle.lotos_base.specs.Equation.{Data};
 ghost use Rattle.lotos_base.specs.Term.{Term};
+ghost use Rattle.menu_builder.specs.HandedOn.{Entry, KeepsData};
 ghost use Rattle.menu_builder.specs.Menus.{entries_in};
 ghost use Rattle.process_checks.specs.Ranks.{AreRanksOf};
 ghost use Rattle.std.specs.Prelude.{
@@ -54,8 +53,8 @@ use crate::lines::PairLine;
 use crate::readings::{Listed, Reading};
 use crate::surveys::{Surveyed, survey, target};
 use behaviour_tree::{Spec, State};
-use event_offers::{Entry, Menu};
 use lotos_base::NoMemory;
+use menu_builder::{Entry, Menu};
 use process_checks::Ranks;
 use sort_terms::Deciding;
 use std::alloc::Global;

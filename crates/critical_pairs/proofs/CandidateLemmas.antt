@@ -12,7 +12,7 @@ use Rattle.rewriting_theory.proofs.PlaceListLemmas.{IsIn, in_left, in_right, in_
 use Rattle.path_order.specs.RuleHead.{has_head, headed_from, headed}
 use Rattle.critical_pairs.specs.NodePlaces.{PlaceOfNode}
 use Rattle.critical_pairs.specs.Candidates.{lesser_of, considered, least_from, place_least, all_least}
-use Rattle.term_rewriter.specs.FirstHead.{first_head, is_missing, is_number, is_open, has_first, numbered_where, may_overlap}
+use Rattle.term_store.specs.HandedOn.{first_head, is_missing, is_number, is_open, has_first, numbered_where, may_overlap}
 
 -- ---- Rules that pass a test
 

@@ -10,7 +10,7 @@ use Rattle.rewriting_theory.specs.Places.{node_paths, argument_paths}
 use Rattle.rewriting_theory.proofs.PlaceListLemmas.{IsIn, in_either}
 use Rattle.sort_terms.specs.TermView.{term_of, terms_of}
 use Rattle.sort_terms.specs.declared.terms.Term.{Term as CodeTerm}
-use Rattle.term_rewriter.specs.FirstHead.{first_head}
+use Rattle.term_store.specs.HandedOn.{first_head}
 use Rattle.critical_pairs.specs.NodePlaces.{PlaceOfNode, node_places, argument_places, IsHeadAt}
 
 -- the paths of the places

@@ -14,7 +14,7 @@ use Rattle.path_order.specs.RulesView.{plain_rules_in}
 use Rattle.path_order.specs.declared.rules.Rules.{Rules}
 use Rattle.critical_pairs.specs.Candidates.{all_least}
 use Rattle.critical_pairs.specs.Extended.{AddsPairsOf}
-use Rattle.term_rewriter.specs.FirstHead.{first_head, may_meet, may_overlap}
+use Rattle.term_store.specs.HandedOn.{first_head, may_meet, may_overlap}
 use Rattle.critical_pairs.specs.NodePlaces.{PlaceOfNode, node_places, IsHeadAt}
 use Rattle.critical_pairs.specs.declared.pair.Pair.{Pair}
 use Rattle.critical_pairs.proofs.NodePlaceLemmas.{path_of, place_paths, place_heads}

@@ -2,7 +2,7 @@
 use Rattle.std.specs.Prelude.{ℕ, List, [], ◌∷◌, Option, None, Some, nat_lt, nat_le, if◌then◌else◌}
 use Rattle.rewriting_theory.specs.Rule.{Rule}
 use Rattle.path_order.specs.RuleHead.{headed}
-use Rattle.term_rewriter.specs.FirstHead.{is_open, has_first, numbered_where}
+use Rattle.term_store.specs.HandedOn.{is_open, has_first, numbered_where}
 use Rattle.critical_pairs.specs.NodePlaces.{PlaceOfNode}
 
 -- the lesser one of a number and the one known before, if there is one

@@ -3,7 +3,7 @@ use Rattle.std.specs.Prelude.{◌≡◌, map}
 use Rattle.sort_terms.specs.Operations.{operation_of}
 use Rattle.path_order.specs.RulesView.{signature_in}
 use Rattle.path_order.specs.declared.rules.Rules.{Rules}
-use Rattle.term_rewriter.specs.FirstIndexView.{IsIndexOf}
+use Rattle.term_store.specs.HandedOn.{IsIndexOf}
 use Rattle.term_store.specs.Turns.{AreSound}
 use Rattle.critical_pairs.specs.declared.finding.Finder.{Finder}
 

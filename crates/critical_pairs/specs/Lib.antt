@@ -8,3 +8,4 @@ pub mod TwoSides
 pub mod OverlapPair
 pub mod Contracted
 pub mod Finding
+pub mod HandedOn

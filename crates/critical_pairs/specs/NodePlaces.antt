@@ -2,7 +2,7 @@
 use Rattle.std.specs.Prelude.{◌≡◌, ℕ, zero, suc, List, [], ◌∷◌, ◌++◌, Option, Some}
 use Rattle.lotos_base.specs.Term.{Term, variable, node, Terms, no_terms, term_then}
 use Rattle.lotos_base.specs.Path.{subterm}
-use Rattle.term_rewriter.specs.FirstHead.{first_head}
+use Rattle.term_store.specs.HandedOn.{first_head}
 
 -- a place: its path, the number of the operation there, and that of the one at the head of the first argument, if one is there
 pub record PlaceOfNode : Type 0 where

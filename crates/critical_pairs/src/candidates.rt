@@ -1,15 +1,15 @@
 //! The rules that may overlap a term, found by the operations in it.
 
 ghost use Rattle.critical_pairs.specs.Candidates.{all_least, least_from, lesser_of, place_least};
-ghost use Rattle.term_rewriter.specs.FirstIndexView.{IsIndexOf};
 ghost use Rattle.critical_pairs.specs.PairView.{node_place_of};
 ghost use Rattle.path_order.specs.RulesView.{plain_rules_in};
 ghost use Rattle.std.specs.List.Sorted.{IsNonDecreasing};
 ghost use Rattle.std.specs.Prelude.{◌≡◌, None, Some, map, nat_lt};
+ghost use Rattle.term_store.specs.HandedOn.{IsIndexOf};
 
 use crate::places::NodePlace;
 use path_order::Rules;
-use term_rewriter::first_index::FirstIndex;
+use term_store::FirstIndex;
 
 /// The number of the first rule from this number on whose left side may overlap what stands at one
 /// of the places, if there is one: it has the operation of the place at its head, and the first

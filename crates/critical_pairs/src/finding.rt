@@ -14,10 +14,10 @@ use path_order::Rules;
 use sort_terms::{Op, Sorted};
 use std::alloc::Global;
 use std::rc::Rc;
-use term_rewriter::first_index::{FirstIndex, indexed};
 use term_store::canonical::canonical;
 use term_store::forms::Forms;
 use term_store::reading::{profiles_of, read};
+use term_store::{FirstIndex, indexed};
 
 /// An index of rules, their operations, and terms that are kept with their chosen forms.
 #[derive(Drop)]

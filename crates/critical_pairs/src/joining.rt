@@ -4,13 +4,13 @@ ghost use Rattle.critical_pairs.specs.Finding.{IsFinderOf};
 ghost use Rattle.critical_pairs.specs.Joining.{AnswersFirst, AnswersPair, AreJoinedAt, HoldsOfPairFault, IsPairFaultOver};
 ghost use Rattle.critical_pairs.specs.Joining.{IsAnswerOver, NoneUnjoinedAmong, StaysJoined};
 ghost use Rattle.critical_pairs.specs.Listing.{ArePairsOver};
-ghost use Rattle.critical_pairs.specs.PairView.{pair_of, pairs_in, terms_in};
 ghost use Rattle.critical_pairs.specs.OverlapPair.{ArePairTermsOf};
+ghost use Rattle.critical_pairs.specs.PairView.{pair_of, pairs_in, terms_in};
 ghost use Rattle.path_order.specs.RulesView.{plain_rules_in, rules_in, signature_in};
 ghost use Rattle.rewriting_theory.specs.Places.{places_with};
 ghost use Rattle.rewriting_theory.specs.Rule.{Rule as PlainRule, IsRuleAt};
 ghost use Rattle.std.specs.Prelude.{◌≡◌, ◌↔◌, ◌∷◌, ◌<◌, [], IfErr, IfNone, IfOk, IfSome, IsTrue, length};
-ghost use Rattle.term_rewriter.specs.FirstIndexView.{IsIndexOf};
+ghost use Rattle.term_store.specs.HandedOn.{IsIndexOf};
 
 use crate::finding::Finder;
 use crate::joined::Joined;
@@ -21,7 +21,7 @@ use lotos_base::NoMemory;
 use path_order::Rules;
 use sort_terms::Sorted;
 use std::alloc::Global;
-use term_rewriter::first_index::{FirstIndex, indexed};
+use term_store::{FirstIndex, indexed};
 
 /// The first critical pair whose two sides have different chosen forms, with these forms.
 #[derive(Debug, Drop)]

@@ -20,4 +20,4 @@ pub use overlapping::overlap;
 pub use overlaps::Overlap;
 pub use pair::Pair;
 pub use pair_fault::PairFault;
-pub use term_rewriter::normalise;
+pub use term_store::{Store, normalise};

@@ -2,15 +2,15 @@
 
 ghost use Rattle.critical_pairs.specs.Extended.{AddsPairsOf, IsPairAt};
 ghost use Rattle.critical_pairs.specs.Extended.{paths_in, listed_option};
-ghost use Rattle.term_rewriter.specs.FirstIndexView.{IsIndexOf};
 ghost use Rattle.critical_pairs.specs.Listing.{ArePairsOver, ListsAll};
-ghost use Rattle.critical_pairs.specs.PairView.{pairs_in};
 ghost use Rattle.critical_pairs.specs.OverlapPair.{HaveOneSignature, HaveNoOverlap};
+ghost use Rattle.critical_pairs.specs.PairView.{pairs_in};
 ghost use Rattle.path_order.specs.RuleSides.{sides_of};
 ghost use Rattle.path_order.specs.RulesView.{plain_rules_in, rules_in, signature_in};
 ghost use Rattle.rewriting_theory.specs.Places.{is_root, places_at, places_with};
 ghost use Rattle.rewriting_theory.specs.Rule.{Rule as PlainRule, IsRuleAt};
 ghost use Rattle.std.specs.Prelude.{◌≡◌, ◌<◌, ◌∷◌, ◌++◌, ◌&&◌, [], IfNone, IfOk, IfSome, length, nat_eq};
+ghost use Rattle.term_store.specs.HandedOn.{IsIndexOf};
 
 use crate::candidates::next_candidate;
 use crate::overlap;
@@ -19,7 +19,7 @@ use crate::places::{NodePlace, places_of};
 use lotos_base::NoMemory;
 use path_order::{Rule, Rules};
 use std::alloc::Global;
-use term_rewriter::first_index::{FirstIndex, indexed};
+use term_store::{FirstIndex, indexed};
 
 /// All critical pairs of the rules: by the first rule, then by the second rule, then by the place
 /// in the left side of the first rule in preorder. A rule with itself at the root is no place.

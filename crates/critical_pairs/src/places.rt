@@ -8,7 +8,7 @@ ghost use Rattle.std.specs.Prelude.{◌≡◌, ◌∷◌, ◌++◌, [], IfOk, ma
 use lotos_base::NoMemory;
 use sort_terms::Term;
 use std::alloc::Global;
-use term_rewriter::first_index::first_operation;
+use term_store::first_operation;
 
 /// A place with an operation: its path, the number of the operation, and that of the operation at
 /// the head of its first argument.

@@ -1,8 +1,6 @@
-//! What only a direct call shows of behaviours, sessions and flat texts: derivations that no menu
-//! has, steps with values of another sort, menus of large states, sessions whose menus are kept
-//! beside those whose menus are made anew, and flat texts that are written byte for byte and
-//! accepted again. It holds tests alone; whole runs are the cases of
-//! `case_tables`.
+//! What only a direct call shows of behaviours and sessions: derivations that no menu has, steps
+//! with values of another sort, menus of large states, and sessions whose menus are kept beside
+//! those whose menus are made anew. It holds tests alone; whole runs are the cases of `case_tables`.
 #![tactic(auto)]
 
 #[cfg(test)]
@@ -11,8 +9,6 @@ mod accepted;
 mod counted;
 #[cfg(test)]
 mod demonstrations;
-#[cfg(test)]
-mod flat_texts;
 #[cfg(test)]
 mod lockstep;
 #[cfg(test)]

@@ -4,9 +4,10 @@
 //! choice, `0` to `9` a gate choice, `c` a call, `m` a relabelling.
 
 use behaviour_tree::Shape;
-use behaviour_tree::boxes::boxed;
+use behaviour_tree::boxes::shared;
 use lotos_base::NoMemory;
 use std::alloc::Global;
+use std::rc::Rc;
 
 /// The shape that the letters write. A part that is not written is an inner event.
 pub fn shape(alloc: Global, letters: &[u8]) -> Result<Shape, NoMemory> {
@@ -24,17 +25,17 @@ fn push_shape(alloc: Global, letter: u8, parts: &mut Vec<Shape>) -> Result<(), N
         b'q' => Shape::Quit,
         b'i' => Shape::Inner,
         b'&' => {
-            let left = boxed(alloc, first_part(parts))?;
-            let right = boxed(alloc, first_part(parts))?;
+            let left = shared(alloc, first_part(parts))?;
+            let right = shared(alloc, first_part(parts))?;
             Shape::Both(left, right)
         }
-        _ => one_part(letter, boxed(alloc, first_part(parts))?),
+        _ => one_part(letter, shared(alloc, first_part(parts))?),
     };
     Ok(parts.push(shape)?)
 }
 
 // A rule with one part.
-fn one_part(letter: u8, part: Box<Shape>) -> Shape {
+fn one_part(letter: u8, part: Rc<Shape>) -> Shape {
     match letter {
         b'g' => Shape::Guarded(part),
         b'l' => Shape::Left(part),

@@ -19,3 +19,4 @@ pub mod RowLemmas
 pub mod GivenLemmas
 pub mod BelowLemmas
 pub mod MadeLemmas
+pub mod HandedOn

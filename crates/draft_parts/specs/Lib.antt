@@ -22,3 +22,4 @@ pub mod Rows
 pub mod RowLaws
 pub mod BelowLaws
 pub mod Made
+pub mod HandedOn

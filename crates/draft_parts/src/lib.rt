@@ -22,6 +22,9 @@ pub mod sides;
 pub mod variants;
 
 pub use actions::action_draft;
+pub use event_offers::labels::{label_copy, values};
+pub use event_offers::renaming::Renaming;
+pub use event_offers::{Draft, Entry, Menu};
 pub use exits::exit_draft;
 pub use gates::{Call, at_gates, calls_beside, copies_beside};
 pub use parting::{SideDrafts, parted};

@@ -5,9 +5,10 @@ ghost use Rattle.draft_parts.specs.VariantView.{variant_of};
 ghost use Rattle.std.specs.Prelude.{◌≡◌, IfOk};
 
 use behaviour_tree::Shape;
-use behaviour_tree::boxes::boxed;
+use behaviour_tree::boxes::shared;
 use lotos_base::NoMemory;
 use std::alloc::Global;
+use std::rc::Rc;
 
 /// A variant of shapes with one part.
 #[derive(Clone, Copy, Debug)]
@@ -41,19 +42,26 @@ impl Variant {
     pub fn over(self, alloc: Global, part: Shape) -> Result<Shape, NoMemory>
         ensures { IfOk result (λ s. shape_of s ≡ variant_of self (shape_of part)) }
     {
-        let part = boxed(alloc, part)?;
+        let part = shared(alloc, part)?;
+        Ok(self.around(part))
+    }
+
+    /// The shape of this variant with this part, which others may have too.
+    pub fn around(self, part: Rc<Shape>) -> Shape
+        ensures { shape_of result ≡ variant_of self (shape_of part.value) }
+    {
         match self {
-            Variant::Guarded => Ok(Shape::Guarded(part)),
-            Variant::Left => Ok(Shape::Left(part)),
-            Variant::Right => Ok(Shape::Right(part)),
-            Variant::Hidden => Ok(Shape::Hidden(part)),
-            Variant::Enabled => Ok(Shape::Enabled(part)),
-            Variant::Passed => Ok(Shape::Passed(part)),
-            Variant::Bound => Ok(Shape::Bound(part)),
-            Variant::Value => Ok(Shape::Value(part)),
-            Variant::Gate(position) => Ok(Shape::Gate(position, part)),
-            Variant::Called => Ok(Shape::Called(part)),
-            Variant::Relabelled => Ok(Shape::Relabelled(part)),
+            Variant::Guarded => Shape::Guarded(part),
+            Variant::Left => Shape::Left(part),
+            Variant::Right => Shape::Right(part),
+            Variant::Hidden => Shape::Hidden(part),
+            Variant::Enabled => Shape::Enabled(part),
+            Variant::Passed => Shape::Passed(part),
+            Variant::Bound => Shape::Bound(part),
+            Variant::Value => Shape::Value(part),
+            Variant::Gate(position) => Shape::Gate(position, part),
+            Variant::Called => Shape::Called(part),
+            Variant::Relabelled => Shape::Relabelled(part),
         }
     }
 }

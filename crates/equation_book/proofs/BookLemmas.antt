@@ -9,7 +9,7 @@ use Rattle.lotos_base.specs.Sorting.{HasSort, IsGround}
 use Rattle.lotos_base.specs.Equality.{Equal}
 use Rattle.lotos_base.proofs.TestLemmas.{Term-set}
 use Rattle.rewriting_theory.specs.Rule.{Rule as PlainRule}
-use Rattle.term_store.specs.StoreCanon.{store_canon, store_chooses}
+use Rattle.critical_pairs.specs.HandedOn.{store_canon, store_chooses}
 use Rattle.lotos_base.specs.Equation.{Data}
 use Rattle.rewriting_theory.specs.ChosenForm.{Chosen}
 use Rattle.rewriting_theory.proofs.ChosenLemmas.{chosen_one}

@@ -6,7 +6,6 @@ ghost use Rattle.std.specs.Prelude.{◌≡◌, IfOk};
 
 use crate::drafts::Draft;
 use crate::labels::{condition_copies, label_copy};
-use crate::shapes::shape_copy;
 use behaviour_tree::copies::term_copies;
 use lotos_base::NoMemory;
 
@@ -21,7 +20,7 @@ pub fn draft_copy(draft: &Draft) -> Result<Draft, NoMemory>
         ≡ condition_profiles draft.now.conditions.items) }
 {
     let alloc = *draft.leaves.allocator();
-    let shape = shape_copy(alloc, &draft.shape)?;
+    let shape = draft.shape.copy()?;
     let label = label_copy(alloc, &draft.label)?;
     let leaves = term_copies(alloc, &draft.leaves)?;
     let conditions = condition_copies(alloc, &draft.conditions)?;

@@ -32,7 +32,6 @@ ghost use Rattle.lotos_base.specs.Equation.{HasSortedSides};
 ghost use Rattle.lotos_base.specs.Substitution.{substituted};
 
 use crate::drafts::Entry;
-use crate::shapes::shape_copy;
 use crate::valued::Values;
 use behaviour_tree::Derivation;
 use lotos_base::NoMemory;
@@ -83,7 +82,7 @@ impl Entry {
             (λ d. AreTermsOf (D.known_data decider.old).signature (profiles_of d.leaves.items)) }
         ensures same_known { KeepsData D.known_data D.canon decider.old decider.new }
     {
-        let shape = shape_copy(*self.leaves.allocator(), &self.shape)?;
+        let shape = self.shape.copy()?;
         let leaves = instances(&self.leaves, values, decider)?;
         Ok(Derivation { shape, leaves })
     }

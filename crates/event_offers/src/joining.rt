@@ -33,7 +33,7 @@ use crate::drafts::Draft;
 use crate::labels::{alike, equations, values};
 use crate::lists::appended;
 use crate::renaming::Renaming;
-use behaviour_tree::boxes::boxed;
+use behaviour_tree::boxes::shared;
 use behaviour_tree::{Label, Shape};
 use lotos_base::NoMemory;
 use sort_terms::Sorted;
@@ -124,8 +124,8 @@ pub fn both_taken(left: Draft, right: Draft, renaming: &Renaming) -> Result<Draf
 fn both_shapes(alloc: Global, left: Shape, right: Shape) -> Result<Shape, NoMemory>
     ensures { IfOk result (λ s. shape_of s ≡ both_shape (shape_of left) (shape_of right)) }
 {
-    let first = boxed(alloc, left)?;
-    let second = boxed(alloc, right)?;
+    let first = shared(alloc, left)?;
+    let second = shared(alloc, right)?;
     Ok(Shape::Both(first, second))
 }
 

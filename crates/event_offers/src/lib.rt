@@ -12,7 +12,6 @@ pub mod lists;
 pub mod menus;
 pub mod rebuilding;
 pub mod renaming;
-pub mod shapes;
 pub mod valued;
 
 pub use behaviour_tree::{Label, Spec};

@@ -14,14 +14,7 @@ use Rattle.texts_read_back.proofs.NameTokens.{IsApart, word_piece, digit_piece, 
 use Rattle.texts_read_back.proofs.PartsOfText.{apart, opened_piece, opened_other}
 use Rattle.flat_sentences.specs.PrintedWords.{Word, a_word, name_word, operation_kind, operation_word, round_words}
 use Rattle.flat_sentences.specs.TextPieces as pieced
-use Rattle.flat_sentences.specs.TextPieces.{TextPiece, bytes_of, words_of, AreTokens}
-
--- the bytes are words, with blanks between them
-pub record AreCut (open_list : Bool) (bytes : List ℕ) (words : List Word) : Type 0 where
-  pub pieces : List TextPiece
-  pub bytes_are : bytes_of pieces ≡ bytes
-  pub words_are : words_of pieces ≡ words
-  pub tokens : AreTokens open_list pieces
+use Rattle.flat_sentences.specs.CutTexts.{AreCut}
 
 pub nothing_cut : (open_list : Bool) → AreCut open_list [] []
 nothing_cut open_list = record { pieces = []; bytes_are = refl; words_are = refl; tokens = tt }
@@ -52,20 +45,34 @@ blank_cut open_list bytes words rest = record {
   tokens = (refl, rest.tokens);
 }
 
--- The bytes are these words before anything that goes on with no word and no run of signs.
+-- The bytes are these words before anything that goes on with no word and no run of signs. The flag says whether a list of gates is
+-- open, before and behind them.
+abbrev pub ExtendsIn : Bool → List ℕ → List Word → Type 0
+ExtendsIn open_list bytes words = (rest : List ℕ) (more : List Word) → IsApart rest → AreCut open_list rest more
+    → AreCut open_list (bytes ++ rest) (words ++ more)
+
 abbrev pub Extends : List ℕ → List Word → Type 0
-Extends bytes words = (rest : List ℕ) (more : List Word) → IsApart rest → AreCut false rest more
-    → AreCut false (bytes ++ rest) (words ++ more)
+Extends bytes words = ExtendsIn false bytes words
 
 -- no word and no run goes on with the bytes, whatever stands behind them
 abbrev pub StaysApart : List ℕ → Type 0
 StaysApart bytes = (rest : List ℕ) → IsApart rest → IsApart (bytes ++ rest)
 
+-- two parts are cut where the first one is before the second one
+pub cut_of_parts : (open_list : Bool) (xs ys rest : List ℕ) (us vs more : List Word)
+    → AreCut open_list (xs ++ (ys ++ rest)) (us ++ (vs ++ more)) → AreCut open_list ((xs ++ ys) ++ rest) ((us ++ vs) ++ more)
+cut_of_parts open_list xs ys rest us vs more cut =
+    subst (λ (ws : List Word). AreCut open_list ((xs ++ ys) ++ rest) ws) (sym (append_assoc us vs more))
+    (subst (λ (bs : List ℕ). AreCut open_list bs (us ++ (vs ++ more))) (sym (append_assoc xs ys rest)) cut)
+
+pub joined_in : (open_list : Bool) (xs ys : List ℕ) (us vs : List Word) → ExtendsIn open_list xs us → StaysApart ys
+    → ExtendsIn open_list ys vs → ExtendsIn open_list (xs ++ ys) (us ++ vs)
+joined_in open_list xs ys us vs first stays second rest more apart_rest cut =
+    cut_of_parts open_list xs ys rest us vs more
+    (first (ys ++ rest) (vs ++ more) (stays rest apart_rest) (second rest more apart_rest cut))
+
 pub extends_joined : (xs ys : List ℕ) (us vs : List Word) → Extends xs us → StaysApart ys → Extends ys vs → Extends (xs ++ ys) (us ++ vs)
-extends_joined xs ys us vs first stays second rest more apart_rest cut =
-    subst (λ (ws : List Word). AreCut false ((xs ++ ys) ++ rest) ws) (sym (append_assoc us vs more))
-    (subst (λ (bs : List ℕ). AreCut false bs (us ++ (vs ++ more))) (sym (append_assoc xs ys rest))
-    (first (ys ++ rest) (vs ++ more) (stays rest apart_rest) (second rest more apart_rest cut)))
+extends_joined xs ys us vs first stays second = joined_in false xs ys us vs first stays second
 
 pub nothing_extends : Extends [] []
 nothing_extends rest more apart_rest cut = cut
@@ -75,7 +82,7 @@ nothing_stays rest is = is
 
 -- ---- Names
 
-some_bytes : (test : ℕ → Bool) (name : List ℕ) → first_is test name ≡ true → 0 < length name
+pub some_bytes : (test : ℕ → Bool) (name : List ℕ) → first_is test name ≡ true → 0 < length name
 some_bytes test [] is = let never : false ≡ true = is in cc
 some_bytes test (b ∷ bs) is = omega arith
 

@@ -41,7 +41,7 @@ never_bound (name ∷ names) = (refl, never_bound names)
 
 -- ---- The names that a naming has for processes
 
-abbrev with_processes : Naming → List (List ℕ) → Naming
+abbrev pub with_processes : Naming → List (List ℕ) → Naming
 with_processes naming names =
     record { signature = naming.signature; gates = naming.gates; processes = names; truth = naming.truth }
 
@@ -51,7 +51,7 @@ called_later naming names name next [] = refl
 called_later naming names name next (p ∷ ps) =
     ap (λ (ns : List (List ℕ)). called_text (with_processes naming names) next ∷ ns) (called_later naming names name (suc next) ps)
 
-all_called : (naming : Naming) (names : List (List ℕ)) (ps : List Process) → length names ≡ length ps
+pub all_called : (naming : Naming) (names : List (List ℕ)) (ps : List Process) → length names ≡ length ps
     → called_names (with_processes naming names) 0 ps ≡ names
 all_called naming [] [] same = refl
 all_called naming [] (p ∷ ps) same = absurd (omega (arith, same))
@@ -60,7 +60,7 @@ all_called naming (name ∷ names) (p ∷ ps) same =
     ap (λ (ns : List (List ℕ)). name ∷ ns)
     (called_later naming names name 0 ps ∙ all_called naming names ps (let s = same in omega (arith, s)))
 
-names_long : (ps : List Process) → length (map (λ (p : Process). p.name) ps) ≡ length ps
+pub names_long : (ps : List Process) → length (map (λ (p : Process). p.name) ps) ≡ length ps
 names_long [] = refl
 names_long (p ∷ ps) = ap suc (names_long ps)
 

@@ -38,10 +38,10 @@ pub record IsSingle {A : Type 0} (many : List Token → List A → Type 0) (fits
 
 -- ---- The first token of a term
 
-record Begins (tokens : List Token) : Type 0 where
-  first : Token
-  rest : List Token
-  joined : tokens ≡ first ∷ rest
+pub record Begins (tokens : List Token) : Type 0 where
+  pub first : Token
+  pub rest : List Token
+  pub joined : tokens ≡ first ∷ rest
 
 begins_joined : (tokens more : List Token) → Begins tokens → Begins (tokens ++ more)
 begins_joined tokens more b = record {
@@ -74,7 +74,7 @@ factors_begin text tokens ws names (one_factor {factor = w} is) = factor_begins 
 factors_begin text tokens ws names (more_factors {tokens = ts} {name_tokens = us} {rest = rest} {factor = w} is name others) =
     begins_joined (ts ++ us) rest (begins_joined ts us (factor_begins text ts w is))
 
-term_begins : (text : List ℕ) (tokens : List Token) (w : WrittenTerm) → IsTerm text tokens w → Begins tokens
+pub term_begins : (text : List ℕ) (tokens : List Token) (w : WrittenTerm) → IsTerm text tokens w → Begins tokens
 term_begins text tokens w (grouped_factors {factors = ws} {operations = names} are grouped) = factors_begin text tokens ws names are
 
 module _ (text : List ℕ) (naming : Naming) (well : IsWellFormedSignature naming.signature)

@@ -237,17 +237,20 @@ module _ (text : List ℕ) (naming : Naming) (well : IsWellFormedSignature namin
   -- ---- Specifications
 
   -- written flatly, with types that are read of their words
-  record IsWritten (specification : Specification) (types : List Word) (tree : WrittenSpecification) : Type 0 where
-    flatly : IsFlatlyWritten naming specification tree
-    type_tokens : List Token
-    type_words : AreWords text type_tokens types
-    types_are : AreItems text type_tokens tree.items
+  pub record IsWritten (specification : Specification) (types : List Word) (fits : List WrittenItem → Type 0)
+      (tree : WrittenSpecification) : Type 0 where
+    pub flatly : IsFlatlyWritten naming specification tree
+    pub type_tokens : List Token
+    pub type_words : AreWords text type_tokens types
+    pub types_are : AreItems text type_tokens tree.items
+    pub types_fit : fits tree.items
 
-  specification_says : (specification : Specification) (types : List Word) → SpecificationMeans naming specification
+  pub specification_says : (specification : Specification) (types : List Word) (fits : List WrittenItem → Type 0)
+      → SpecificationMeans naming specification
       → HaveTextForms specification
-      → ((some : List Token) → AreWords text some types → (items : List WrittenItem) × AreItems text some items)
-      → Says text (specification_words naming types specification) (IsWrittenSpecification text) (IsWritten specification types)
-  specification_says specification types means forms says tokens are =
+      → ((some : List Token) → AreWords text some types → IsSentence (AreItems text) fits some)
+      → Says text (specification_words naming types specification) (IsWrittenSpecification text) (IsWritten specification types fits)
+  specification_says specification types fits means forms says tokens are =
       let word : Word = a_word SPECIFICATION (codes "specification") in
       let behaviour : Word = a_word BEHAVIOUR (codes "behaviour") in
       let end_ : Word = a_word ENDSPEC (codes "endspec") in
@@ -268,16 +271,16 @@ module _ (text : List ℕ) (naming : Naming) (well : IsWellFormedSignature namin
       let inner =
       where_says specification.processes (behind_definition (whole_of specification) first_numbers) specification.processes
       means.processes_mean forms.processes last.left last.left_are in
-      subst (IsSentence (IsWrittenSpecification text) (IsWritten specification types))
+      subst (IsSentence (IsWrittenSpecification text) (IsWritten specification types fits))
       (sym (begin.joined ∙ ap (λ (ts : List Token). begin.first ∷ ts)
       (parts.joined ∙ ap (λ (ts : List Token). parts.left ++ ts)
       (behind.joined ∙ ap (λ (ts : List Token). behind.left ++ ts)
       (sign.joined ∙ ap (λ (ts : List Token). sign.first ∷ ts)
       (bodies.joined ∙ ap (λ (ts : List Token). bodies.left ++ ts)
       (last.joined ∙ ap (λ (ts : List Token). last.left ++ ts) end.alone))))))) (record {
-        thing = record { heading = h.thing; items = items.0; body = b.thing; inner = inner.thing };
+        thing = record { heading = h.thing; items = items.thing; body = b.thing; inner = inner.thing };
         is_one =
-            a_specification (of_kind text word begin.first begin.is_word) h.is_one items.1
+            a_specification (of_kind text word begin.first begin.is_word) h.is_one items.is_one
             (british (of_kind text behaviour sign.first sign.is_word)) b.is_one inner.is_one (of_kind text end_ end.token end.is_word);
         fitting = record {
           flatly = record {
@@ -287,14 +290,18 @@ module _ (text : List ℕ) (naming : Naming) (well : IsWellFormedSignature namin
           };
           type_tokens = behind.left;
           type_words = behind.left_are;
-          types_are = items.1;
+          types_are = items.is_one;
+          types_fit = items.fitting;
         };
       })
 
 pub flat_words_are_read_as_the_same : FlatWordsAreReadAsTheSame
 flat_words_are_read_as_the_same text naming source specification types tokens well binary flat forms is says are =
     let found =
-    specification_says text naming well binary specification types (flat_means naming source specification flat is) forms says tokens are in
+    specification_says text naming well binary specification types (λ items. Unit {0}) (flat_means naming source specification flat is)
+    forms
+    (λ some words. let items = says some words in record { thing = items.0; is_one = items.1; fitting = tt })
+    tokens are in
     record {
       thing = found.thing;
       is_one = found.is_one;

@@ -42,7 +42,7 @@ two_of signature visible names (term_then t (term_then u (term_then v vs))) (s �
 module _ (text : List ℕ) where
   -- ---- Names of operations
 
-  operation_named : (name : List ℕ) (token : Token) → IsWord text token (operation_word name)
+  pub operation_named : (name : List ℕ) (token : Token) → IsWord text token (operation_word name)
       → IsOperationName text (token ∷ []) (named text token)
   operation_named name token is = go (first_is is_ascii_alphabetic name) (first_is is_ascii_digit name) is.kind_is
     where

@@ -15,21 +15,22 @@ use Rattle.flat_sentences.specs.PrintedWords.{Word, WordPhrase, a_word, name_wor
 use Rattle.flat_sentences.specs.TextPieces.{bytes_of}
 use Rattle.flat_sentences.specs.PieceLaws.{IsCutInto}
 use Rattle.flat_sentences.specs.TermTextLaws.{HasNamedVariables, HaveNamedVariables, TermTextsAreWords}
-use Rattle.flat_sentences.proofs.Extending.{AreCut, nothing_cut, word_cut, blank_cut, Extends, StaysApart, extends_joined, nothing_extends, nothing_stays, name_extends, operation_extends, round_extends, round_stays}
+use Rattle.flat_sentences.specs.CutTexts.{AreCut}
+use Rattle.flat_sentences.proofs.Extending.{nothing_cut, word_cut, blank_cut, Extends, StaysApart, extends_joined, nothing_extends, nothing_stays, name_extends, operation_extends, round_extends, round_stays}
 use Rattle.flat_sentences.proofs.PiecesCut.{texts_in_pieces_are_cut}
 
 -- behind a blank
-blank_extends : (bytes : List ℕ) (words : List Word) → Extends bytes words → Extends (32 ∷ bytes) words
+pub blank_extends : (bytes : List ℕ) (words : List Word) → Extends bytes words → Extends (32 ∷ bytes) words
 blank_extends bytes words inside rest more apart_rest cut =
     blank_cut false (bytes ++ rest) (words ++ more) (inside rest more apart_rest cut)
 
-blank_stays : (bytes : List ℕ) → StaysApart (32 ∷ bytes)
+pub blank_stays : (bytes : List ℕ) → StaysApart (32 ∷ bytes)
 blank_stays bytes rest is = apart 32 (bytes ++ rest) refl refl
 
 -- a phrase and its words
-record Matches (phrase : Phrase) (words : WordPhrase) : Type 0 where
-  infix_same : phrase.is_infix ≡ words.is_infix
-  extends : Extends phrase.text words.words
+pub record Matches (phrase : Phrase) (words : WordPhrase) : Type 0 where
+  pub infix_same : phrase.is_infix ≡ words.is_infix
+  pub extends : Extends phrase.text words.words
 
 abbrev AllMatch : List Phrase → List WordPhrase → Type 0
 AllMatch [] [] = Unit {0}
@@ -37,7 +38,7 @@ AllMatch [] (q ∷ qs) = ⊥
 AllMatch (p ∷ ps) [] = ⊥
 AllMatch (p ∷ ps) (q ∷ qs) = Matches p q × AllMatch ps qs
 
-bracketed_extends : (flag : Bool) (bytes : List ℕ) (words : List Word) → Extends bytes words
+pub bracketed_extends : (flag : Bool) (bytes : List ℕ) (words : List Word) → Extends bytes words
     → Extends (bracketed flag bytes) (bracketed_words flag words)
 bracketed_extends true bytes words inside = round_extends bytes words inside
 bracketed_extends false bytes words inside = inside
@@ -172,7 +173,7 @@ module _ (signature : Signature) (well : IsWellFormedSignature signature) (spell
   -- ---- Terms
 
   mutual
-    term_matches : (names : List Variable) (t : Term) → HasNamedVariables names t
+    pub term_matches : (names : List Variable) (t : Term) → HasNamedVariables names t
         → Matches (phrase_of signature names t) (words_of_term signature names t)
     term_matches names (variable n s) named = record { infix_same = refl; extends = name_extends (variable_text names n) named }
     term_matches names (node f ts) named =

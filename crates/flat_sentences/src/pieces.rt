@@ -1,5 +1,6 @@
 //! Laws of texts in pieces. Each function carries a law as its contract and does nothing.
 
+ghost use Rattle.flat_sentences.specs.BehaviourTextLaws.{BehaviourTextsAreWords};
 ghost use Rattle.flat_sentences.specs.PieceLaws.{PieceExamples, TextsInPiecesAreCut};
 ghost use Rattle.flat_sentences.specs.TermTextLaws.{TermTextsAreWords};
 
@@ -18,4 +19,10 @@ pub fn piece_examples_hold()
 /// have (ISO 8807:1989, value expressions).
 pub fn term_texts_are_words()
     ensures { TermTextsAreWords }
+{}
+
+/// The text of a behaviour is cut into the words of the behaviour, where its names mean what they
+/// are printed for, and have the form that texts have (ISO 8807:1989, behaviour expressions).
+pub fn behaviour_texts_are_words()
+    ensures { BehaviourTextsAreWords }
 {}

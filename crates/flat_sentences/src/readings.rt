@@ -2,9 +2,9 @@
 
 ghost use Rattle.flat_sentences.specs.FlatReadings.{FlatTextsAreReadAsTheSame};
 
-/// Where a source text stands for a specification, tokens that are the words of its flat text are a
-/// specification by the grammar, which stands for the same over the same signature: where the words
-/// of the types are types.
+/// Where a source text stands for a specification over data, a text whose tokens are the words of
+/// the flat text of the two is a specification by the grammar. It stands for the same, and its
+/// types have no fault and come to the same data, with the same spellings.
 pub fn flat_texts_are_read_as_the_same()
     ensures { FlatTextsAreReadAsTheSame }
 {}

@@ -5,9 +5,7 @@ use Rattle.std.specs.List.{concat}
 use Rattle.lotos_base.specs.Signature.{Signature, Sort, Operation}
 use Rattle.lotos_base.specs.Equation.{Variable, Equation, Data}
 use Rattle.behaviour_semantics.specs.Behaviour.{Process}
-use Rattle.printed_texts.specs.BehaviourText.{Naming, gates_text}
-use Rattle.printed_texts.specs.Brackets.{commas, round, square}
-use Rattle.printed_texts.specs.TermText.{sort_text}
+use Rattle.report_text.specs.HandedOn.{Naming, gates_text, commas, round, square, sort_text}
 use Rattle.flat_text.specs.DataText.{line, sorts_lines, argument_sorts, operation_line, operations_lines, sorted_variable, for_all, equation_line, equations_lines, data_lines}
 use Rattle.flat_text.specs.FlatText.{heading_gates, heading_parameters, processes_lines, where_lines}
 

@@ -4,8 +4,7 @@ use Rattle.std.specs.List.{concat}
 use Rattle.lotos_base.specs.Signature.{Signature, Sort, Operation, Form, prefix_form, infix_form}
 use Rattle.lotos_base.specs.Sorting.{sort_of}
 use Rattle.lotos_base.specs.Equation.{Variable, Equation, Data}
-use Rattle.printed_texts.specs.Brackets.{commas}
-use Rattle.printed_texts.specs.TermText.{sort_text, term_text}
+use Rattle.report_text.specs.HandedOn.{commas, sort_text, term_text}
 use Rattle.flat_text.specs.EquationNames.{renamed_variables}
 
 -- a line

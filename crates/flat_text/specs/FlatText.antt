@@ -5,9 +5,7 @@ use Rattle.lotos_base.specs.Signature.{Signature}
 use Rattle.lotos_base.specs.Equation.{Variable, Data}
 use Rattle.behaviour_semantics.specs.Behaviour.{Process, Specification}
 use Rattle.scope_parts.specs.Sorts.{Truth, truth_in}
-use Rattle.printed_texts.specs.Brackets.{round, square, commas}
-use Rattle.printed_texts.specs.FunctionalityText.{functionality_text}
-use Rattle.printed_texts.specs.BehaviourText.{Naming, process_names, gates_text, behaviour_text}
+use Rattle.report_text.specs.HandedOn.{round, square, commas, functionality_text, Naming, process_names, gates_text, behaviour_text}
 use Rattle.flat_text.specs.GivenNames.{given_names}
 use Rattle.flat_text.specs.DataText.{line, sorted_variable, data_text}
 

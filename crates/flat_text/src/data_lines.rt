@@ -17,7 +17,7 @@ ghost use Rattle.flat_text.specs.EquationNames.{named, renamed_variables};
 ghost use Rattle.flat_text.specs.NamesView.{AreNamesFor};
 ghost use Rattle.lotos_base.specs.Name.{spelling};
 ghost use Rattle.lotos_base.specs.Sorting.{sort_of as sort_of_term};
-ghost use Rattle.printed_texts.specs.Brackets.{commas};
+ghost use Rattle.report_text.specs.HandedOn.{commas};
 ghost use Rattle.sort_terms.specs.EquationView.{data_of, equation_of, variable_of};
 ghost use Rattle.sort_terms.specs.Operations.{operation_of, sort_of};
 ghost use Rattle.sort_terms.specs.SignatureView.{signature_of};
@@ -26,9 +26,7 @@ ghost use Rattle.std.specs.Prelude.{◌≡◌, ◌<◌, ◌++◌, OnOk, length, 
 
 use crate::equation_names::renamed;
 use lotos_base::{Form, Name, NoMemory};
-use printed_texts::brackets::{push_separator, push_text};
-use printed_texts::operations::{operation_at, push_sort};
-use printed_texts::terms::push_phrase;
+use report_text::{operation_at, push_phrase, push_separator, push_sort, push_text};
 use sort_terms::{Equation, Flat, Op, Signature, Sort, Sorted, Term, Variable};
 
 /// Appends the type with all sorts, operations and equations, if there are sorts. The variables of

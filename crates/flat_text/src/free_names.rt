@@ -8,7 +8,7 @@ ghost use Rattle.scope_parts.specs.Scope.{is_bound};
 ghost use Rattle.std.specs.Prelude.{◌≡◌, ◌+◌, ◌<◌, ◌^◌, IfOk, length, suc};
 
 use lotos_base::{Name, NoMemory};
-use printed_texts::brackets::push_number;
+use report_text::push_number;
 use scope_parts::bindings::Bindings;
 use std::alloc::Global;
 

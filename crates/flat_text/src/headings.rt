@@ -12,10 +12,8 @@ ghost use Rattle.std.specs.Prelude.{◌≡◌, ◌++◌, OnOk};
 
 use crate::data_lines::push_sorted_variables;
 use lotos_base::NoMemory;
-use printed_texts::brackets::{close_bracket, open_bracket, push_text};
-use printed_texts::functionalities::push_functionality;
-use report_text::Naming;
 use report_text::lists::push_square;
+use report_text::{Naming, close_bracket, open_bracket, push_functionality, push_text};
 use sort_terms::Variable;
 
 /// Appends what stands behind the name in a heading: the gates and the parameters, if there are

@@ -4,18 +4,13 @@ use Rattle.std.proofs.lemmas.Slice.Eq.{bytes_eq-Decides}
 use Rattle.session_log.proofs.CourseLemmas.{situation_now}
 use Rattle.lotos_base.specs.Outside.{Texts, Puts}
 use Rattle.line_server.specs.Request.{Request, skip, show_menu, show_behaviour, show_trace, undo, leave, no_request, take_step, save, replay, show_normal, compare, list_values, list_instances}
-use Rattle.session_log.specs.HandedOn.{TextsHaveOneOutcome}
+use Rattle.session_log.specs.HandedOn.{TextsHaveOneOutcome, normal_text, comparison_text, QuestionsHaveOneAnswer, PastStep, Progress}
+use Rattle.session_log.specs.HandedOn.{first_situation, HasUndone, ReplayRefusal, LinesOutcome, goes_on, stops, ReplayIs, ReplayIsExact}
+use Rattle.session_log.specs.HandedOn.{SessionsFollowDerivations, SessionsStayLawful, StepsAreExact}
 use Rattle.sort_terms.specs.ReadingLaws.{ReadingComesToOneThing}
 use Rattle.behaviour_semantics.proofs.OptionLemmas.{some_value}
-use Rattle.session_histories.specs.Session.{PastStep, Progress, first_situation, HasUndone}
-use Rattle.session_histories.specs.Replay.{ReplayRefusal, LinesOutcome, goes_on, stops, ReplayIs}
-use Rattle.session_histories.specs.ReplayLaws.{ReplayIsExact}
-use Rattle.session_histories.specs.SessionLaws.{SessionsFollowDerivations, SessionsStayLawful}
-use Rattle.session_histories.specs.StepLaws.{StepsAreExact}
-use Rattle.session_histories.proofs.ReplayLemmas.{no_stop}
-use Rattle.session_lines.specs.Answer as questions
-use Rattle.session_lines.specs.Answer.{normal_text, comparison_text}
-use Rattle.session_lines.specs.AnswerLaws.{QuestionsHaveOneAnswer}
+use Rattle.session_log.proofs.HandedOn.{no_stop}
+use Rattle.session_log.specs.HandedOn.question_answers as questions
 use Rattle.list_lines.specs.ListLaws.{InstancesHaveOneAnswer, ValuesHaveOneAnswer}
 use Rattle.list_lines.specs.ListOutcome.{ListOutcome, EntryInstances}
 use Rattle.list_lines.specs.ListText.{instances_text, values_text}

@@ -5,10 +5,8 @@ use Rattle.std.proofs.lemmas.Option.{slice_get_past}
 use Rattle.lotos_base.proofs.Members.{past_map}
 use Rattle.lotos_base.specs.Signature.{Signature}
 use Rattle.behaviour_semantics.specs.Solving as solving
-use Rattle.session_log.specs.HandedOn.{entries_in, plain_entry, Menu, Spec}
-use Rattle.session_histories.specs.Refusal.{entry_numbered}
-use Rattle.session_histories.specs.Session.{SessionBasis}
-use Rattle.session_lines.specs.HandedOn.{Book, book_canon, book_normalises, plain_rules_in}
+use Rattle.session_log.specs.HandedOn.{entries_in, plain_entry, Menu, Spec, Book, book_canon, book_normalises, plain_rules_in}
+use Rattle.session_log.specs.HandedOn.{entry_numbered, SessionBasis}
 use Rattle.session_log.specs.CourseView.{basis_over}
 use Rattle.sort_terms.specs.EquationView.{data_of}
 use Rattle.list_lines.specs.ListOutcome.{refused, no_entry, too_many_values, HasTooMany, InstancesComeTo, has_no_entry, has_too_many_values}

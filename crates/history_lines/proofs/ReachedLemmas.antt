@@ -6,12 +6,10 @@ use Rattle.behaviour_semantics.specs.Alike.{Alike}
 use Rattle.behaviour_semantics.specs.Behaviour.{Behaviour}
 use Rattle.behaviour_semantics.specs.Rule.{as_given}
 use Rattle.line_server.specs.Request.{Request, skip, show_menu, show_behaviour, show_trace, undo, leave, no_request, take_step, save, replay, show_normal, compare, list_values, list_instances, request_of}
-use Rattle.session_histories.specs.Session.{SessionBasis, Situation, PastStep, first_of, first_situation}
-use Rattle.session_histories.specs.Lawful.{IsSituation, LeadTo, IsLawful, IsLawfulFrom, HasStepped}
-use Rattle.session_histories.specs.Replay.{ReplayIs, goes_on}
-use Rattle.session_histories.specs.SessionLaws.{LeadsBy, HaveOneStart, SessionsFollowDerivations, SessionsStayLawful}
-use Rattle.session_histories.proofs.StepLemmas.{one_menu}
-use Rattle.session_histories.proofs.ReplayLemmas.{replay_lawful}
+use Rattle.session_log.specs.HandedOn.{SessionBasis, Situation, PastStep, first_of, first_situation, IsSituation, LeadTo, IsLawful}
+use Rattle.session_log.specs.HandedOn.{IsLawfulFrom, HasStepped, ReplayIs, goes_on, LeadsBy, HaveOneStart, SessionsFollowDerivations}
+use Rattle.session_log.specs.HandedOn.{SessionsStayLawful}
+use Rattle.session_log.proofs.HandedOn.{one_menu, replay_lawful}
 use Rattle.history_lines.specs.Standing.{Standing}
 use Rattle.history_lines.specs.Befallen.{Befallen}
 use Rattle.history_lines.specs.StepAnswer.{StepAnswer, StepComesTo, is_unread, is_miscounted, is_misread, is_unmet, is_taken}

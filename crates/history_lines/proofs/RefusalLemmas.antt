@@ -1,8 +1,8 @@
 -- Lines of traces that are refused.
 use Rattle.std.proofs.Common.{◌≡◌, ℕ, List, ◌++◌, Option, None, Some, IsSomeAnd, codes, decimal, ap, sym, ◌∙◌, append_assoc}
 use Rattle.behaviour_semantics.proofs.OptionLemmas.{some_value}
-use Rattle.session_histories.specs.Refusal as plain
-use Rattle.session_histories.specs.Replay.{ReplayRefusal}
+use Rattle.session_log.specs.HandedOn.step_refusals as plain
+use Rattle.session_log.specs.HandedOn.{ReplayRefusal}
 use Rattle.history_lines.specs.CommandRefusal.{replay_refusal_text}
 use Rattle.history_lines.specs.RefusalView.{at_line, number_for}
 

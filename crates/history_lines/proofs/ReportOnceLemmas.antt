@@ -2,9 +2,7 @@
 use Rattle.std.proofs.Common.{◌≡◌, ℕ, true, false, List, [], ◌∷◌, ◌++◌, Option, None, Some, refl, ap, sym, ◌∙◌, subst}
 use Rattle.lotos_base.specs.Outside.{Texts}
 use Rattle.line_server.specs.Request.{Request, skip, show_menu, show_behaviour, show_trace, undo, leave, no_request, take_step, save, replay, show_normal, compare, list_values, list_instances, request_of}
-use Rattle.session_histories.specs.Session.{SessionBasis, Situation, first_situation}
-use Rattle.session_histories.specs.Lawful.{IsLawful}
-use Rattle.session_histories.specs.SessionLaws.{IsStateOver}
+use Rattle.session_log.specs.HandedOn.{SessionBasis, Situation, first_situation, IsLawful, IsStateOver}
 use Rattle.history_lines.specs.Standing.{Standing, shown_trace}
 use Rattle.history_lines.specs.Befallen.{Befallen}
 use Rattle.history_lines.specs.ShelfAnswer.{HasPut, MayHavePut, SaveComesTo, is_too_long, is_unwritten, is_saved, ReplayComesTo, is_failed, is_missing, is_long, is_refused, is_replayed}

@@ -6,12 +6,10 @@ use Rattle.lotos_base.specs.Signature.{Signature}
 use Rattle.behaviour_semantics.specs.Label.{Label}
 use Rattle.line_server.specs.RequestLaws.{Carries}
 use Rattle.line_server.specs.Request.{Request, take_step, undo, leave, show_normal, compare, list_values, list_instances}
-use Rattle.session_histories.specs.Session.{SessionBasis, HasUndone}
 use Rattle.history_lines.specs.Standing.{Standing}
 use Rattle.history_lines.specs.CommandRefusal.{CommandRefusal, command_refusal_text}
 use Rattle.history_lines.specs.Befallen.{Befallen, says, says_faulty, leaves, come_to}
-use Rattle.session_lines.specs.Answer.{IsNormalAnswer, IsComparison, normal_text, comparison_text}
-use Rattle.session_lines.specs.View.{AddsOutcome}
+use Rattle.session_log.specs.HandedOn.{IsNormalAnswer, IsComparison, normal_text, comparison_text, AddsOutcome, SessionBasis, HasUndone}
 use Rattle.list_lines.specs.ListOutcome.{ValuesComeTo, InstancesComeTo}
 use Rattle.list_lines.specs.ListText.{values_text, instances_text}
 use Rattle.list_lines.specs.ListView.{AddsList}

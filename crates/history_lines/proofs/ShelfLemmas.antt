@@ -4,9 +4,9 @@ use Rattle.std.proofs.lemmas.List.{length-take-le}
 use Rattle.lotos_base.specs.Counts.{Rises}
 use Rattle.lotos_base.specs.Outside.{Texts, Gets}
 use Rattle.line_server.specs.Request.{save, replay}
-use Rattle.session_histories.specs.Session.{SessionBasis, first_situation}
-use Rattle.session_histories.specs.Refusal as plain
-use Rattle.session_histories.specs.Replay.{ReplayRefusal, ReplayIs, goes_on, stops, bad_line, label_differs, state_differs, step_refused, in_line, other_specification}
+use Rattle.session_log.specs.HandedOn.{SessionBasis, first_situation, ReplayRefusal, ReplayIs, goes_on, stops, bad_line, label_differs}
+use Rattle.session_log.specs.HandedOn.{state_differs, step_refused, in_line, other_specification}
+use Rattle.session_log.specs.HandedOn.step_refusals as plain
 use Rattle.session_log.specs.RefusalView.{step_refusal_of, TellsReplay, TellsStepOf, At}
 use Rattle.session_log.specs.declared.refusals.StepRefusal.{StepRefusal}
 use Rattle.session_log.specs.declared.refusals.ReplayFault.{ReplayFault}

@@ -2,10 +2,8 @@
 use Rattle.std.proofs.Common.{◌≡◌, ap, sym, ◌∙◌, subst}
 use Rattle.lotos_base.specs.Term.{Term}
 use Rattle.lotos_base.specs.Equation.{Data}
-use Rattle.session_log.specs.HandedOn.{Spec}
+use Rattle.session_log.specs.HandedOn.{Spec, book_canon, Book}
 use Rattle.sort_terms.specs.EquationView.{data_of}
-use Rattle.session_lines.specs.HandedOn.{book_canon}
-use Rattle.session_lines.specs.HandedOn.{Book}
 use Rattle.session_log.specs.CourseView.{basis_over}
 use Rattle.session_log.specs.Kept.{IsLawfulSession}
 use Rattle.session_log.specs.declared.sessions.Session.{Session}

@@ -3,21 +3,17 @@ use Rattle.std.proofs.Common.{◌≡◌, ℕ, List, length, Option, Some, refl, 
 use Rattle.behaviour_semantics.proofs.SupplyLemmas.{length-values}
 use Rattle.session_log.proofs.ReplayLemmas.{read_values}
 use Rattle.lotos_base.specs.WrittenTerm.{WrittenTerm}
-use Rattle.session_log.specs.HandedOn.{IsTermsFault, ReadFault}
+use Rattle.session_log.specs.HandedOn.{IsTermsFault, ReadFault, bad_term, AreTerms, Refusal, BadCommand, BadTerm, CodeNoMemory as NoMemory}
+use Rattle.session_log.specs.HandedOn.{SessionBasis, Progress, StepRefusal, entry_numbered, count_refusal, number_refusal}
+use Rattle.session_log.specs.HandedOn.{condition_refusal, value_refusal, step_refusal, AreRead}
 use Rattle.session_log.specs.HandedOn.read_faults as fault
 use Rattle.lotos_base.specs.Term.{Term}
 use Rattle.sort_terms.specs.SortedView.{term_in}
 use Rattle.behaviour_semantics.specs.Fault.{first_of_two}
 use Rattle.behaviour_semantics.specs.Rule.{AreValues}
 use Rattle.behaviour_semantics.specs.Solving.{Entry as PlainEntry}
-use Rattle.session_histories.specs.Session.{SessionBasis, Progress}
-use Rattle.session_histories.specs.Refusal as plain
-use Rattle.session_histories.specs.Refusal.{StepRefusal, entry_numbered, count_refusal, number_refusal, condition_refusal, value_refusal, step_refusal}
-use Rattle.session_histories.specs.Replay.{AreRead}
-use Rattle.session_histories.proofs.RefusalLemmas.{free_of_count, fit_sorts}
-use Rattle.session_lines.specs.Refusal.{bad_term, AreTerms}
-use Rattle.session_lines.specs.declared.refusals.Refusal.{Refusal}
-use Rattle.session_lines.specs.declared.refusals.Refusal.TheVariants.{BadCommand, BadTerm, NoMemory}
+use Rattle.session_log.specs.HandedOn.step_refusals as plain
+use Rattle.session_log.proofs.HandedOn.{free_of_count, fit_sorts}
 use Rattle.session_log.specs.RefusalView.{TellsStep}
 use Rattle.session_log.specs.declared.refusals.StepRefusal.{StepRefusal as CodeRefusal}
 use Rattle.session_log.specs.declared.refusals.StepRefusal.TheVariants as step

@@ -2,7 +2,9 @@
 use Rattle.std.proofs.Common.{◌≡◌, ◌⊎◌, inl, inr, ℕ, List, [], ◌∷◌, length, Option, None, Some, refl, ap, sym, ◌∙◌, subst}
 use Rattle.lotos_base.proofs.Options.{none_and_some}
 use Rattle.lotos_base.specs.WrittenTerm.{WrittenTerm}
-use Rattle.session_log.specs.HandedOn.{TextsHaveOneOutcome, NoMemory}
+use Rattle.session_log.specs.HandedOn.{TextsHaveOneOutcome, NoMemory, bad_term, term_number, fault_number, AreTerms, AreUnread}
+use Rattle.session_log.specs.HandedOn.{SessionBasis, Progress, StepRefusal, entry_numbered, number_refusal, count_refusal}
+use Rattle.session_log.specs.HandedOn.{condition_refusal, IsSituation, HasStepped, AreRead, IsStateOver, StepsAreExact}
 use Rattle.lotos_base.specs.Signature.{Signature}
 use Rattle.lotos_base.specs.Term.{Term}
 use Rattle.sort_terms.specs.ReadingLaws.{ReadingComesToOneThing}
@@ -12,15 +14,7 @@ use Rattle.sort_terms.proofs.OutcomeLemmas.{same_answer, not_answered_and_refuse
 use Rattle.behaviour_semantics.specs.Label.{Label}
 use Rattle.behaviour_semantics.specs.Solving.{Entry}
 use Rattle.behaviour_semantics.proofs.OptionLemmas.{some_value}
-use Rattle.session_histories.specs.Session.{SessionBasis, Progress}
-use Rattle.session_histories.specs.Refusal.{StepRefusal, entry_numbered, number_refusal, count_refusal, condition_refusal}
-use Rattle.session_histories.specs.Lawful.{IsSituation, HasStepped}
-use Rattle.session_histories.specs.Replay.{AreRead}
-use Rattle.session_histories.specs.SessionLaws.{IsStateOver}
-use Rattle.session_histories.specs.StepLaws.{StepsAreExact}
-use Rattle.session_histories.proofs.RefusalLemmas.{IsFree, free_of_count}
-use Rattle.session_histories.proofs.StepLemmas.{met_free}
-use Rattle.session_lines.specs.Refusal.{bad_term, term_number, fault_number, AreTerms, AreUnread}
+use Rattle.session_log.proofs.HandedOn.{IsFree, free_of_count, met_free}
 use Rattle.history_lines.specs.CommandRefusal.{CommandRefusal, ill_formed, no_step}
 use Rattle.history_lines.specs.StepAnswer.{StepAnswer, took, declined, IsFirstMisread, StepComesTo, is_unread, is_miscounted, is_misread, is_unmet, is_taken}
 

@@ -20,14 +20,11 @@ use Rattle.sort_terms.specs.declared.sort_faults.SortFault.TheVariants as sort_f
 use Rattle.sort_terms.specs.declared.sorted.Sorted.{Sorted}
 use Rattle.sort_terms.proofs.OutcomeLemmas.{read_ground, is_reading}
 use Rattle.behaviour_semantics.proofs.ListLemmas.{Every-append}
-use Rattle.session_log.specs.HandedOn.{profiles_of, terms_of, AreTermsOf}
-use Rattle.session_histories.specs.Replay.{AreRead}
-use Rattle.session_lines.specs.View.{refused_for_term}
+use Rattle.session_log.specs.HandedOn.{profiles_of, terms_of, AreTermsOf, refused_for_term, Refusal, BadCommand, BadTerm}
+use Rattle.session_log.specs.HandedOn.{CodeNoMemory as NoMemory, AreRead}
 use Rattle.session_log.specs.Entries.{AreGiven}
 use Rattle.history_lines.specs.StepAnswer.{IsFirstMisread}
 use Rattle.history_lines.specs.Values.{IsValueReadAt, IsTermRefused, TellsMisread}
-use Rattle.session_lines.specs.declared.refusals.Refusal.{Refusal}
-use Rattle.session_lines.specs.declared.refusals.Refusal.TheVariants.{BadCommand, BadTerm, NoMemory}
 
 -- ---- One term
 

@@ -2,11 +2,9 @@
 use Rattle.std.specs.Prelude.{◌≡◌, ℕ, List, [], Option, None, Some, codes}
 use Rattle.lotos_base.specs.Outside.{Texts}
 use Rattle.behaviour_semantics.specs.Behaviour.{stop}
-use Rattle.session_histories.specs.Session.{opened}
-use Rattle.session_histories.specs.Refusal.{no_entry, value_count, unmet}
-use Rattle.session_histories.specs.Replay.{LineRefusal, bad_line, step_refused, label_differs, state_differs, in_line, other_specification}
-use Rattle.session_histories.specs.RefusalCases.{small_basis, small_signature, small_menu, falsehood, truth}
-use Rattle.session_lines.specs.Refusal.{bad_command, bad_term}
+use Rattle.session_log.specs.HandedOn.{bad_command, bad_term, opened, no_entry, value_count, unmet, LineRefusal, bad_line, step_refused}
+use Rattle.session_log.specs.HandedOn.{label_differs, state_differs, in_line, other_specification, small_basis, small_signature, small_menu}
+use Rattle.session_log.specs.HandedOn.{falsehood, truth}
 use Rattle.history_lines.specs.CommandRefusal.{CommandRefusal, ill_formed, no_step, unread, unwritten, trace_too_long, no_replay, command_refusal_text}
 use Rattle.history_lines.specs.Standing.{Standing}
 use Rattle.history_lines.specs.Befallen.{Befallen, says, says_faulty, leaves}

@@ -2,7 +2,7 @@
 use Rattle.std.specs.Prelude.{ℕ, Bool, true, false, List, [], Option}
 use Rattle.lotos_base.specs.Outside.{Texts}
 use Rattle.line_server.specs.Machine.{Reply}
-use Rattle.session_histories.specs.Session.{Progress}
+use Rattle.session_log.specs.HandedOn.{Progress}
 use Rattle.history_lines.specs.Standing.{Standing}
 
 pub record Befallen : Type 0 where

@@ -1,9 +1,7 @@
 -- Where a session begins: what it goes over, and the state of its start with the menu.
 use Rattle.std.specs.Prelude.{◌≡◌, [], Option}
 use Rattle.lotos_base.specs.Outside.{Texts}
-use Rattle.session_histories.specs.Session.{SessionBasis, Progress}
-use Rattle.session_histories.specs.Lawful.{IsSituation}
-use Rattle.session_histories.specs.SessionLaws.{IsStateOver}
+use Rattle.session_log.specs.HandedOn.{SessionBasis, Progress, IsSituation, IsStateOver}
 use Rattle.history_lines.specs.Standing.{Standing}
 
 pub record Beginning : Type 0 where

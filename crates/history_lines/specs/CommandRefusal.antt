@@ -2,10 +2,9 @@
 -- is to be told of it.
 use Rattle.std.specs.Prelude.{ℕ, List, ◌++◌, codes, decimal}
 use Rattle.lotos_base.specs.Signature.{Signature}
-use Rattle.session_log.specs.HandedOn.{entry_term_text}
-use Rattle.session_histories.specs.Refusal.{StepRefusal, no_entry, value_count, value_sort, unmet}
-use Rattle.session_histories.specs.Replay.{LineRefusal, bad_line, step_refused, label_differs, state_differs, ReplayRefusal, in_line, other_specification}
-use Rattle.session_lines.specs.Refusal.{QuestionRefusal, refusal_text}
+use Rattle.session_log.specs.HandedOn.{entry_term_text, QuestionRefusal, refusal_text, StepRefusal, no_entry, value_count, value_sort}
+use Rattle.session_log.specs.HandedOn.{unmet, LineRefusal, bad_line, step_refused, label_differs, state_differs, ReplayRefusal, in_line}
+use Rattle.session_log.specs.HandedOn.{other_specification}
 
 -- The line has no form, or its terms are refused; its step is refused; the shelf does not give the text with a name, or does
 -- not take it; the text with a name is too long; or the text that is replayed in a session of the specification with a name is

@@ -3,12 +3,10 @@ use Rattle.std.specs.Prelude.{◌≡◌, ℕ, Option}
 use Rattle.lotos_base.specs.Outside.{Texts}
 use Rattle.lotos_base.specs.Term.{Term}
 use Rattle.lotos_base.specs.Equation.{Data}
-use Rattle.session_log.specs.HandedOn.{Spec}
+use Rattle.session_log.specs.HandedOn.{Spec, book_canon, SessionBasis, Progress}
 use Rattle.sort_terms.specs.EquationView.{data_of}
 use Rattle.sort_terms.specs.ReaderView.{signature_read}
 use Rattle.sort_terms.specs.SignatureView.{signature_of}
-use Rattle.session_lines.specs.HandedOn.{book_canon}
-use Rattle.session_histories.specs.Session.{SessionBasis, Progress}
 use Rattle.session_log.specs.CourseView.{basis_over, progress_of}
 use Rattle.session_log.specs.Kept.{IsLawfulSession}
 use Rattle.history_lines.specs.Standing.{Standing}

@@ -2,9 +2,7 @@
 use Rattle.std.specs.Prelude.{◌≡◌, ℕ, true, false, List, Some}
 use Rattle.lotos_base.specs.Outside.{Texts}
 use Rattle.line_server.specs.Request.{Request}
-use Rattle.session_histories.specs.Session.{first_situation}
-use Rattle.session_histories.specs.Lawful.{IsLawful}
-use Rattle.session_histories.specs.SessionLaws.{IsStateOver}
+use Rattle.session_log.specs.HandedOn.{first_situation, IsLawful, IsStateOver}
 use Rattle.history_lines.specs.Standing.{Standing}
 use Rattle.history_lines.specs.Befallen.{Befallen}
 use Rattle.history_lines.specs.Answer.{RequestComesTo}

@@ -5,9 +5,7 @@ use Rattle.behaviour_semantics.specs.Behaviour.{Behaviour}
 use Rattle.behaviour_semantics.specs.Menu.{Exact}
 use Rattle.behaviour_semantics.specs.Rule.{as_given}
 use Rattle.behaviour_semantics.specs.Solving.{Entry}
-use Rattle.session_histories.specs.Session.{SessionBasis, Situation, first_situation}
-use Rattle.session_histories.specs.Lawful.{IsLawful, IsSituation}
-use Rattle.session_histories.specs.SessionLaws.{LeadsBy}
+use Rattle.session_log.specs.HandedOn.{SessionBasis, Situation, first_situation, IsLawful, IsSituation, LeadsBy}
 use Rattle.history_lines.specs.Standing.{Standing}
 use Rattle.history_lines.specs.Beginning.{Beginning}
 

@@ -1,11 +1,10 @@
 -- The refusals that those of the code stand for, and the lines that are added for them.
 use Rattle.std.specs.Prelude.{◌≡◌, ℕ, List, ◌++◌, Option, None, Some, IsSomeAnd}
 use Rattle.lotos_base.specs.Signature.{Signature}
-use Rattle.session_log.specs.HandedOn.{ReadFault}
-use Rattle.session_histories.specs.Refusal as plain
-use Rattle.session_histories.specs.Replay.{ReplayRefusal, in_line, other_specification, bad_line, step_refused, label_differs, state_differs}
-use Rattle.session_lines.specs.Refusal as questions
-use Rattle.session_lines.specs.View.{refused_for_text, refusal_of}
+use Rattle.session_log.specs.HandedOn.{ReadFault, refused_for_text, refusal_of, ReplayRefusal, in_line, other_specification, bad_line}
+use Rattle.session_log.specs.HandedOn.{step_refused, label_differs, state_differs}
+use Rattle.session_log.specs.HandedOn.step_refusals as plain
+use Rattle.session_log.specs.HandedOn.question_refusals as questions
 use Rattle.session_log.specs.RefusalView.{step_refusal_of}
 use Rattle.session_log.specs.declared.refusals.StepRefusal.{StepRefusal}
 use Rattle.session_log.specs.declared.refusals.ReplayFault.{ReplayFault}

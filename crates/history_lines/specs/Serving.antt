@@ -6,7 +6,7 @@ use Rattle.line_server.specs.Request.{Request, undo, leave}
 use Rattle.history_lines.specs.Standing.{Standing}
 use Rattle.history_lines.specs.Befallen.{Befallen}
 use Rattle.history_lines.specs.StepAnswer.{StepAnswer, declined}
-use Rattle.session_histories.specs.Session.{SessionBasis, Progress}
+use Rattle.session_log.specs.HandedOn.{SessionBasis, Progress}
 use Rattle.history_lines.specs.Answer.{RequestComesTo, undone_text}
 use Rattle.history_lines.specs.RefusalView.{decline_of}
 use Rattle.history_lines.specs.declared.refusals.Decline.{Decline}

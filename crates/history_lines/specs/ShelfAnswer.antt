@@ -1,8 +1,7 @@
 -- What the lines come to that save the trace and replay a text. Each makes one call of the shelf at most.
 use Rattle.std.specs.Prelude.{◌≡◌, ℕ, ◌<◌, ◌≤◌, List, ◌++◌, length, Option, None, Some, IfSome, IsSomeAnd, codes, decimal}
 use Rattle.lotos_base.specs.Outside.{Texts, KeepsOthers, Puts}
-use Rattle.session_histories.specs.Session.{SessionBasis, Progress, first_situation}
-use Rattle.session_histories.specs.Replay.{ReplayRefusal, ReplayIs, goes_on, stops}
+use Rattle.session_log.specs.HandedOn.{SessionBasis, Progress, first_situation, ReplayRefusal, ReplayIs, goes_on, stops}
 use Rattle.history_lines.specs.Standing.{Standing, shown_menu, shown_trace}
 use Rattle.history_lines.specs.CommandRefusal.{CommandRefusal, unread, unwritten, trace_too_long, no_replay, command_refusal_text}
 use Rattle.history_lines.specs.Befallen.{Befallen, says, says_faulty, come_to, with_texts}

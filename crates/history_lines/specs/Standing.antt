@@ -1,10 +1,8 @@
 -- Where a session stands that answers lines: what it goes over, how far it has come, and the texts of its shelf.
 use Rattle.std.specs.Prelude.{ℕ, List, ◌++◌, Option, codes}
 use Rattle.lotos_base.specs.Outside.{Texts}
-use Rattle.session_log.specs.HandedOn.{menu_text}
-use Rattle.session_histories.specs.Session.{SessionBasis, Progress}
-pub use Rattle.session_histories.specs.Replay.{shown_state}
-use Rattle.session_histories.specs.TraceText.{trace_text}
+use Rattle.session_log.specs.HandedOn.{menu_text, SessionBasis, Progress, trace_text}
+pub use Rattle.session_log.specs.HandedOn.{shown_state}
 
 -- the texts of the shelf by name stand here where the shelf tells them
 pub record Standing : Type 0 where

@@ -7,11 +7,8 @@ use Rattle.sort_terms.specs.ReadingOutcome as reading
 use Rattle.sort_terms.specs.ReadingOutcome.{SortedTerm, ReadingIs, answered}
 use Rattle.behaviour_semantics.specs.Label.{Label}
 use Rattle.behaviour_semantics.specs.Solving.{Entry}
-use Rattle.session_histories.specs.Session.{SessionBasis, Progress}
-use Rattle.session_histories.specs.Refusal.{StepRefusal, entry_numbered, number_refusal, condition_refusal}
-use Rattle.session_histories.specs.Lawful.{HasStepped}
-use Rattle.session_histories.specs.Replay.{AreRead}
-use Rattle.session_lines.specs.Refusal.{bad_term, term_number, AreTerms, AreUnread}
+use Rattle.session_log.specs.HandedOn.{bad_term, term_number, AreTerms, AreUnread, SessionBasis, Progress, StepRefusal, entry_numbered}
+use Rattle.session_log.specs.HandedOn.{number_refusal, condition_refusal, HasStepped, AreRead}
 use Rattle.history_lines.specs.CommandRefusal.{CommandRefusal, ill_formed, no_step}
 
 -- the step was taken, with a label, and the session has come so far; or the line is refused

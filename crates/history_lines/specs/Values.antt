@@ -8,13 +8,10 @@ use Rattle.sort_terms.specs.ReadingOutcome.{ReadingIs, answered}
 use Rattle.sort_terms.specs.SortedView.{profiled_in, term_in}
 use Rattle.sort_terms.specs.declared.sorted.Sorted.{Sorted}
 use Rattle.behaviour_semantics.specs.Solving.{Entry}
-use Rattle.session_log.specs.HandedOn.{terms_of}
-use Rattle.session_histories.specs.Session.{SessionBasis, Progress}
+use Rattle.session_log.specs.HandedOn.{terms_of, term_number, Refusal, BadCommand, BadTerm, CodeNoMemory as NoMemory, SessionBasis}
+use Rattle.session_log.specs.HandedOn.{Progress}
 use Rattle.session_log.specs.Entries.{AreGiven}
 use Rattle.history_lines.specs.StepAnswer.{AreStepValues}
-use Rattle.session_lines.specs.Refusal.{term_number}
-use Rattle.session_lines.specs.declared.refusals.Refusal.{Refusal}
-use Rattle.session_lines.specs.declared.refusals.Refusal.TheVariants.{BadCommand, BadTerm, NoMemory}
 
 -- the reading of a term at a sort
 pub record IsValueReadAt (signature : Signature) (term : WrittenTerm) (sort : ℕ) (value : Sorted) : Type 0 where

@@ -2,7 +2,7 @@
 
 ghost use Rattle.history_lines.specs.ReportLaws.{LinesLeadOn, ServedLinesAreAnswered};
 
-use session_histories::laws::{sessions_follow_derivations, sessions_stay_lawful};
+use session_log::{sessions_follow_derivations, sessions_stay_lawful};
 
 /// Each line leads from a state that is reached to one that is reached.
 pub fn lines_lead_on()

@@ -20,9 +20,8 @@ pub mod values;
 
 pub use lines::HistoryLines;
 pub use served::{Served, serve};
-pub use session_lines::Book;
 pub use session_log::{
-    FreshMenus, Label, MenuMaker, Ranks, Session, Spec, StepFault, StepRefusal, label_text,
+    Book, FreshMenus, Label, MenuMaker, Ranks, Session, Spec, StepFault, StepRefusal, label_text,
     menu_text, push_number, push_text, read_terms, take, term_text,
 };
 pub use sessions::serve_input;

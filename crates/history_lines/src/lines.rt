@@ -1,7 +1,6 @@
 //! A session that answers lines.
 
-use session_lines::Book;
-use session_log::{MenuMaker, Session};
+use session_log::{Book, MenuMaker, Session};
 use sort_terms::{Reader, Signature};
 
 /// A session that answers lines.

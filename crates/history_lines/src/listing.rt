@@ -4,11 +4,16 @@ ghost use Rattle.behaviour_semantics.specs.Solving as solving;
 ghost use Rattle.list_lines.specs.ListOutcome.{InstancesComeTo};
 ghost use Rattle.list_lines.specs.ListText.{instances_text};
 ghost use Rattle.list_lines.specs.ListView.{AddsList};
-ghost use Rattle.session_histories.specs.Refusal.{entry_numbered};
-ghost use Rattle.session_lines.specs.HandedOn.{book_canon};
 ghost use Rattle.session_log.specs.CourseView.{basis_over};
 ghost use Rattle.session_log.specs.Entries.{IsEntryAt};
-ghost use Rattle.session_log.specs.HandedOn.{IsEntryOf, entries_in, plain_entry, specification_of};
+ghost use Rattle.session_log.specs.HandedOn.{
+  IsEntryOf,
+  book_canon,
+  entries_in,
+  entry_numbered,
+  plain_entry,
+  specification_of,
+};
 ghost use Rattle.session_log.specs.Kept.{IsKeptMenu};
 ghost use Rattle.sort_terms.specs.EquationView.{data_of};
 ghost use Rattle.sort_terms.specs.SignatureView.{signature_of};
@@ -17,8 +22,7 @@ ghost use Rattle.std.specs.Prelude.{◌≡◌, ℕ, List, MatchOption, None, OnO
 use list_lines::refusals::push_no_entry;
 use list_lines::{ListFault, push_instance_list, values_of_each};
 use lotos_base::NoMemory;
-use session_lines::Book;
-use session_log::{Entry, Menu, Spec, push_text};
+use session_log::{Book, Entry, Menu, Spec, push_text};
 use sort_terms::Signature;
 
 /// Appends the instances of the entry with this number by values with at most `size` operations,

@@ -3,11 +3,10 @@
 ghost use Rattle.history_lines.specs.OutcomeLaws.{LinesComeToOneThing, SessionsHaveOneReport};
 
 use list_lines::laws::lists_have_one_answer;
-use session_histories::laws::{
-    replay_is_exact, sessions_follow_derivations, sessions_stay_lawful, steps_are_exact,
+use session_log::{
+    questions_have_one_answer, replay_is_exact, sessions_follow_derivations, sessions_stay_lawful,
+    steps_are_exact, texts_have_one_outcome,
 };
-use session_lines::laws::questions_have_one_answer;
-use session_log::texts_have_one_outcome;
 use sort_terms::laws::reading_comes_to_one_thing;
 
 /// A line comes to one thing at most where the shelf tells its texts and counts no fault; where it

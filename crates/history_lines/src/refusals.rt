@@ -7,9 +7,9 @@ ghost use Rattle.std.specs.Prelude.{◌≡◌, ◌++◌, OnOk, codes, decimal, o
 
 use list_lines::refusals::push_no_entry;
 use lotos_base::NoMemory;
-use session_lines::refusals::push_refusal;
-use session_lines::{ReadFault, Refusal};
-use session_log::{ReplayFault, StepRefusal, push_number, push_text, push_value};
+use session_log::{
+    ReadFault, Refusal, ReplayFault, StepRefusal, push_number, push_refusal, push_text, push_value,
+};
 use sort_terms::{Signature, Sorted};
 
 /// Why the line of a step is refused.

@@ -8,13 +8,12 @@ ghost use Rattle.history_lines.specs.LinesView.{
   standing_of,
 };
 ghost use Rattle.history_lines.specs.Serving.{moment_of, GivesAnswer, IsBeforeOrBehind};
+ghost use Rattle.history_lines.specs.ShelfAnswer.{StandsUnder, trace_limit};
+ghost use Rattle.history_lines.specs.Standing.{shown_menu};
 ghost use Rattle.line_server.specs.Request.{replay as replay_text};
 ghost use Rattle.lotos_base.specs.Counts.{next_count};
 ghost use Rattle.lotos_base.specs.Outside.{Gets, Texts};
-ghost use Rattle.history_lines.specs.ShelfAnswer.{StandsUnder, trace_limit};
-ghost use Rattle.history_lines.specs.Standing.{shown_menu};
-ghost use Rattle.session_histories.specs.Replay.{ReplayIs, goes_on, stops};
-ghost use Rattle.session_histories.specs.Session.{first_situation};
+ghost use Rattle.session_log.specs.HandedOn.{ReplayIs, first_situation, goes_on, stops};
 ghost use Rattle.session_log.specs.RefusalView.{TellsReplay};
 ghost use Rattle.std.specs.Prelude.{
   ◌≡◌,

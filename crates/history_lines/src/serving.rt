@@ -31,8 +31,7 @@ use crate::texts::{bare_line, menu_lines};
 use line_server::{Answer, Lines, Request};
 use list_lines::push_value_list;
 use lotos_base::{NoMemory, Shelf};
-use session_lines::questions::{push_comparison, push_normal};
-use session_log::{MenuMaker, push_text, state_text};
+use session_log::{MenuMaker, push_comparison, push_normal, push_text, state_text};
 use std::alloc::Global;
 
 impl<M: MenuMaker> HistoryLines<'_, M> {

@@ -15,8 +15,7 @@ ghost use Rattle.history_lines.specs.Values.{ChoosesValues};
 ghost use Rattle.line_server.specs.Request.{take_step, undo as undo_step};
 ghost use Rattle.lotos_base.specs.Outside.{Texts};
 ghost use Rattle.lotos_base.specs.WrittenView.{written_term_of};
-ghost use Rattle.session_lines.specs.Refusal.{AreTerms};
-ghost use Rattle.session_log.specs.HandedOn.{label_of};
+ghost use Rattle.session_log.specs.HandedOn.{AreTerms, label_of};
 ghost use Rattle.std.specs.Prelude.{
   ◌≡◌,
   ◌+◌,
@@ -36,9 +35,8 @@ use crate::refusals::Decline;
 use crate::texts::{bare_line, decline_line, did_line, undone_line};
 use crate::values::values_at;
 use lotos_base::{NoMemory, Written};
-use session_lines::read_terms;
 use session_log::entries::counted_entry;
-use session_log::{Label, MenuMaker};
+use session_log::{Label, MenuMaker, read_terms};
 use sort_terms::Sorted;
 use std::alloc::Global;
 

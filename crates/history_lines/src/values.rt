@@ -3,15 +3,14 @@
 ghost use Rattle.history_lines.specs.StepAnswer.{IsFirstMisread};
 ghost use Rattle.history_lines.specs.Values.{IsTermRefused, IsValueReadAt, TellsMisread};
 ghost use Rattle.lotos_base.specs.WrittenView.{written_term_of};
-ghost use Rattle.session_histories.specs.Replay.{AreRead};
 ghost use Rattle.session_log.specs.Entries.{AreGiven};
-ghost use Rattle.session_log.specs.HandedOn.{terms_of};
+ghost use Rattle.session_log.specs.HandedOn.{AreRead, terms_of};
 ghost use Rattle.sort_terms.specs.ReaderView.{signature_read};
 ghost use Rattle.sort_terms.specs.ScopeView.{variables_in};
 ghost use Rattle.std.specs.Prelude.{◌≡◌, ◌++◌, ◌∷◌, [], MatchResult, OnOk, length, map};
 
 use lotos_base::{NoMemory, Written};
-use session_lines::Refusal;
+use session_log::Refusal;
 use sort_terms::{Reader, Scope, Sorted};
 use std::alloc::Global;
 

@@ -23,3 +23,4 @@ pub mod CertificateSteps
 pub mod PieceSteps
 pub mod FaultSteps
 pub mod WholeSteps
+pub mod MeetingLemmas

@@ -6,3 +6,5 @@ pub mod CaseView
 pub mod PutView
 pub mod Variables
 pub mod UseView
+pub mod Meeting
+pub mod Shown

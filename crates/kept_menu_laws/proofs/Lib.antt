@@ -1,3 +1,4 @@
+pub mod InstanceLemmas
 pub mod RisingLists
 pub mod LabelKinds
 pub mod RuleLabels

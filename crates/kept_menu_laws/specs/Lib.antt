@@ -1,3 +1,4 @@
+pub mod Instances
 pub mod PartRule
 pub mod PartMenus
 pub mod PartMenuLaws

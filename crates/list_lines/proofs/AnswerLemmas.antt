@@ -7,8 +7,7 @@ use Rattle.lotos_base.specs.declared.names.Name.{Name}
 use Rattle.behaviour_semantics.specs.Solving as solving
 use Rattle.rewriting_theory.specs.Rewriting.{IsNormal}
 use Rattle.rewriting_theory.specs.Rule.{Rule}
-use Rattle.event_offers.specs.OfferView.{plain_entry}
-use Rattle.event_offers.specs.declared.drafts.Entry.{Entry}
+use Rattle.value_lists.specs.HandedOn.{plain_entry, Entry}
 use Rattle.sort_terms.specs.Reading.{IsSortNamed}
 use Rattle.sort_terms.specs.SignatureView.{signature_of}
 use Rattle.sort_terms.specs.declared.signatures.Signature as code

@@ -10,8 +10,7 @@ use Rattle.rewriting_theory.specs.Rule.{Rule}
 use Rattle.behaviour_semantics.specs.Menu.{Meets}
 use Rattle.behaviour_semantics.specs.Rule.{AreValues}
 use Rattle.behaviour_semantics.specs.Solving as solving
-use Rattle.event_offers.specs.OfferView.{plain_entry}
-use Rattle.event_offers.specs.declared.drafts.Entry.{Entry}
+use Rattle.value_lists.specs.HandedOn.{plain_entry, Entry}
 use Rattle.session_histories.specs.Session.{SessionBasis}
 use Rattle.value_lists.specs.InstanceList as found
 use Rattle.value_lists.specs.InstanceList.{HasSortedTests}

@@ -2,8 +2,8 @@
 use Rattle.std.proofs.Common.{◌≡◌, ℕ, ◌+◌, ◌<◌, List, [], ◌∷◌, ◌++◌, map, codes, Vec, Global, drop, get_or, length, refl, ap, sym, ◌∙◌, append_assoc}
 use Rattle.lotos_base.proofs.Pieces.{next_member, two_pieces, three_pieces}
 use Rattle.behaviour_semantics.specs.Solving.{Entry}
-use Rattle.behaviour_tree.specs.BehaviourView.{terms_of}
-use Rattle.printed_texts.specs.TextView.{written_value}
+use Rattle.value_lists.specs.HandedOn.{terms_of}
+use Rattle.session_histories.specs.HandedOn.{written_value}
 use Rattle.session_histories.specs.TraceText.{ended}
 use Rattle.sort_terms.specs.SignatureView.{signature_of}
 use Rattle.sort_terms.specs.declared.signatures.Signature.{Signature}

@@ -4,7 +4,7 @@ use Rattle.lotos_base.specs.Signature.{Signature}
 use Rattle.lotos_base.specs.Term.{Term}
 use Rattle.behaviour_semantics.specs.Menu.{label_at}
 use Rattle.behaviour_semantics.specs.Solving.{Entry, label_in}
-use Rattle.printed_texts.specs.MenuText.{entry_term_text, label_text}
+use Rattle.session_histories.specs.HandedOn.{entry_term_text, label_text}
 use Rattle.session_histories.specs.Session.{SessionBasis}
 use Rattle.session_histories.specs.TraceText.{arrow, ended, given_text}
 use Rattle.list_lines.specs.ListOutcome.{ListRefusal, no_sort, no_entry, too_many_values, too_many_instances, ListOutcome, listed, refused, EntryInstances}

@@ -1,11 +1,6 @@
 //! The instances of an entry, in answer to a line.
 
 ghost use Rattle.behaviour_semantics.specs.Solving as solving;
-ghost use Rattle.behaviour_tree.specs.BehaviourView.{terms_of};
-ghost use Rattle.event_offers.specs.Instances.{AreValuesOver};
-ghost use Rattle.event_offers.specs.Keeping.{KeepsData};
-ghost use Rattle.event_offers.specs.OfferView.{plain_entry};
-ghost use Rattle.event_offers.specs.Offers.{IsEntryOf};
 ghost use Rattle.list_lines.specs.ListOutcome.{InstancesComeTo};
 ghost use Rattle.list_lines.specs.ListText.{
   instance_line,
@@ -24,6 +19,13 @@ ghost use Rattle.session_histories.specs.Refusal.{entry_numbered};
 ghost use Rattle.session_histories.specs.Session.{SessionBasis};
 ghost use Rattle.sort_terms.specs.SignatureView.{signature_of};
 ghost use Rattle.std.specs.Prelude.{◌≡◌, ◌++◌, ℕ, List, OnOk, Some};
+ghost use Rattle.value_lists.specs.HandedOn.{
+  AreValuesOver,
+  IsEntryOf,
+  KeepsData,
+  plain_entry,
+  terms_of,
+};
 ghost use Rattle.value_lists.specs.InstanceList.{
   AreChoices,
   AreTuplesOver,
@@ -31,13 +33,10 @@ ghost use Rattle.value_lists.specs.InstanceList.{
   profiles_in,
 };
 
-use event_offers::Entry;
 use lotos_base::{Name, NoMemory};
-use printed_texts::brackets::{push_number, push_text};
-use printed_texts::labels::push_label;
-use printed_texts::values::push_given;
+use session_histories::{push_given, push_label, push_number, push_text};
 use sort_terms::{Deciding, Signature, Sorted};
-use value_lists::{ListFault, instance_label, instances_of};
+use value_lists::{Entry, ListFault, instance_label, instances_of};
 
 /// Appends the instances of the entry by the values in these lists, of which there is one for each
 /// of its variables, each in the form of the line of a step, behind how many they are. The line is

@@ -5,7 +5,7 @@ ghost use Rattle.list_lines.specs.ListText.{list_refusal_text};
 ghost use Rattle.std.specs.Prelude.{◌≡◌, ◌++◌, OnOk};
 
 use lotos_base::NoMemory;
-use printed_texts::brackets::{push_number, push_text};
+use session_histories::{push_number, push_text};
 
 /// Appends the line for an entry that is not there: its number, and how many entries there are.
 pub fn push_no_entry(number: u64, length: usize, into: &mut Vec<u8>) -> Result<(), NoMemory>

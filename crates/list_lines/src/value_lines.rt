@@ -1,23 +1,22 @@
 //! The values of a sort, in answer to a line.
 
-ghost use Rattle.behaviour_tree.specs.BehaviourView.{terms_of};
 ghost use Rattle.list_lines.specs.ListOutcome.{ValuesComeTo};
 ghost use Rattle.list_lines.specs.ListText.{value_lines, value_list_text, values_text};
 ghost use Rattle.list_lines.specs.ListView.{AddsList, HasRules};
 ghost use Rattle.path_order.specs.RulesView.{plain_rules_in};
-ghost use Rattle.printed_texts.specs.TextView.{written_value};
+ghost use Rattle.session_histories.specs.HandedOn.{written_value};
 ghost use Rattle.session_histories.specs.Session.{SessionBasis};
 ghost use Rattle.session_histories.specs.TraceText.{ended};
-ghost use Rattle.sort_terms.specs.Reading.{IsSortNamed};
 ghost use Rattle.sort_terms.specs.ReaderView.{signature_read};
+ghost use Rattle.sort_terms.specs.Reading.{IsSortNamed};
 ghost use Rattle.sort_terms.specs.SignatureView.{signature_of};
 ghost use Rattle.std.specs.Prelude.{◌≡◌, ◌++◌, ℕ, List, OnOk};
+ghost use Rattle.value_lists.specs.HandedOn.{terms_of};
 
 use crate::refusals::push_no_sort;
 use lotos_base::{Name, NoMemory};
 use path_order::Rules;
-use printed_texts::brackets::{push_number, push_text};
-use printed_texts::labels::push_value;
+use session_histories::{push_number, push_text, push_value};
 use sort_terms::{Reader, Signature, Sorted};
 use value_lists::{ListFault, values_of};
 

@@ -7,3 +7,4 @@ pub mod TextLemmas
 pub mod WalkLemmas
 pub mod OneOutcome
 pub mod WantedFiles
+pub mod HandedOn

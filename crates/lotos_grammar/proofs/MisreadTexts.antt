@@ -2,9 +2,8 @@
 use Rattle.std.proofs.Common.{refl, ap, sym, ◌∙◌, ◌≡◌, ◌⊎◌, inl, inr, subst, ℕ, List, Some}
 use Rattle.std.proofs.lemmas.Option.{none-some, same_Some}
 use Rattle.lotos_base.specs.WrittenView.{text_place_of}
-use Rattle.sentence_trees.specs.ReadingLaws.{HasOneOutcome}
-use Rattle.sentence_trees.specs.declared.fault.ReadFault.{ReadFault}
-use Rattle.sentence_trees.specs.declared.fault.ReadFault.TheVariants as cause
+use Rattle.text_depth.specs.HandedOn.{HasOneOutcome, ReadFault}
+use Rattle.text_depth.specs.HandedOn.read_faults as cause
 use Rattle.lotos_grammar.specs.TextFault.{TextFault, too_long, bad_byte, open_comment, wrong_syntax, too_deep, text_fault_of, TextIsMisread}
 
 -- want of memory is no fault of a text

@@ -5,8 +5,8 @@ use Rattle.std.proofs.lemmas.Bool.{both_ways}
 use Rattle.lotos_base.specs.WrittenTerm.{PlacedName}
 use Rattle.lotos_library.specs.Library.{library_text}
 use Rattle.syntax_trees.specs.WrittenItem.{WrittenItem}
-use Rattle.sentence_trees.specs.Reading.{IsTypesReading, IsTypesFault}
-use Rattle.sentence_trees.proofs.Outcomes.{all_have_one_outcome}
+use Rattle.text_depth.specs.HandedOn.{IsTypesReading, IsTypesFault}
+use Rattle.text_depth.proofs.HandedOn.{all_have_one_outcome}
 use Rattle.lotos_grammar.specs.TextFault.{TextFault}
 use Rattle.lotos_grammar.proofs.MisreadTexts.{never_misread, misread_once}
 use Rattle.lotos_grammar.specs.Gathering.{next_text, library_file, Gathered, with_library, Waiting, item, GotFile, misread, GatheringOutcome, faulty, TextOf, shipped, in_file, IsMisread, Step, goes_on, stops, MentionComesTo, read_before, one_too_many, in_place, not_read, no_file, wanted_before_text, wanted_behind_text, Becomes, nothing_waits, a_type, mentions, then, ends, memory_ends}

@@ -1,17 +1,12 @@
 -- A derivation with the depths of its nodes and its tree is a reading, or a fault.
 use Rattle.std.proofs.Common.{◌≡◌, ◌∙◌, ℕ, ◌≤◌, List, Some, None, map, length, ap, sym}
 use Rattle.std.specs.Prelude.{◌↔◌, Option, option_map}
-use Rattle.ll_engine.specs.Language.{ContextFree, IsSentence, IsLeftmostDerivation}
 use Rattle.lotos_base.specs.declared.places.Place.{Place}
 use Rattle.lotos_base.specs.WrittenView.{text_place_of}
-use Rattle.lotos_lexer.specs.declared.tokens.Token.{Token}
-use Rattle.lotos_lexer.specs.Tokens as lexed
-use Rattle.lotos_lexer.specs.Tokens.{tokens_of}
-use Rattle.sentence_trees.specs.Sentences.{kind_of}
+use Rattle.text_depth.specs.HandedOn.tokens as lexed
+use Rattle.text_depth.specs.HandedOn.{kind_of, ReadFault, TooLong, BadByte, OpenComment, Syntax, TooDeep, NoMemory, node_limit, IsRead}
+use Rattle.text_depth.specs.HandedOn.{IsFault, IsFaultWithin, Token, tokens_of, ContextFree, IsSentence, IsLeftmostDerivation}
 use Rattle.syntax_trees.specs.Depth.{TreeNode, first_deeper}
-use Rattle.sentence_trees.specs.declared.fault.ReadFault.{ReadFault}
-use Rattle.sentence_trees.specs.declared.fault.ReadFault.TheVariants.{TooLong, BadByte, OpenComment, Syntax, TooDeep, NoMemory}
-use Rattle.sentence_trees.specs.Reading.{node_limit, IsRead, IsFault, IsFaultWithin}
 
 module _ {A : Type 0} (one : List Token → A → Type 0) (nodes : A → List TreeNode) (number : ℕ) (text : List ℕ) where
   -- no node is too deep

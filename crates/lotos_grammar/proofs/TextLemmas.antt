@@ -34,9 +34,8 @@ use Rattle.lotos_library.specs.Library.{library_text}
 use Rattle.syntax_trees.specs.TreeViews.{item_of}
 use Rattle.syntax_trees.specs.WrittenItem.{WrittenItem}
 use Rattle.syntax_trees.specs.declared.items.ItemText.{ItemText}
-use Rattle.sentence_trees.specs.Reading.{IsTypesReading, IsTypesFault}
-use Rattle.sentence_trees.specs.declared.fault.ReadFault.{ReadFault}
-use Rattle.sentence_trees.specs.declared.fault.ReadFault.TheVariants as cause
+use Rattle.text_depth.specs.HandedOn.{IsTypesReading, IsTypesFault, ReadFault}
+use Rattle.text_depth.specs.HandedOn.read_faults as cause
 use Rattle.lotos_grammar.specs.declared.faults.LibraryFault.{LibraryFault}
 use Rattle.lotos_grammar.specs.declared.faults.LibraryFault.TheVariants.{TooMany, Misread, Unread, NoMemory}
 use Rattle.lotos_grammar.specs.Gathering.{

@@ -27,7 +27,7 @@ use Rattle.lotos_base.specs.Equation.{Place}
 use Rattle.lotos_base.specs.WrittenTerm.{PlacedName}
 use Rattle.lotos_library.specs.Library.{library_text}
 use Rattle.syntax_trees.specs.WrittenItem.{WrittenItem, WrittenTypeBody, libraries, type_declared}
-use Rattle.sentence_trees.specs.Reading.{IsTypesReading, IsTypesFault}
+use Rattle.text_depth.specs.HandedOn.{IsTypesReading, IsTypesFault}
 use Rattle.lotos_grammar.specs.TextFault.{TextFault, TextIsMisread}
 
 -- so many texts of libraries are read at most

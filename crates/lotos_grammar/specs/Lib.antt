@@ -4,3 +4,4 @@ pub mod GatheredView
 pub mod ShelfUse
 pub mod Progress
 pub mod GatheringLaws
+pub mod HandedOn

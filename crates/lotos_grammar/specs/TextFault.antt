@@ -2,8 +2,8 @@
 use Rattle.std.specs.Prelude.{◌≡◌, ℕ, List, Option, Some, None}
 use Rattle.lotos_base.specs.Equation.{Place}
 use Rattle.lotos_base.specs.WrittenView.{text_place_of}
-use Rattle.sentence_trees.specs.declared.fault.ReadFault.{ReadFault}
-use Rattle.sentence_trees.specs.declared.fault.ReadFault.TheVariants as cause
+use Rattle.text_depth.specs.HandedOn.{ReadFault}
+use Rattle.text_depth.specs.HandedOn.read_faults as cause
 
 -- it has too many bytes; at a place stands a byte with which no token begins; a comment is not closed; with a token no text can
 -- go on; or a node is too deep

@@ -3,8 +3,8 @@
 ghost use Rattle.std.specs.Prelude.{◌≡◌};
 
 use lotos_base::{Name, Place};
-use sentence_trees::ReadFault;
 use std::alloc::{AllocError, AllocFailed};
+use text_depth::ReadFault;
 
 /// Why the libraries of a text were not all read.
 #[derive(Debug, Drop)]

@@ -14,9 +14,9 @@ pub use faults::LibraryFault;
 pub use gathered::Gathered;
 pub use gathering::gather_types;
 pub use reading::{read_order, read_spec, read_terms, read_types};
-pub use sentence_trees::ReadFault;
 pub use syntax_trees::{
     BehForm, BehText, EqText, EqnsText, ExitText, GateText, GroupText, InnerText, ItemBody,
     ItemText, Named, OfferText, OpText, PairText, ProcessText, Sign, SpecText, TestText, VarText,
     discard, group,
 };
+pub use text_depth::ReadFault;

@@ -1,19 +1,29 @@
 //! The four calls that read a text.
 
-ghost use Rattle.std.specs.Prelude.{◌≡◌, ◌+◌, ◌<◌, ◌≤◌, ◌^◌, IfErr, IfOk, MatchResult, length, map};
 ghost use Rattle.lotos_base.specs.Limits.{text_limit};
 ghost use Rattle.lotos_base.specs.WrittenView.{listed_operation_of, written_term_of};
+ghost use Rattle.std.specs.Prelude.{◌≡◌, ◌+◌, ◌<◌, ◌≤◌, ◌^◌, IfErr, IfOk, MatchResult, length, map};
 ghost use Rattle.syntax_trees.specs.ReadableTrees.{AreReadableItems, IsReadableSpecification};
 ghost use Rattle.syntax_trees.specs.TreeViews.{item_of, specification_of};
-ghost use Rattle.sentence_trees.specs.declared.fault.ReadFault.TheVariants.{TooLong};
-ghost use Rattle.sentence_trees.specs.Reading.{IsOrderReadFault, IsOrderReading, IsSpecificationFault, IsSpecificationReading, IsTermsFault, IsTermsReading, IsTypesFault, IsTypesReading};
+ghost use Rattle.text_depth.specs.HandedOn.{
+  IsOrderReadFault,
+  IsOrderReading,
+  IsSpecificationFault,
+  IsSpecificationReading,
+  IsTermsFault,
+  IsTermsReading,
+  IsTypesFault,
+  IsTypesReading,
+  TooLong,
+};
 
 use lotos_base::{OrderItem, TEXT_LIMIT, Written};
 use sentence_building::{items_trees, order_items, specification_tree, terms_trees};
-use sentence_trees::{Derived, ReadFault, TextKind, derive};
 use std::alloc::Global;
 use syntax_trees::{ItemText, SpecText};
-use text_depth::{items_depth, specification_depth, terms_depth};
+use text_depth::{
+    Derived, ReadFault, TextKind, derive, items_depth, specification_depth, terms_depth,
+};
 
 /// Refuses a text that is too long.
 fn within_limit(text: &[u8]) -> Result<(), ReadFault>

@@ -1,25 +1,25 @@
 //! The texts of libraries: those that are shipped, and the files of the others.
 
-ghost use Rattle.std.specs.Prelude.{◌≡◌, [], ◌+◌, ◌≤◌, length, map, IfOk, MatchResult};
-ghost use Rattle.std.specs.String.{string_bytes};
 ghost use Rattle.lotos_base.specs.Limits.{text_limit};
 ghost use Rattle.lotos_base.specs.Name.{spelling};
 ghost use Rattle.lotos_base.specs.WrittenView.{placed_name_of};
-ghost use Rattle.syntax_trees.specs.TreeViews.{item_of};
-ghost use Rattle.sentence_trees.specs.Reading.{IsTypesReading};
-ghost use Rattle.lotos_grammar.specs.Gathering.{IsNextLibrary, library_file, with_library};
 ghost use Rattle.lotos_grammar.specs.GatheredView.{gathered_of};
+ghost use Rattle.lotos_grammar.specs.Gathering.{IsNextLibrary, library_file, with_library};
 ghost use Rattle.lotos_grammar.specs.Progress.{FileFails, IsMentionReplaced, StopsBy, TextFails};
 ghost use Rattle.lotos_grammar.specs.ShelfUse.{GivesFile, shelf_state};
+ghost use Rattle.std.specs.Prelude.{◌≡◌, [], ◌+◌, ◌≤◌, length, map, IfOk, MatchResult};
+ghost use Rattle.std.specs.String.{string_bytes};
+ghost use Rattle.syntax_trees.specs.TreeViews.{item_of};
+ghost use Rattle.text_depth.specs.HandedOn.{IsTypesReading};
 
 use crate::faults::LibraryFault;
 use crate::gathered::Gathered;
 use crate::read_types;
 use lotos_base::{GetFault, Name, Place, Shelf, TEXT_LIMIT};
 use lotos_library::text_of;
-use sentence_trees::ReadFault;
 use std::alloc::{AllocError, Global};
 use syntax_trees::ItemText;
+use text_depth::ReadFault;
 
 /// How many texts of libraries are read at most.
 pub const LIBRARY_LIMIT: usize = 64;

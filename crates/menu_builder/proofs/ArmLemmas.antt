@@ -20,7 +20,7 @@ use Rattle.behaviour_tree.specs.BehaviourTerms.{let_profile, profiles_in}
 use Rattle.behaviour_tree.specs.BehaviourView.{behaviour_of, let_of}
 use Rattle.behaviour_tree.specs.Over.{AreTermsOf}
 use Rattle.behaviour_tree.specs.declared.behaviours.Beh.{Beh, Stop, Exit, Action', Inner', Guard', Choice', Parallel', Hide', Enable', Disable', Let', ChooseValue', ChooseGate', ParGate', Call}
-use Rattle.event_offers.specs.declared.drafts.Draft.{Draft}
+use Rattle.draft_parts.specs.HandedOn.{Draft}
 use Rattle.draft_parts.specs.Environments.{ArePairsOf}
 use Rattle.draft_parts.specs.BelowLaws.{binder_pairs}
 use Rattle.menu_builder.specs.Placed.{AreDraftsPlaced, Basis, IsPlaced, Position, StandsAt}

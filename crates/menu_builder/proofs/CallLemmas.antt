@@ -19,7 +19,7 @@ use Rattle.behaviour_tree.specs.declared.behaviours.Test.{Test}
 use Rattle.behaviour_tree.specs.declared.behaviours.Offer.{Offer}
 use Rattle.behaviour_tree.specs.declared.behaviours.ExitValue.{ExitValue}
 use Rattle.behaviour_tree.specs.declared.definitions.Process.{Process}
-use Rattle.event_offers.specs.declared.drafts.Draft.{Draft}
+use Rattle.draft_parts.specs.HandedOn.{Draft}
 use Rattle.draft_parts.specs.Environments.{ArePairsOf, IsReadyForPairs, SuitsTest, AreOffersReady, AreResultsReady}
 use Rattle.draft_parts.specs.Offered.{asked_pairs}
 use Rattle.draft_parts.specs.OpenDrafts.{HasTests}

@@ -13,3 +13,4 @@ pub mod WholeLemmas
 pub mod OpenMenuLemmas
 pub mod ClosedPartLemmas
 pub mod MenuNumberLemmas
+pub mod HandedOn

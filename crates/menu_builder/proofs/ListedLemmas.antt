@@ -23,8 +23,7 @@ use Rattle.behaviour_tree.specs.Over.{AreTermsOf}
 use Rattle.behaviour_tree.specs.declared.behaviours.Test.{Test}
 use Rattle.behaviour_tree.specs.declared.behaviours.Offer.{Offer}
 use Rattle.behaviour_tree.specs.declared.behaviours.ExitValue.{ExitValue}
-use Rattle.event_offers.specs.OfferView.{plain_draft}
-use Rattle.event_offers.specs.declared.drafts.Draft.{Draft}
+use Rattle.draft_parts.specs.HandedOn.{plain_draft, Draft}
 use Rattle.draft_parts.specs.DraftRules.{guarded_draft, hidden_draft, enable_draft, valued_draft}
 use Rattle.draft_parts.specs.DraftTerms.{HasTermsOf}
 use Rattle.draft_parts.specs.Lists.{plain_drafts}

@@ -17,10 +17,7 @@ use Rattle.behaviour_tree.specs.StateView.{stands_for, state_of}
 use Rattle.behaviour_tree.specs.declared.definitions.Spec.{Spec}
 use Rattle.behaviour_tree.specs.declared.states.Node.{Node}
 use Rattle.behaviour_tree.specs.declared.states.State.{State}
-use Rattle.event_offers.specs.OfferView.{plain_entry}
-use Rattle.event_offers.specs.declared.drafts.Draft.{Draft}
-use Rattle.event_offers.specs.declared.drafts.Entry.{Entry}
-use Rattle.event_offers.specs.declared.menus.Menu.{Menu}
+use Rattle.draft_parts.specs.HandedOn.{plain_entry, Draft, Entry, Menu}
 use Rattle.draft_parts.specs.Lists.{plain_drafts}
 use Rattle.menu_builder.specs.Placed.{basis_of}
 use Rattle.menu_builder.specs.NodeNumbers.{above_node}

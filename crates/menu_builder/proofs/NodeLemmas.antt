@@ -22,8 +22,8 @@ use Rattle.behaviour_tree.specs.Over.{AreTermsOf}
 use Rattle.behaviour_tree.specs.StateView.{environment_of, node_profiles, pair_profile, stands_for}
 use Rattle.behaviour_tree.specs.declared.behaviours.Beh.{Beh}
 use Rattle.behaviour_tree.specs.declared.states.Node.{Node, Stop, Part, Call, Parallel', Hide', Enable', Disable', Relabel'}
-use Rattle.event_offers.specs.declared.drafts.Draft.{Draft}
-use Rattle.event_offers.proofs.ValueLemmas.{pairs_bare}
+use Rattle.draft_parts.specs.HandedOn.{Draft}
+use Rattle.draft_parts.proofs.HandedOn.{pairs_bare}
 use Rattle.draft_parts.specs.DraftRules.{hidden_draft, enable_draft}
 use Rattle.draft_parts.specs.DraftTerms.{HasTermsOf}
 use Rattle.draft_parts.specs.Lists.{plain_drafts}

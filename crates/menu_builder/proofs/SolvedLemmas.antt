@@ -12,10 +12,7 @@ use Rattle.behaviour_semantics.specs.Solving as solving
 use Rattle.behaviour_semantics.specs.Solving.{SolvesTo}
 use Rattle.behaviour_semantics.specs.WellFormed.{Every}
 use Rattle.behaviour_semantics.proofs.ListLemmas.{Every-append}
-use Rattle.event_offers.specs.OfferView.{plain_draft, plain_entry}
-use Rattle.event_offers.specs.Offers.{IsDraftOver, IsEntryOver}
-use Rattle.event_offers.specs.declared.drafts.Draft.{Draft}
-use Rattle.event_offers.specs.declared.drafts.Entry.{Entry}
+use Rattle.draft_parts.specs.HandedOn.{plain_draft, plain_entry, IsDraftOver, IsEntryOver, Draft, Entry}
 use Rattle.draft_parts.specs.DraftTerms.{HasTermsOf}
 use Rattle.draft_parts.specs.Lists.{plain_drafts}
 use Rattle.menu_builder.specs.OpenMenus.{lowered_drafts}

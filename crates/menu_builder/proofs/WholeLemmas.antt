@@ -7,7 +7,7 @@ use Rattle.sort_terms.specs.ProfiledTerm.{ProfiledTerm}
 use Rattle.behaviour_tree.specs.BehaviourTerms.{profiles_in}
 use Rattle.behaviour_tree.specs.BehaviourView.{behaviour_of}
 use Rattle.behaviour_tree.specs.declared.behaviours.Beh.{Beh}
-use Rattle.event_offers.specs.declared.drafts.Draft.{Draft}
+use Rattle.draft_parts.specs.HandedOn.{Draft}
 use Rattle.menu_builder.specs.Placed.{AreDraftsPlaced, Basis, IsPlaced}
 use Rattle.menu_builder.proofs.ArmLemmas.{even_below_odd}
 use Rattle.menu_builder.proofs.EffortLemmas.{effort}

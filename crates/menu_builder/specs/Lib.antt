@@ -5,3 +5,4 @@ pub mod Bound
 pub mod OpenMenus
 pub mod ClosedParts
 pub mod NodeNumbers
+pub mod HandedOn

@@ -1,8 +1,7 @@
 -- The entries of a menu of the code.
 use Rattle.std.specs.Prelude.{List, map}
 use Rattle.behaviour_semantics.specs.Solving as solving
-use Rattle.event_offers.specs.OfferView.{plain_entry}
-use Rattle.event_offers.specs.declared.menus.Menu.{Menu}
+use Rattle.draft_parts.specs.HandedOn.{plain_entry, Menu}
 
 -- the entries
 abbrev pub entries_in : Menu → List solving.Entry

@@ -12,7 +12,7 @@ use Rattle.term_match.specs.ProfiledInstance.{bare_pairs}
 use Rattle.behaviour_tree.specs.DefinitionView.{specification_of}
 use Rattle.behaviour_tree.specs.Over.{AreTermsOf}
 use Rattle.behaviour_tree.specs.declared.definitions.Spec.{Spec}
-use Rattle.event_offers.specs.declared.drafts.Draft.{Draft}
+use Rattle.draft_parts.specs.HandedOn.{Draft}
 use Rattle.draft_parts.specs.DraftTerms.{HasTermsOf}
 use Rattle.draft_parts.specs.Lists.{plain_drafts}
 use Rattle.draft_parts.specs.Environments.{ArePairsOf}

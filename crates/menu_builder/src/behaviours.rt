@@ -1,11 +1,11 @@
 //! The drafts of the moves of a behaviour under an environment.
 
-ghost use Rattle.event_offers.specs.Keeping.{KeepsData};
-ghost use Rattle.menu_builder.specs.Placed.{AreDraftsPlaced, IsPlaced, basis_of};
 ghost use Rattle.behaviour_semantics.specs.Behaviour.{Behaviour, call, choice, choose_gate, choose_value, disable, enable, guard, hide, let_be, par_gate, parallel};
 ghost use Rattle.behaviour_tree.specs.BehaviourTerms.{let_profile, profiles_in, profiles_of, test_profiles};
 ghost use Rattle.behaviour_tree.specs.BehaviourView.{behaviour_of, let_of, meet_of, terms_of, test_of, variables_of};
 ghost use Rattle.behaviour_tree.specs.Over.{IsSpecOver};
+ghost use Rattle.draft_parts.specs.HandedOn.{KeepsData};
+ghost use Rattle.menu_builder.specs.Placed.{AreDraftsPlaced, IsPlaced, basis_of};
 ghost use Rattle.process_checks.specs.Ranks.{AreRanksOf};
 ghost use Rattle.sort_terms.specs.EquationView.{variable_of};
 ghost use Rattle.sort_terms.specs.ProfiledTerm.{ProfiledTerm};
@@ -18,8 +18,9 @@ use crate::guards::guarded_drafts;
 use crate::levels::Levels;
 use behaviour_tree::{Beh, Meet, Spec, Test};
 use draft_parts::environments::{following, leaf};
-use draft_parts::{Call, Rule, Variant, at_gates, beside, calls_beside, copies_beside, either};
-use event_offers::Draft;
+use draft_parts::{
+    Call, Draft, Rule, Variant, at_gates, beside, calls_beside, copies_beside, either,
+};
 use lotos_base::NoMemory;
 use process_checks::Ranks;
 use sort_terms::{Deciding, Sorted, Variable};

@@ -1,11 +1,11 @@
 //! Environments of the parts below binders.
 
-ghost use Rattle.draft_parts.specs.Environments.{ArePairsOf};
-ghost use Rattle.event_offers.specs.Keeping.{KeepsData};
-ghost use Rattle.menu_builder.specs.Bound.{AreBindingsReady, AreValuesReady};
 ghost use Rattle.behaviour_semantics.specs.Behaviour.{let_terms, let_variables};
 ghost use Rattle.behaviour_tree.specs.BehaviourView.{let_of, terms_of, variables_of};
 ghost use Rattle.draft_parts.specs.BelowLaws.{binder_pairs};
+ghost use Rattle.draft_parts.specs.Environments.{ArePairsOf};
+ghost use Rattle.draft_parts.specs.HandedOn.{KeepsData};
+ghost use Rattle.menu_builder.specs.Bound.{AreBindingsReady, AreValuesReady};
 ghost use Rattle.sort_terms.specs.ProfiledTerm.{profiled_variable};
 ghost use Rattle.std.specs.Prelude.{◌≡◌, ◌++◌, ◌∷◌, IfOk, length, map};
 ghost use Rattle.term_match.specs.ProfiledInstance.{bare_pairs};

@@ -1,17 +1,16 @@
 //! The drafts of the forms that begin with one event.
 
 ghost use Rattle.draft_parts.specs.Environments.{AreOffersReady, ArePairsOf, AreResultsReady, SuitsTest};
+ghost use Rattle.draft_parts.specs.HandedOn.{KeepsData};
+ghost use Rattle.draft_parts.specs.Made.{AreThese, inner_of};
 ghost use Rattle.draft_parts.specs.Offered.{asked_pairs};
 ghost use Rattle.draft_parts.specs.OpenDrafts.{HasTests, acted, ended_with};
-ghost use Rattle.draft_parts.specs.Made.{AreThese, inner_of};
-ghost use Rattle.event_offers.specs.Keeping.{KeepsData};
-ghost use Rattle.std.specs.Prelude.{◌++◌, ◌∷◌, [], IfOk};
 ghost use Rattle.lotos_base.specs.Signature.{Signature};
+ghost use Rattle.std.specs.Prelude.{◌++◌, ◌∷◌, [], IfOk};
 ghost use Rattle.term_match.specs.SubstView.{profiled_pairs};
 
 use behaviour_tree::{ExitValue, Offer, Test};
-use draft_parts::{action_draft, exit_draft, inner_draft, one};
-use event_offers::Draft;
+use draft_parts::{Draft, action_draft, exit_draft, inner_draft, one};
 use lotos_base::NoMemory;
 use sort_terms::{Deciding, Sorted};
 use std::alloc::Global;

@@ -16,9 +16,8 @@ ghost use Rattle.term_match.specs.ProfiledInstance.{bare_pairs};
 ghost use Rattle.term_match.specs.SubstView.{profiled_pairs};
 
 use behaviour_tree::Test;
-use draft_parts::Rule;
 use draft_parts::environments::placed;
-use event_offers::Draft;
+use draft_parts::{Draft, Rule};
 use lotos_base::NoMemory;
 use sort_terms::Sorted;
 

@@ -14,7 +14,8 @@ pub mod nodes;
 pub mod numbers;
 
 pub use behaviours::{behaviour_moves, call_moves};
-pub use event_offers::Menu;
+pub use draft_parts::{Entry, Menu, label_copy};
 pub use levels::Levels;
 pub use makers::{FreshMenus, MenuMaker};
 pub use menus::menu;
+pub use process_checks::Ranks;

@@ -5,33 +5,30 @@ ghost use Rattle.behaviour_semantics.specs.Draft.{
   draft_with,
   numbered_from_zero,
 };
+ghost use Rattle.behaviour_semantics.specs.DraftOrder.{IsInOrder};
 ghost use Rattle.behaviour_semantics.specs.Listing.{AllSolveTo};
 ghost use Rattle.behaviour_semantics.specs.Menu.{Exact};
 ghost use Rattle.behaviour_semantics.specs.WellFormed.{Every};
-ghost use Rattle.behaviour_semantics.specs.DraftOrder.{IsInOrder};
 ghost use Rattle.behaviour_tree.specs.Closed.{IsClosedNode};
 ghost use Rattle.behaviour_tree.specs.DefinitionView.{specification_of};
 ghost use Rattle.behaviour_tree.specs.Over.{IsSpecOver, IsStateOf};
 ghost use Rattle.behaviour_tree.specs.StateView.{stands_for, state_of};
-ghost use Rattle.draft_parts.specs.Lists.{plain_drafts};
-ghost use Rattle.event_offers.specs.Keeping.{KeepsData};
-ghost use Rattle.event_offers.specs.OfferView.{plain_draft, plain_entry};
-ghost use Rattle.event_offers.specs.Offers.{IsEntryOver};
 ghost use Rattle.draft_parts.specs.DraftTerms.{HasTermsOf};
-ghost use Rattle.menu_builder.specs.OpenMenus.{lowered_drafts};
+ghost use Rattle.draft_parts.specs.HandedOn.{IsEntryOver, KeepsData, plain_draft, plain_entry};
+ghost use Rattle.draft_parts.specs.Lists.{plain_drafts};
+ghost use Rattle.lotos_base.specs.Signature.{IsWellFormedSignature, Signature};
 ghost use Rattle.menu_builder.specs.Menus.{entries_in};
 ghost use Rattle.menu_builder.specs.Nodes.{IsKnownNode};
+ghost use Rattle.menu_builder.specs.OpenMenus.{lowered_drafts};
 ghost use Rattle.process_checks.specs.Ranks.{AreRanksOf};
 ghost use Rattle.std.specs.Prelude.{◌≡◌, ◌≤◌, ◌++◌, IfOk, map, option_to_list};
-ghost use Rattle.lotos_base.specs.Signature.{IsWellFormedSignature, Signature};
 
 use crate::levels::Levels;
 use crate::nodes::node_moves;
 use crate::numbers::{above_node, above_processes};
 use behaviour_tree::{Node, Spec, State};
+use draft_parts::{Draft, Entry, Menu, Renaming};
 use draft_solving::solve;
-use event_offers::renaming::Renaming;
-use event_offers::{Draft, Entry, Menu};
 use lotos_base::NoMemory;
 use process_checks::Ranks;
 use sort_terms::Deciding;

@@ -1,17 +1,16 @@
 //! The drafts of the moves of a node.
 
-ghost use Rattle.event_offers.specs.Keeping.{KeepsData};
-ghost use Rattle.menu_builder.specs.Placed.{basis_of};
 ghost use Rattle.behaviour_tree.specs.Over.{IsSpecOver};
+ghost use Rattle.draft_parts.specs.HandedOn.{KeepsData};
 ghost use Rattle.menu_builder.specs.Nodes.{IsListedNode, IsNodeOver};
+ghost use Rattle.menu_builder.specs.Placed.{basis_of};
 ghost use Rattle.process_checks.specs.Ranks.{AreRanksOf};
 ghost use Rattle.std.specs.Prelude.{IfOk};
 
 use crate::levels::Levels;
 use crate::{behaviour_moves, call_moves};
 use behaviour_tree::{Node, Spec};
-use draft_parts::{Rule, Variant, beside, either};
-use event_offers::Draft;
+use draft_parts::{Draft, Rule, Variant, beside, either};
 use lotos_base::NoMemory;
 use process_checks::Ranks;
 use sort_terms::Deciding;

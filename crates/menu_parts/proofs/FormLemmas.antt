@@ -16,7 +16,7 @@ use Rattle.behaviour_tree.specs.declared.behaviours.Beh.{Beh}
 use Rattle.sort_terms.specs.declared.sorted.Sorted.{Sorted}
 use Rattle.lotos_base.specs.Substitution.{binding}
 use Rattle.behaviour_semantics.specs.Replacement.{with_values}
-use Rattle.step_parts.proofs.NodeLemmas.{first_terms, no_values}
+use Rattle.step_taker.proofs.HandedOn.{first_terms, no_values, closed_state}
 use Rattle.behaviour_tree.specs.declared.states.Node.{Node}
 use Rattle.sort_terms.specs.ProfiledTerm.{ProfiledTerm}
 use Rattle.behaviour_semantics.specs.Derives.{leaves_in}
@@ -29,8 +29,7 @@ use Rattle.kept_menu_laws.specs.PartMenuLaws.{MakeTheMenu}
 use Rattle.kept_menu_laws.proofs.PartMenuLemmas.{make_the_menu}
 use Rattle.behaviour_semantics.specs.Label.{gate_under}
 use Rattle.shared_entries.specs.HandedOn.{call_pairs}
-use Rattle.step_parts.specs.TargetNodes.{HasClosedParts}
-use Rattle.step_parts.proofs.TargetLemmas.{closed_state}
+use Rattle.step_taker.specs.HandedOn.{HasClosedParts}
 use Rattle.step_taker.specs.Sides.{IsSideState, side_of, side_profiles}
 use Rattle.step_taker.specs.Taken.{Ground}
 use Rattle.step_taker.specs.Walked.{IsClosedOn, IsPassable, IsPassableNode}

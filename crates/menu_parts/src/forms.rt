@@ -15,7 +15,7 @@ ghost use Rattle.behaviour_tree.specs.StateView.{stands_for};
 ghost use Rattle.menu_parts.specs.Forms.{IsBase, IsForm};
 ghost use Rattle.sort_terms.specs.ProfiledTerm.{ProfiledTerm};
 ghost use Rattle.std.specs.Prelude.{◌≡◌, ◌++◌, IfOk, List, map, zip};
-ghost use Rattle.step_parts.specs.HandedOn.{KeepsData};
+ghost use Rattle.step_taker.specs.HandedOn.{KeepsData};
 ghost use Rattle.step_taker.specs.Sides.{IsSideState, side_of, side_profiles};
 ghost use Rattle.step_taker.specs.Taken.{Ground, ground_of};
 ghost use Rattle.step_taker.specs.Walked.{IsPassable, IsPassableNode};
@@ -28,9 +28,9 @@ use shared_entries::{Call, PartRule, Variant};
 use sort_terms::{Deciding, Sorted, Variable};
 use std::alloc::Global;
 use std::rc::Rc;
-use step_parts::targets::side_by_side;
 use step_taker::bodies::{call_body, called_at, let_body};
 use step_taker::moved::Walk;
+use step_taker::side_by_side;
 use step_taker::sides::Side;
 
 /// How the menu of a behaviour is made from those of its parts.

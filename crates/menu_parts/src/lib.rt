@@ -12,3 +12,4 @@ pub mod parts;
 pub mod widths;
 
 pub use makers::PartMenus;
+pub use menu_builder::Menu;

@@ -1,11 +1,11 @@
 //! Menus brought to the next state: what is the same as before is used again.
 
-ghost use Rattle.behaviour_tree.specs.StateView.{stands_for};
 ghost use Rattle.behaviour_tree.specs.BehaviourView.{meet_of};
+ghost use Rattle.behaviour_tree.specs.StateView.{stands_for};
 ghost use Rattle.menu_parts.specs.Forms.{IsMadeBeside, IsMadeOf, IsMadeOfEither};
 ghost use Rattle.menu_parts.specs.KeptMenus.{IsKept, IsKeptFor, IsMaking};
 ghost use Rattle.std.specs.Prelude.{IfOk, IfSome};
-ghost use Rattle.step_parts.specs.HandedOn.{KeepsData};
+ghost use Rattle.step_taker.specs.HandedOn.{KeepsData};
 ghost use Rattle.step_taker.specs.Taken.{ground_of};
 ghost use Rattle.step_taker.specs.Walked.{IsPassableNode};
 

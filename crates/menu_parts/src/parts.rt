@@ -17,19 +17,18 @@ ghost use Rattle.lotos_base.specs.Signature.{Signature};
 ghost use Rattle.lotos_base.specs.Substitution.{binding};
 ghost use Rattle.menu_parts.specs.KeptMenus.{IsKept};
 ghost use Rattle.std.specs.Prelude.{◌≡◌, ◌++◌, IfOk, IfSome, map};
-ghost use Rattle.step_parts.specs.TargetNodes.{HasClosedParts};
+ghost use Rattle.step_taker.specs.HandedOn.{HasClosedParts};
 ghost use Rattle.step_taker.specs.Taken.{Ground};
 ghost use Rattle.step_taker.specs.Walked.{IsPassable, IsPassableNode};
 
 use crate::kept::Kept;
-use behaviour_instances::instance;
 use behaviour_tree::boxes::{owner, shared};
 use behaviour_tree::{Beh, Node};
 use lotos_base::NoMemory;
 use sort_terms::Sorted;
 use std::alloc::Global;
 use std::rc::Rc;
-use step_parts::targets::part;
+use step_taker::{instance, part};
 
 /// The node with the values of its environment put in, where it is a behaviour with one.
 pub fn closed_node(alloc: Global, node: &Rc<Node>) -> Result<Rc<Node>, NoMemory>

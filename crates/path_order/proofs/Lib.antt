@@ -12,3 +12,4 @@ pub mod ItemLemmas
 pub mod ListingLemmas
 pub mod StatusLemmas
 pub mod RankLemmas
+pub mod OneListing

@@ -3,3 +3,4 @@ pub mod ListLemmas
 pub mod TextLemmas
 pub mod PartLemmas
 pub mod NamingLemmas
+pub mod HandedOn

@@ -1,3 +1,4 @@
 pub mod Squares
 pub mod NamingView
 pub mod Members
+pub mod HandedOn

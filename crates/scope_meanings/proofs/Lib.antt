@@ -6,4 +6,7 @@ pub mod ChoicesMeant
 pub mod BehavioursMeant
 pub mod DefinitionsMeant
 pub mod FlatResolved
+pub mod BehaviourDepths
+pub mod BehavioursShallow
+pub mod FlatDepths
 pub mod ExampleLemmas

@@ -3,4 +3,5 @@ pub mod WrittenBehaviours
 pub mod MeaningLaws
 pub mod WrittenSpecifications
 pub mod FlatLaws
+pub mod DepthLaws
 pub mod MeaningExamples

@@ -1,3 +1,5 @@
+pub mod MovedNames
+pub mod TextLemmas
 pub mod ProgressLemmas
 pub mod StepLemmas
 pub mod RefusalLemmas
@@ -5,3 +7,4 @@ pub mod ReplayLemmas
 pub mod LineBytes
 pub mod TraceLemmas
 pub mod StepLineLemmas
+pub mod HandedOn

@@ -24,9 +24,9 @@ use Rattle.session_histories.specs.Replay.{LinesOutcome, ReplayRefusal, goes_on,
 use Rattle.session_histories.specs.TraceLaws.{HavePlainNames, IsReadable, ReadBack, HaveLineNames, trace_of}
 use Rattle.session_histories.specs.TraceLine.{StepLine, with_byte, around_arrow, first_digits, behind_digits, leads_with_zero, is_number, with_terms, with_number, with_arrow, step_line, with_first, lines_of, has_return, kept_state, Heading, of_states, with_name, heading_of}
 use Rattle.session_histories.specs.TraceText.{given_text, arrow, step_text, ended, steps_text, plain_trace, trace_heading, line_of_state, stated_steps}
-use Rattle.state_texts.specs.BoundNames.{bound_names, names_in_bodies, names_at_hand, MovesKeepNames}
-use Rattle.state_texts.specs.StateTexts.{StateTextsAreOfNames}
-use Rattle.state_texts.specs.TextBytes.{IsOnOneLine}
+use Rattle.session_histories.specs.BoundNames.{bound_names, names_in_bodies, names_at_hand, MovesKeepNames}
+use Rattle.session_histories.specs.StateTexts.{StateTextsAreOfNames}
+use Rattle.session_histories.specs.TextBytes.{IsOnOneLine}
 use Rattle.session_histories.proofs.LineBytes.{Seen, nothing, see_byte, is_calm, run, Leads, joined, piece, ends_calm, without, no_arrow_begun, no_whole_arrow, decimal_leads, commas_lead, texts_lead, label_leads}
 
 -- ---- Line feeds

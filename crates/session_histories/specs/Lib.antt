@@ -1,3 +1,6 @@
+pub mod TextBytes
+pub mod BoundNames
+pub mod StateTexts
 pub mod Session
 pub mod Refusal
 pub mod Lawful
@@ -11,3 +14,4 @@ pub mod TraceLaws
 pub mod LineCases
 pub mod RefusalCases
 pub mod StateCases
+pub mod HandedOn

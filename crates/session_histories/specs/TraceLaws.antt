@@ -16,9 +16,9 @@ use Rattle.session_histories.specs.Lawful.{IsSituation, LeadTo}
 use Rattle.session_histories.specs.Replay.{AreRead, LinesOutcome, ReplayRefusal, ReplayIs, goes_on}
 use Rattle.session_histories.specs.SessionLaws.{IsStateOver}
 use Rattle.session_histories.specs.TraceText.{trace_text, plain_trace}
-use Rattle.state_texts.specs.BoundNames.{names_in_bodies}
-use Rattle.state_texts.specs.StateTexts.{HaveNames}
-use Rattle.state_texts.specs.TextBytes.{IsOnOneLine}
+use Rattle.session_histories.specs.BoundNames.{names_in_bodies}
+use Rattle.session_histories.specs.StateTexts.{HaveNames}
+use Rattle.session_histories.specs.TextBytes.{IsOnOneLine}
 
 -- A name without blanks, and other than `=>`, which is the sign of a premiss and no name.
 pub record IsPlainName (name : List ℕ) : Type 0 where

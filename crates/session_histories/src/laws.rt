@@ -8,13 +8,13 @@ ghost use Rattle.session_histories.specs.SessionLaws.{
 ghost use Rattle.session_histories.specs.StepLaws.{StepsAreExact};
 ghost use Rattle.session_histories.specs.TraceLaws.{TracesLeadBack};
 
+use crate::state_laws::{moves_keep_names, state_texts_are_of_names};
 use behaviour_semantics::instances::{equal_leaves_give_like_moves, runs_are_alike};
 use behaviour_semantics::order::at_most_one_menu_is_exact;
 use behaviour_semantics::targets::targets_are_well_formed;
 use behaviour_semantics::transition::moves_are_determined;
 use sentence_trees::reading_laws::texts_have_one_outcome;
 use sort_terms::laws::reading_comes_to_one_thing;
-use state_texts::laws::{moves_keep_names, state_texts_are_of_names};
 
 /// A session goes where its derivations go, with canonical values and, up to alike states, by the
 /// rules of the standard.

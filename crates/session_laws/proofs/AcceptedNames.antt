@@ -21,7 +21,7 @@ gathered_in other (stops e) = other
 gathered_in other wants_memory = other
 
 -- what is gone on with is what was gathered
-gathered_there : (gathered : Gathered) (outcome : GatheringOutcome) → goes_on gathered ≡ comes_of outcome
+pub gathered_there : (gathered : Gathered) (outcome : GatheringOutcome) → goes_on gathered ≡ comes_of outcome
     → outcome ≡ all_gathered gathered
 gathered_there gathered (all_gathered other) same =
     ap (λ comes. all_gathered (gathered_in gathered comes)) (sym same)
@@ -29,13 +29,13 @@ gathered_there gathered (faulty read problem) same = absurd (cc same)
 gathered_there gathered (without_file read file) same = absurd (cc same)
 gathered_there gathered memory_wanted same = absurd (cc same)
 
-types_of_tree : (tree : WrittenSpecification) (files : List GotFile) (gathered : Gathered) → IsTreeSpelled tree
+pub types_of_tree : (tree : WrittenSpecification) (files : List GotFile) (gathered : Gathered) → IsTreeSpelled tree
     → Gathers tree files (goes_on gathered) → Every IsTypeSpelled (types_of gathered.types)
 types_of_tree tree files gathered spelled is =
     all_spelled tree files gathered spelled
     (subst (Becomes nothing_yet (map item (items_of_specification tree)) files) (gathered_there gathered is.0 is.2) is.1)
 
-gates_of_tree : (data_ : Data) (tree : WrittenSpecification) (spec : Specification) → IsTreeSpelled tree → StandsFor data_ tree spec
+pub gates_of_tree : (data_ : Data) (tree : WrittenSpecification) (spec : Specification) → IsTreeSpelled tree → StandsFor data_ tree spec
     → Every IsWordSpelling spec.gate_names
 gates_of_tree data_ tree spec spelled is =
     subst (Every IsWordSpelling) (sym (ap (λ (it : Specification). it.gate_names) is.2.2)) (gates_left tree spelled)

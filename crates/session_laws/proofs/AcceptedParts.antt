@@ -24,7 +24,7 @@ pub record StandsOn (data_ : Data) (spec : Specification) : Type 0 where
   pub has_data : HaveData (types_of gathered.types) data_
   pub stands_for : StandsFor data_ tree spec
 
-founded_on : (order : Option (List ℕ)) (text : List ℕ) (tree : WrittenSpecification) (files : List GotFile) (founded : Founded)
+pub founded_on : (order : Option (List ℕ)) (text : List ℕ) (tree : WrittenSpecification) (files : List GotFile) (founded : Founded)
     → IsSpecificationReading 0 text tree → FoundedBy order tree files (goes_on founded) → StandsOn founded.data_ founded.spec
 founded_on order text tree files founded is_text by =
     let gathers = second by in

@@ -21,7 +21,7 @@ use Rattle.scope_parts.specs.Choices.{GateChoice, ParChoice, under_gates, under_
 use Rattle.scope_parts.specs.Behaviours.{SignIs, BehaviourIs}
 use Rattle.scope_parts.specs.Definitions.{Heading, DefinitionIs, InnerIs, InnersAre, SpecificationIs}
 use Rattle.declaration_laws.proofs.ScopeLemmas.{one_value, beside_there}
-use Rattle.state_texts.specs.BoundNames.{names_of_variables, bound_names}
+use Rattle.session_histories.specs.BoundNames.{names_of_variables, bound_names}
 use Rattle.specification_laws.specs.HandedOn.{IsWordSpelling}
 use Rattle.session_laws.specs.PrintedStates.{IsNamedProcess}
 use Rattle.session_laws.proofs.WrittenNames.{every_joined}
@@ -235,9 +235,9 @@ mutual
   first_keeps : (first : WrittenInner) (others : WrittenInners) → IsInnerNamed first → AreInnersNamed others
       → AreInnersNamed (process_then first others)
   first_keeps (inner_item item) others is are = are
-  first_keeps (process given body inner) others is are = ((is.0, is.1, inners_keep inner is.2), are)
+  first_keeps (process given body inner) others is are = ((is.0, is.1, inners_keep inner is.2, is.3), are)
 
-  inners_keep : (inners : WrittenInners) → AreInnersNamed inners → AreInnersNamed (processes_of inners)
+  pub inners_keep : (inners : WrittenInners) → AreInnersNamed inners → AreInnersNamed (processes_of inners)
   inners_keep no_inner are = tt
   inners_keep (inner_then first others) are = first_keeps first (processes_of others) are.0 (inners_keep others are.1)
 

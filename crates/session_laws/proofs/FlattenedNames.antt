@@ -52,7 +52,7 @@ nothing_spelled = record { sorts = tt; operations = tt }
 
 -- ---- Unions
 
-new_every : {A : Type 0} (P : A → Type 0) (same : A → A → Bool) (kept others : List A) → Every P kept → Every P others
+pub new_every : {A : Type 0} (P : A → Type 0) (same : A → A → Bool) (kept others : List A) → Every P kept → Every P others
     → Every P (with_new same kept others)
 new_every P same kept [] first second = first
 new_every {A} P same kept (x ∷ others) first second =
@@ -62,7 +62,7 @@ new_every {A} P same kept (x ∷ others) first second =
     by true = first
     by false = every_joined P kept (x ∷ []) first (second.0, tt)
 
-mapped_every : {A B : Type 0} (P : A → Type 0) (Q : B → Type 0) (f : A → B) → ((x : A) → P x → Q (f x)) → (xs : List A) → Every P xs
+pub mapped_every : {A B : Type 0} (P : A → Type 0) (Q : B → Type 0) (f : A → B) → ((x : A) → P x → Q (f x)) → (xs : List A) → Every P xs
     → Every Q (map f xs)
 mapped_every P Q f so [] all = tt
 mapped_every P Q f so (x ∷ xs) all = (so x all.0, mapped_every P Q f so xs all.1)
@@ -291,11 +291,12 @@ found_every P [] k all = tt
 found_every P (x ∷ xs) zero all = (all.0, tt)
 found_every P (x ∷ xs) (suc k) all = found_every P xs k all.1
 
-ordered_every : (types : List DeclaredType) (order : List ℕ) → Every IsTypeSpelled types → Every IsTypeSpelled (types_at types order)
-ordered_every types [] all = tt
-ordered_every types (number ∷ order) all =
-    every_joined IsTypeSpelled (option_to_list (slice_get types number)) (types_at types order)
-    (found_every IsTypeSpelled types number all) (ordered_every types order all)
+pub ordered_every : (P : DeclaredType → Type 0) (types : List DeclaredType) (order : List ℕ) → Every P types
+    → Every P (types_at types order)
+ordered_every P types [] all = tt
+ordered_every P types (number ∷ order) all =
+    every_joined P (option_to_list (slice_get types number)) (types_at types order) (found_every P types number all)
+    (ordered_every P types order all)
 
 informal_every : (all : List Mentioned) → Every IsMentionSpelled all → Every IsMentionSpelled (without_formals all)
 informal_every [] spelled = tt
@@ -325,7 +326,7 @@ data_spelled types data_ spelled is =
     whole =
         union_spelled (without_formals is.all)
         (informal_every is.all
-        (all_presented_spelled [] (types_at types is.order) is.all is.presented tt (ordered_every types is.order spelled)))
+        (all_presented_spelled [] (types_at types is.order) is.all is.presented tt (ordered_every IsTypeSpelled types is.order spelled)))
 
     there : (f : ℕ) (o : Operation) → IsOperation (union_of (without_formals is.all)).signature f o → IsOperationSpelled o
     there f o found =

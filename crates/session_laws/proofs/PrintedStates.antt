@@ -19,9 +19,9 @@ use Rattle.session_histories.specs.Session.{Situation, derivations_of}
 use Rattle.session_histories.specs.SessionLaws.{SessionsFollowDerivations}
 use Rattle.lotos_top.specs.HandedOn.{Beginning, Standing, IsReached, Acceptance}
 use Rattle.lotos_top.specs.Opening.{SessionBegins}
-use Rattle.state_texts.specs.BoundNames.{bound_names, names_in_bodies, names_at_hand, MovesKeepNames}
-use Rattle.state_texts.specs.StateTexts.{StateTextsAreOfNames}
-use Rattle.state_texts.specs.TextBytes.{AllPass, is_printable}
+use Rattle.session_histories.specs.BoundNames.{bound_names, names_in_bodies, names_at_hand, MovesKeepNames}
+use Rattle.session_histories.specs.StateTexts.{StateTextsAreOfNames}
+use Rattle.session_histories.specs.TextBytes.{AllPass, is_printable}
 use Rattle.specification_laws.specs.HandedOn.{IsWordSpelling, IsOperationSpelling}
 use Rattle.session_laws.specs.AcceptedNames.{HasAcceptedNames, AcceptedNamesAreOfText}
 use Rattle.session_laws.specs.PrintedStates.{IsNamedProcess, HasNamedDefinitions, AcceptedDefinitionsAreNamed, IsPrintedLine, StatesPrintOnOneLine}

@@ -22,7 +22,7 @@ use Rattle.lotos_top.specs.Opening.{SessionBegins}
 use Rattle.behaviour_semantics.specs.Behaviour.{Process, Specification}
 use Rattle.behaviour_semantics.proofs.EveryLemmas.{every_front, every_back}
 use Rattle.behaviour_semantics.proofs.ListLemmas.{Every-weaker}
-use Rattle.state_texts.specs.BoundNames.{bound_names, names_in_bodies, names_at_hand, MovesKeepNames}
+use Rattle.session_histories.specs.BoundNames.{bound_names, names_in_bodies, names_at_hand, MovesKeepNames}
 use Rattle.session_laws.specs.AcceptedNames.{HasAcceptedNames, AcceptedNamesAreOfText}
 use Rattle.session_laws.specs.PrintedStates.{IsNamedProcess, HasNamedDefinitions, AcceptedDefinitionsAreNamed}
 use Rattle.session_laws.proofs.PrintedStates.{at_hand}

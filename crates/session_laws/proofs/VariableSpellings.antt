@@ -1,7 +1,7 @@
--- The variables that the behaviours of a text declare have the form of names, and so have its processes and the text itself.
+-- The variables that a text declares have the form of names, and so have its processes and the text itself.
 use Rattle.std.proofs.Common.{ℕ, List, [], ◌∷◌, ◌++◌, map, flat_map}
 use Rattle.lotos_base.specs.WrittenTerm.{PlacedName, WrittenTerm}
-use Rattle.lotos_lexer.specs.declared.kinds.TheConstants.{COMMA, ACCEPT, IN}
+use Rattle.lotos_lexer.specs.declared.kinds.TheConstants.{COMMA, ACCEPT, IN, LEFT_PARENTHESIS, RIGHT_PARENTHESIS}
 use Rattle.lotos_lexer.specs.declared.tokens.Token.{Token}
 use Rattle.syntax_trees.specs.WrittenVariable.{WrittenVariable}
 use Rattle.syntax_trees.specs.WrittenBehaviour.{WrittenSign, choice_sign, interleaving, full_synchronisation, synchronising, disabling, enabling, WrittenOffer, offer_value, offer_variable, WrittenBehaviour, stop, exit, call, action, inner_action, guard, hide, let_be, choose_value, choose_gate, par_gate, binary}
@@ -9,7 +9,7 @@ use Rattle.syntax_trees.specs.WrittenDefinition.{WrittenHeading, WrittenInner, W
 use Rattle.syntax_trees.specs.Strength.{PlacedSign, strength_of, joined}
 use Rattle.syntax_trees.specs.Grouping.{IsGrouped, alone, split}
 use Rattle.lotos_rows.specs.Words.{Between}
-use Rattle.lotos_rows.specs.Names.{named, variables_of_sort, AreVariablesOfSort, of_sort, AreVariables, variables}
+use Rattle.lotos_rows.specs.Names.{named, variables_of_sort, AreVariablesOfSort, of_sort, AreVariables, variables, AreParameters}
 use Rattle.lotos_rows.specs.Behaviours.{IsLetDeclaration, let_declaration, IsWrittenOffer, giving, asking, IsParallelSign, sign_interleaving, sign_full, sign_gates, IsSign, sign_choice, sign_parallel, sign_disabling, sign_enabling, before_first, AreOperands, hiding, letting, choosing_values, choosing_gates, parallel_over_gates, inner_prefix, guarding, acting, offering, last_operand, before_sign, IsAtom, stopping, exiting, calling, in_brackets, IsBehaviour, grouped_operands}
 use Rattle.lotos_rows.specs.Definitions.{IsHeading, heading, IsProcess, a_process, IsWhere, no_where, a_where, AreInner, no_more_inner, item_then, process_then}
 use Rattle.lotos_rows.specs.Starts.{IsWrittenSpecification, a_specification}
@@ -55,10 +55,11 @@ AreVariablesSpelled (par_gate place gates sign inside) = AreVariablesSpelled ins
 AreVariablesSpelled (binary place sign left right) = AreVariablesSpelled left × DeclaresWords sign × AreVariablesSpelled right
 
 abbrev mutual
-  -- the processes that a `where` declares, with their names and the variables in their bodies
+  -- the processes that a `where` declares, with their names, the variables in their bodies, and their parameters
   pub IsInnerNamed : WrittenInner → Type 0
   IsInnerNamed (inner_item item) = Unit {0}
-  IsInnerNamed (process given body inner) = IsWordSpelling given.name × AreVariablesSpelled body × AreInnersNamed inner
+  IsInnerNamed (process given body inner) =
+      IsWordSpelling given.name × AreVariablesSpelled body × AreInnersNamed inner × Every IsVariableSpelled given.parameters
 
   pub AreInnersNamed : WrittenInners → Type 0
   AreInnersNamed no_inner = Unit {0}
@@ -66,6 +67,7 @@ abbrev mutual
 
 pub record IsTreeNamed (tree : WrittenSpecification) : Type 0 where
   pub name : IsWordSpelling tree.heading.name
+  pub parameters : Every IsVariableSpelled tree.heading.parameters
   pub body : AreVariablesSpelled tree.body
   pub inner : AreInnersNamed (inners_of tree.inner)
 
@@ -226,6 +228,15 @@ module _ (text : List ℕ) where
       → IsWordSpelling given.name
   heading_named _ _ (heading {name = name} is_name are given is ends) all = token_word text name is_name all.0
 
+  parameters_named : (tokens : List Token) (given : WrittenHeading) → IsHeading text tokens given → AreSpelled text tokens
+      → Every IsVariableSpelled given.parameters
+  parameters_named _ _
+      (heading {colon = colon} {gate_tokens = a} {parameter_tokens = b} {tokens = c} {parameters = parameters} is_name are given is ends)
+      all =
+      optional_gives text [] (AreParameters text) (Every IsVariableSpelled) tt
+      (between_gives text LEFT_PARENTHESIS RIGHT_PARENTHESIS (AreVariables text) (Every IsVariableSpelled) variables_spelled) b parameters
+      given (front text b (colon ∷ c) (back text a (b ++ colon ∷ c) all.1))
+
   mutual
     process_named : (tokens : List Token) (inner : WrittenInner) → IsProcess text tokens inner → AreSpelled text tokens
         → IsInnerNamed inner
@@ -237,6 +248,7 @@ module _ (text : List ℕ) where
           heading_named a given head (front text a (sign ∷ (b ++ (c ++ end ∷ []))) all.1),
           behaviour_spelled b body behaviour (front text b (c ++ end ∷ []) behind_a.1),
           where_named c inner there_ (front text c (end ∷ []) behind_b),
+          parameters_named a given head (front text a (sign ∷ (b ++ (c ++ end ∷ []))) all.1),
         )
 
     where_named : (tokens : List Token) (inner : List WrittenInner) → IsWhere text tokens inner → AreSpelled text tokens
@@ -263,6 +275,7 @@ module _ (text : List ℕ) where
       let behind_b = back text b (word ∷ (c ++ (d ++ end ∷ []))) behind_a in
       record {
         name = heading_named a given head (front text a (b ++ word ∷ (c ++ (d ++ end ∷ []))) all.1);
+        parameters = parameters_named a given head (front text a (b ++ word ∷ (c ++ (d ++ end ∷ []))) all.1);
         body = behaviour_spelled c body behaviour (front text c (d ++ end ∷ []) behind_b.1);
         inner = where_named d inner there_ (front text d (end ∷ []) (back text c (d ++ end ∷ []) behind_b.1));
       }

@@ -7,3 +7,13 @@ pub mod VisibleEvents
 pub mod ReadableLabels
 pub mod EndingSessions
 pub mod PrintedStates
+pub mod SameSpecificationLaws
+pub mod SameChecksLaws
+pub mod SameTextsLaws
+pub mod SameBases
+pub mod SameSessionsLaws
+pub mod SameResolutionsLaws
+pub mod ReadBack
+pub mod Alike
+pub mod AlikeLaws
+pub mod FlatRuns

@@ -15,8 +15,8 @@ use declaration_laws::gates::{
 };
 use lotos_top::{data_are_well_formed, lines_lead_on};
 use session_histories::laws::sessions_follow_derivations;
+use session_histories::state_laws::moves_keep_names;
 use specification_laws::traces_are_replayed;
-use state_texts::laws::moves_keep_names;
 
 /// Numbers of entries and values that the lines of a session give keep within what a line of a
 /// trace can hold: at most ten digits, and terms nested at most 500 deep.

@@ -26,11 +26,8 @@ use Rattle.behaviour_tree.specs.declared.definitions.Spec.{Spec}
 use Rattle.behaviour_tree.specs.declared.moves.Derivation.{Derivation}
 use Rattle.behaviour_tree.specs.declared.moves.Label.{Label}
 use Rattle.behaviour_tree.specs.declared.states.State.{State}
-use Rattle.event_offers.specs.Instances.{canonical_derivation}
-use Rattle.event_offers.specs.OfferView.{label_profiles, plain_entry}
-use Rattle.event_offers.specs.declared.menus.Menu.{Menu}
+use Rattle.menu_builder.specs.HandedOn.{canonical_derivation, label_profiles, plain_entry, Menu, Entry, Ranks}
 use Rattle.menu_builder.specs.Menus.{entries_in}
-use Rattle.process_checks.specs.declared.rank_table.Ranks.{Ranks}
 use Rattle.sort_terms.specs.declared.sorted.Sorted.{Sorted}
 use Rattle.session_histories.specs.Session.{SessionBasis, Situation, PastStep, Progress, first_of, first_situation, stepped, HasUndone}
 use Rattle.session_histories.specs.Refusal.{entry_numbered, number_refusal, value_refusal, step_refusal}
@@ -48,7 +45,6 @@ use Rattle.session_log.specs.declared.courses.Past.{Past}
 use Rattle.session_log.proofs.EntryLemmas.{entry_there, values_told, well_counted}
 use Rattle.session_log.specs.RefusalView.{TellsStep}
 use Rattle.session_log.specs.declared.refusals.StepRefusal.{StepRefusal}
-use Rattle.event_offers.specs.declared.drafts.Entry.{Entry}
 use Rattle.sort_terms.specs.SortedView.{term_in}
 use Rattle.step_taker.specs.HandedOn.{StepFault}
 use Rattle.step_taker.specs.Taken.{IsTaken, IsStepFault, ground_of}

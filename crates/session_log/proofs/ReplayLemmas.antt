@@ -10,10 +10,8 @@ use Rattle.lotos_base.specs.WrittenTerm.{WrittenTerm, WrittenTerms, written, no_
 use Rattle.lotos_base.specs.WrittenView.{text_place_of, written_term_of}
 use Rattle.lotos_base.specs.Name.{spelling}
 use Rattle.lotos_base.specs.declared.written_terms.Written.{Written}
-use Rattle.sentence_trees.specs.Reading.{IsTermsReading, IsTermsFault}
-use Rattle.sentence_trees.specs.declared.fault.ReadFault.{ReadFault}
-use Rattle.sentence_trees.specs.declared.fault.ReadFault.TheVariants.{NoMemory}
-use Rattle.sentence_trees.specs.declared.fault.ReadFault.TheVariants as text_fault
+use Rattle.session_lines.specs.HandedOn.{IsTermsReading, IsTermsFault, ReadFault, NoMemory, label_text, written_label, state_text}
+use Rattle.session_lines.specs.HandedOn.read_faults as text_fault
 use Rattle.sort_terms.specs.Reading.{Reads, AllRead, IsScopeOver}
 use Rattle.sort_terms.proofs.ReadsLemmas.{reads_sorted}
 use Rattle.sort_terms.specs.RefusalView.{UnlessNoMemory}
@@ -36,14 +34,10 @@ use Rattle.behaviour_tree.specs.Over.{AreTermsOf}
 use Rattle.sort_terms.specs.ProfiledTerm.{IsOf}
 use Rattle.session_histories.specs.Session.{SessionBasis, Situation, Progress, first_situation, opened}
 use Rattle.session_histories.specs.Lawful.{HasStepped}
-use Rattle.event_offers.specs.OfferView.{plain_entry}
-use Rattle.event_offers.specs.declared.drafts.Entry.{Entry}
-use Rattle.event_offers.specs.declared.menus.Menu.{Menu}
+use Rattle.menu_builder.specs.HandedOn.{plain_entry, Entry, Menu}
 use Rattle.behaviour_tree.specs.MoveView.{label_of}
 use Rattle.behaviour_tree.specs.declared.definitions.Spec.{Spec}
 use Rattle.behaviour_tree.specs.declared.moves.Label.{Label}
-use Rattle.printed_texts.specs.MenuText.{label_text}
-use Rattle.printed_texts.specs.TextView.{written_label}
 use Rattle.std.specs.Prelude.{Result, MatchResult}
 use Rattle.std.proofs.lemmas.Result.{MatchResult-weaker}
 use Rattle.sort_terms.proofs.OutcomeLemmas.{read_ground, all_ground, is_reading}
@@ -54,7 +48,6 @@ use Rattle.menu_builder.specs.Menus.{entries_in}
 use Rattle.session_histories.specs.Refusal as plain
 use Rattle.session_histories.specs.Refusal.{StepRefusal, entry_numbered, count_refusal, number_refusal, condition_refusal, value_refusal, step_refusal}
 use Rattle.session_histories.specs.Replay.{has_no_form, LineRefusal, bad_line, step_refused, label_differs, state_differs, LinesOutcome, goes_on, stops, ReplayRefusal, in_line, other_specification, AreRead, IsOneMisread, IsReadStep, shown_label, LineComesTo, is_not_read, is_miscounted, is_misread, is_unmet, is_mislabelled, is_replayed, LinesComeTo, all_done, one_stops, one_goes_on, StateComesTo, is_missing, has_no_state, is_elsewhere, is_there, first_line, shown_state, StatedLinesComeTo, all_stated, step_stops, state_stops, both_go_on, refuses_heading, ComeBehindName, ComeBehind, TraceComesTo, ReplayIs}
-use Rattle.printed_texts.specs.BehaviourText.{state_text}
 use Rattle.behaviour_tree.specs.DefinitionView.{specification_of}
 use Rattle.behaviour_tree.specs.StateView.{state_of}
 use Rattle.session_histories.specs.TraceLine.{StepLine, step_line, lines_of, kept_state, Heading, no_heading, of_steps, of_states, heading_of}

@@ -11,7 +11,7 @@ use Rattle.behaviour_tree.specs.DefinitionView.{specification_of}
 use Rattle.behaviour_tree.specs.StateView.{state_of}
 use Rattle.behaviour_tree.specs.declared.definitions.Spec.{Spec}
 use Rattle.behaviour_tree.specs.declared.states.State.{State}
-use Rattle.event_offers.specs.declared.menus.Menu.{Menu}
+use Rattle.menu_builder.specs.HandedOn.{Menu}
 use Rattle.session_histories.specs.Session.{Situation, first_of}
 use Rattle.session_histories.specs.TraceText.{ended, step_text, line_of_state, stated_steps}
 use Rattle.session_log.specs.CourseView.{item_of, pasts_of, situation_of}

@@ -8,7 +8,7 @@ use Rattle.behaviour_tree.specs.MoveView.{derivation_of, label_of}
 use Rattle.behaviour_tree.specs.StateView.{state_of}
 use Rattle.behaviour_tree.specs.declared.definitions.Spec.{Spec}
 use Rattle.behaviour_tree.specs.declared.states.State.{State}
-use Rattle.event_offers.specs.declared.menus.Menu.{Menu}
+use Rattle.menu_builder.specs.HandedOn.{Menu}
 use Rattle.menu_builder.specs.Menus.{entries_in}
 use Rattle.session_histories.specs.Session.{SessionBasis, Item, Situation, PastStep, Progress}
 use Rattle.session_log.specs.declared.courses.Past.{Past}

@@ -11,10 +11,7 @@ use Rattle.behaviour_tree.specs.BehaviourView.{terms_of}
 use Rattle.behaviour_tree.specs.MoveView.{derivation_of}
 use Rattle.behaviour_tree.specs.Over.{AreTermsOf}
 use Rattle.behaviour_tree.specs.declared.moves.Derivation.{Derivation}
-use Rattle.event_offers.specs.Instances.{canonical_derivation}
-use Rattle.event_offers.specs.OfferView.{plain_entry}
-use Rattle.event_offers.specs.declared.drafts.Entry.{Entry}
-use Rattle.event_offers.specs.declared.menus.Menu.{Menu}
+use Rattle.menu_builder.specs.HandedOn.{canonical_derivation, plain_entry, Entry, Menu}
 use Rattle.sort_terms.specs.SortedView.{term_in}
 use Rattle.sort_terms.specs.declared.sorted.Sorted.{Sorted}
 use Rattle.session_histories.specs.Refusal.{StepRefusal, value_sort}

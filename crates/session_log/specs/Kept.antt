@@ -8,11 +8,7 @@ use Rattle.behaviour_tree.specs.Closed.{IsClosedNode}
 use Rattle.behaviour_tree.specs.Over.{AreTermsOf, IsSpecOver, IsStateOf}
 use Rattle.behaviour_tree.specs.declared.definitions.Spec.{Spec}
 use Rattle.behaviour_tree.specs.declared.states.State.{State}
-use Rattle.event_offers.specs.OfferView.{label_profiles}
-use Rattle.event_offers.specs.Offers.{IsEntryOf}
-use Rattle.event_offers.specs.declared.menus.Menu.{Menu}
-use Rattle.process_checks.specs.Ranks.{AreRanksOf}
-use Rattle.process_checks.specs.declared.rank_table.Ranks.{Ranks}
+use Rattle.menu_builder.specs.HandedOn.{label_profiles, IsEntryOf, Menu, AreRanksOf, Ranks}
 use Rattle.session_histories.specs.Lawful.{IsLawful}
 use Rattle.session_log.specs.CourseView.{basis_over, progress_of}
 use Rattle.session_log.specs.declared.courses.Past.{Past}

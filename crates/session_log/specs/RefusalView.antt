@@ -1,7 +1,7 @@
 -- The refusals of `session_histories` that those of the code stand for. Want of memory is none of them.
 use Rattle.std.specs.Prelude.{◌≡◌, ◌<◌, ℕ, Option, None, Some}
-use Rattle.sentence_trees.specs.declared.fault.ReadFault.{ReadFault}
-use Rattle.sentence_trees.specs.declared.fault.ReadFault.TheVariants as text_fault
+use Rattle.session_lines.specs.HandedOn.{ReadFault}
+use Rattle.session_lines.specs.HandedOn.read_faults as text_fault
 use Rattle.sort_terms.specs.SortedView.{term_in}
 use Rattle.sort_terms.specs.declared.sort_faults.SortFault.{SortFault}
 use Rattle.sort_terms.specs.declared.sort_faults.SortFault.TheVariants as term_fault

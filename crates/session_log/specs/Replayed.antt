@@ -11,11 +11,10 @@ use Rattle.sort_terms.specs.ProfiledTerm.{IsOf}
 use Rattle.sort_terms.specs.declared.sorted.Sorted.{Sorted}
 use Rattle.behaviour_tree.specs.BehaviourView.{terms_of}
 use Rattle.behaviour_semantics.specs.Solving.{Entry as PlainEntry}
-use Rattle.event_offers.specs.declared.drafts.Entry.{Entry}
-use Rattle.event_offers.specs.declared.menus.Menu.{Menu}
+use Rattle.menu_builder.specs.HandedOn.{Entry, Menu}
 use Rattle.menu_builder.specs.Menus.{entries_in}
 use Rattle.session_histories.specs.Refusal.{StepRefusal, entry_numbered, number_refusal}
-use Rattle.printed_texts.specs.BehaviourText.{state_text}
+use Rattle.session_lines.specs.HandedOn.{state_text}
 use Rattle.behaviour_tree.specs.DefinitionView.{specification_of}
 use Rattle.behaviour_tree.specs.StateView.{state_of}
 use Rattle.behaviour_tree.specs.declared.definitions.Spec.{Spec}

@@ -8,14 +8,14 @@ ghost use Rattle.behaviour_tree.specs.DefinitionView.{specification_of};
 ghost use Rattle.behaviour_tree.specs.MoveView.{derivation_of, label_of};
 ghost use Rattle.behaviour_tree.specs.Over.{AreTermsOf, IsSpecOver, IsStateOf};
 ghost use Rattle.behaviour_tree.specs.StateView.{state_of};
-ghost use Rattle.event_offers.specs.Keeping.{KeepsData};
+ghost use Rattle.behaviour_tree.specs.declared.definitions.Spec.{Spec};
+ghost use Rattle.lotos_base.specs.Equation.{Data};
+ghost use Rattle.lotos_base.specs.Term.{Term};
+ghost use Rattle.menu_builder.specs.HandedOn.{KeepsData};
 ghost use Rattle.menu_builder.specs.Menus.{entries_in};
 ghost use Rattle.session_histories.specs.Lawful.{HasStepped};
 ghost use Rattle.session_histories.specs.Refusal.{step_refusal};
 ghost use Rattle.session_log.specs.CourseView.{basis_over, progress_of};
-ghost use Rattle.session_log.specs.Entries.{AreGiven, IsChosenEntry};
-ghost use Rattle.session_log.specs.Kept.{AreSuited, IsKeptCourse, IsKeptMenu, IsKeptState};
-ghost use Rattle.session_log.specs.RefusalView.{TellsStep};
 ghost use Rattle.session_log.specs.Courses.{
   behind_state,
   IsGoneOn,
@@ -23,20 +23,17 @@ ghost use Rattle.session_log.specs.Courses.{
   IsUndone,
   first_state_of,
 };
+ghost use Rattle.session_log.specs.Entries.{AreGiven, IsChosenEntry};
+ghost use Rattle.session_log.specs.Kept.{AreSuited, IsKeptCourse, IsKeptMenu, IsKeptState};
+ghost use Rattle.session_log.specs.RefusalView.{TellsStep};
 ghost use Rattle.std.specs.Prelude.{◌≡◌, ◌<◌, IfOk, MatchResult, None, OnErr, OnOk, [], length};
 ghost use Rattle.step_taker.specs.Taken.{IsTaken, ground_of};
-ghost use Rattle.lotos_base.specs.Equation.{Data};
-ghost use Rattle.lotos_base.specs.Term.{Term};
-ghost use Rattle.behaviour_tree.specs.declared.definitions.Spec.{Spec};
 
 use crate::entries::{check_values, counted_entry};
 use crate::refusals::StepRefusal;
 use behaviour_tree::{Derivation, Label, Spec, State};
-use event_offers::Menu;
-use event_offers::labels::label_copy;
 use lotos_base::NoMemory;
-use menu_builder::MenuMaker;
-use process_checks::Ranks;
+use menu_builder::{Menu, MenuMaker, Ranks, label_copy};
 use sort_terms::{Deciding, Sorted};
 use std::alloc::Global;
 use std::mem;

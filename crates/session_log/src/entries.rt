@@ -4,9 +4,8 @@ ghost use Rattle.behaviour_semantics.specs.Menu.{Meets};
 ghost use Rattle.behaviour_tree.specs.BehaviourTerms.{profiles_of};
 ghost use Rattle.behaviour_tree.specs.BehaviourView.{terms_of};
 ghost use Rattle.behaviour_tree.specs.Over.{AreTermsOf};
-ghost use Rattle.event_offers.specs.Keeping.{KeepsData};
-ghost use Rattle.event_offers.specs.OfferView.{plain_entry};
-ghost use Rattle.event_offers.specs.Offers.{IsEntryOf};
+ghost use Rattle.lotos_base.specs.Signature.{Signature};
+ghost use Rattle.menu_builder.specs.HandedOn.{IsEntryOf, KeepsData, plain_entry};
 ghost use Rattle.menu_builder.specs.Menus.{entries_in};
 ghost use Rattle.session_histories.specs.Refusal.{
   number_refusal,
@@ -16,10 +15,9 @@ ghost use Rattle.session_histories.specs.Refusal.{
 ghost use Rattle.session_log.specs.Entries.{AreGiven, IsEntryAt, sort_told};
 ghost use Rattle.session_log.specs.RefusalView.{TellsStep};
 ghost use Rattle.std.specs.Prelude.{◌≡◌, MatchResult, Some, length};
-ghost use Rattle.lotos_base.specs.Signature.{Signature};
 
 use crate::refusals::StepRefusal;
-use event_offers::{Entry, Menu};
+use menu_builder::{Entry, Menu};
 use sort_terms::{Deciding, Sorted};
 
 /// The entry with this number from 1, for which so many values are given.

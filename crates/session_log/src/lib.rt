@@ -11,15 +11,18 @@ pub mod sessions;
 pub mod traces;
 
 pub use behaviour_tree::{Label, Spec};
-pub use event_offers::{Entry, Menu};
-pub use lotos_grammar::read_terms;
-pub use menu_builder::{FreshMenus, MenuMaker};
-pub use printed_texts::brackets::{push_number, push_text};
-pub use printed_texts::labels::push_value;
-pub use printed_texts::{label_text, menu_text, term_text};
-pub use process_checks::Ranks;
+pub use menu_builder::{Entry, FreshMenus, Menu, MenuMaker, Ranks};
 pub use refusals::{ReplayFault, StepRefusal, TraceFault};
 pub use report_text::state_text;
-pub use sentence_trees::reading_laws::texts_have_one_outcome;
+pub use session_histories::laws::{
+    replay_is_exact, sessions_follow_derivations, sessions_stay_lawful, steps_are_exact,
+};
+pub use session_lines::laws::questions_have_one_answer;
+pub use session_lines::questions::{push_comparison, push_normal};
+pub use session_lines::refusals::push_refusal;
+pub use session_lines::{
+    Book, ReadFault, Refusal, label_text, menu_text, push_number, push_text, push_value,
+    read_terms, term_text, texts_have_one_outcome,
+};
 pub use sessions::Session;
 pub use step_taker::{StepFault, take};

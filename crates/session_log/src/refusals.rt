@@ -4,7 +4,7 @@ ghost use Rattle.session_log.specs.RefusalView.{fault_at};
 ghost use Rattle.std.specs.Prelude.{◌≡◌};
 
 use lotos_base::NoMemory;
-use lotos_grammar::ReadFault;
+use session_lines::ReadFault;
 use sort_terms::{SortFault, Sorted};
 
 /// Why a step is refused.

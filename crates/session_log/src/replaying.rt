@@ -2,15 +2,12 @@
 
 ghost use Rattle.behaviour_tree.specs.BehaviourView.{terms_of};
 ghost use Rattle.behaviour_tree.specs.Closed.{IsClosedNode};
-ghost use Rattle.event_offers.specs.Keeping.{KeepsData};
 ghost use Rattle.lotos_base.specs.Equation.{Data};
 ghost use Rattle.lotos_base.specs.Name.{spelling};
+ghost use Rattle.lotos_base.specs.Signature.{Signature as PlainSignature};
 ghost use Rattle.lotos_base.specs.Term.{Term};
 ghost use Rattle.lotos_base.specs.WrittenView.{written_term_of};
-ghost use Rattle.sentence_trees.specs.Reading.{IsTermsFault, IsTermsReading};
-ghost use Rattle.sentence_trees.specs.declared.fault.ReadFault as read_fault;
-ghost use Rattle.sentence_trees.specs.declared.fault.ReadFault.TheVariants as read_cause;
-ghost use Rattle.printed_texts.specs.TextView.{written_label};
+ghost use Rattle.menu_builder.specs.HandedOn.{KeepsData};
 ghost use Rattle.session_histories.specs.Replay.{
   bad_line,
   goes_on,
@@ -29,6 +26,9 @@ ghost use Rattle.session_histories.specs.Replay.{
 };
 ghost use Rattle.session_histories.specs.TraceLine as plain;
 ghost use Rattle.session_histories.specs.TraceLine.{lines_of};
+ghost use Rattle.session_lines.specs.HandedOn.{IsTermsFault, IsTermsReading, written_label};
+ghost use Rattle.session_lines.specs.HandedOn.read_fault;
+ghost use Rattle.session_lines.specs.HandedOn.read_faults as read_cause;
 ghost use Rattle.session_log.specs.CourseView.{basis_over, progress_of, situation_of};
 ghost use Rattle.session_log.specs.Entries.{AreGiven};
 ghost use Rattle.session_log.specs.Kept.{AreSuited, IsKeptCourse};
@@ -65,20 +65,16 @@ ghost use Rattle.std.specs.Prelude.{
   length,
   map,
 };
-ghost use Rattle.lotos_base.specs.Signature.{Signature as PlainSignature};
 
 use crate::courses::Course;
 use crate::entries::counted_entry;
 use crate::lines::{Heading, StepLine, first_line, kept_state, read_heading, step_line};
 use crate::refusals::{LineFault, ReplayFault};
 use behaviour_tree::{Label, Spec, State};
-use event_offers::Menu;
 use lotos_base::{NoMemory, Written};
-use lotos_grammar::read_terms;
-use menu_builder::MenuMaker;
-use printed_texts::label_text;
-use process_checks::Ranks;
+use menu_builder::{Menu, MenuMaker, Ranks};
 use report_text::calls::push_state;
+use session_lines::{label_text, read_terms};
 use sort_terms::{Deciding, Reader, Scope, Signature, Sorted};
 use std::alloc::Global;
 

@@ -2,17 +2,19 @@
 
 ghost use Rattle.behaviour_tree.specs.BehaviourView.{terms_of};
 ghost use Rattle.behaviour_tree.specs.MoveView.{label_of};
-ghost use Rattle.event_offers.specs.Keeping.{KeepsData};
+ghost use Rattle.lotos_base.specs.Equation.{Data};
+ghost use Rattle.lotos_base.specs.Term.{Term};
+ghost use Rattle.menu_builder.specs.HandedOn.{KeepsData};
 ghost use Rattle.menu_builder.specs.Menus.{entries_in};
 ghost use Rattle.session_histories.specs.Lawful.{HasStepped};
 ghost use Rattle.session_histories.specs.Refusal.{step_refusal};
 ghost use Rattle.session_histories.specs.Replay.{goes_on, ReplayIs, stops};
 ghost use Rattle.session_histories.specs.Session.{first_situation};
 ghost use Rattle.session_log.specs.CourseView.{basis_over, progress_of};
+ghost use Rattle.session_log.specs.Courses.{AreClosedStates, IsUndone, written_trace};
 ghost use Rattle.session_log.specs.Entries.{AreGiven};
 ghost use Rattle.session_log.specs.Kept.{AreSuited, IsKeptState, IsLawfulSession};
 ghost use Rattle.session_log.specs.RefusalView.{TellsLength, TellsReplay, TellsStep};
-ghost use Rattle.session_log.specs.Courses.{AreClosedStates, IsUndone, written_trace};
 ghost use Rattle.sort_terms.specs.SignatureView.{signature_of};
 ghost use Rattle.std.specs.Prelude.{
   ◌≡◌,
@@ -25,18 +27,14 @@ ghost use Rattle.std.specs.Prelude.{
   MatchResult,
   length,
 };
-ghost use Rattle.lotos_base.specs.Equation.{Data};
-ghost use Rattle.lotos_base.specs.Term.{Term};
 
 use crate::courses::Course;
 use crate::refusals::{ReplayFault, StepRefusal, TraceFault};
 use crate::replaying::{TraceGround, replay_text};
 use crate::traces::trace_within;
 use behaviour_tree::{Label, Spec, State};
-use event_offers::Menu;
 use lotos_base::NoMemory;
-use menu_builder::MenuMaker;
-use process_checks::Ranks;
+use menu_builder::{Menu, MenuMaker, Ranks};
 use sort_terms::{Deciding, Reader, Signature, Sorted};
 use std::alloc::Global;
 

@@ -20,9 +20,7 @@ use crate::courses::{Course, Past};
 use crate::refusals::TraceFault;
 use behaviour_tree::{Spec, State};
 use lotos_base::{Name, NoMemory};
-use printed_texts::brackets::{push_number, push_text};
-use printed_texts::labels::push_label;
-use printed_texts::values::push_given;
+use session_lines::{push_given, push_label, push_number, push_text};
 use sort_terms::Signature;
 use std::alloc::Global;
 

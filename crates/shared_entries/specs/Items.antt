@@ -2,7 +2,6 @@
 use Rattle.std.specs.Prelude.{List}
 use Rattle.lotos_base.specs.Signature.{Signature}
 use Rattle.behaviour_semantics.specs.DraftOrder.{IsInOrder, as_draft}
-use Rattle.behaviour_semantics.specs.Shape as plain
 use Rattle.behaviour_semantics.specs.Solving as solving
 use Rattle.sort_terms.specs.ProfiledTerm.{ProfiledTerm}
 use Rattle.behaviour_tree.specs.BehaviourTerms.{profiles_of}
@@ -13,19 +12,12 @@ use Rattle.event_offers.specs.OfferView.{condition_profiles, conditions_of, labe
 use Rattle.event_offers.specs.Offers.{AreConditionsOf}
 use Rattle.event_offers.specs.declared.drafts.Draft.{Draft}
 use Rattle.event_offers.specs.declared.drafts.Entry.{Entry}
-use Rattle.draft_parts.specs.VariantView.{variant_of}
 use Rattle.shared_entries.specs.declared.items.Item.{Item}
-use Rattle.shared_entries.specs.declared.shapes.SharedShape.{SharedShape, Own, Over'}
-
--- the shape
-abbrev pub shared_shape : SharedShape → plain.Shape
-shared_shape (Own shape) = shape_of shape
-shared_shape (Over' variant _ inner) = variant_of variant (shared_shape inner)
 
 -- the entry
 abbrev pub plain_item : Item → solving.Entry
 plain_item item = record {
-  shape = shared_shape item.shape.value;
+  shape = shape_of item.shape.value;
   label = label_of item.label.value;
   variables = item.solved.value.vars.items;
   leaves = terms_of item.solved.value.leaves.items;

@@ -10,10 +10,9 @@ ghost use Rattle.shared_entries.specs.Items.{
 };
 ghost use Rattle.std.specs.Prelude.{◌≡◌, IfOk, map};
 
-use crate::shapes::SharedShape;
-use behaviour_tree::Label;
 use behaviour_tree::boxes::shared;
 use behaviour_tree::copies::term_copies;
+use behaviour_tree::{Label, Shape};
 use event_offers::labels::{condition_copies, label_copy};
 use event_offers::{Draft, Entry};
 use lotos_base::NoMemory;
@@ -36,7 +35,7 @@ pub struct Solved {
 #[derive(Drop)]
 pub struct Item {
     /// The shape.
-    pub shape: Rc<SharedShape>,
+    pub shape: Rc<Shape>,
     /// The label.
     pub label: Rc<Label>,
     /// All else.
@@ -58,7 +57,7 @@ impl Item {
         let solved = shared(alloc, solved)?;
         let label = shared(alloc, entry.label)?;
         Ok(Item {
-            shape: shared(alloc, SharedShape::Own(entry.shape))?,
+            shape: shared(alloc, entry.shape)?,
             label,
             solved,
         })
@@ -70,7 +69,7 @@ impl Item {
         ensures terms { IfOk result (λ made. draft_terms made ≡ item_terms self.now) }
     {
         let alloc = *self.solved.leaves.allocator();
-        let shape = self.shape.own(alloc)?;
+        let shape = self.shape.copy()?;
         let label = label_copy(alloc, &self.label)?;
         let leaves = term_copies(alloc, &self.solved.leaves)?;
         let conditions = condition_copies(alloc, &self.solved.conditions)?;

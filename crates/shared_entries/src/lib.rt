@@ -6,7 +6,6 @@ pub mod items;
 pub mod joins;
 pub mod labels;
 pub mod rules;
-pub mod shapes;
 
 pub use draft_parts::{Call, Variant};
 pub use items::{Item, entries_of, items_of};

@@ -24,7 +24,6 @@ ghost use Rattle.std.specs.Prelude.{◌≡◌, ◌++◌, IfOk, IfSome, option_to
 
 use crate::items::Item;
 use crate::labels::{hidden, relabelled};
-use crate::shapes::SharedShape;
 use behaviour_tree::boxes::{owner, shared};
 use behaviour_tree::{Label, Meet};
 use draft_parts::Variant;
@@ -127,7 +126,7 @@ fn with_label(
         ≡ values_changed (label_profiles label.value) (item_terms item.now)) }
 {
     let inner = owner(&item.shape)?;
-    let shape = shared(alloc, SharedShape::Over(variant, inner))?;
+    let shape = shared(alloc, variant.around(inner))?;
     let solved = owner(&item.solved)?;
     Ok(Item {
         shape,

@@ -19,7 +19,7 @@ use Rattle.type_definitions.specs.MentionFaults.{double_type, unknown_type, type
 use Rattle.type_definitions.specs.TypeFault as plain_type
 use Rattle.type_definitions.specs.declared.type_faults.TypeFault.{TypeFault}
 use Rattle.type_definitions.specs.declared.type_faults.TypeFault.TheVariants as type
-use Rattle.type_flatten.specs.FlatView.{IsRefused}
+use Rattle.type_laws.specs.HandedOn.{IsRefused}
 use Rattle.scope_parts.specs.Definitions.{SpecificationIs}
 use Rattle.scope_parts.specs.FaultView.{Told, nothing_told, never_told, told, told_by, OfTold}
 use Rattle.scope_parts.specs.Resolution.{faulty}

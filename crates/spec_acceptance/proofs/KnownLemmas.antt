@@ -16,7 +16,7 @@ use Rattle.syntax_trees.specs.declared.items.ItemText.{ItemText}
 use Rattle.type_definitions.specs.DeclaredTypes.{types_of}
 use Rattle.type_definitions.specs.declared.type_faults.TypeFault.{TypeFault}
 use Rattle.type_definitions.specs.declared.type_faults.TypeFault.TheVariants as type
-use Rattle.type_flatten.specs.FlatView.{IsFlat, IsRefused}
+use Rattle.type_laws.specs.HandedOn.{IsFlat, IsRefused}
 use Rattle.behaviour_semantics.specs.Behaviour.{Specification}
 use Rattle.behaviour_semantics.specs.Guardedness.{IsGuarded}
 use Rattle.behaviour_tree.specs.DefinitionView.{specification_of}

@@ -19,8 +19,7 @@ use Rattle.lotos_rows.specs.Terms.{IsTerm, AreTerms, AreArguments, no_arguments,
 use Rattle.behaviour_semantics.specs.Behaviour.{Specification}
 use Rattle.behaviour_semantics.specs.Label.{Label, inner_event, gate_event, exit_event}
 use Rattle.behaviour_semantics.specs.WellFormed.{Every}
-use Rattle.printed_texts.specs.Brackets.{round, commas}
-use Rattle.printed_texts.specs.MenuText.{term_texts, name_text, values_text, label_text}
+use Rattle.texts_read_back.specs.HandedOn.{round, commas, term_texts, name_text, values_text, label_text}
 use Rattle.texts_read_back.specs.TextNames.{IsWordSpelling}
 use Rattle.texts_read_back.specs.WrittenAs.{AreWrittenAs}
 use Rattle.texts_read_back.proofs.NameTokens.{word_piece}

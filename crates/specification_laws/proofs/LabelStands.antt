@@ -11,9 +11,7 @@ use Rattle.lotos_lexer.specs.Tokens.{token_at, cut}
 use Rattle.lotos_rows.specs.Words.{Many, no_more, and_then, behind, Behind, Between}
 use Rattle.lotos_rows.specs.Terms.{IsTerm, AreTerms}
 use Rattle.behaviour_semantics.specs.WellFormed.{Every}
-use Rattle.printed_texts.specs.Brackets.{round, commas}
-use Rattle.printed_texts.specs.TermText.{phrase_text, phrase_of, phrases_of}
-use Rattle.printed_texts.specs.MenuText.{entry_term_text, term_texts, values_text}
+use Rattle.texts_read_back.specs.HandedOn.{round, commas, phrase_text, phrase_of, phrases_of, entry_term_text, term_texts, values_text}
 use Rattle.texts_read_back.specs.TextNames.{HasTextNames}
 use Rattle.texts_read_back.specs.WrittenAs.{IsWrittenAs, AreWrittenAs}
 use Rattle.texts_read_back.proofs.NameTokens.{IsApart}

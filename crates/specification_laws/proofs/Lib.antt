@@ -12,3 +12,4 @@ pub mod LabelStands
 pub mod LabelsOnce
 pub mod LabelLemmas
 pub mod MenuLemmas
+pub mod HandedOn

@@ -5,4 +5,4 @@ pub use Rattle.lotos_grammar.proofs.OneOutcome.{front, back, joined, outcomes_ar
 pub use Rattle.lotos_grammar.proofs.ShelfLemmas.{gives_nothing, gives_then, gives_then_lacks, gives_then_some, gives_some, some_within}
 pub use Rattle.lotos_grammar.proofs.ShelfLemmas.{wanted_uncalled, wanted_by_get}
 pub use Rattle.lotos_grammar.proofs.WantedFiles.{wanted_files_come_first}
-pub use Rattle.sentence_trees.proofs.Outcomes.{all_have_one_outcome}
+pub use Rattle.lotos_grammar.proofs.HandedOn.{all_have_one_outcome}

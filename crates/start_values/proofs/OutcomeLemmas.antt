@@ -7,11 +7,8 @@ use Rattle.lotos_base.specs.Signature.{Signature}
 use Rattle.lotos_base.specs.Sorting.{IsGround, AreGround, IsGroundOf}
 use Rattle.lotos_base.specs.Term.{Term, Terms, variable, node, no_terms, term_then}
 use Rattle.behaviour_semantics.specs.Rule.{AreValues}
-use Rattle.sentence_trees.specs.Reading.{IsTermsReading, IsTermsFault}
-use Rattle.sentence_trees.proofs.Outcomes.{all_have_one_outcome}
-use Rattle.sentence_trees.specs.ReadingLaws.{HasOneOutcome}
-use Rattle.sentence_trees.specs.declared.fault.ReadFault.{ReadFault}
-use Rattle.sentence_trees.specs.declared.fault.ReadFault.TheVariants.{NoMemory}
+use Rattle.lotos_grammar.specs.HandedOn.{IsTermsReading, IsTermsFault, HasOneOutcome, ReadFault, NoMemory}
+use Rattle.lotos_grammar.proofs.HandedOn.{all_have_one_outcome}
 use Rattle.sort_terms.proofs.ReadsLemmas.{comes_once, reads_sorted}
 use Rattle.sort_terms.specs.Reading.{Reads, AllRead}
 use Rattle.sort_terms.specs.ReadingLaws.{ReadingsAreWellSorted, ReadingComesToOneThing}

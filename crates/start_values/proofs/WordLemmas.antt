@@ -6,8 +6,7 @@ use Rattle.std.proofs.lemmas.Bool.{and_parts, leb-true}
 use Rattle.std.specs.declared.alloc.Global.{Global}
 use Rattle.lotos_base.proofs.Pieces.{next_member}
 use Rattle.lotos_base.specs.WrittenTerm.{WrittenTerm}
-use Rattle.sentence_trees.specs.Reading.{IsTermsReading, IsTermsFault}
-use Rattle.sentence_trees.specs.declared.fault.ReadFault.{ReadFault}
+use Rattle.lotos_grammar.specs.HandedOn.{IsTermsReading, IsTermsFault, ReadFault}
 use Rattle.start_values.specs.Refusal.{Refusal}
 use Rattle.start_values.specs.RefusalView.{refusal_of}
 use Rattle.start_values.specs.declared.words.TheConstants.{WORDS_TEXT}

@@ -23,7 +23,6 @@ pub use Rattle.lotos_grammar.specs.declared.gathered.Gathered as gathered
 pub use Rattle.scope_parts.specs.FaultView.{term_told, told_by}
 pub use Rattle.scope_parts.specs.ScopeFault as scope_fault
 pub use Rattle.scope_parts.specs.ScopeFault.{fault_place, refusal_place}
-pub use Rattle.sentence_trees.specs.Reading.{IsSpecificationReading, IsOrderReadFault, IsOrderReading, IsSpecificationFault}
-pub use Rattle.sentence_trees.specs.ReadingLaws.{HasOneOutcome}
-pub use Rattle.sentence_trees.specs.declared.fault.ReadFault.{ReadFault}
-pub use Rattle.sentence_trees.specs.declared.fault.ReadFault.TheVariants as read_faults
+pub use Rattle.lotos_grammar.specs.HandedOn.{IsSpecificationReading, IsOrderReadFault, IsOrderReading, IsSpecificationFault, HasOneOutcome}
+pub use Rattle.lotos_grammar.specs.HandedOn.{ReadFault}
+pub use Rattle.lotos_grammar.specs.HandedOn.read_faults

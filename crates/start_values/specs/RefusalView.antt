@@ -7,8 +7,8 @@ use Rattle.sort_terms.specs.ReadingOutcome as reading
 use Rattle.sort_terms.specs.SortedView.{term_in}
 use Rattle.sort_terms.specs.declared.sort_faults.SortFault.{SortFault}
 use Rattle.sort_terms.specs.declared.sort_faults.SortFault.TheVariants as sort
-use Rattle.sentence_trees.specs.declared.fault.ReadFault.{ReadFault}
-use Rattle.sentence_trees.specs.declared.fault.ReadFault.TheVariants as read
+use Rattle.lotos_grammar.specs.HandedOn.{ReadFault}
+use Rattle.lotos_grammar.specs.HandedOn.read_faults as read
 use Rattle.type_definitions.specs.MentionFaults.{double_type, unknown_type, type_cycle}
 use Rattle.type_definitions.specs.TypeFault as plain_type
 use Rattle.type_definitions.specs.declared.type_faults.TypeFault.{TypeFault}

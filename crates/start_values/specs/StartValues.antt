@@ -8,9 +8,8 @@ use Rattle.lotos_base.specs.Signature.{Signature}
 use Rattle.lotos_base.specs.Term.{Term}
 use Rattle.sort_terms.specs.ReadingOutcome as reading
 use Rattle.sort_terms.specs.ReadingOutcome.{ReadingIs, answered}
-use Rattle.sentence_trees.specs.Reading.{IsTermsReading, IsTermsFault}
-use Rattle.sentence_trees.specs.declared.fault.ReadFault.{ReadFault}
-use Rattle.sentence_trees.specs.declared.fault.ReadFault.TheVariants as read
+use Rattle.lotos_grammar.specs.HandedOn.{IsTermsReading, IsTermsFault, ReadFault}
+use Rattle.lotos_grammar.specs.HandedOn.read_faults as read
 use Rattle.start_values.specs.Refusal.{Refusal, too_long, bad_byte, open_comment, wrong_syntax, too_deep, start_values, start_term}
 use Rattle.start_values.specs.declared.words.TheConstants.{WORDS_TEXT}
 

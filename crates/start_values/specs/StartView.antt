@@ -1,7 +1,7 @@
 -- What the answers of the code say of the words behind `with`.
 use Rattle.std.specs.Prelude.{◌≡◌, ℕ, List, map, Option, None, Some, IsSomeAnd}
 use Rattle.lotos_base.specs.WrittenView.{written_term_of}
-use Rattle.sentence_trees.specs.declared.fault.ReadFault.{ReadFault}
+use Rattle.lotos_grammar.specs.HandedOn.{ReadFault}
 use Rattle.sort_terms.specs.EquationView.{variable_of}
 use Rattle.sort_terms.specs.ReadingOutcome as reading
 use Rattle.sort_terms.specs.RefusalView.{refusal_of as reason_of}

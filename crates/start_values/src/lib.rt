@@ -13,10 +13,9 @@ pub mod words;
 
 pub use equation_book::{Book, BookFault, NotOpened};
 pub use faults::StartFault;
-pub use lotos_grammar::{Gathered, LibraryFault, gather_types, read_order, read_spec};
+pub use lotos_grammar::{Gathered, LibraryFault, ReadFault, gather_types, read_order, read_spec};
 pub use process_checks::{ExitFault, RankFault};
 pub use refused::Refused;
 pub use scope_parts::ScopeFault;
-pub use sentence_trees::ReadFault;
 pub use spec_fault::SpecFault;
 pub use values::start_values;

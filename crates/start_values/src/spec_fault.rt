@@ -2,9 +2,9 @@
 
 use equation_book::BookFault;
 use lotos_base::{Name, Place};
+use lotos_grammar::ReadFault;
 use process_checks::{ExitFault, RankFault};
 use scope_parts::ScopeFault;
-use sentence_trees::ReadFault;
 use sort_terms::SortFault;
 use type_definitions::TypeFault;
 

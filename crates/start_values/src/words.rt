@@ -2,8 +2,7 @@
 
 ghost use Rattle.lotos_base.specs.WrittenTerm.{WrittenTerm};
 ghost use Rattle.lotos_base.specs.WrittenView.{text_place_of, written_term_of};
-ghost use Rattle.sentence_trees.specs.Reading.{IsTermsReading};
-ghost use Rattle.start_values.specs.declared.spec_fault.SpecFault.TheVariants.{Read as read_fault};
+ghost use Rattle.lotos_grammar.specs.HandedOn.{IsTermsReading};
 ghost use Rattle.start_values.specs.StartValues.{
   HaveTerms,
   HaveWordFault,
@@ -14,6 +13,7 @@ ghost use Rattle.start_values.specs.StartValues.{
 ghost use Rattle.start_values.specs.StartView.{FailsAs, TellsWord, word_term_of};
 ghost use Rattle.start_values.specs.WordLimits.{are_within, words_of};
 ghost use Rattle.start_values.specs.declared.faults.StartFault.TheVariants.{Refused as refused};
+ghost use Rattle.start_values.specs.declared.spec_fault.SpecFault.TheVariants.{Read as read_fault};
 ghost use Rattle.start_values.specs.declared.words.TheConstants.{WORDS_TEXT as words_text};
 ghost use Rattle.std.specs.Prelude.{
   ◌≡◌,
@@ -32,8 +32,7 @@ ghost use Rattle.std.specs.Prelude.{
 use crate::SpecFault;
 use crate::faults::StartFault;
 use lotos_base::{NoMemory, Place, Written};
-use lotos_grammar::read_terms;
-use sentence_trees::ReadFault;
+use lotos_grammar::{ReadFault, read_terms};
 use std::alloc::Global;
 
 /// The number of the text that the words behind `with` are, in the places of their faults.

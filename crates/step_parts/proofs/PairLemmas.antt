@@ -1,7 +1,7 @@
 -- Values that a node matches, pair by pair.
 use Rattle.std.proofs.Common.{◌≡◌, ◌<◌, ◌≤◌, ◌+◌, ℕ, List, [], ◌∷◌, length, drop, get_or, Option, None, Some, ap, sym, ◌∙◌}
 use Rattle.std.proofs.lemmas.List.{drop_all}
-use Rattle.event_offers.proofs.LabelLemmas.{pairwise_nothing}
+use Rattle.draft_parts.proofs.HandedOn.{pairwise_nothing}
 use Rattle.lotos_base.specs.Term.{Term}
 use Rattle.behaviour_semantics.specs.Behaviour.{Test}
 use Rattle.behaviour_semantics.specs.Fault.{Wrong, first_unmet}

@@ -7,7 +7,7 @@ use Rattle.sort_terms.specs.declared.sorted.Sorted.{Sorted}
 use Rattle.term_match.specs.ProfiledInstance.{profiled_binding}
 use Rattle.term_match.specs.SubstView.{profiled_pairs}
 use Rattle.term_match.proofs.InstanceLemmas.{instance_of}
-use Rattle.event_offers.proofs.RenamingLemmas.{occurring_sort}
+use Rattle.draft_parts.proofs.HandedOn.{occurring_sort}
 use Rattle.behaviour_tree.specs.Over.{AreTermsOf}
 use Rattle.behaviour_tree.specs.StateView.{pair_profile}
 use Rattle.behaviour_instances.specs.InstanceTerms.{terms_placed}

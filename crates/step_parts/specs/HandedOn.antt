@@ -1,3 +1,4 @@
 -- What crates above this one need of the crates below it.
-pub use Rattle.event_offers.specs.Keeping.{KeepsData}
-pub use Rattle.event_offers.specs.OfferView.{label_profiles}
+pub use Rattle.behaviour_instances.specs.InstanceTerms.{instance_profiles}
+pub use Rattle.behaviour_instances.specs.Suited.{SuitsWhere}
+pub use Rattle.draft_parts.specs.HandedOn.{KeepsData, label_profiles}

@@ -10,9 +10,9 @@ ghost use Rattle.behaviour_tree.specs.BehaviourTerms.{profiles_of};
 ghost use Rattle.behaviour_tree.specs.BehaviourView.{meet_of, terms_of, variables_of};
 ghost use Rattle.behaviour_tree.specs.MoveView.{label_of};
 ghost use Rattle.behaviour_tree.specs.Over.{AreTermsOf};
-ghost use Rattle.event_offers.specs.OfferView.{label_profiles};
-ghost use Rattle.std.specs.Prelude.{◌≡◌};
+ghost use Rattle.draft_parts.specs.HandedOn.{label_profiles};
 ghost use Rattle.lotos_base.specs.Signature.{Signature};
+ghost use Rattle.std.specs.Prelude.{◌≡◌};
 
 use behaviour_tree::{Label, Meet};
 use draft_parts::meeting;

@@ -11,6 +11,7 @@ pub mod node_tests;
 pub mod offers;
 pub mod targets;
 
+pub use behaviour_instances::instance;
 pub use draft_parts::rules::{hide_label, may_move_alone, relabel};
-pub use event_offers::labels::values;
+pub use draft_parts::values;
 pub use faults::StepFault;

@@ -8,12 +8,12 @@ ghost use Rattle.behaviour_tree.specs.BehaviourView.{terms_of, test_of};
 ghost use Rattle.behaviour_tree.specs.Closed.{OccursInTestOption};
 ghost use Rattle.behaviour_tree.specs.Over.{AreTermsOf};
 ghost use Rattle.behaviour_tree.specs.StateView.{environment_of, pair_profile};
-ghost use Rattle.event_offers.specs.Keeping.{KeepsData};
+ghost use Rattle.draft_parts.specs.HandedOn.{KeepsData};
+ghost use Rattle.lotos_base.specs.Substitution.{binding};
 ghost use Rattle.sort_terms.specs.ProfiledTerm.{IsOf};
 ghost use Rattle.sort_terms.specs.SortedView.{profiled_in, term_in};
 ghost use Rattle.std.specs.Prelude.{◌≡◌, ◌∷◌, [], ℕ, IfOk, map, option_map};
 ghost use Rattle.step_parts.specs.StepFaults.{IsStepChecked, kept_number};
-ghost use Rattle.lotos_base.specs.Substitution.{binding};
 ghost use Rattle.term_match.specs.SubstView.{profiled_pairs};
 
 use crate::faults::{At, StepFault};

@@ -1,8 +1,8 @@
 //! The values of the label of an action and of an `exit`, and the values of variables.
 
 ghost use Rattle.behaviour_semantics.specs.Behaviour as plain;
-ghost use Rattle.behaviour_semantics.specs.Move.{taken};
 ghost use Rattle.behaviour_semantics.specs.Derives.{leaves_in};
+ghost use Rattle.behaviour_semantics.specs.Move.{taken};
 ghost use Rattle.behaviour_semantics.specs.Rule as rule;
 ghost use Rattle.behaviour_tree.specs.BehaviourTerms.{
   exit_profiles,
@@ -19,13 +19,13 @@ ghost use Rattle.behaviour_tree.specs.BehaviourView.{
   variables_of,
 };
 ghost use Rattle.behaviour_tree.specs.Over.{AreTermsOf};
+ghost use Rattle.behaviour_tree.specs.StateView.{environment_of, pair_profile};
 ghost use Rattle.behaviour_tree.specs.declared.behaviours.ExitValue.{ExitValue as ExitResult};
 ghost use Rattle.behaviour_tree.specs.declared.behaviours.Offer.{Offer as OfferValue};
-ghost use Rattle.behaviour_tree.specs.StateView.{environment_of, pair_profile};
-ghost use Rattle.event_offers.specs.Keeping.{KeepsData};
+ghost use Rattle.draft_parts.specs.HandedOn.{KeepsData};
+ghost use Rattle.lotos_base.specs.Term.{Term};
 ghost use Rattle.sort_terms.specs.ProfiledTerm.{IsOf};
 ghost use Rattle.sort_terms.specs.SortedView.{profiled_in, term_in};
-ghost use Rattle.lotos_base.specs.Term.{Term};
 ghost use Rattle.std.specs.Prelude.{
   ℕ,
   ◌≡◌,

@@ -33,8 +33,8 @@ use Rattle.sort_terms.specs.SortedView.{profiled_in, term_in}
 use Rattle.sort_terms.specs.declared.sorted.Sorted.{Sorted}
 use Rattle.term_match.specs.ProfiledInstance.{profiled_binding}
 use Rattle.term_match.specs.SubstView.{profiled_pairs}
-use Rattle.behaviour_instances.specs.InstanceTerms.{instance_profiles}
-use Rattle.behaviour_instances.proofs.InstanceLemmas.{of_signatures}
+use Rattle.step_parts.specs.HandedOn.{instance_profiles}
+use Rattle.step_parts.proofs.HandedOn.{of_signatures}
 use Rattle.step_parts.proofs.BinderLemmas.{bound_closed}
 use Rattle.step_taker.specs.Taken.{Ground}
 use Rattle.step_taker.specs.Walked.{IsCalled, IsClosedOn}

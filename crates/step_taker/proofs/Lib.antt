@@ -17,3 +17,4 @@ pub mod PairLemmas
 pub mod StepLemmas
 pub mod TakenLemmas
 pub mod MatchLemmas
+pub mod HandedOn

@@ -1,7 +1,7 @@
 -- Shapes that do not fit a form: any other than those of its rules.
 use Rattle.std.proofs.Common.{◌≡◌, ℕ, List, Option, Some, refl}
-use Rattle.std.specs.Prelude.{Box}
 use Rattle.std.specs.declared.alloc.Global.{Global}
+use Rattle.std.specs.declared.rc.Rc.{Rc}
 use Rattle.lotos_base.specs.Equation.{Variable}
 use Rattle.lotos_base.specs.Term.{Term}
 use Rattle.behaviour_semantics.specs.Behaviour.{action, Behaviour, call, choice, choose_gate, choose_value, disable, enable, ExitValue, exit_with, guard, hide, inner_action, let_be, Offer, parallel, relabel, Relabelling, stop, SynchronisationSet, Test}
@@ -83,12 +83,12 @@ module _ (setting : Setting) (leaves : List Term) (k : ℕ) where
   unfit_inner (Called' a p) b h0 = refl
   unfit_inner (Relabelled' a p) b h0 = refl
 
-  pub unfit_guard : (s : Shape) (test : Test) (b : Behaviour) → ((part : Box Shape Global) → s ≡ Guarded part → ⊥) → own_wrong setting
+  pub unfit_guard : (s : Shape) (test : Test) (b : Behaviour) → ((part : Rc Shape Global) → s ≡ Guarded part → ⊥) → own_wrong setting
       leaves (shape_of s) k (guard test b) ≡ Some not_fitting
   unfit_guard Act test b h0 = refl
   unfit_guard Quit test b h0 = refl
   unfit_guard Inner test b h0 = refl
-  unfit_guard (Guarded' a p) test b h0 = absurd (h0 (record { ptr = a.ptr; alloc = a.alloc; value = p }) refl)
+  unfit_guard (Guarded' a p) test b h0 = absurd (h0 (record { ptr = a.ptr; value = p }) refl)
   unfit_guard (Left' a p) test b h0 = refl
   unfit_guard (Right' a p) test b h0 = refl
   unfit_guard (Both' a p e q) test b h0 = refl
@@ -101,14 +101,14 @@ module _ (setting : Setting) (leaves : List Term) (k : ℕ) where
   unfit_guard (Called' a p) test b h0 = refl
   unfit_guard (Relabelled' a p) test b h0 = refl
 
-  pub unfit_choice : (s : Shape) (b c : Behaviour) → ((part : Box Shape Global) → s ≡ Left part → ⊥) → ((part : Box Shape Global) → s ≡
+  pub unfit_choice : (s : Shape) (b c : Behaviour) → ((part : Rc Shape Global) → s ≡ Left part → ⊥) → ((part : Rc Shape Global) → s ≡
       Right part → ⊥) → own_wrong setting leaves (shape_of s) k (choice b c) ≡ Some not_fitting
   unfit_choice Act b c h0 h1 = refl
   unfit_choice Quit b c h0 h1 = refl
   unfit_choice Inner b c h0 h1 = refl
   unfit_choice (Guarded' a p) b c h0 h1 = refl
-  unfit_choice (Left' a p) b c h0 h1 = absurd (h0 (record { ptr = a.ptr; alloc = a.alloc; value = p }) refl)
-  unfit_choice (Right' a p) b c h0 h1 = absurd (h1 (record { ptr = a.ptr; alloc = a.alloc; value = p }) refl)
+  unfit_choice (Left' a p) b c h0 h1 = absurd (h0 (record { ptr = a.ptr; value = p }) refl)
+  unfit_choice (Right' a p) b c h0 h1 = absurd (h1 (record { ptr = a.ptr; value = p }) refl)
   unfit_choice (Both' a p e q) b c h0 h1 = refl
   unfit_choice (Hidden' a p) b c h0 h1 = refl
   unfit_choice (Enabled' a p) b c h0 h1 = refl
@@ -119,21 +119,16 @@ module _ (setting : Setting) (leaves : List Term) (k : ℕ) where
   unfit_choice (Called' a p) b c h0 h1 = refl
   unfit_choice (Relabelled' a p) b c h0 h1 = refl
 
-  pub unfit_parallel : (s : Shape) (meet : SynchronisationSet) (b c : Behaviour) → ((part : Box Shape Global) → s ≡ Left part → ⊥) →
-      ((part : Box Shape Global) → s ≡ Right part → ⊥) → ((part other : Box Shape Global) → s ≡ Both part other → ⊥) → own_wrong setting
+  pub unfit_parallel : (s : Shape) (meet : SynchronisationSet) (b c : Behaviour) → ((part : Rc Shape Global) → s ≡ Left part → ⊥) →
+      ((part : Rc Shape Global) → s ≡ Right part → ⊥) → ((part other : Rc Shape Global) → s ≡ Both part other → ⊥) → own_wrong setting
       leaves (shape_of s) k (parallel meet b c) ≡ Some not_fitting
   unfit_parallel Act meet b c h0 h1 h2 = refl
   unfit_parallel Quit meet b c h0 h1 h2 = refl
   unfit_parallel Inner meet b c h0 h1 h2 = refl
   unfit_parallel (Guarded' a p) meet b c h0 h1 h2 = refl
-  unfit_parallel (Left' a p) meet b c h0 h1 h2 = absurd (h0 (record { ptr = a.ptr; alloc = a.alloc; value = p }) refl)
-  unfit_parallel (Right' a p) meet b c h0 h1 h2 = absurd (h1 (record { ptr = a.ptr; alloc = a.alloc; value = p }) refl)
-  unfit_parallel (Both' a p e q) meet b c h0 h1 h2 = absurd (h2 (record { ptr = a.ptr; alloc = a.alloc; value = p }) (record {
-    ptr =
-        e.ptr;
-    alloc = e.alloc;
-    value = q;
-  }) refl)
+  unfit_parallel (Left' a p) meet b c h0 h1 h2 = absurd (h0 (record { ptr = a.ptr; value = p }) refl)
+  unfit_parallel (Right' a p) meet b c h0 h1 h2 = absurd (h1 (record { ptr = a.ptr; value = p }) refl)
+  unfit_parallel (Both' a p e q) meet b c h0 h1 h2 = absurd (h2 (record { ptr = a.ptr; value = p }) (record { ptr = e.ptr; value = q }) refl)
   unfit_parallel (Hidden' a p) meet b c h0 h1 h2 = refl
   unfit_parallel (Enabled' a p) meet b c h0 h1 h2 = refl
   unfit_parallel (Passed' a p) meet b c h0 h1 h2 = refl
@@ -143,7 +138,7 @@ module _ (setting : Setting) (leaves : List Term) (k : ℕ) where
   unfit_parallel (Called' a p) meet b c h0 h1 h2 = refl
   unfit_parallel (Relabelled' a p) meet b c h0 h1 h2 = refl
 
-  pub unfit_hide : (s : Shape) (gates : List ℕ) (b : Behaviour) → ((part : Box Shape Global) → s ≡ Hidden part → ⊥) → own_wrong setting
+  pub unfit_hide : (s : Shape) (gates : List ℕ) (b : Behaviour) → ((part : Rc Shape Global) → s ≡ Hidden part → ⊥) → own_wrong setting
       leaves (shape_of s) k (hide gates b) ≡ Some not_fitting
   unfit_hide Act gates b h0 = refl
   unfit_hide Quit gates b h0 = refl
@@ -152,7 +147,7 @@ module _ (setting : Setting) (leaves : List Term) (k : ℕ) where
   unfit_hide (Left' a p) gates b h0 = refl
   unfit_hide (Right' a p) gates b h0 = refl
   unfit_hide (Both' a p e q) gates b h0 = refl
-  unfit_hide (Hidden' a p) gates b h0 = absurd (h0 (record { ptr = a.ptr; alloc = a.alloc; value = p }) refl)
+  unfit_hide (Hidden' a p) gates b h0 = absurd (h0 (record { ptr = a.ptr; value = p }) refl)
   unfit_hide (Enabled' a p) gates b h0 = refl
   unfit_hide (Passed' a p) gates b h0 = refl
   unfit_hide (Bound' a p) gates b h0 = refl
@@ -161,8 +156,8 @@ module _ (setting : Setting) (leaves : List Term) (k : ℕ) where
   unfit_hide (Called' a p) gates b h0 = refl
   unfit_hide (Relabelled' a p) gates b h0 = refl
 
-  pub unfit_enable : (s : Shape) (b : Behaviour) (variables : List Variable) (c : Behaviour) → ((part : Box Shape Global) → s ≡ Passed
-      part → ⊥) → ((part : Box Shape Global) → s ≡ Enabled part → ⊥) → own_wrong setting leaves (shape_of s) k (enable b variables c) ≡
+  pub unfit_enable : (s : Shape) (b : Behaviour) (variables : List Variable) (c : Behaviour) → ((part : Rc Shape Global) → s ≡ Passed
+      part → ⊥) → ((part : Rc Shape Global) → s ≡ Enabled part → ⊥) → own_wrong setting leaves (shape_of s) k (enable b variables c) ≡
       Some not_fitting
   unfit_enable Act b variables c h0 h1 = refl
   unfit_enable Quit b variables c h0 h1 = refl
@@ -172,22 +167,22 @@ module _ (setting : Setting) (leaves : List Term) (k : ℕ) where
   unfit_enable (Right' a p) b variables c h0 h1 = refl
   unfit_enable (Both' a p e q) b variables c h0 h1 = refl
   unfit_enable (Hidden' a p) b variables c h0 h1 = refl
-  unfit_enable (Enabled' a p) b variables c h0 h1 = absurd (h1 (record { ptr = a.ptr; alloc = a.alloc; value = p }) refl)
-  unfit_enable (Passed' a p) b variables c h0 h1 = absurd (h0 (record { ptr = a.ptr; alloc = a.alloc; value = p }) refl)
+  unfit_enable (Enabled' a p) b variables c h0 h1 = absurd (h1 (record { ptr = a.ptr; value = p }) refl)
+  unfit_enable (Passed' a p) b variables c h0 h1 = absurd (h0 (record { ptr = a.ptr; value = p }) refl)
   unfit_enable (Bound' a p) b variables c h0 h1 = refl
   unfit_enable (Value' a p) b variables c h0 h1 = refl
   unfit_enable (Gate' i a p) b variables c h0 h1 = refl
   unfit_enable (Called' a p) b variables c h0 h1 = refl
   unfit_enable (Relabelled' a p) b variables c h0 h1 = refl
 
-  pub unfit_disable : (s : Shape) (b c : Behaviour) → ((part : Box Shape Global) → s ≡ Left part → ⊥) → ((part : Box Shape Global) → s ≡
+  pub unfit_disable : (s : Shape) (b c : Behaviour) → ((part : Rc Shape Global) → s ≡ Left part → ⊥) → ((part : Rc Shape Global) → s ≡
       Right part → ⊥) → own_wrong setting leaves (shape_of s) k (disable b c) ≡ Some not_fitting
   unfit_disable Act b c h0 h1 = refl
   unfit_disable Quit b c h0 h1 = refl
   unfit_disable Inner b c h0 h1 = refl
   unfit_disable (Guarded' a p) b c h0 h1 = refl
-  unfit_disable (Left' a p) b c h0 h1 = absurd (h0 (record { ptr = a.ptr; alloc = a.alloc; value = p }) refl)
-  unfit_disable (Right' a p) b c h0 h1 = absurd (h1 (record { ptr = a.ptr; alloc = a.alloc; value = p }) refl)
+  unfit_disable (Left' a p) b c h0 h1 = absurd (h0 (record { ptr = a.ptr; value = p }) refl)
+  unfit_disable (Right' a p) b c h0 h1 = absurd (h1 (record { ptr = a.ptr; value = p }) refl)
   unfit_disable (Both' a p e q) b c h0 h1 = refl
   unfit_disable (Hidden' a p) b c h0 h1 = refl
   unfit_disable (Enabled' a p) b c h0 h1 = refl
@@ -198,7 +193,7 @@ module _ (setting : Setting) (leaves : List Term) (k : ℕ) where
   unfit_disable (Called' a p) b c h0 h1 = refl
   unfit_disable (Relabelled' a p) b c h0 h1 = refl
 
-  pub unfit_let : (s : Shape) (bindings : List (Variable × Term)) (b : Behaviour) → ((part : Box Shape Global) → s ≡ Bound part → ⊥) →
+  pub unfit_let : (s : Shape) (bindings : List (Variable × Term)) (b : Behaviour) → ((part : Rc Shape Global) → s ≡ Bound part → ⊥) →
       own_wrong setting leaves (shape_of s) k (let_be bindings b) ≡ Some not_fitting
   unfit_let Act bindings b h0 = refl
   unfit_let Quit bindings b h0 = refl
@@ -210,13 +205,13 @@ module _ (setting : Setting) (leaves : List Term) (k : ℕ) where
   unfit_let (Hidden' a p) bindings b h0 = refl
   unfit_let (Enabled' a p) bindings b h0 = refl
   unfit_let (Passed' a p) bindings b h0 = refl
-  unfit_let (Bound' a p) bindings b h0 = absurd (h0 (record { ptr = a.ptr; alloc = a.alloc; value = p }) refl)
+  unfit_let (Bound' a p) bindings b h0 = absurd (h0 (record { ptr = a.ptr; value = p }) refl)
   unfit_let (Value' a p) bindings b h0 = refl
   unfit_let (Gate' i a p) bindings b h0 = refl
   unfit_let (Called' a p) bindings b h0 = refl
   unfit_let (Relabelled' a p) bindings b h0 = refl
 
-  pub unfit_value : (s : Shape) (x : Variable) (b : Behaviour) → ((part : Box Shape Global) → s ≡ Value part → ⊥) → own_wrong setting
+  pub unfit_value : (s : Shape) (x : Variable) (b : Behaviour) → ((part : Rc Shape Global) → s ≡ Value part → ⊥) → own_wrong setting
       leaves (shape_of s) k (choose_value x b) ≡ Some not_fitting
   unfit_value Act x b h0 = refl
   unfit_value Quit x b h0 = refl
@@ -229,12 +224,12 @@ module _ (setting : Setting) (leaves : List Term) (k : ℕ) where
   unfit_value (Enabled' a p) x b h0 = refl
   unfit_value (Passed' a p) x b h0 = refl
   unfit_value (Bound' a p) x b h0 = refl
-  unfit_value (Value' a p) x b h0 = absurd (h0 (record { ptr = a.ptr; alloc = a.alloc; value = p }) refl)
+  unfit_value (Value' a p) x b h0 = absurd (h0 (record { ptr = a.ptr; value = p }) refl)
   unfit_value (Gate' i a p) x b h0 = refl
   unfit_value (Called' a p) x b h0 = refl
   unfit_value (Relabelled' a p) x b h0 = refl
 
-  pub unfit_gate : (s : Shape) (g : ℕ) (gates : List ℕ) (b : Behaviour) → ((k : ℕ) (part : Box Shape Global) → s ≡ Gate k part → ⊥) →
+  pub unfit_gate : (s : Shape) (g : ℕ) (gates : List ℕ) (b : Behaviour) → ((k : ℕ) (part : Rc Shape Global) → s ≡ Gate k part → ⊥) →
       own_wrong setting leaves (shape_of s) k (choose_gate g gates b) ≡ Some not_fitting
   unfit_gate Act g gates b h0 = refl
   unfit_gate Quit g gates b h0 = refl
@@ -248,11 +243,11 @@ module _ (setting : Setting) (leaves : List Term) (k : ℕ) where
   unfit_gate (Passed' a p) g gates b h0 = refl
   unfit_gate (Bound' a p) g gates b h0 = refl
   unfit_gate (Value' a p) g gates b h0 = refl
-  unfit_gate (Gate' i a p) g gates b h0 = absurd (h0 i (record { ptr = a.ptr; alloc = a.alloc; value = p }) refl)
+  unfit_gate (Gate' i a p) g gates b h0 = absurd (h0 i (record { ptr = a.ptr; value = p }) refl)
   unfit_gate (Called' a p) g gates b h0 = refl
   unfit_gate (Relabelled' a p) g gates b h0 = refl
 
-  pub unfit_call : (s : Shape) (number : ℕ) (gates : List ℕ) (arguments : List Term) → ((part : Box Shape Global) → s ≡ Called part → ⊥)
+  pub unfit_call : (s : Shape) (number : ℕ) (gates : List ℕ) (arguments : List Term) → ((part : Rc Shape Global) → s ≡ Called part → ⊥)
       → own_wrong setting leaves (shape_of s) k (call number gates arguments) ≡ Some not_fitting
   unfit_call Act number gates arguments h0 = refl
   unfit_call Quit number gates arguments h0 = refl
@@ -267,10 +262,10 @@ module _ (setting : Setting) (leaves : List Term) (k : ℕ) where
   unfit_call (Bound' a p) number gates arguments h0 = refl
   unfit_call (Value' a p) number gates arguments h0 = refl
   unfit_call (Gate' i a p) number gates arguments h0 = refl
-  unfit_call (Called' a p) number gates arguments h0 = absurd (h0 (record { ptr = a.ptr; alloc = a.alloc; value = p }) refl)
+  unfit_call (Called' a p) number gates arguments h0 = absurd (h0 (record { ptr = a.ptr; value = p }) refl)
   unfit_call (Relabelled' a p) number gates arguments h0 = refl
 
-  pub unfit_relabel : (s : Shape) (pairs : Relabelling) (b : Behaviour) → ((part : Box Shape Global) → s ≡ Relabelled part → ⊥) →
+  pub unfit_relabel : (s : Shape) (pairs : Relabelling) (b : Behaviour) → ((part : Rc Shape Global) → s ≡ Relabelled part → ⊥) →
       own_wrong setting leaves (shape_of s) k (relabel pairs b) ≡ Some not_fitting
   unfit_relabel Act pairs b h0 = refl
   unfit_relabel Quit pairs b h0 = refl
@@ -286,4 +281,4 @@ module _ (setting : Setting) (leaves : List Term) (k : ℕ) where
   unfit_relabel (Value' a p) pairs b h0 = refl
   unfit_relabel (Gate' i a p) pairs b h0 = refl
   unfit_relabel (Called' a p) pairs b h0 = refl
-  unfit_relabel (Relabelled' a p) pairs b h0 = absurd (h0 (record { ptr = a.ptr; alloc = a.alloc; value = p }) refl)
+  unfit_relabel (Relabelled' a p) pairs b h0 = absurd (h0 (record { ptr = a.ptr; value = p }) refl)

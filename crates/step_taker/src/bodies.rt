@@ -31,11 +31,11 @@ ghost use Rattle.step_taker.specs.Taken.{ground_of};
 ghost use Rattle.step_taker.specs.Walked.{IsCalled, IsPassable, IsStepWalk};
 
 use crate::moved::Walk;
-use behaviour_instances::instance;
 use behaviour_tree::{Beh, Process, Spec};
 use lotos_base::NoMemory;
 use sort_terms::{Deciding, Sorted, Variable};
 use step_parts::faults::{At, StepFault};
+use step_parts::instance;
 use step_parts::leaves::checked_leaves;
 use step_parts::offers::{call_values, let_values, value_pair};
 

@@ -14,5 +14,6 @@ pub mod taking;
 pub mod targets;
 pub mod walks;
 
-pub use step_parts::StepFault;
+pub use step_parts::targets::{part, side_by_side};
+pub use step_parts::{StepFault, instance};
 pub use taking::take;

@@ -46,10 +46,10 @@ use crate::moved::{Moved, Walk};
 use crate::parallels::{left_alone, right_alone, together};
 use crate::sides::{Following, Side};
 use crate::targets::{at_gate, disabled, hidden, in_call, under_pairs};
-use behaviour_instances::instance;
 use behaviour_tree::{Beh, Meet, Node, Shape, Test};
 use sort_terms::{Deciding, Sorted, Variable};
 use step_parts::faults::{At, StepFault, misfit};
+use step_parts::instance;
 use step_parts::node_tests::checked_pair;
 use step_parts::targets::side_by_side;
 

@@ -13,3 +13,4 @@ pub mod StoreCanon
 pub mod Tasks
 pub mod Turns
 pub mod Weight
+pub mod HandedOn

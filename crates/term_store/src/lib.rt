@@ -16,3 +16,5 @@ pub mod turns;
 pub mod wholes;
 
 pub use store::Store;
+pub use term_rewriter::first_index::{FirstIndex, first_operation, indexed};
+pub use term_rewriter::normalise;

@@ -12,3 +12,4 @@ pub mod DefinitionsDepths
 pub mod StartsDepths
 pub mod RowDepths
 pub mod FoldedDepths
+pub mod HandedOn

@@ -3,3 +3,4 @@ pub mod MeaningNodes
 pub mod DepthPart
 pub mod RowDepth
 pub mod DepthRowLaws
+pub mod HandedOn

@@ -10,3 +10,4 @@ pub mod part;
 mod rows;
 
 pub use depth::{items_depth, specification_depth, terms_depth};
+pub use sentence_trees::{Derived, ReadFault, TextKind, derive};

@@ -2,7 +2,7 @@
 use Rattle.std.proofs.Common.{◌≡◌, ℕ, suc, ◌+◌, ◌≤◌, Bool, true, false, List, [], ◌∷◌, ◌++◌, refl, arith}
 use Rattle.std.specs.Prelude.{Some, None, max, nat_lt, cond, slice_get}
 use Rattle.std.proofs.lemmas.Bool.{ltb-true}
-use Rattle.lotos_base.specs.Equation.{Place}
+use Rattle.lotos_base.specs.Equation.{Place, Variable}
 use Rattle.lotos_base.specs.Signature.{Signature, Form, prefix_form, infix_form}
 use Rattle.lotos_base.specs.Term.{Term, Terms, variable, node, no_terms, term_then, terms_of}
 use Rattle.lotos_base.specs.WrittenTerm.{WrittenTerm, WrittenTerms, written, no_written, written_then, written_terms}
@@ -14,7 +14,7 @@ use Rattle.texts_read_back.specs.TermDepth.{term_depth, depth_among}
 abbrev pub IsShallow : ℕ → List TreeNode → Type 0
 IsShallow limit nodes = first_deeper limit nodes ≡ None
 
-shallow_joined : (limit : ℕ) (nodes others : List TreeNode) → IsShallow limit nodes → IsShallow limit others
+pub shallow_joined : (limit : ℕ) (nodes others : List TreeNode) → IsShallow limit nodes → IsShallow limit others
     → IsShallow limit (nodes ++ others)
 shallow_joined limit [] others first second = second
 shallow_joined limit (here ∷ nodes) others first second =
@@ -26,7 +26,7 @@ shallow_joined limit (here ∷ nodes) others first second =
     by true none below = none
     by false none below = below none
 
-shallow_node : (limit depth : ℕ) (place : Place) → depth ≤ limit → IsShallow limit (node_at place depth ∷ [])
+pub shallow_node : (limit depth : ℕ) (place : Place) → depth ≤ limit → IsShallow limit (node_at place depth ∷ [])
 shallow_node limit depth place within = by (nat_lt limit depth) refl
   where
     by : (deep : Bool) → nat_lt limit depth ≡ deep → cond deep (Some place) None ≡ None
@@ -55,32 +55,32 @@ at_most : (depth a limit : ℕ) → depth + suc a ≤ suc limit → depth ≤ li
 at_most depth a limit h = omega arith
 
 mutual
-  pub term_shallow : (signature : Signature) (limit : ℕ) (t : Term) (depth : ℕ) (w : WrittenTerm) → IsWrittenAs signature [] t w
+  pub term_shallow : (signature : Signature) (names : List Variable) (limit : ℕ) (t : Term) (depth : ℕ) (w : WrittenTerm) → IsWrittenAs signature names t w
       → depth + term_depth t ≤ suc limit → IsShallow limit (term_nodes depth w)
-  term_shallow signature limit (variable n s) depth (written head no_written) writes within =
+  term_shallow signature names limit (variable n s) depth (written head no_written) writes within =
       shallow_node limit depth head.place (at_most depth 0 limit within)
-  term_shallow signature limit (variable n s) depth (written head (written_then w ws)) writes within = absurd writes
-  term_shallow signature limit (node f no_terms) depth (written head no_written) writes within =
+  term_shallow signature names limit (variable n s) depth (written head (written_then w ws)) writes within = absurd writes
+  term_shallow signature names limit (node f no_terms) depth (written head no_written) writes within =
       shallow_node limit depth head.place (at_most depth (depth_among no_terms) limit within)
-  term_shallow signature limit (node f no_terms) depth (written head (written_then w ws)) writes within = absurd writes.3
-  term_shallow signature limit (node f (term_then t ts)) depth (written head no_written) writes within = absurd writes.3
-  term_shallow signature limit (node f (term_then t ts)) depth (written head (written_then w ws)) writes within =
+  term_shallow signature names limit (node f no_terms) depth (written head (written_then w ws)) writes within = absurd writes.3
+  term_shallow signature names limit (node f (term_then t ts)) depth (written head no_written) writes within = absurd writes.3
+  term_shallow signature names limit (node f (term_then t ts)) depth (written head (written_then w ws)) writes within =
       let below : (depth + 1) + max (term_depth t) (depth_among ts) ≤ suc limit =
       one_less depth (depth_among (term_then t ts)) limit within in
       shallow_before limit depth head.place head.form (term_nodes (depth + 1) w) (terms_nodes (depth + 1) ws)
       (at_most depth (depth_among (term_then t ts)) limit within)
-      (term_shallow signature limit t (depth + 1) w writes.3.0 (max_left (term_depth t) (depth_among ts) (suc limit) (depth + 1) below))
-      (terms_shallow signature limit ts (depth + 1) ws writes.3.1 (max_right (term_depth t) (depth_among ts) (suc limit) (depth + 1) below))
+      (term_shallow signature names limit t (depth + 1) w writes.3.0 (max_left (term_depth t) (depth_among ts) (suc limit) (depth + 1) below))
+      (terms_shallow signature names limit ts (depth + 1) ws writes.3.1 (max_right (term_depth t) (depth_among ts) (suc limit) (depth + 1) below))
 
-  pub terms_shallow : (signature : Signature) (limit : ℕ) (ts : Terms) (depth : ℕ) (ws : WrittenTerms) → AreWrittenAs signature [] ts ws
+  pub terms_shallow : (signature : Signature) (names : List Variable) (limit : ℕ) (ts : Terms) (depth : ℕ) (ws : WrittenTerms) → AreWrittenAs signature names ts ws
       → depth + depth_among ts ≤ suc limit → IsShallow limit (terms_nodes depth ws)
-  terms_shallow signature limit no_terms depth no_written writes within = refl
-  terms_shallow signature limit no_terms depth (written_then w ws) writes within = absurd writes
-  terms_shallow signature limit (term_then t ts) depth no_written writes within = absurd writes
-  terms_shallow signature limit (term_then t ts) depth (written_then w ws) writes within =
+  terms_shallow signature names limit no_terms depth no_written writes within = refl
+  terms_shallow signature names limit no_terms depth (written_then w ws) writes within = absurd writes
+  terms_shallow signature names limit (term_then t ts) depth no_written writes within = absurd writes
+  terms_shallow signature names limit (term_then t ts) depth (written_then w ws) writes within =
       shallow_joined limit (term_nodes depth w) (terms_nodes depth ws)
-      (term_shallow signature limit t depth w writes.0 (max_left (term_depth t) (depth_among ts) (suc limit) depth within))
-      (terms_shallow signature limit ts depth ws writes.1 (max_right (term_depth t) (depth_among ts) (suc limit) depth within))
+      (term_shallow signature names limit t depth w writes.0 (max_left (term_depth t) (depth_among ts) (suc limit) depth within))
+      (terms_shallow signature names limit ts depth ws writes.1 (max_right (term_depth t) (depth_among ts) (suc limit) depth within))
 
 -- terms each by itself
 pub list_shallow : (signature : Signature) (limit : ℕ) (ts : List Term) (ws : List WrittenTerm)
@@ -91,5 +91,5 @@ list_shallow signature limit [] (w ∷ ws) writes within = absurd writes
 list_shallow signature limit (t ∷ ts) [] writes within = absurd writes
 list_shallow signature limit (t ∷ ts) (w ∷ ws) writes within =
     shallow_joined limit (nodes_of_term w) (nodes_of_terms ws)
-    (term_shallow signature limit t 1 w writes.0 (let small : term_depth t ≤ limit = within 0 t refl in omega (arith, small)))
+    (term_shallow signature [] limit t 1 w writes.0 (let small : term_depth t ≤ limit = within 0 t refl in omega (arith, small)))
     (list_shallow signature limit ts ws writes.1 (λ i u found. within (suc i) u found))

@@ -4,6 +4,7 @@ pub mod PartsOfText
 pub mod PrintedTerms
 pub mod TermPhrases
 pub mod DepthLemmas
+pub mod ReadDepths
 pub mod ReadBackLemmas
 pub mod PlainNames
 pub mod SampleLemmas

@@ -14,7 +14,7 @@ use Rattle.lotos_lexer.specs.Pieces.{close_at, comment, piece_at}
 use Rattle.lotos_lexer.specs.Tokens.{token_at}
 use Rattle.lotos_rows.specs.Words.{IsOf, Between, between}
 use Rattle.lotos_rows.specs.Names.{named, IsOperationName, word_name, digit_name, sign_name}
-use Rattle.printed_texts.specs.Brackets.{begins_with, spaced, round}
+use Rattle.session_histories.specs.HandedOn.{begins_with, spaced, round}
 use Rattle.texts_read_back.specs.TextNames.{IsWordSpelling, IsDigitSpelling, IsSignSpelling, IsOperationSpelling}
 use Rattle.texts_read_back.proofs.NameTokens.{IsApart, word_piece, digit_piece, sign_piece}
 use Rattle.texts_read_back.proofs.CutPieces.{behind_bytes, IsCut, cut_joined, cut_one, cut_blank, spelled_there}

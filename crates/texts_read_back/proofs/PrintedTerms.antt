@@ -11,8 +11,7 @@ use Rattle.lotos_lexer.specs.declared.kinds.TheConstants.{LEFT_PARENTHESIS, RIGH
 use Rattle.syntax_trees.specs.LeftGrouping.{only}
 use Rattle.lotos_rows.specs.Words.{Between, between}
 use Rattle.lotos_rows.specs.Terms.{of_sort, IsTerm, grouped_factors, one_factor, IsFactor, without_sort, with_sort, IsBase, bracketed}
-use Rattle.printed_texts.specs.Brackets.{round}
-use Rattle.printed_texts.specs.TermText.{Phrase, operand_text}
+use Rattle.session_histories.specs.HandedOn.{round, Phrase, operand_text}
 use Rattle.texts_read_back.specs.WrittenAs.{IsMarkOf, no_mark, mark, IsHeadOf, IsWrittenAs, AreWrittenAs}
 use Rattle.texts_read_back.specs.TextNames.{IsWordSpelling}
 use Rattle.texts_read_back.proofs.CutPieces.{IsCut, cut_joined}

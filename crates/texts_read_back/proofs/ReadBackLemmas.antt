@@ -14,11 +14,8 @@ use Rattle.lotos_lexer.proofs.CuttingLemmas.{with_tokens-Tokens}
 use Rattle.lotos_rows.specs.Words.{left_out, there}
 use Rattle.lotos_rows.specs.Terms.{AreTerms}
 use Rattle.lotos_rows.specs.Starts.{AreOptionalTerms}
-use Rattle.sentence_trees.specs.Reading.{node_limit, IsTermsReading}
-use Rattle.sentence_trees.proofs.Outcomes.{all_have_one_outcome}
-use Rattle.printed_texts.specs.Brackets.{commas}
-use Rattle.printed_texts.specs.TermText.{phrase_text, phrases_of}
-use Rattle.printed_texts.specs.MenuText.{entry_term_text, term_texts}
+use Rattle.session_histories.specs.HandedOn.{node_limit, IsTermsReading, commas, phrase_text, phrases_of, entry_term_text, term_texts}
+use Rattle.session_histories.proofs.HandedOn.{all_have_one_outcome}
 use Rattle.texts_read_back.specs.WrittenAs.{AreWrittenAs}
 use Rattle.texts_read_back.proofs.WrittenLemmas.{ground_terms_have_one_reading}
 use Rattle.texts_read_back.specs.TextNames.{HasTextNames}

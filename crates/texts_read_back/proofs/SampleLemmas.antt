@@ -6,8 +6,7 @@ use Rattle.lotos_base.specs.Signature.{Sort, Operation, infix_form, IsWellFormed
 use Rattle.lotos_base.specs.Sorting.{IsGroundOf}
 use Rattle.lotos_base.specs.Term.{Term}
 use Rattle.sort_terms.proofs.WellFormedLemmas.{well_formed_test}
-use Rattle.sentence_trees.specs.Reading.{node_limit}
-use Rattle.printed_texts.specs.Samples.{sample_signature, a, f, plus, star, small_d, capital_d, minus}
+use Rattle.session_histories.specs.HandedOn.{node_limit, sample_signature, a, f, plus, star, small_d, capital_d, minus}
 use Rattle.texts_read_back.specs.TextNames.{IsWordSpelling, IsSignSpelling, IsOperationSpelling, HasTextNames}
 use Rattle.texts_read_back.specs.TermDepth.{term_depth}
 use Rattle.texts_read_back.specs.SampleTexts.{SampleTextsAreReadBack}

@@ -5,7 +5,7 @@ use Rattle.lotos_base.specs.Equation.{Variable}
 use Rattle.lotos_base.specs.Term.{Terms, variable, node, no_terms, term_then}
 use Rattle.lotos_base.specs.WrittenTerm.{WrittenHead, WrittenTerms, written, no_written, written_then}
 use Rattle.sort_terms.specs.Reading.{IsLastNamed, AllRead, IsVariableAt, IsOperationAt}
-use Rattle.printed_texts.specs.TermText.{variable_text}
+use Rattle.session_histories.specs.HandedOn.{variable_text}
 use Rattle.texts_read_back.specs.TermMeanings.{VariableMeans, IsUnhidden, TermsMean, AreLookedUp}
 use Rattle.texts_read_back.specs.WrittenLaws.{ReadTermsMeanThemselves}
 

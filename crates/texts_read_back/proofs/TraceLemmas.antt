@@ -13,20 +13,18 @@ use Rattle.behaviour_semantics.specs.Behaviour.{Behaviour, Process}
 use Rattle.behaviour_semantics.specs.Rule.{AreValues}
 use Rattle.behaviour_semantics.specs.WellFormed.{Every}
 use Rattle.behaviour_semantics.proofs.RaisedDrafts.{every_map}
-use Rattle.sentence_trees.specs.Reading.{node_limit}
+use Rattle.session_histories.specs.HandedOn.{node_limit, commas, term_texts}
 use Rattle.texts_read_back.specs.TextNames.{IsWordSpelling, IsOperationSpelling, HasTextNames}
 use Rattle.texts_read_back.specs.TermDepth.{term_depth}
 use Rattle.texts_read_back.specs.ReadBack.{AreReadBackAt, AreReadBack}
 use Rattle.texts_read_back.specs.ReadBackLaws.{IsPlainSpelling}
 use Rattle.texts_read_back.proofs.PlainNames.{names_are_plain}
 use Rattle.texts_read_back.proofs.ReadBackLemmas.{term_lists_read_back}
-use Rattle.printed_texts.specs.Brackets.{commas}
-use Rattle.printed_texts.specs.MenuText.{term_texts}
 use Rattle.session_histories.specs.Session.{SessionBasis, Situation, PastStep, items_of}
 use Rattle.session_histories.specs.Replay.{AreRead}
 use Rattle.session_histories.specs.TraceLaws.{IsPlainName, HavePlainNames, ReadBack, IsReadable, IsTraceable, HaveLineNames}
-use Rattle.state_texts.specs.BoundNames.{bound_names, names_in_bodies}
-use Rattle.state_texts.specs.TextBytes.{IsOnOneLine}
+use Rattle.session_histories.specs.BoundNames.{bound_names, names_in_bodies}
+use Rattle.session_histories.specs.TextBytes.{IsOnOneLine}
 use Rattle.texts_read_back.specs.TraceReadings.{HasNamesOfText, IsWithinLine, HasTextTrace}
 
 -- what holds of each member by its number holds of every member, and the other way round

@@ -17,7 +17,7 @@ use Rattle.lotos_base.proofs.SignatureLemmas.{profiles_tell}
 use Rattle.sort_terms.specs.Counting.{IsOnly}
 use Rattle.sort_terms.specs.Reading.{Reads, AllRead, IsAsked, IsVisible, IsLastNamed, NoneNamed, IsOperationAt}
 use Rattle.sort_terms.specs.ReadingOutcome.{ReadingRefusal, unknown_name, unknown_sort, SortedTerm, SortedPair, answered, ComesTo, IsReading, IsPairReading, one_name, is_known, is_operation_name, is_variable_name, is_sort_name, unknown_at, unknown_sorts, unknown_in, unknown_in_each, together, in_text_order}
-use Rattle.printed_texts.specs.TermText.{variable_text}
+use Rattle.session_histories.specs.HandedOn.{variable_text}
 use Rattle.texts_read_back.specs.WrittenAs.{IsMarkOf, no_mark, mark, IsHeadOf, IsNameAlone, IsWrittenAs, AreWrittenAs}
 use Rattle.texts_read_back.specs.TermMeanings.{VariableMeans, IsUnhidden, TermMeans, TermsMean}
 use Rattle.texts_read_back.specs.WrittenLaws.{HasOneReading, HaveOneReading, TermsWrittenHaveOneReading, PairsWrittenHaveOneReading, WrittenTermsHaveOneReading, WrittenListsHaveOneReading}

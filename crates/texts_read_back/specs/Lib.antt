@@ -7,3 +7,4 @@ pub mod WrittenAs
 pub mod TermMeanings
 pub mod WrittenLaws
 pub mod TraceReadings
+pub mod HandedOn

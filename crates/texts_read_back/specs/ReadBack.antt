@@ -4,7 +4,7 @@ use Rattle.lotos_base.specs.WrittenTerm.{WrittenTerm}
 use Rattle.lotos_base.specs.Signature.{Signature}
 use Rattle.lotos_base.specs.Term.{Term}
 use Rattle.sort_terms.specs.ReadingOutcome.{answered, ReadingIs}
-use Rattle.sentence_trees.specs.Reading.{IsTermsReading}
+use Rattle.session_histories.specs.HandedOn.{IsTermsReading}
 
 -- the written term has one reading at the sort, without variables: the term
 abbrev pub IsReadBackAt : Signature → ℕ → WrittenTerm → Term → Type 0

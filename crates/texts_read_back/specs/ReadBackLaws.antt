@@ -6,9 +6,7 @@ use Rattle.lotos_base.specs.Signature.{Signature, IsWellFormedSignature}
 use Rattle.lotos_base.specs.Sorting.{IsGroundOf}
 use Rattle.lotos_base.specs.Term.{Term}
 use Rattle.behaviour_semantics.specs.Rule.{AreValues}
-use Rattle.sentence_trees.specs.Reading.{node_limit}
-use Rattle.printed_texts.specs.Brackets.{commas}
-use Rattle.printed_texts.specs.MenuText.{entry_term_text, term_texts}
+use Rattle.session_histories.specs.HandedOn.{node_limit, commas, entry_term_text, term_texts}
 use Rattle.texts_read_back.specs.TextNames.{IsOperationSpelling, HasTextNames}
 use Rattle.texts_read_back.specs.TermDepth.{term_depth}
 use Rattle.texts_read_back.specs.ReadBack.{IsReadBack, AreReadBack}

@@ -1,7 +1,7 @@
 -- Sample data that the laws speak of: their names have the form, and some texts of their terms are read back.
 use Rattle.std.specs.Prelude.{[], ◌∷◌, codes}
 use Rattle.lotos_base.specs.Signature.{IsWellFormedSignature}
-use Rattle.printed_texts.specs.Samples.{sample_signature, a, f, plus, star, small_d, capital_d, minus}
+use Rattle.session_histories.specs.HandedOn.{sample_signature, a, f, plus, star, small_d, capital_d, minus}
 use Rattle.texts_read_back.specs.TextNames.{HasTextNames}
 use Rattle.texts_read_back.specs.ReadBack.{IsReadBack, AreReadBack}
 

@@ -4,7 +4,7 @@ use Rattle.lotos_base.specs.Signature.{Signature, Operation, IsOperation, prefix
 use Rattle.lotos_base.specs.Equation.{Variable}
 use Rattle.lotos_base.specs.Term.{Term, Terms, variable, node, no_terms, term_then}
 use Rattle.sort_terms.specs.Reading.{IsLastNamed, NoneNamed}
-use Rattle.printed_texts.specs.TermText.{variable_text}
+use Rattle.session_histories.specs.HandedOn.{variable_text}
 
 -- The name that the variable with this number is printed by is, where these variables are visible, the innermost last, that of a
 -- variable with this number and sort.

@@ -3,14 +3,14 @@ use Rattle.std.specs.Prelude.{◌<◌, ◌≤◌, List}
 use Rattle.lotos_base.specs.Term.{Term}
 use Rattle.behaviour_semantics.specs.Behaviour.{Behaviour, Process}
 use Rattle.behaviour_semantics.specs.WellFormed.{Every}
-use Rattle.sentence_trees.specs.Reading.{node_limit}
+use Rattle.session_histories.specs.HandedOn.{node_limit}
 use Rattle.texts_read_back.specs.TextNames.{IsWordSpelling, HasTextNames}
 use Rattle.texts_read_back.specs.TermDepth.{term_depth}
 use Rattle.session_histories.specs.Session.{SessionBasis, Item, Situation, PastStep, items_of}
 use Rattle.session_histories.specs.Lawful.{IsSituation, LeadTo}
 use Rattle.session_histories.specs.SessionLaws.{IsStateOver}
 use Rattle.session_histories.specs.TraceLaws.{trace_of, plain_trace_of, LeadsBack}
-use Rattle.state_texts.specs.BoundNames.{bound_names, names_in_bodies}
+use Rattle.session_histories.specs.BoundNames.{bound_names, names_in_bodies}
 
 -- The names of the signature, of the specification with its gates and processes, and of the variables that its processes and this state
 -- bind have the form that texts have, and infix operations have two arguments.

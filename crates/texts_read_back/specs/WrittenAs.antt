@@ -6,7 +6,7 @@ use Rattle.lotos_base.specs.Signature.{Signature, Sort, Operation, IsOperation, 
 use Rattle.lotos_base.specs.Equation.{Variable}
 use Rattle.lotos_base.specs.Term.{Term, Terms, variable, node, no_terms, term_then}
 use Rattle.lotos_base.specs.Twins.{HasTwin}
-use Rattle.printed_texts.specs.TermText.{variable_text}
+use Rattle.session_histories.specs.HandedOn.{variable_text}
 
 -- what `of` puts on an operation: the sort of its result where it has a twin, and nothing where it has none
 pub data IsMarkOf (signature : Signature) (operation : Operation) : List PlacedName → Type 0 where

@@ -5,3 +5,5 @@
 pub mod term_text_laws;
 pub mod trace_laws;
 pub mod written_laws;
+
+pub use session_histories::texts_are_unambiguous;

@@ -3,3 +3,4 @@ pub mod Parts
 pub mod Indexed
 pub mod ActualisationLaws
 pub mod Brought
+pub mod NewNumbersView

@@ -18,6 +18,7 @@ ghost use Rattle.type_actualisation.specs.Indexed.{
   IsWithOperations,
   HasSortSource,
 };
+ghost use Rattle.type_actualisation.specs.NewNumbersView.{AreNewNumbers};
 ghost use Rattle.type_definitions.specs.FaultView.{IsFaultFound};
 ghost use Rattle.type_definitions.specs.Actualisation.{Actualising};
 ghost use Rattle.type_definitions.specs.ActualisationFaults.{actualising_fault};
@@ -27,7 +28,7 @@ ghost use Rattle.type_presentations.specs.PresentationView.{
   presentation_of,
 };
 
-use crate::bringing::bring;
+use crate::bringing::{NewNumbers, bring};
 use actual_members::{
     PairIndex, Source, formal_op_names, formal_sort_names, look_at_actual_sort_pairs,
     look_at_op_pairs,
@@ -73,14 +74,15 @@ pub fn actualise(
         (pairs_of sort_pairs.now op_pairs.now))) fault) }
 {
     let mut made = actual;
-    with_sorts(
+    actualise_into(
         alloc, base, mention, &mut made, type_name, sort_pairs, op_pairs,
     )?;
     Ok(made)
 }
 
-// Looks at the pairs of sorts, and goes on.
-fn with_sorts(
+/// The same in the place of the actual types, with the new numbers of what the base has; after a
+/// fault it is not to be used. The pairs of sorts are looked at first.
+pub fn actualise_into(
     alloc: Global,
     base: &Presentation,
     mention: &Named,
@@ -88,15 +90,18 @@ fn with_sorts(
     type_name: &Name,
     sort_pairs: &[PairText],
     op_pairs: &[PairText],
-) -> Result<(), TypeFault>
+) -> Result<NewNumbers, TypeFault>
     requires sound { IsSound base.now }
     requires within { IsWithinLimits base.now }
     requires actual_sound { IsSound actual.old }
     requires actual_within { IsWithinLimits actual.old }
     ensures { MatchResult result
-        (λ _. IsActualised (actualising_with (placed_name_of mention.now) (presentation_of base.now)
-        (presentation_of actual.old) (spelling type_name.now)
-        (pairs_of sort_pairs.now op_pairs.now)) actual.new)
+        (λ numbers. IsActualised (actualising_with (placed_name_of mention.now)
+        (presentation_of base.now) (presentation_of actual.old) (spelling type_name.now)
+        (pairs_of sort_pairs.now op_pairs.now)) actual.new
+        × AreNewNumbers (actualising_with (placed_name_of mention.now)
+        (presentation_of base.now) (presentation_of actual.old) (spelling type_name.now)
+        (pairs_of sort_pairs.now op_pairs.now)) numbers)
         (λ fault. IsActualisingFault (actualising_with (placed_name_of mention.now)
         (presentation_of base.now) (presentation_of actual.old) (spelling type_name.now)
         (pairs_of sort_pairs.now op_pairs.now)) fault) }
@@ -124,14 +129,14 @@ fn with_ops(
     actual: &mut Presentation,
     sorts: &Source<'_>,
     op_pairs: &[PairText],
-) -> Result<(), TypeFault>
+) -> Result<NewNumbers, TypeFault>
     requires sound { IsSound base.now }
     requires within { IsWithinLimits base.now }
     requires actual_sound { IsSound actual.old }
     requires actual_within { IsWithinLimits actual.old }
     requires sorts { (a : Actualising) × HasSortSource a base.now actual.old sorts.now op_pairs.now }
     ensures { (a : Actualising) → HasSortSource a base.now actual.old sorts.now op_pairs.now
-        → MatchResult result (λ _. IsWithOperations a actual.new)
+        → MatchResult result (λ numbers. IsWithOperations a actual.new × AreNewNumbers a numbers)
         (λ fault. IsFaultBehindSortPairs a fault) }
 {
     let formals = formal_op_names(alloc, base)?;

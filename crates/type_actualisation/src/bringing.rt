@@ -5,6 +5,7 @@ ghost use Rattle.type_presentations.specs.OperationListView.{HasOperationKeys, o
 ghost use Rattle.type_presentations.specs.SortListView.{HasSortKeys, sorts_in};
 ghost use Rattle.sort_terms.specs.WellFormedTest.{all_differ, are_one_operation, are_one_sort};
 ghost use Rattle.std.specs.Prelude.{◌≡◌, ◌≤◌, length, MatchResult, OnOk, true};
+ghost use Rattle.type_actualisation.specs.NewNumbersView.{AreNewNumbers};
 ghost use Rattle.type_actualisation.specs.Parts.{
   HasBroughtOperations,
   HasBroughtSorts,
@@ -33,6 +34,15 @@ use syntax_trees::Named;
 use type_definitions::TypeFault;
 use type_presentations::{OperationList, Presentation, SortList};
 
+/// The new numbers of the sorts and operations of a base, by their old ones.
+#[derive(Drop)]
+pub struct NewNumbers {
+    /// Those of the sorts.
+    pub sorts: Vec<u32>,
+    /// Those of the operations.
+    pub ops: Vec<u32>,
+}
+
 /// Brings into the actual types what is not formal in the base, where each formal sort and
 /// operation becomes its actual one. Refused are a formal sort without an actual one, then a
 /// formal operation, then clashes of sorts, then of operations, then too many sorts, operations or
@@ -43,19 +53,24 @@ pub fn bring(
     actual: &mut Presentation,
     sorts: &Source<'_>,
     ops: &Source<'_>,
-) -> Result<(), TypeFault>
+) -> Result<NewNumbers, TypeFault>
     requires sound { IsSound base.now }
     requires within { IsWithinLimits base.now }
     requires actual_sound { IsSound actual.old }
     requires actual_within { IsWithinLimits actual.old }
     requires parts { (a : Actualising) × HasParts a base.now actual.old sorts.now ops.now }
     ensures { (a : Actualising) → HasParts a base.now actual.old sorts.now ops.now
-        → MatchResult result (λ _. IsBroughtIn a actual.new) (λ fault. IsFaultBehindPairs a fault) }
+        → MatchResult result (λ numbers. IsBroughtIn a actual.new × AreNewNumbers a numbers)
+        (λ fault. IsFaultBehindPairs a fault) }
 {
     let came = bring_all_sorts(alloc, base, &mut actual.sorts, sorts)?;
     let numbers = came.numbers.as_slice();
     let came_ops = bring_all_ops(alloc, base, &mut actual.ops, ops, numbers)?;
-    complete(alloc, base, actual, &came, &came_ops, ops.mention)
+    complete(alloc, base, actual, &came, &came_ops, ops.mention)?;
+    Ok(NewNumbers {
+        sorts: came.numbers,
+        ops: came_ops.numbers,
+    })
 }
 
 // Brings the sorts.

@@ -8,5 +8,6 @@ pub mod equation_bringing;
 pub mod refusals;
 
 pub use actualisation_laws::actualised_data_are_well_formed;
-pub use actualising::actualise;
+pub use actualising::{actualise, actualise_into};
+pub use bringing::NewNumbers;
 pub use equation_bringing::bring_equations;

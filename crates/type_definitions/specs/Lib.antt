@@ -13,6 +13,9 @@ pub mod ActualisationFaults
 pub mod RenamingExamples
 pub mod ActualisationExamples
 pub mod Flattened
+pub mod FormalEquations
+pub mod Requirements
+pub mod RequirementExamples
 pub mod Images
 pub mod ProfiledImage
 pub mod ImageLaws

@@ -25,6 +25,7 @@ ghost use Rattle.type_definitions.specs.ActualisationExamples.{ActualisationExam
 ghost use Rattle.type_definitions.specs.DeclarationExamples.{DeclarationExamples};
 ghost use Rattle.type_definitions.specs.MentionFaults.{MentionFaultsAreUnique};
 ghost use Rattle.type_definitions.specs.RenamingExamples.{RenamingExamples};
+ghost use Rattle.type_definitions.specs.RequirementExamples.{RequirementExamples};
 ghost use Rattle.type_definitions.specs.UnionExamples.{UnionExamples};
 ghost use Rattle.type_definitions.specs.UnionLaws.{FirstAppearancesAreKept, UnionsKeepAndAdd};
 
@@ -74,4 +75,10 @@ pub fn actualisation_examples()
 /// The fault of the names of types that counts is one alone.
 pub fn mention_faults_are_unique()
     ensures { MentionFaultsAreUnique }
+{}
+
+/// What a bag of elements requires once numbers fill it, and the formal equations of unions, of a
+/// renaming and of an actualisation by what is formal.
+pub fn requirement_examples()
+    ensures { RequirementExamples }
 {}

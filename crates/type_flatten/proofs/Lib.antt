@@ -3,3 +3,4 @@ pub mod OneTypeSteps
 pub mod AllTypesLemmas
 pub mod OrderLemmas
 pub mod FlatDataLemmas
+pub mod HandedOn

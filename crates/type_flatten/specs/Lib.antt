@@ -1,1 +1,2 @@
 pub mod FlatView
+pub mod HandedOn

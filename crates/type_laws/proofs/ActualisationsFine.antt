@@ -14,12 +14,9 @@ use Rattle.type_definitions.specs.Presentation.{with_new, is_same_sort, is_same_
 use Rattle.type_definitions.specs.Actualisation.{Actualising, actualisation, other_sorts_of, other_operations_of, other_sort_image, other_operation_image, sort_renamer, operation_renamer}
 use Rattle.type_definitions.specs.ActualisationFaults.{Coming, there_already, coming_clash, coming_at, coming_sorts, coming_operations, sorts_clash, operations_clash, made_by_two, actualising_fault}
 use Rattle.type_definitions.proofs.FaultLemmas.{none_first, not_past}
-use Rattle.type_presentations.proofs.AddedLemmas.{by_name, by_profile}
-use Rattle.type_presentations.proofs.KeptLemmas.{differ_and_one}
-use Rattle.type_presentations.proofs.KeyedLemmas.{mutual_by_key}
-use Rattle.type_presentations.proofs.SignatureLemmas.{sorts_differ, operations_differ}
-use Rattle.type_actualisation.specs.ActualisationLaws.{HasActuals}
-use Rattle.type_actualisation.proofs.DataLemmas.{actualised_data}
+use Rattle.type_flatten.proofs.HandedOn.{by_name, by_profile, differ_and_one, mutual_by_key, sorts_differ, operations_differ}
+use Rattle.type_flatten.proofs.HandedOn.{actualised_data}
+use Rattle.type_flatten.specs.HandedOn.{HasActuals}
 use Rattle.type_laws.specs.FlattenedData.{IsFine}
 
 -- ---- Tests over lists.

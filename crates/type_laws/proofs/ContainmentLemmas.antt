@@ -11,7 +11,7 @@ use Rattle.type_definitions.specs.Images.{operation_image, equation_image}
 use Rattle.type_definitions.specs.Presentation.{Presentation, is_marked, with_new, is_same_equation, first_position}
 use Rattle.type_definitions.specs.Union.{joined, joined_sort, joined_operation, joined_equations}
 use Rattle.type_definitions.proofs.WithNewLemmas.{first_appearances, unions}
-use Rattle.type_presentations.proofs.OnceLemmas.{any_once}
+use Rattle.type_flatten.proofs.HandedOn.{any_once}
 use Rattle.type_laws.specs.Containment.{StaysIn, LiesIn}
 use Rattle.type_laws.specs.UnionBounds.{coming_equations}
 

@@ -9,9 +9,9 @@ use Rattle.type_definitions.specs.Presentation.{Presentation}
 use Rattle.type_definitions.specs.Union.{presentation_fault}
 use Rattle.type_definitions.specs.Declarations.{with_sort, sort_fault, with_operation, operation_fault, fits_form, unknown_sort_among, with_formal_sorts, with_sorts, with_formal_operations, with_declarations, declaration_fault}
 use Rattle.type_definitions.proofs.FaultLemmas.{none_first}
-use Rattle.type_presentations.proofs.GrowthLemmas.{data_in_larger, larger_by_sort, larger_by_operation, well_formed_with_sort, well_formed_with_operation}
-use Rattle.type_declarations.specs.DeclaredOperation.{declared_operation}
-use Rattle.type_declarations.proofs.DeclareLemmas.{sorts_are_known}
+use Rattle.type_flatten.proofs.HandedOn.{data_in_larger, larger_by_sort, larger_by_operation, well_formed_with_sort}
+use Rattle.type_flatten.proofs.HandedOn.{well_formed_with_operation, sorts_are_known}
+use Rattle.type_flatten.specs.HandedOn.{declared_operation}
 use Rattle.type_laws.specs.FlattenedData.{IsFine}
 use Rattle.type_laws.proofs.UnionsFine.{nothing_clashes, all_along}
 

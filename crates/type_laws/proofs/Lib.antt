@@ -11,6 +11,7 @@ pub mod ActualisationsFine
 pub mod TypesFine
 pub mod OneOrder
 pub mod OneOutcome
+pub mod OneRequirements
 pub mod OneReading
 pub mod CauseLemmas
 pub mod ActualisationCauseLemmas
@@ -26,3 +27,4 @@ pub mod FlatteningLemmas
 pub mod CoincidingLemmas
 pub mod TextOrderLemmas
 mod VariableNumbers
+pub mod HandedOn

@@ -20,7 +20,7 @@ use Rattle.type_laws.proofs.OneReading.{equations_are_decided}
 module _ (equations : EquationsAreDecided) where
   -- ---- One type
 
-  presented_once : (done : List Mentioned) (name : List ℕ) (body : WrittenTypeBody) (p q : Presentation) → IsPresentation done name body p
+  pub presented_once : (done : List Mentioned) (name : List ℕ) (body : WrittenTypeBody) (p q : Presentation) → IsPresentation done name body p
       → IsPresentation done name body q → p ≡ q
   presented_once done name (extends imports sections) p q one other =
       (equations name (extended (mentions_with done imports) name sections) (asked_of sections)).one_presentation p q one.1 other.1

@@ -45,7 +45,7 @@ module _ (p : Presentation) (asked : AskedEquation) where
 
   -- ---- A side
 
-  side_once : (w : WrittenTerm) (t u : Term) → IsSide p asked w t → IsSide p asked w u → t ≡ u
+  pub side_once : (w : WrittenTerm) (t u : Term) → IsSide p asked w t → IsSide p asked w u → t ≡ u
   side_once w t u is also =
       sym is.2
       ∙ ap (λ (o : ReadingOutcome SortedTerm). (answer_in is.0 o).term)

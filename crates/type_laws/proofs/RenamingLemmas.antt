@@ -26,7 +26,7 @@ use Rattle.type_definitions.specs.Presentation.{Presentation}
 use Rattle.type_definitions.specs.Renaming.{pair_for, operation_under, renamed_sort, renamed_operation, renaming, renaming_fault, clash_at, clash_with, clash_among, renamed_sort_clash, renamed_operation_clash, sort_pairs_fault, operation_pairs_fault}
 use Rattle.type_definitions.specs.Flattened.{data_of}
 use Rattle.type_definitions.proofs.RenamingLemmas.{unpaired_sort, unpaired_operation}
-use Rattle.type_presentations.proofs.EquationImageLemmas.{image_over, identity_image}
+use Rattle.type_flatten.proofs.HandedOn.{image_over, identity_image}
 use Rattle.type_laws.specs.ImagesOfRenamings.{RenamingsAreImages}
 use Rattle.type_laws.proofs.OneToOneLemmas.{AreAlike, one_operation}
 

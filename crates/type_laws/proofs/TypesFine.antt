@@ -17,9 +17,7 @@ use Rattle.type_definitions.specs.Actualisation.{actualisation, is_formal}
 use Rattle.type_definitions.specs.ActualisationFaults.{actualising_of, actualising_fault, actualisation_fault}
 use Rattle.type_definitions.specs.Flattened.{presentation_named, mention_of, mentions_with, IsPresentation, ArePresented, all_presented, next_presented, declared_with, without_formals, types_at, IsFlattening}
 use Rattle.type_definitions.proofs.FaultLemmas.{none_first}
-use Rattle.type_presentations.proofs.GrowthLemmas.{front_or_last}
-use Rattle.type_presentations.proofs.SignatureLemmas.{nothing_well_formed}
-use Rattle.type_actualisation.proofs.HandedOn.{image_in}
+use Rattle.type_flatten.proofs.HandedOn.{front_or_last, nothing_well_formed, image_in}
 use Rattle.type_laws.proofs.RenamingLemmas.{renamings}
 use Rattle.type_laws.proofs.ContributionLemmas.{contributions}
 use Rattle.type_laws.specs.FlattenedData.{IsFine, AreFine, FlattenedDataAreWellFormed}

@@ -13,7 +13,7 @@ use Rattle.type_definitions.specs.TypeGraph.{is_among}
 use Rattle.type_definitions.specs.Presentation.{with_new, first_position}
 use Rattle.type_definitions.specs.DeclaredEquations.{variable_numbers, variable_numbers_among, appearing, renumbered, renumbered_among}
 use Rattle.type_definitions.proofs.NumberLists.{among_left, among_right}
-use Rattle.type_equations.proofs.OccurrenceLemmas.{numbers_have, stands_there, comes}
+use Rattle.type_flatten.proofs.HandedOn.{numbers_have, stands_there, comes}
 use Rattle.type_laws.specs.EquationVariables.{EquationsNumberByAppearance}
 
 -- ---- Numbers that go on from a number

@@ -1,11 +1,12 @@
 -- What flattening comes to is one thing: the data of types, or their first fault.
 use Rattle.std.specs.Prelude.{◌≡◌, ℕ, List}
-use Rattle.lotos_base.specs.Equation.{Data}
+use Rattle.lotos_base.specs.Equation.{Data, Equation}
 use Rattle.type_definitions.specs.DeclaredTypes.{DeclaredType}
 use Rattle.type_definitions.specs.TypeFault.{TypeFault}
 use Rattle.type_definitions.specs.Presentation.{Presentation}
 use Rattle.type_definitions.specs.DeclaredEquations.{EquationQuestion, GiveAll, HasFirstFault}
 use Rattle.type_definitions.specs.Flattened.{IsFlattening, IsFlatteningFault}
+use Rattle.type_definitions.specs.Requirements.{AreRequirements}
 
 -- what the equations of a type come to is one thing, whatever they are read over: they give one presentation, or the first
 -- of them with a fault has one
@@ -26,3 +27,8 @@ pub record IsFlatteningDecided (types : List DeclaredType) : Type 0 where
 
 abbrev pub FlatteningIsDecided : Type 0
 FlatteningIsDecided = (types : List DeclaredType) → IsFlatteningDecided types
+
+-- and so are the requirements of types
+abbrev pub RequirementsAreOne : Type 0
+RequirementsAreOne = (types : List DeclaredType) (one other : List Equation) → AreRequirements types one → AreRequirements types other
+    → one ≡ other

@@ -23,3 +23,4 @@ pub mod FlatteningCauses
 pub mod FlatteningCauseLaws
 pub mod TextOrder
 pub mod EquationVariables
+pub mod HandedOn

@@ -4,6 +4,7 @@
 ghost use Rattle.type_laws.specs.FlatteningOutcomes.{
   EquationsAreDecided,
   FlatteningIsDecided,
+  RequirementsAreOne,
 };
 
 /// The equations of a type that are read give one presentation, or the first of them with a fault
@@ -16,4 +17,10 @@ pub fn equations_are_decided()
 /// fault.
 pub fn flattening_is_decided()
     ensures { FlatteningIsDecided }
+{}
+
+/// Types have one list of requirements: what the formal equations of the bases of their
+/// actualisations come to.
+pub fn requirements_are_one()
+    ensures { RequirementsAreOne }
 {}

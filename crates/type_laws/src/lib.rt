@@ -18,6 +18,7 @@ ghost use Rattle.type_laws.specs.PartsOfActualisations.{ActualisationsContain};
 ghost use Rattle.type_laws.specs.UnionBounds.{UnionsAreBounds};
 
 pub use flattened_data_laws::flattened_data_are_well_formed;
+pub use type_flatten::flatten;
 
 /// The union of what is mentioned has each presentation under maps that are one to one, keeps first
 /// appearances, and has nothing else.

@@ -107,8 +107,8 @@ fn append_marks(marks: &mut Marks, numbers: &[u32]) -> Result<(), NoMemory>
     Ok(())
 }
 
-// The numbers from 0 on, as many.
-fn numbers_below(alloc: Global, count: usize) -> Result<Vec<u32>, NoMemory>
+/// The numbers from 0 on, as many.
+pub fn numbers_below(alloc: Global, count: usize) -> Result<Vec<u32>, NoMemory>
     requires few { count < 2 ^ 32 }
     ensures { IfOk result (λ made. (n : ℕ) → n < count → number_in made.items n ≡ n) }
 {

@@ -7,4 +7,5 @@ pub mod renamer;
 pub mod renaming;
 pub mod sorts;
 
+pub use equations::numbers_below;
 pub use renaming::rename;

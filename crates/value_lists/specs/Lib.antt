@@ -10,3 +10,4 @@ pub mod Tuples
 pub mod TupleNumbers
 pub mod InstanceList
 pub mod Tried
+pub mod HandedOn

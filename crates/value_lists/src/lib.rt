@@ -14,6 +14,7 @@ pub mod value;
 pub mod values;
 
 pub use choices::values_of_each;
+pub use event_offers::Entry;
 pub use instances::instances_of;
 pub use labels::instance_label;
 pub use list_fault::ListFault;

@@ -1,7 +1,7 @@
 use Rattle.std.proofs.Common.{ap, sym, subst}
 use Rattle.lotos_base.specs.Equation.{Data}
 use Rattle.lotos_base.specs.Term.{Term}
-use Rattle.event_offers.proofs.KeepingLemmas.{held_before, holds_after}
+use Rattle.menu_builder.proofs.HandedOn.{held_before, holds_after}
 use Rattle.bisim_check.specs.Readings.{pairs_among, AreListedIn}
 use Rattle.bisim_check.specs.Surveys.{AreSurveyed, IsSideOf, IsStateIn}
 use Rattle.bisim_check.proofs.checking.begin.Goals as goal

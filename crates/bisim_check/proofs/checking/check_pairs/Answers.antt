@@ -4,7 +4,7 @@ use Rattle.lotos_base.specs.Term.{Term}
 use Rattle.behaviour_tree.specs.StateView.{state_of}
 use Rattle.bisimulation_theory.specs.Certificate.{CertificateFault, accepted, refused}
 use Rattle.bisimulation_theory.specs.Checking.{CertificateComesTo}
-use Rattle.event_offers.proofs.KeepingLemmas.{held_before, holds_after}
+use Rattle.menu_builder.proofs.HandedOn.{held_before, holds_after}
 use Rattle.std.specs.Prelude.{ℕ}
 use Rattle.bisim_check.specs.Faults.{TellsFault}
 use Rattle.bisim_check.specs.LineView.{line_of}

@@ -7,7 +7,7 @@ use Rattle.bisimulation_theory.specs.Certificate.{CertificateFault, refused}
 use Rattle.bisimulation_theory.specs.Checking.{CertificateComesTo}
 use Rattle.bisimulation_theory.specs.MatchedPairs.{AllPairsAreMatched, PairsFail}
 use Rattle.bisimulation_theory.specs.NamedStates.{LinesFail}
-use Rattle.event_offers.proofs.KeepingLemmas.{held_before, holds_after}
+use Rattle.menu_builder.proofs.HandedOn.{held_before, holds_after}
 use Rattle.bisim_check.specs.Faults.{TellsFault}
 use Rattle.bisim_check.specs.LineView.{line_of}
 use Rattle.bisim_check.specs.Readings.{comparison_of, pair_among, pairs_in, reading_of, IsKept}

@@ -5,7 +5,7 @@ use Rattle.lotos_base.specs.Equation.{Data}
 use Rattle.lotos_base.specs.Term.{Term}
 use Rattle.bisimulation_theory.specs.Certificate.{CertificateLine}
 use Rattle.bisimulation_theory.specs.NamedStates.{LineIsRead, LineFails, LinesAreRead, all_read, LinesFail}
-use Rattle.event_offers.proofs.KeepingLemmas.{held_before, holds_after, keeps_both, keeps_itself}
+use Rattle.menu_builder.proofs.HandedOn.{held_before, holds_after, keeps_both, keeps_itself}
 use Rattle.bisim_check.specs.Faults.{TellsFault}
 use Rattle.bisim_check.specs.LineView.{line_of}
 use Rattle.bisim_check.specs.Readings.{comparison_of, reading_of, IsKept}

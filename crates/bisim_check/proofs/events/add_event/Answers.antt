@@ -5,9 +5,7 @@ use Rattle.lotos_base.proofs.Members.{at_map}
 use Rattle.behaviour_semantics.proofs.InstanceLemmas.{every_at}
 use Rattle.behaviour_semantics.proofs.OptionLemmas.{some_value}
 use Rattle.behaviour_tree.specs.StateView.{state_of}
-use Rattle.event_offers.specs.OfferView.{plain_entry}
-use Rattle.event_offers.specs.Offers.{IsEntryOver}
-use Rattle.event_offers.specs.declared.drafts.Entry.{Entry}
+use Rattle.menu_builder.specs.HandedOn.{plain_entry, IsEntryOver, Entry}
 use Rattle.bisim_check.specs.Events.{event_of, IsEventOf}
 use Rattle.bisim_check.specs.Readings.{IsClosedOne}
 use Rattle.bisim_check.specs.Surveys.{side_over}

@@ -4,8 +4,8 @@ use Rattle.lotos_base.specs.Equation.{Data}
 use Rattle.lotos_base.specs.Term.{Term}
 use Rattle.behaviour_semantics.specs.Solving as solving
 use Rattle.behaviour_tree.specs.StateView.{state_of}
-use Rattle.event_offers.specs.OfferView.{plain_entry}
-use Rattle.event_offers.proofs.KeepingLemmas.{held_before, holds_after, keeps_both, keeps_itself}
+use Rattle.menu_builder.specs.HandedOn.{plain_entry}
+use Rattle.menu_builder.proofs.HandedOn.{held_before, holds_after, keeps_both, keeps_itself}
 use Rattle.menu_builder.specs.Menus.{entries_in}
 use Rattle.bisim_check.specs.Events.{event_of, HasNewEvent}
 use Rattle.bisim_check.specs.Matching.{AreEvents}

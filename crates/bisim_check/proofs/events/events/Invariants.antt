@@ -1,6 +1,6 @@
 use Rattle.std.proofs.Common.{take, map}
 use Rattle.behaviour_tree.specs.StateView.{state_of}
-use Rattle.event_offers.specs.Keeping.{KeepsData}
+use Rattle.menu_builder.specs.HandedOn.{KeepsData}
 use Rattle.menu_builder.specs.Menus.{entries_in}
 use Rattle.bisim_check.specs.Events.{event_of}
 use Rattle.bisim_check.specs.Matching.{AreEvents}

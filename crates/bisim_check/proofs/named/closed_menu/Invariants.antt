@@ -1,5 +1,5 @@
 use Rattle.std.proofs.Common.{◌≡◌, ◌<◌, ℕ, Some, slice_get}
-use Rattle.event_offers.specs.declared.drafts.Entry.{Entry}
+use Rattle.menu_builder.specs.HandedOn.{Entry}
 use Rattle.bisim_check.specs.Readings.{IsClosedOne}
 use Rattle.bisim_check.proofs.named.closed_menu.Given as goal
 

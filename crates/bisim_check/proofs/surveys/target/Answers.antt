@@ -8,8 +8,8 @@ use Rattle.behaviour_tree.specs.DefinitionView.{specification_of}
 use Rattle.behaviour_tree.specs.MoveView.{derivation_of}
 use Rattle.behaviour_tree.specs.Over.{AreTermsOf}
 use Rattle.behaviour_tree.specs.StateView.{state_of}
-use Rattle.event_offers.specs.OfferView.{plain_entry}
-use Rattle.event_offers.proofs.KeepingLemmas.{held_before, holds_after}
+use Rattle.menu_builder.specs.HandedOn.{plain_entry}
+use Rattle.menu_builder.proofs.HandedOn.{held_before, holds_after}
 use Rattle.step_taker.specs.Taken.{IsTaken, ground_of}
 use Rattle.bisim_check.specs.Surveys.{IsSideOf, IsStateIn, side_over}
 use Rattle.bisim_check.proofs.TargetLemmas.{closed_entry, leads_freely, leads_there}

@@ -1,7 +1,7 @@
 use Rattle.std.proofs.Common.{◌∙◌, sym, subst}
 use Rattle.std.specs.List.Sorted.{IsNonDecreasing}
 use Rattle.path_order.specs.RulesView.{plain_rules_in}
-use Rattle.term_rewriter.specs.FirstHead.{is_open, has_first}
+use Rattle.term_store.specs.HandedOn.{is_open, has_first}
 use Rattle.critical_pairs.proofs.CandidateLemmas.{heads_rise, numbers_rise}
 use Rattle.critical_pairs.proofs.candidates.least_at.Goals as goal
 

@@ -1,9 +1,8 @@
 use Rattle.std.proofs.Common.{◌≡◌, ◌++◌, List, ℕ, length, ap, sym, ◌∙◌, arith}
 use Rattle.std.proofs.lemmas.Result.{on_ok_weaker}
 use Rattle.lotos_base.proofs.Pieces.{two_pieces}
-use Rattle.printed_texts.specs.TermText.{sort_text}
-use Rattle.printed_texts.proofs.BracketLemmas.{listed_all}
-use Rattle.printed_texts.proofs.TermLemmas.{filled_list}
+use Rattle.report_text.specs.HandedOn.{sort_text}
+use Rattle.report_text.proofs.HandedOn.{listed_all, filled_list}
 use Rattle.sort_terms.specs.SignatureView.{signature_of}
 use Rattle.flat_text.proofs.FilledLists.{arguments_filled}
 use Rattle.flat_text.proofs.data_lines.push_arguments.Goals as goal

@@ -1,6 +1,5 @@
 use Rattle.std.proofs.Common.{◌≡◌, ◌++◌, drop, map}
-use Rattle.printed_texts.specs.Brackets.{commas, listed}
-use Rattle.printed_texts.specs.TermText.{sort_text}
+use Rattle.report_text.specs.HandedOn.{commas, listed, sort_text}
 use Rattle.sort_terms.specs.SignatureView.{signature_of}
 use Rattle.flat_text.proofs.data_lines.push_arguments.Given as goal
 

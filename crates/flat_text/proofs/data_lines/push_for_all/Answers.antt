@@ -1,7 +1,7 @@
 use Rattle.std.proofs.Common.{◌++◌, List, ℕ, length, map, ap, sym, ◌∙◌}
 use Rattle.std.proofs.lemmas.Result.{on_ok_weaker}
 use Rattle.lotos_base.proofs.Pieces.{three_pieces}
-use Rattle.printed_texts.proofs.TermLemmas.{filled_list}
+use Rattle.report_text.proofs.HandedOn.{filled_list}
 use Rattle.sort_terms.specs.EquationView.{variable_of}
 use Rattle.sort_terms.specs.SignatureView.{signature_of}
 use Rattle.flat_text.proofs.FilledLists.{mapped_filled, variables_filled}

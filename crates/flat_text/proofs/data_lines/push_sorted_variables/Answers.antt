@@ -1,6 +1,6 @@
 use Rattle.std.proofs.Common.{◌≡◌, ◌++◌, List, ℕ, length, ap, ◌∙◌, arith}
-use Rattle.printed_texts.specs.Brackets.{commas}
-use Rattle.printed_texts.proofs.BracketLemmas.{listed_all}
+use Rattle.report_text.specs.HandedOn.{commas}
+use Rattle.report_text.proofs.HandedOn.{listed_all}
 use Rattle.report_text.proofs.ListLemmas.{map_twice}
 use Rattle.sort_terms.specs.EquationView.{variable_of}
 use Rattle.sort_terms.specs.SignatureView.{signature_of}

@@ -3,8 +3,8 @@ use Rattle.std.proofs.lemmas.Result.{on_ok_weaker}
 use Rattle.lotos_base.proofs.Pieces.{two_pieces, three_pieces}
 use Rattle.lotos_base.specs.Name.{spelling}
 use Rattle.lotos_base.specs.Signature as plain
-use Rattle.printed_texts.specs.Brackets.{commas}
-use Rattle.printed_texts.proofs.BracketLemmas.{listed_all}
+use Rattle.report_text.specs.HandedOn.{commas}
+use Rattle.report_text.proofs.HandedOn.{listed_all}
 use Rattle.report_text.proofs.ListLemmas.{map_twice}
 use Rattle.sort_terms.specs.Operations.{sort_of}
 use Rattle.sort_terms.specs.declared.operations.Sort.{Sort}

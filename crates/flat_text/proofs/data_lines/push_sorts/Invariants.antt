@@ -1,6 +1,6 @@
 use Rattle.std.proofs.Common.{◌≡◌, ◌++◌, drop, map}
 use Rattle.lotos_base.specs.Name.{spelling}
-use Rattle.printed_texts.specs.Brackets.{commas, listed}
+use Rattle.report_text.specs.HandedOn.{commas, listed}
 use Rattle.sort_terms.specs.declared.operations.Sort.{Sort}
 use Rattle.flat_text.proofs.data_lines.push_sorts.Given as goal
 

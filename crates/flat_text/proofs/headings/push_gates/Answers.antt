@@ -1,7 +1,7 @@
 use Rattle.std.proofs.Common.{◌++◌, List, ℕ, ap, sym, ◌∙◌}
 use Rattle.std.proofs.lemmas.Result.{on_ok_weaker}
 use Rattle.lotos_base.proofs.Pieces.{two_pieces}
-use Rattle.printed_texts.proofs.TermLemmas.{filled_list}
+use Rattle.report_text.proofs.HandedOn.{filled_list}
 use Rattle.report_text.specs.NamingView.{naming_of}
 use Rattle.flat_text.proofs.FilledLists.{gates_filled}
 use Rattle.flat_text.proofs.headings.push_gates.Goals as goal

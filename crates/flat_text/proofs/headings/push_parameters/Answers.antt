@@ -3,8 +3,7 @@ use Rattle.std.specs.Prelude.{true}
 use Rattle.std.proofs.lemmas.List.{length-map}
 use Rattle.std.proofs.lemmas.Result.{on_ok_weaker}
 use Rattle.lotos_base.proofs.Pieces.{two_pieces}
-use Rattle.printed_texts.proofs.BracketLemmas.{closed_text}
-use Rattle.printed_texts.proofs.TermLemmas.{filled_list}
+use Rattle.report_text.proofs.HandedOn.{closed_text, filled_list}
 use Rattle.behaviour_tree.specs.BehaviourView.{variables_of}
 use Rattle.report_text.specs.NamingView.{naming_of}
 use Rattle.sort_terms.specs.EquationView.{variable_of}

@@ -3,7 +3,7 @@ use Rattle.std.proofs.lemmas.Result.{on_ok_weaker}
 use Rattle.lotos_base.proofs.Pieces.{three_pieces}
 use Rattle.behaviour_tree.specs.BehaviourView.{behaviour_of, variables_of}
 use Rattle.behaviour_tree.specs.declared.behaviours.Beh.{Beh}
-use Rattle.printed_texts.specs.BehaviourText.{behaviour_text}
+use Rattle.report_text.specs.HandedOn.{behaviour_text}
 use Rattle.report_text.specs.NamingView.{naming_of}
 use Rattle.flat_text.proofs.texts.push_body.Goals as goal
 

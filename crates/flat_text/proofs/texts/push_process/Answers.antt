@@ -3,7 +3,7 @@ use Rattle.std.proofs.lemmas.Result.{on_ok_weaker}
 use Rattle.lotos_base.specs.Name.{spelling}
 use Rattle.behaviour_tree.specs.BehaviourView.{behaviour_of, variables_of}
 use Rattle.behaviour_tree.specs.DefinitionView.{functionality_of}
-use Rattle.printed_texts.specs.BehaviourText.{behaviour_text}
+use Rattle.report_text.specs.HandedOn.{behaviour_text}
 use Rattle.report_text.specs.NamingView.{naming_of}
 use Rattle.flat_text.specs.FlatText.{heading}
 use Rattle.flat_text.proofs.MorePieces.{six_pieces}

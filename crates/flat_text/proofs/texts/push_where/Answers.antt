@@ -4,7 +4,7 @@ use Rattle.lotos_base.proofs.Pieces.{two_pieces}
 use Rattle.lotos_base.specs.Name.{spelling}
 use Rattle.behaviour_tree.specs.DefinitionView.{process_of}
 use Rattle.behaviour_tree.specs.declared.definitions.Process.{Process}
-use Rattle.printed_texts.proofs.TermLemmas.{filled_list}
+use Rattle.report_text.proofs.HandedOn.{filled_list}
 use Rattle.report_text.specs.NamingView.{naming_of}
 use Rattle.flat_text.specs.FlatText.{processes_lines}
 use Rattle.flat_text.proofs.FilledLists.{mapped_filled, no_processes, processes_filled}

@@ -1,7 +1,6 @@
 use Rattle.std.proofs.Common.{[], codes, refl}
 use Rattle.std.specs.Fmt.{digits}
-use Rattle.session_lines.specs.Refusal.{bad_term}
-use Rattle.session_histories.specs.Refusal.{no_entry, value_count}
+use Rattle.session_log.specs.HandedOn.{bad_term, no_entry, value_count}
 use Rattle.history_lines.specs.CommandRefusal.{ill_formed, no_step}
 use Rattle.history_lines.specs.StepAnswer.{declined, is_unread, is_miscounted}
 use Rattle.history_lines.proofs.CaseLemmas.{no_terms_in, bad_byte_in, open_comment_in}

@@ -1,6 +1,5 @@
 use Rattle.std.proofs.lemmas.Result.{on_ok_weaker}
-use Rattle.session_log.specs.HandedOn.{entries_in}
-use Rattle.session_lines.specs.HandedOn.{book_canon}
+use Rattle.session_log.specs.HandedOn.{entries_in, book_canon}
 use Rattle.session_log.proofs.EntryLemmas.{entry_over, entry_there}
 use Rattle.session_log.specs.CourseView.{basis_over}
 use Rattle.sort_terms.specs.EquationView.{data_of}

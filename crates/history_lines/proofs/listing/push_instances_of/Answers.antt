@@ -1,8 +1,7 @@
 use Rattle.std.proofs.Common.{List, Vec, Global, map, ap, refl, subst, sym}
 use Rattle.std.proofs.lemmas.Result.{on_ok_weaker}
 use Rattle.lotos_base.specs.Name.{spelling}
-use Rattle.session_log.specs.HandedOn.{plain_entry}
-use Rattle.session_lines.specs.HandedOn.{book_canon, book_sided, plain_rules_in}
+use Rattle.session_log.specs.HandedOn.{plain_entry, book_canon, book_sided, plain_rules_in}
 use Rattle.session_log.specs.CourseView.{basis_over}
 use Rattle.sort_terms.specs.EquationView.{data_of}
 use Rattle.sort_terms.specs.SignatureView.{signature_of}

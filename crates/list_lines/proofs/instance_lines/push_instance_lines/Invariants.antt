@@ -1,6 +1,5 @@
 use Rattle.std.proofs.Common.{◌≡◌, ◌++◌, drop}
-use Rattle.event_offers.specs.Keeping.{KeepsData}
-use Rattle.event_offers.specs.OfferView.{plain_entry}
+use Rattle.value_lists.specs.HandedOn.{KeepsData, plain_entry}
 use Rattle.value_lists.specs.InstanceList.{lists_of}
 use Rattle.list_lines.specs.ListText.{instance_lines}
 use Rattle.list_lines.specs.ListView.{printing_with}

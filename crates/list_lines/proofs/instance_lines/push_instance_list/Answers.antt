@@ -1,6 +1,6 @@
 use Rattle.std.proofs.Common.{◌++◌, ◌∙◌}
 use Rattle.std.proofs.lemmas.Result.{on_ok_weaker}
-use Rattle.event_offers.specs.OfferView.{plain_entry}
+use Rattle.value_lists.specs.HandedOn.{plain_entry}
 use Rattle.value_lists.specs.InstanceList.{lists_of}
 use Rattle.list_lines.specs.ListText.{instance_list_text}
 use Rattle.list_lines.specs.ListView.{printing_with}

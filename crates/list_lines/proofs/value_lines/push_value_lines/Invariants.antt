@@ -1,5 +1,5 @@
 use Rattle.std.proofs.Common.{◌≡◌, ◌++◌, drop}
-use Rattle.behaviour_tree.specs.BehaviourView.{terms_of}
+use Rattle.value_lists.specs.HandedOn.{terms_of}
 use Rattle.sort_terms.specs.SignatureView.{signature_of}
 use Rattle.list_lines.specs.ListText.{value_lines}
 use Rattle.list_lines.proofs.value_lines.push_value_lines.Given as goal

@@ -4,7 +4,7 @@ use Rattle.path_order.specs.RulesView.{plain_rules_in}
 use Rattle.sort_terms.specs.SignatureView.{signature_of}
 use Rattle.sort_terms.specs.SortedView.{term_in}
 use Rattle.sort_terms.specs.declared.sorted.Sorted.{Sorted}
-use Rattle.behaviour_tree.specs.BehaviourView.{terms_of}
+use Rattle.value_lists.specs.HandedOn.{terms_of}
 use Rattle.list_lines.specs.ListText.{value_list_text}
 use Rattle.list_lines.proofs.AnswerLemmas.{values_added, too_many_added}
 use Rattle.list_lines.proofs.value_lines.push_values_of.Goals as goal

@@ -1,8 +1,7 @@
 use Rattle.std.proofs.Common.{subst, sym}
-use Rattle.lotos_rows.specs.declared.starts.TheConstants as starts
-use Rattle.lotos_rows.specs.Rows.{grammar_from}
-use Rattle.lotos_rows.specs.Starts.{AreOptionalTerms}
-use Rattle.sentence_trees.proofs.AllGiven.{rows_have}
+use Rattle.text_depth.specs.HandedOn.starts
+use Rattle.text_depth.specs.HandedOn.{grammar_from, AreOptionalTerms}
+use Rattle.text_depth.proofs.HandedOn.{rows_have}
 use Rattle.syntax_trees.specs.Depth.{nodes_of_terms}
 use Rattle.lotos_grammar.proofs.Readings.{too_deep}
 use Rattle.lotos_grammar.proofs.reading.read_terms.Goals as goal

@@ -1,10 +1,7 @@
 use Rattle.std.proofs.Common.{subst, sym}
-use Rattle.lotos_rows.specs.declared.starts.TheConstants as starts
-use Rattle.lotos_rows.specs.Rows.{grammar_from}
-use Rattle.lotos_rows.specs.Starts.{AreItems}
-use Rattle.lotos_rows.proofs.ReadableTexts.{items_readable}
-use Rattle.sentence_trees.proofs.AllGiven.{rows_have}
-use Rattle.sentence_trees.specs.Reading.{nodes_of_items}
+use Rattle.text_depth.specs.HandedOn.starts
+use Rattle.text_depth.proofs.HandedOn.{rows_have, items_readable}
+use Rattle.text_depth.specs.HandedOn.{nodes_of_items, grammar_from, AreItems}
 use Rattle.lotos_grammar.proofs.Readings.{too_deep}
 use Rattle.lotos_grammar.proofs.reading.read_types.Goals as goal
 

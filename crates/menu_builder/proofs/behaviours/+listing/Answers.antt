@@ -19,7 +19,7 @@ use Rattle.draft_parts.specs.DraftRules.{hidden_draft, valued_draft}
 use Rattle.draft_parts.specs.Lists.{plain_drafts}
 use Rattle.draft_parts.specs.Made.{AreThese}
 use Rattle.draft_parts.proofs.MadeLemmas.{by_rule}
-use Rattle.event_offers.proofs.KeepingLemmas.{held_before, holds_after}
+use Rattle.draft_parts.proofs.HandedOn.{held_before, holds_after}
 use Rattle.menu_builder.specs.Placed.{AreDraftsPlaced, IsPlaced, basis_of}
 use Rattle.menu_builder.proofs.ArmLemmas.{call_arm_less, call_placed, every_at, leaf_of, left_of, let_placed, odd_below_above, odd_below_even, other_relabels, par_arm_less, par_call_less, par_listed_form, par_part_placed, par_placed_form, part_less, placed_arm, value_placed, value_sort}
 use Rattle.menu_builder.proofs.WholeLemmas.{both_less, both_listed, both_placed, enable_read, whole_less, whole_listed, whole_placed}

@@ -13,8 +13,7 @@ use Rattle.behaviour_semantics.specs.Behaviour.{let_variables, let_terms}
 use Rattle.behaviour_tree.specs.BehaviourView.{let_of}
 use Rattle.draft_parts.specs.Environments.{IsReadyForPairs}
 use Rattle.draft_parts.specs.BelowLaws.{binder_pairs}
-use Rattle.event_offers.proofs.KeepingLemmas.{keeps_both}
-use Rattle.event_offers.proofs.ValueLemmas.{pairs_bare}
+use Rattle.draft_parts.proofs.HandedOn.{keeps_both, pairs_bare}
 use Rattle.menu_builder.proofs.BinderLemmas.{let_turn, let_done, more_of}
 use Rattle.menu_builder.proofs.binders.bound_values.Goals as goal
 

@@ -6,7 +6,7 @@ use Rattle.behaviour_tree.specs.BehaviourView.{let_of}
 use Rattle.behaviour_tree.specs.StateView.{environment_of}
 use Rattle.draft_parts.specs.Environments.{ArePairsOf}
 use Rattle.draft_parts.specs.BelowLaws.{binder_pairs}
-use Rattle.event_offers.specs.Keeping.{KeepsData}
+use Rattle.draft_parts.specs.HandedOn.{KeepsData}
 use Rattle.menu_builder.specs.Bound.{AreBindingsReady}
 use Rattle.menu_builder.proofs.binders.bound_values.Given as goal
 

@@ -9,8 +9,7 @@ use Rattle.sort_terms.specs.declared.sorted.Sorted.{Sorted}
 use Rattle.term_match.specs.ProfiledInstance.{bare_pairs}
 use Rattle.term_match.specs.SubstView.{profiled_pairs}
 use Rattle.draft_parts.specs.Environments.{IsReadyForPairs}
-use Rattle.event_offers.proofs.KeepingLemmas.{keeps_both}
-use Rattle.event_offers.proofs.ValueLemmas.{pairs_bare}
+use Rattle.draft_parts.proofs.HandedOn.{keeps_both, pairs_bare}
 use Rattle.menu_builder.proofs.BinderLemmas.{call_turn, call_done, more_of}
 use Rattle.menu_builder.proofs.binders.call_environment.Goals as goal
 

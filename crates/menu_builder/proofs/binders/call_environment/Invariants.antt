@@ -5,7 +5,7 @@ use Rattle.behaviour_tree.specs.BehaviourView.{terms_of, variables_of}
 use Rattle.behaviour_tree.specs.StateView.{environment_of}
 use Rattle.draft_parts.specs.Environments.{ArePairsOf}
 use Rattle.draft_parts.specs.BelowLaws.{binder_pairs}
-use Rattle.event_offers.specs.Keeping.{KeepsData}
+use Rattle.draft_parts.specs.HandedOn.{KeepsData}
 use Rattle.menu_builder.specs.Bound.{AreValuesReady}
 use Rattle.menu_builder.proofs.binders.call_environment.Given as goal
 

@@ -9,8 +9,8 @@ use Rattle.sort_terms.specs.SortedView.{term_in}
 use Rattle.term_match.specs.ProfiledInstance.{bare_pairs}
 use Rattle.term_match.specs.SubstView.{profiled_pairs}
 use Rattle.behaviour_tree.specs.BehaviourView.{test_of}
-use Rattle.event_offers.specs.OfferView.{condition_of}
-use Rattle.event_offers.proofs.ValueLemmas.{pairs_bare}
+use Rattle.draft_parts.specs.HandedOn.{condition_of}
+use Rattle.draft_parts.proofs.HandedOn.{pairs_bare}
 use Rattle.draft_parts.specs.DraftRules.{guarded_draft}
 use Rattle.draft_parts.specs.Lists.{plain_drafts}
 use Rattle.menu_builder.proofs.guards.guarded_drafts.Goals as goal

@@ -1,9 +1,8 @@
 use Rattle.std.proofs.Common.{sym, subst}
 use Rattle.behaviour_tree.specs.MoveView.{shape_of}
 use Rattle.behaviour_tree.specs.Over.{AreTermsOf}
-use Rattle.event_offers.specs.Offers.{AreConditionsOf}
-use Rattle.event_offers.specs.declared.renaming.Renaming.TheVariants.{Lowered}
-use Rattle.event_offers.proofs.RenamingLemmas.{renamed_terms_of, renamed_pairs_of}
+use Rattle.draft_parts.specs.HandedOn.{AreConditionsOf, Lowered}
+use Rattle.draft_parts.proofs.HandedOn.{renamed_terms_of, renamed_pairs_of}
 use Rattle.menu_builder.proofs.menus.lowered.Goals as goal
 
 pub returns : goal.returns

@@ -2,8 +2,7 @@ use Rattle.std.proofs.Common.{ap, sym, subst}
 use Rattle.std.specs.Prelude.{Vec}
 use Rattle.std.specs.declared.alloc.Global.{Global}
 use Rattle.behaviour_semantics.specs.WellFormed.{Every}
-use Rattle.event_offers.specs.Offers.{IsEntryOver}
-use Rattle.event_offers.specs.declared.drafts.Entry.{Entry}
+use Rattle.draft_parts.specs.HandedOn.{IsEntryOver, Entry}
 use Rattle.menu_builder.proofs.MenuLemmas.{known_node, menu_exact}
 use Rattle.menu_builder.proofs.menus.menu.Goals as goal
 

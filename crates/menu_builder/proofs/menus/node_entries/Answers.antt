@@ -5,8 +5,7 @@ use Rattle.lotos_base.specs.Term.{Term}
 use Rattle.behaviour_semantics.specs.DraftOrder.{IsInOrder}
 use Rattle.behaviour_semantics.specs.Listing.{AllSolveTo}
 use Rattle.behaviour_semantics.specs.WellFormed.{Every}
-use Rattle.event_offers.specs.OfferView.{plain_entry}
-use Rattle.event_offers.specs.Offers.{IsEntryOver}
+use Rattle.draft_parts.specs.HandedOn.{plain_entry, IsEntryOver}
 use Rattle.draft_parts.specs.DraftTerms.{HasTermsOf}
 use Rattle.draft_parts.specs.Lists.{plain_drafts}
 use Rattle.process_checks.proofs.RankLemmas.{guarded_by}

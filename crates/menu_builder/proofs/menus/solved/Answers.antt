@@ -3,11 +3,9 @@ use Rattle.std.specs.Prelude.{IfSome}
 use Rattle.lotos_base.specs.Equation.{Data}
 use Rattle.lotos_base.specs.Term.{Term}
 use Rattle.behaviour_semantics.specs.Solving.{SolvesTo}
-use Rattle.event_offers.specs.OfferView.{plain_draft, plain_entry}
-use Rattle.event_offers.specs.Offers.{IsDraftOver, IsEntryOver}
-use Rattle.event_offers.specs.declared.drafts.Entry.{Entry}
+use Rattle.draft_parts.specs.HandedOn.{plain_draft, plain_entry, IsDraftOver, IsEntryOver, Entry}
 use Rattle.draft_parts.proofs.ListLemmas.{empty_rest}
-use Rattle.event_offers.proofs.KeepingLemmas.{keeps_both, keeps_itself}
+use Rattle.draft_parts.proofs.HandedOn.{keeps_both, keeps_itself}
 use Rattle.menu_builder.proofs.SolvedLemmas.{AreHalfSolved, begun, taken_terms, taken_order, more_solved, all_solved, ready_draft}
 use Rattle.menu_builder.proofs.menus.solved.Goals as goal
 

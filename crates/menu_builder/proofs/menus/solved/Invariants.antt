@@ -1,5 +1,5 @@
 use Rattle.std.proofs.Common.{length}
-use Rattle.event_offers.specs.Keeping.{KeepsData}
+use Rattle.draft_parts.specs.HandedOn.{KeepsData}
 use Rattle.menu_builder.proofs.SolvedLemmas.{AreHalfSolved}
 use Rattle.menu_builder.proofs.menus.solved.Given as goal
 

@@ -18,7 +18,7 @@ use Rattle.draft_parts.specs.Lists.{plain_drafts}
 use Rattle.draft_parts.specs.HasDrafts.{all_relabelled}
 use Rattle.draft_parts.specs.Made.{AreThese}
 use Rattle.draft_parts.proofs.MadeLemmas.{by_rule}
-use Rattle.event_offers.proofs.KeepingLemmas.{held_before, holds_after}
+use Rattle.draft_parts.proofs.HandedOn.{held_before, holds_after}
 use Rattle.menu_builder.specs.NodeNumbers.{above_node}
 use Rattle.menu_builder.specs.Placed.{AreDraftsPlaced, IsPlaced, basis_of}
 use Rattle.menu_builder.proofs.ArmLemmas.{left_of, listed_read}

@@ -1,4 +1,4 @@
-use Rattle.step_parts.proofs.NodeLemmas.{first_terms, second_terms}
+use Rattle.step_taker.proofs.HandedOn.{first_terms, second_terms}
 use Rattle.step_taker.specs.Sides.{side_of, side_profiles}
 use Rattle.menu_parts.proofs.FormLemmas.{disable_made, passable_side}
 use Rattle.menu_parts.proofs.forms.disable_form.Goals as goal

@@ -1,5 +1,5 @@
 use Rattle.behaviour_tree.specs.BehaviourView.{variables_of}
-use Rattle.step_parts.proofs.NodeLemmas.{first_terms}
+use Rattle.step_taker.proofs.HandedOn.{first_terms}
 use Rattle.step_taker.specs.Sides.{side_of, side_profiles}
 use Rattle.menu_parts.proofs.FormLemmas.{enable_made, passable_side}
 use Rattle.menu_parts.proofs.forms.enable_form.Goals as goal

@@ -11,7 +11,7 @@ use Rattle.behaviour_tree.specs.Closed.{IsClosedNode}
 use Rattle.behaviour_tree.specs.StateView.{environment_of, node_profiles, pair_profile, stands_for}
 use Rattle.behaviour_tree.specs.declared.behaviours.Beh.{Beh}
 use Rattle.behaviour_tree.specs.declared.states.Node.{Node}
-use Rattle.step_parts.proofs.NodeLemmas.{first_terms, no_values}
+use Rattle.step_taker.proofs.HandedOn.{first_terms, no_values}
 use Rattle.step_taker.specs.Taken.{ground_of}
 use Rattle.step_taker.proofs.SplitLemmas.{passable_as}
 use Rattle.menu_parts.specs.Forms.{IsForm}

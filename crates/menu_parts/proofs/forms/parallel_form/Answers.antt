@@ -1,5 +1,5 @@
 use Rattle.behaviour_tree.specs.BehaviourView.{meet_of}
-use Rattle.step_parts.proofs.NodeLemmas.{first_terms, second_terms}
+use Rattle.step_taker.proofs.HandedOn.{first_terms, second_terms}
 use Rattle.step_taker.specs.Sides.{side_of, side_profiles}
 use Rattle.menu_parts.proofs.FormLemmas.{parallel_made, passable_side}
 use Rattle.menu_parts.proofs.forms.parallel_form.Goals as goal

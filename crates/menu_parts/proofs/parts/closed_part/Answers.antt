@@ -4,8 +4,7 @@ use Rattle.behaviour_tree.specs.BehaviourTerms.{profiles_in}
 use Rattle.behaviour_tree.specs.BehaviourView.{behaviour_of}
 use Rattle.behaviour_tree.specs.DefinitionView.{specification_of}
 use Rattle.behaviour_tree.specs.StateView.{pair_profile}
-use Rattle.behaviour_instances.proofs.InstanceLemmas.{states_suit}
-use Rattle.step_parts.proofs.NodeLemmas.{first_terms, second_terms}
+use Rattle.step_taker.proofs.HandedOn.{first_terms, second_terms, states_suit}
 use Rattle.step_taker.specs.Walked.{IsClosedOn}
 use Rattle.step_taker.proofs.BodyLemmas.{instance_over}
 use Rattle.menu_parts.proofs.FormLemmas.{passable_node}

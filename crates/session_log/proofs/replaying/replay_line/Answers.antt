@@ -1,7 +1,7 @@
 use Rattle.std.proofs.Common.{List, map, ap, sym, subst}
 use Rattle.lotos_base.specs.WrittenView.{written_term_of}
 use Rattle.lotos_base.specs.declared.written_terms.Written.{Written}
-use Rattle.sentence_trees.specs.Reading.{IsTermsReading}
+use Rattle.session_lines.specs.HandedOn.{IsTermsReading}
 use Rattle.menu_builder.specs.Menus.{entries_in}
 use Rattle.session_log.specs.CourseView.{basis_over, progress_of}
 use Rattle.session_log.specs.Lines.{said_by}

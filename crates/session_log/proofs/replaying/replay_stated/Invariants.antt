@@ -1,7 +1,7 @@
 use Rattle.std.proofs.Common.{◌≤◌, ◌+◌, length}
 use Rattle.session_histories.specs.Replay.{StatedLinesComeTo}
 use Rattle.session_histories.specs.TraceLine.{lines_of}
-use Rattle.event_offers.specs.Keeping.{KeepsData}
+use Rattle.menu_builder.specs.HandedOn.{KeepsData}
 use Rattle.session_log.specs.CourseView.{basis_over, progress_of}
 use Rattle.session_log.specs.Kept.{AreSuited, IsKeptCourse}
 use Rattle.session_log.proofs.ReplayLemmas.{Decides}

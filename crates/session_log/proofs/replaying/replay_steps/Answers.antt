@@ -3,7 +3,7 @@ use Rattle.lotos_base.specs.Equation.{Data}
 use Rattle.lotos_base.specs.Term.{Term}
 use Rattle.session_histories.specs.Replay.{LineRefusal, LineComesTo, LinesComeTo, goes_on, stops, ReplayRefusal}
 use Rattle.session_histories.specs.TraceLine.{lines_of}
-use Rattle.event_offers.proofs.KeepingLemmas.{held_before, holds_after, keeps_both}
+use Rattle.menu_builder.proofs.HandedOn.{held_before, holds_after, keeps_both}
 use Rattle.session_log.specs.CourseView.{basis_over, progress_of}
 use Rattle.session_log.specs.Kept.{AreSuited, IsKeptCourse}
 use Rattle.session_log.specs.RefusalView.{IsInLine, TellsReplay}

@@ -4,7 +4,7 @@ use Rattle.lotos_base.specs.Term.{Term}
 use Rattle.behaviour_semantics.specs.Fault.{first_unmet}
 use Rattle.sort_terms.specs.ProfiledTerm.{IsOf}
 use Rattle.sort_terms.specs.SortedView.{profiled_in, term_in}
-use Rattle.event_offers.proofs.KeepingLemmas.{keeps_both}
+use Rattle.draft_parts.proofs.HandedOn.{keeps_both}
 use Rattle.step_parts.specs.StepFaults.{IsWrongTold, UnlessMemory}
 use Rattle.step_parts.proofs.CheckedLemmas.{checked_err, told_more}
 use Rattle.step_parts.proofs.OfferLemmas.{term_turn}

@@ -4,7 +4,7 @@ use Rattle.behaviour_semantics.specs.Rule.{pairwise}
 use Rattle.behaviour_tree.specs.BehaviourTerms.{profiles_of}
 use Rattle.behaviour_tree.specs.BehaviourView.{terms_of}
 use Rattle.behaviour_tree.specs.Over.{AreTermsOf}
-use Rattle.event_offers.specs.Keeping.{KeepsData}
+use Rattle.draft_parts.specs.HandedOn.{KeepsData}
 use Rattle.step_parts.proofs.node_tests.checked_pairs.Given as goal
 
 abbrev pub invariant-loop-i : goal.invariant-loop-i

@@ -3,7 +3,7 @@ use Rattle.behaviour_semantics.specs.Derives.{leaves_in}
 use Rattle.behaviour_tree.specs.BehaviourView.{terms_of}
 use Rattle.behaviour_tree.specs.Over.{AreTermsOf}
 use Rattle.behaviour_tree.specs.StateView.{environment_of, pair_profile}
-use Rattle.event_offers.specs.Keeping.{KeepsData}
+use Rattle.draft_parts.specs.HandedOn.{KeepsData}
 use Rattle.step_parts.proofs.OfferLemmas.{asked_count, paired_from}
 use Rattle.step_parts.proofs.offers.asked_values.Given as goal
 

@@ -6,7 +6,7 @@ use Rattle.sort_terms.specs.ProfiledTerm.{IsOf}
 use Rattle.sort_terms.specs.SortedView.{profiled_in, term_in}
 use Rattle.behaviour_tree.specs.Over.{AreTermsOf}
 use Rattle.behaviour_tree.specs.StateView.{environment_of, pair_profile}
-use Rattle.event_offers.proofs.KeepingLemmas.{keeps_both}
+use Rattle.draft_parts.proofs.HandedOn.{keeps_both}
 use Rattle.step_parts.proofs.OfferLemmas.{call_paired, called_turn, nothing_called, term_turn}
 use Rattle.step_parts.proofs.offers.call_values.Goals as goal
 

@@ -8,7 +8,7 @@ use Rattle.sort_terms.specs.declared.sorted.Sorted.{Sorted}
 use Rattle.behaviour_tree.specs.BehaviourTerms.{let_profile}
 use Rattle.behaviour_tree.specs.Over.{AreTermsOf}
 use Rattle.behaviour_tree.specs.StateView.{environment_of, pair_profile}
-use Rattle.event_offers.proofs.KeepingLemmas.{keeps_both}
+use Rattle.draft_parts.proofs.HandedOn.{keeps_both}
 use Rattle.step_parts.proofs.OfferLemmas.{let_paired, numbered_turn, term_turn}
 use Rattle.step_parts.proofs.offers.let_values.Goals as goal
 

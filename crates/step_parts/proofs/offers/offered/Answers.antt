@@ -6,7 +6,7 @@ use Rattle.behaviour_tree.specs.BehaviourTerms.{offer_profiles, profiles_of}
 use Rattle.behaviour_tree.specs.BehaviourView.{terms_of}
 use Rattle.behaviour_tree.specs.Over.{AreTermsOf}
 use Rattle.behaviour_tree.specs.declared.behaviours.Offer.{Offer}
-use Rattle.event_offers.proofs.KeepingLemmas.{keeps_both}
+use Rattle.draft_parts.proofs.HandedOn.{keeps_both}
 use Rattle.step_parts.proofs.OfferLemmas.{asked_count, asked_split, numbered_turn, offered_from, rest_is, terms_turn}
 use Rattle.step_parts.proofs.offers.offered.Goals as goal
 

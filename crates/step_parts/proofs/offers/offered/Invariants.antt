@@ -3,7 +3,7 @@ use Rattle.behaviour_semantics.specs.Derives.{leaves_in}
 use Rattle.behaviour_tree.specs.BehaviourTerms.{joined, offer_profiles, profiles_of}
 use Rattle.behaviour_tree.specs.BehaviourView.{terms_of}
 use Rattle.behaviour_tree.specs.Over.{AreTermsOf}
-use Rattle.event_offers.specs.Keeping.{KeepsData}
+use Rattle.draft_parts.specs.HandedOn.{KeepsData}
 use Rattle.step_parts.proofs.OfferLemmas.{asked_count, offered_from}
 use Rattle.step_parts.proofs.offers.offered.Given as goal
 

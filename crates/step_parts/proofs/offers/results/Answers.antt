@@ -6,7 +6,7 @@ use Rattle.behaviour_tree.specs.BehaviourTerms.{exit_profiles, profiles_of}
 use Rattle.behaviour_tree.specs.BehaviourView.{terms_of}
 use Rattle.behaviour_tree.specs.Over.{AreTermsOf}
 use Rattle.behaviour_tree.specs.declared.behaviours.ExitValue.{ExitValue}
-use Rattle.event_offers.proofs.KeepingLemmas.{keeps_both}
+use Rattle.draft_parts.proofs.HandedOn.{keeps_both}
 use Rattle.step_parts.proofs.OfferLemmas.{numbered_turn, open_count, open_split, rest_is, results_from, terms_turn}
 use Rattle.step_parts.proofs.offers.results.Goals as goal
 

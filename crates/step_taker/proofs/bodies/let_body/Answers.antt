@@ -4,7 +4,7 @@ use Rattle.lotos_base.specs.Term.{Term}
 use Rattle.lotos_base.specs.Substitution.{binding}
 use Rattle.behaviour_semantics.specs.Replacement.{with_values}
 use Rattle.behaviour_tree.specs.BehaviourView.{behaviour_of, let_of}
-use Rattle.behaviour_instances.proofs.InstanceLemmas.{states_suit}
+use Rattle.step_parts.proofs.HandedOn.{states_suit}
 use Rattle.step_parts.proofs.NodeLemmas.{first_terms, second_terms}
 use Rattle.step_taker.specs.Taken.{ground_of}
 use Rattle.step_taker.proofs.BodyLemmas.{instance_over, let_environment}

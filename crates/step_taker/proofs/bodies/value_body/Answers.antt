@@ -10,7 +10,7 @@ use Rattle.sort_terms.specs.EquationView.{variable_of}
 use Rattle.sort_terms.specs.SortedView.{profiled_in, term_in}
 use Rattle.sort_terms.specs.ProfiledTerm.{IsOf}
 use Rattle.sort_terms.specs.declared.sorted.Sorted.{Sorted}
-use Rattle.behaviour_instances.proofs.InstanceLemmas.{states_suit}
+use Rattle.step_parts.proofs.HandedOn.{states_suit}
 use Rattle.step_parts.proofs.LeafLemmas.{leaf_of, leaf_at}
 use Rattle.step_taker.specs.Taken.{ground_of}
 use Rattle.step_taker.proofs.BodyLemmas.{instance_over, leaf_value, value_environment}

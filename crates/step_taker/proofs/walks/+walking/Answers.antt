@@ -22,10 +22,9 @@ use Rattle.behaviour_tree.specs.declared.behaviours.Beh.{Beh}
 use Rattle.step_parts.specs.HandedOn.{label_profiles}
 use Rattle.sort_terms.specs.EquationView.{variable_of}
 use Rattle.sort_terms.specs.declared.sorted.Sorted.{Sorted}
-use Rattle.behaviour_instances.proofs.InstanceLemmas.{states_suit}
 use Rattle.step_parts.specs.StepFaults.{kept_number, UnlessMemory}
 use Rattle.step_parts.proofs.NodeLemmas.{first_terms, second_terms}
-use Rattle.step_parts.proofs.HandedOn.{held_before, holds_after, keeps_both, keeps_itself}
+use Rattle.step_parts.proofs.HandedOn.{held_before, holds_after, keeps_both, keeps_itself, states_suit}
 use Rattle.step_taker.specs.Rows.{same_row}
 use Rattle.step_taker.specs.Sides.{enabling_of, followed, following_profiles, IsSideState, side_of, side_profiles}
 use Rattle.step_taker.specs.Stands.{stand}

@@ -30,9 +30,11 @@ returns c = λ a source.
     (c.bring.ensures a
     (parts_of a c.args.base.now c.args.actual.now c.args.sorts.now _ c.args.op_pairs.now source refl refl c.in_ok-formals.ensures
     c.in_ok-pairs.ensures.are))
-    (λ done is.
-    with_operations a c.args.base.now c.args.actual.now c.bring.new.actual c.args.sorts.now c.args.op_pairs.now source
-    c.in_ok-pairs.ensures.none is)
+    (λ numbers is. (
+      with_operations a c.args.base.now c.args.actual.now c.bring.new.actual c.args.sorts.now c.args.op_pairs.now source
+          c.in_ok-pairs.ensures.none is.0,
+      is.1,
+    ))
     (λ fault refused.
     parts_refused a c.args.base.now c.args.actual.now c.args.sorts.now c.args.op_pairs.now fault source c.in_ok-pairs.ensures.none
     refused)

@@ -1,5 +1,5 @@
 use Rattle.std.proofs.Common.{refl}
-use Rattle.std.proofs.lemmas.Result.{MatchResult-weaker, err_from_is_err_and}
+use Rattle.std.proofs.lemmas.Result.{err_from_is_err_and}
 use Rattle.type_presentations.specs.OperationListView.{OperationList}
 use Rattle.type_presentations.specs.SortListView.{SortList}
 use Rattle.type_presentations.specs.PresentationView.{presentation_of}
@@ -90,18 +90,39 @@ complete-requires c =
           c.in_ok-came.ensures.keyed c.in_ok-came_ops.ensures.keyed refl refl refl sorts ops,
     )
 
+pub returns-in_err-complete : goal.returns-in_err-complete
+returns-in_err-complete c =
+    let e = err_from_is_err_and c.from_residual-in_err-complete.result c.from_residual-in_err-complete.ensures.1 in
+    rw (e.1, e.2)
+    (λ a parts.
+    let sorts = c.in_ok-came.ensures.sorts a (sort_parts a c.args.base.now c.args.actual.now c.args.sorts.now c.args.ops.now parts) in
+    let ops =
+    c.in_ok-came_ops.ensures.ops a
+    (operation_parts a c.args.base.now c.args.actual.now c.args.sorts.now c.args.ops.now c.bring_all_sorts.new.list
+    c.in_ok-came.came c.as_slice-numbers.result.now parts sorts c.as_slice-numbers.ensures.value) in
+    rest_refused a c.in_err-complete.field-0.0 sorts.none ops.none
+    (c.in_err-complete.ensures a parts.mention_is
+    (have_come a c.args.base.now c.args.actual.now
+    (with_lists c.args.actual.now c.bring_all_sorts.new.list c.bring_all_ops.new.list) c.args.sorts.now c.args.ops.now
+    c.in_ok-came.came c.in_ok-came_ops.came_ops c.requires.sound c.requires.actual_sound c.requires.actual_within parts
+    c.in_ok-came.ensures.keyed c.in_ok-came_ops.ensures.keyed refl refl refl sorts ops)))
+
 pub returns : goal.returns
 returns c = λ a parts.
     let sorts = c.in_ok-came.ensures.sorts a (sort_parts a c.args.base.now c.args.actual.now c.args.sorts.now c.args.ops.now parts) in
     let ops =
     c.in_ok-came_ops.ensures.ops a
-    (operation_parts a c.args.base.now c.args.actual.now c.args.sorts.now c.args.ops.now c.bring_all_sorts.new.list c.in_ok-came.came
-    c.as_slice-numbers.result.now parts sorts c.as_slice-numbers.ensures.value) in
-    MatchResult-weaker c.complete.result
-    (c.complete.ensures a parts.mention_is
-    (have_come a c.args.base.now c.args.actual.now
-    (with_lists c.args.actual.now c.bring_all_sorts.new.list c.bring_all_ops.new.list) c.args.sorts.now c.args.ops.now
-    c.in_ok-came.came c.in_ok-came_ops.came_ops c.requires.sound c.requires.actual_sound c.requires.actual_within parts
-    c.in_ok-came.ensures.keyed c.in_ok-came_ops.ensures.keyed refl refl refl sorts ops))
-    (λ done is. brought_in a c.complete.new.actual sorts.none ops.none is)
-    (λ fault refused. rest_refused a fault sorts.none ops.none refused)
+    (operation_parts a c.args.base.now c.args.actual.now c.args.sorts.now c.args.ops.now c.bring_all_sorts.new.list
+    c.in_ok-came.came c.as_slice-numbers.result.now parts sorts c.as_slice-numbers.ensures.value) in (
+      brought_in a c.complete.new.actual sorts.none ops.none
+          (c.in_ok-complete.ensures a parts.mention_is
+          (have_come a c.args.base.now c.args.actual.now
+          (with_lists c.args.actual.now c.bring_all_sorts.new.list c.bring_all_ops.new.list) c.args.sorts.now c.args.ops.now
+          c.in_ok-came.came c.in_ok-came_ops.came_ops c.requires.sound c.requires.actual_sound c.requires.actual_within parts
+          c.in_ok-came.ensures.keyed c.in_ok-came_ops.ensures.keyed refl refl refl sorts ops)),
+      record {
+        has = record { sorts = sorts.none; operations = ops.none };
+        sorts = sorts.came.numbers;
+        operations = ops.came.numbers;
+      },
+    )

@@ -4,7 +4,7 @@ use Rattle.line_server.specs.RequestView.{wants}
 use Rattle.history_lines.specs.Standing.{shown_menu, state_line, shown_trace}
 use Rattle.history_lines.specs.ShelfAnswer.{refusal_in}
 use Rattle.history_lines.specs.CommandRefusal.{ill_formed}
-use Rattle.session_lines.specs.Refusal.{bad_command}
+use Rattle.session_log.specs.HandedOn.{bad_command}
 use Rattle.history_lines.specs.LinesView.{basis_of, reached, standing_of}
 use Rattle.history_lines.specs.Serving.{moment_of}
 use Rattle.history_lines.proofs.ServingLemmas.{for_request, said_alone, said_values, left_alone, carried}

@@ -1,6 +1,5 @@
 use Rattle.std.proofs.Common.{inl, refl, sym, subst}
-use Rattle.session_log.specs.HandedOn.{entries_in, Menu, specification_of, Spec}
-use Rattle.session_lines.specs.HandedOn.{book_canon}
+use Rattle.session_log.specs.HandedOn.{entries_in, Menu, specification_of, Spec, book_canon}
 use Rattle.sort_terms.specs.EquationView.{data_of}
 use Rattle.session_log.proofs.ResultLemmas.{gave_up}
 use Rattle.session_log.specs.Kept.{IsKeptMenu}

@@ -1,7 +1,6 @@
 use Rattle.std.proofs.Common.{◌≡◌, ◌++◌, ℕ, List, [], inl, inr, refl, ap, ◌∙◌, subst, codes, decimal}
 use Rattle.lotos_base.specs.Name.{spelling}
-use Rattle.session_log.specs.HandedOn.{Spec}
-use Rattle.session_histories.specs.Session.{SessionBasis}
+use Rattle.session_log.specs.HandedOn.{Spec, SessionBasis}
 use Rattle.line_server.specs.Request.{replay}
 use Rattle.history_lines.specs.Standing.{shown_menu}
 use Rattle.history_lines.specs.LinesView.{basis_of, reached, standing_of}

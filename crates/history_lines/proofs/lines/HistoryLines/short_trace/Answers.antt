@@ -1,8 +1,7 @@
 use Rattle.std.proofs.Common.{◌≡◌, ◌≤◌, length, subst}
 use Rattle.std.specs.Prelude.{MatchResult}
 use Rattle.lotos_base.specs.Signature.{Signature}
-use Rattle.session_log.specs.HandedOn.{specification_of}
-use Rattle.session_histories.specs.TraceText.{trace_text}
+use Rattle.session_log.specs.HandedOn.{specification_of, trace_text}
 use Rattle.session_log.specs.CourseView.{progress_of}
 use Rattle.session_log.specs.RefusalView.{TellsLength}
 use Rattle.session_log.proofs.CourseLemmas.{closed_states}

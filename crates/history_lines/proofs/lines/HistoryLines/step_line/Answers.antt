@@ -1,8 +1,7 @@
 use Rattle.std.proofs.Common.{◌≡◌, inl, inr, [], refl, ap, ◌∙◌}
-use Rattle.session_log.specs.HandedOn.{label_of}
+use Rattle.session_log.specs.HandedOn.{label_of, SessionBasis}
 use Rattle.sort_terms.specs.SignatureView.{signature_of}
 use Rattle.line_server.specs.Request.{take_step}
-use Rattle.session_histories.specs.Session.{SessionBasis}
 use Rattle.history_lines.specs.Answer.{did_text}
 use Rattle.history_lines.specs.LinesView.{basis_of, reached, standing_of}
 use Rattle.history_lines.specs.RefusalView.{AddsDecline}

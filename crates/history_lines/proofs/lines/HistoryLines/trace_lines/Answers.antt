@@ -1,7 +1,6 @@
-use Rattle.session_log.specs.HandedOn.{specification_of}
+use Rattle.session_log.specs.HandedOn.{specification_of, trace_text}
 use Rattle.sort_terms.specs.EquationView.{data_of}
 use Rattle.sort_terms.specs.SignatureView.{signature_of}
-use Rattle.session_histories.specs.TraceText.{trace_text}
 use Rattle.session_log.specs.CourseView.{progress_of}
 use Rattle.session_log.proofs.CourseLemmas.{closed_states}
 use Rattle.history_lines.proofs.TextLemmas.{over_data}

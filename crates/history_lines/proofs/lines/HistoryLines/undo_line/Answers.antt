@@ -1,7 +1,6 @@
 use Rattle.std.proofs.Common.{◌≡◌, inr, refl, ap}
-use Rattle.session_log.specs.HandedOn.{Spec}
+use Rattle.session_log.specs.HandedOn.{Spec, book_canon}
 use Rattle.sort_terms.specs.EquationView.{data_of}
-use Rattle.session_lines.specs.HandedOn.{book_canon}
 use Rattle.session_log.specs.CourseView.{basis_over}
 use Rattle.line_server.specs.Request.{undo}
 use Rattle.history_lines.specs.LinesView.{basis_of, reached, standing_of}

@@ -3,9 +3,7 @@ use Rattle.std.proofs.lemmas.List.{length-map}
 use Rattle.session_log.proofs.EntryLemmas.{entry_there}
 use Rattle.lotos_base.specs.WrittenView.{written_term_of}
 use Rattle.lotos_base.specs.Signature.{Signature}
-use Rattle.session_log.specs.HandedOn.{entries_in, plain_entry, Menu, terms_of}
-use Rattle.session_histories.specs.Refusal.{entry_numbered, number_refusal}
-use Rattle.session_histories.specs.Replay.{AreRead}
+use Rattle.session_log.specs.HandedOn.{entries_in, plain_entry, Menu, terms_of, entry_numbered, number_refusal, AreRead}
 use Rattle.session_log.specs.Entries.{AreGiven}
 use Rattle.session_log.specs.RefusalView.{TellsStep}
 use Rattle.session_log.proofs.ResultLemmas.{gave_up}

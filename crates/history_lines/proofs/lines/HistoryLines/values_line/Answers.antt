@@ -1,5 +1,5 @@
 use Rattle.std.proofs.Common.{List, ℕ, subst, sym}
-use Rattle.session_lines.specs.HandedOn.{plain_rules_in}
+use Rattle.session_log.specs.HandedOn.{plain_rules_in}
 use Rattle.sort_terms.specs.SignatureView.{signature_of}
 use Rattle.list_lines.specs.ListOutcome.{ValuesComeTo}
 use Rattle.list_lines.specs.ListText.{values_text}

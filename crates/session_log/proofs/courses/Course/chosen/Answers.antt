@@ -4,9 +4,7 @@ use Rattle.lotos_base.specs.Term.{Term}
 use Rattle.behaviour_tree.specs.BehaviourTerms.{profiles_of}
 use Rattle.behaviour_tree.specs.BehaviourView.{terms_of}
 use Rattle.behaviour_tree.specs.Over.{AreTermsOf}
-use Rattle.event_offers.specs.Instances.{canonical_derivation}
-use Rattle.event_offers.specs.OfferView.{plain_entry}
-use Rattle.event_offers.specs.Offers.{IsEntryOf}
+use Rattle.menu_builder.specs.HandedOn.{canonical_derivation, plain_entry, IsEntryOf}
 use Rattle.session_log.proofs.CourseLemmas.{chosen_told}
 use Rattle.session_log.proofs.EntryLemmas.{entry_over}
 use Rattle.session_log.proofs.ResultLemmas.{gave_up}

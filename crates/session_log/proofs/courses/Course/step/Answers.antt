@@ -8,7 +8,7 @@ use Rattle.behaviour_tree.specs.StateView.{state_of}
 use Rattle.behaviour_tree.specs.BehaviourView.{terms_of}
 use Rattle.menu_builder.specs.Menus.{entries_in}
 use Rattle.sort_terms.specs.declared.sorted.Sorted.{Sorted}
-use Rattle.event_offers.proofs.KeepingLemmas.{holds_after, keeps_both}
+use Rattle.menu_builder.proofs.HandedOn.{holds_after, keeps_both}
 use Rattle.session_histories.specs.Refusal.{step_refusal}
 use Rattle.session_log.specs.CourseView.{basis_over}
 use Rattle.session_log.specs.Entries.{IsChosenEntry}

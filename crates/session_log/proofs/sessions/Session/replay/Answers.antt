@@ -4,7 +4,7 @@ use Rattle.lotos_base.specs.Equation.{Data}
 use Rattle.lotos_base.specs.Term.{Term}
 use Rattle.behaviour_tree.specs.StateView.{state_of}
 use Rattle.session_histories.specs.Replay.{goes_on}
-use Rattle.event_offers.proofs.KeepingLemmas.{held_before, holds_after}
+use Rattle.menu_builder.proofs.HandedOn.{held_before, holds_after}
 use Rattle.session_log.specs.CourseView.{past_of, progress_of}
 use Rattle.session_log.specs.Kept.{AreSuited, IsKeptCourse, IsKeptState}
 use Rattle.session_log.proofs.CourseLemmas.{copied_kept, first_kept, same_beginning}

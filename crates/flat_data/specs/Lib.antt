@@ -1,3 +1,0 @@
-pub mod WrittenData
-pub mod DataLaws
-pub mod WrittenExample

@@ -1,0 +1,2 @@
+-- What crates above this one need of the crates below it.
+pub use Rattle.draft_parts.proofs.HandedOn.{holds_after, held_before, keeps_both, keeps_itself}

@@ -1,2 +1,0 @@
-pub mod MovedNames
-pub mod TextLemmas

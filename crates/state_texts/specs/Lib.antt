@@ -1,3 +1,0 @@
-pub mod TextBytes
-pub mod BoundNames
-pub mod StateTexts

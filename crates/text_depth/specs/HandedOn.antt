@@ -1,0 +1,16 @@
+-- What crates above this one need of the crates below it.
+pub use Rattle.ll_engine.specs.Language.{ContextFree, IsSentence, IsLeftmostDerivation}
+pub use Rattle.lotos_lexer.specs.Tokens as tokens
+pub use Rattle.lotos_lexer.specs.Tokens.{tokens_of}
+pub use Rattle.lotos_lexer.specs.declared.tokens.Token.{Token}
+unfoldable pub use Rattle.lotos_rows.specs.Rows.{grammar_from}
+pub use Rattle.lotos_rows.specs.Starts.{IsWrittenSpecification, AreOptionalTerms, AreItems}
+pub use Rattle.lotos_rows.specs.declared.starts.TheConstants as starts
+pub use Rattle.sentence_trees.specs.Reading.{IsTypesReading, IsTypesFault, node_limit, IsRead, IsFault, IsFaultWithin, nodes_of_items}
+pub use Rattle.sentence_trees.specs.Reading.{IsOrderReadFault, IsOrderReading, IsSpecificationFault, IsSpecificationReading, IsTermsFault}
+pub use Rattle.sentence_trees.specs.Reading.{IsTermsReading}
+pub use Rattle.sentence_trees.specs.ReadingLaws.{HasOneOutcome}
+pub use Rattle.sentence_trees.specs.Sentences.{kind_of}
+pub use Rattle.sentence_trees.specs.declared.fault.ReadFault.{ReadFault}
+pub use Rattle.sentence_trees.specs.declared.fault.ReadFault.TheVariants as read_faults
+pub use Rattle.sentence_trees.specs.declared.fault.ReadFault.TheVariants.{TooLong, BadByte, OpenComment, Syntax, TooDeep, NoMemory}
