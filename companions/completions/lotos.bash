@@ -46,7 +46,7 @@ _lotos() {
     local current=${COMP_WORDS[COMP_CWORD]}
     COMPREPLY=()
     if [ "$COMP_CWORD" -eq 1 ]; then
-        _lotos_words 'check run demo flatten bisim build install' "$current"
+        _lotos_words 'check run demo flatten bisim induct build install' "$current"
     elif [[ ${COMP_WORDS[1]} = check || ${COMP_WORDS[1]} = run ]]; then
         _lotos_run 2 "$current"
     elif [[ ${COMP_WORDS[1]} = flatten && $COMP_CWORD -eq 2 ]]; then
@@ -57,6 +57,10 @@ _lotos() {
         _lotos_files "$current" '*.lotos'
     elif [[ ${COMP_WORDS[1]} = bisim && $COMP_CWORD -eq 4 ]]; then
         _lotos_files "$current" '*.pairs'
+    elif [[ ${COMP_WORDS[1]} = induct && $COMP_CWORD -eq 2 ]]; then
+        _lotos_files "$current" '*.lotos'
+    elif [[ ${COMP_WORDS[1]} = induct && $COMP_CWORD -eq 3 ]]; then
+        _lotos_files "$current" '*.proofs'
     elif [ "${COMP_WORDS[1]}" = install ] && [ "$COMP_CWORD" -eq 2 ]; then
         compopt -o filenames 2>/dev/null
         mapfile -t COMPREPLY < <(compgen -d -- "$current")

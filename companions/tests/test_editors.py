@@ -155,7 +155,7 @@ class Completions(FolderTest):
 
     def test_bash(self):
         os.mkdir("cofolder")
-        for words, wanted in ((("lotos", ""), ["bisim", "build", "check", "demo", "flatten", "install", "run"]),
+        for words, wanted in ((("lotos", ""), ["bisim", "build", "check", "demo", "flatten", "induct", "install", "run"]),
                               (("lotos", "r"), ["run"]),
                               (("lotos", "run", "co"), ["cofolder", "countdown.lotos"]),
                               (("lotos", "run", "countdown.lotos", "co"), ["cofolder", "countdown.lotos", "countdown.order"]),

@@ -8,7 +8,7 @@ use Rattle.sort_terms.specs.declared.equations.Equation.{Equation}
 use Rattle.sort_terms.specs.declared.operations.Op.{Op}
 use Rattle.sort_terms.specs.declared.operations.Sort.{Sort}
 use Rattle.sort_terms.specs.declared.sorted.Sorted.{Sorted}
-use Rattle.bisimulation_theory.specs.SameData.{AreSameSorts, AreSameOperations, AreSameEquations}
+use Rattle.certificate_theory.specs.SameData.{AreSameSorts, AreSameOperations, AreSameEquations}
 use Rattle.bisim_check.specs.OneByOne.{OneByOne}
 use Rattle.bisim_check.specs.Agreeing.{AreOneSort, AreOneOp, AreOneRule, AreOneTerm}
 

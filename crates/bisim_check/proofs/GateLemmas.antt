@@ -7,7 +7,7 @@ use Rattle.lotos_base.specs.declared.names.Name.{Name}
 use Rattle.behaviour_semantics.proofs.OptionLemmas.{some_value}
 use Rattle.behaviour_tree.specs.DefinitionView.{specification_of}
 use Rattle.behaviour_tree.specs.declared.definitions.Spec.{Spec}
-use Rattle.bisimulation_theory.specs.Agreement.{AreOneGate}
+use Rattle.certificate_theory.specs.Agreement.{AreOneGate}
 use Rattle.bisim_check.proofs.DataLemmas.{never}
 
 -- one of the gates has no name

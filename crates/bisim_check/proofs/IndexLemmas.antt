@@ -12,7 +12,7 @@ use Rattle.behaviour_tree.specs.declared.states.Node.{Node}
 use Rattle.behaviour_tree.specs.declared.states.State.{State}
 use Rattle.same_behaviours.specs.Digests.{digest}
 use Rattle.same_behaviours.specs.Mixing.{mixed}
-use Rattle.bisimulation_theory.specs.Certificate.{ListedPair, AreListed}
+use Rattle.certificate_theory.specs.Certificate.{ListedPair, AreListed}
 use Rattle.path_order.specs.HeadIndexView.{numbers_at}
 use Rattle.path_order.specs.declared.head_index.HeadIndex.{HeadIndex}
 use Rattle.bisim_check.specs.PairIndex.{bucket_of, AddsNumber, IsFiled, IsPairAt, IsPairIndex}

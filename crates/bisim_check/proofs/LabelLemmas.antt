@@ -7,7 +7,7 @@ use Rattle.behaviour_tree.specs.MoveView.{label_of}
 use Rattle.behaviour_tree.specs.declared.definitions.Spec.{Spec}
 use Rattle.behaviour_tree.specs.declared.moves.Label.{Label}
 use Rattle.behaviour_tree.specs.declared.moves.Label.TheVariants.{Gate, Exit}
-use Rattle.bisimulation_theory.specs.Agreement.{AreOneGate, IdenticalLabels}
+use Rattle.certificate_theory.specs.Agreement.{AreOneGate, IdenticalLabels}
 use Rattle.sort_terms.specs.SortedView.{term_in}
 use Rattle.sort_terms.specs.declared.sorted.Sorted.{Sorted}
 use Rattle.bisim_check.proofs.DataLemmas.{never}

@@ -4,7 +4,7 @@ use Rattle.std.proofs.lemmas.List.{length-map, map-append}
 use Rattle.behaviour_semantics.proofs.OptionLemmas.{some_value}
 use Rattle.session_histories.specs.TraceLine.{lines_of}
 use Rattle.behaviour_semantics.specs.WellFormed.{Every}
-use Rattle.bisimulation_theory.specs.Certificate.{CertificateLine, names_left, names_right, lists_pair}
+use Rattle.certificate_theory.specs.Certificate.{CertificateLine, names_left, names_right, lists_pair}
 use Rattle.std.proofs.lemmas.List.{take_rest}
 use Rattle.bisim_check.specs.LineView.{BadLineIs}
 use Rattle.bisim_check.specs.declared.lines.PairTextFault.{PairTextFault}

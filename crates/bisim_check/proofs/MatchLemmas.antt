@@ -8,11 +8,11 @@ use Rattle.behaviour_semantics.specs.Solving.{Entry}
 use Rattle.behaviour_semantics.specs.Menu.{IsEntry, Exact}
 use Rattle.behaviour_semantics.specs.WellFormed.{AreOver}
 use Rattle.behaviour_semantics.proofs.OptionLemmas.{some_value}
-use Rattle.bisimulation_theory.specs.Agreement.{IdenticalLabels}
-use Rattle.bisimulation_theory.specs.AgreementLaws.{IsClosedEntryOf, ClosedEntriesAreEvents, ClosedLabelsAgreeWhereIdentical}
-use Rattle.bisimulation_theory.specs.Certificate.{side_of}
-use Rattle.bisimulation_theory.specs.NamedStates.{IsClosedEntry, EntryLeads, numbered_entry}
-use Rattle.bisimulation_theory.specs.MatchedPairs.{IsMatched, AreMatched, IsFirstUnmatched}
+use Rattle.certificate_theory.specs.Agreement.{IdenticalLabels}
+use Rattle.certificate_theory.specs.AgreementLaws.{IsClosedEntryOf, ClosedEntriesAreEvents, ClosedLabelsAgreeWhereIdentical}
+use Rattle.certificate_theory.specs.Certificate.{side_of}
+use Rattle.certificate_theory.specs.NamedStates.{IsClosedEntry, EntryLeads, numbered_entry}
+use Rattle.certificate_theory.specs.MatchedPairs.{IsMatched, AreMatched, IsFirstUnmatched}
 use Rattle.bisim_check.specs.Matching.{Event, AreEvents, HasAnswer, AllAnswered, IsFirstUnanswered}
 
 -- A closed behaviour with its exact menu, whose entries have no variables, and the events of these.

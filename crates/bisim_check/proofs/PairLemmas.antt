@@ -11,10 +11,10 @@ use Rattle.behaviour_semantics.proofs.InstanceLemmas.{every_at}
 use Rattle.behaviour_semantics.proofs.OptionLemmas.{some_value}
 use Rattle.behaviour_tree.specs.DefinitionView.{specification_of}
 use Rattle.behaviour_tree.specs.declared.definitions.Spec.{Spec}
-use Rattle.bisimulation_theory.specs.AgreementLaws.{ClosedEntriesAreEvents, ClosedLabelsAgreeWhereIdentical}
-use Rattle.bisimulation_theory.specs.Bisimulation.{turned_round}
-use Rattle.bisimulation_theory.specs.Certificate.{CertificateFault, ListedPair, AreListed, ComparedSide}
-use Rattle.bisimulation_theory.specs.MatchedPairs.{PairIsMatched, PairFails, left_fails, right_fails}
+use Rattle.certificate_theory.specs.AgreementLaws.{ClosedEntriesAreEvents, ClosedLabelsAgreeWhereIdentical}
+use Rattle.certificate_theory.specs.Bisimulation.{turned_round}
+use Rattle.certificate_theory.specs.Certificate.{CertificateFault, ListedPair, AreListed, ComparedSide}
+use Rattle.certificate_theory.specs.MatchedPairs.{PairIsMatched, PairFails, left_fails, right_fails}
 use Rattle.menu_builder.specs.HandedOn.{plain_entry, Entry}
 use Rattle.menu_builder.specs.Menus.{entries_in}
 use Rattle.bisim_check.specs.Events.{IsEventOf, HasNewEvent, IsUnanswered}

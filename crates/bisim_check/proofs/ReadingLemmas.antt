@@ -13,9 +13,9 @@ use Rattle.behaviour_semantics.specs.WellFormed.{Every}
 use Rattle.behaviour_semantics.proofs.InstanceLemmas.{every_at}
 use Rattle.behaviour_semantics.proofs.OptionLemmas.{some_value}
 use Rattle.behaviour_tree.specs.declared.definitions.Spec.{Spec}
-use Rattle.bisimulation_theory.specs.Certificate.{CertificateLine, names_left, names_right, lists_pair, CertificateFault, no_state, Comparison, Reading as PlainReading, number_of_pairs}
-use Rattle.bisimulation_theory.specs.NamedStates.{IsClosedEntry, HasClosedMenu, HasOpenMenu, NamesNoState, LineIsRead, LineFails, LinesAreRead, one_read, LinesFail, fails_here, fails_later, left_is_missing, right_is_missing, left_is_open, right_is_open}
-use Rattle.bisimulation_theory.proofs.ReadStates.{lines_counted}
+use Rattle.certificate_theory.specs.Certificate.{CertificateLine, names_left, names_right, lists_pair, CertificateFault, no_state, Comparison, Reading as PlainReading, number_of_pairs}
+use Rattle.certificate_theory.specs.NamedStates.{IsClosedEntry, HasClosedMenu, HasOpenMenu, NamesNoState, LineIsRead, LineFails, LinesAreRead, one_read, LinesFail, fails_here, fails_later, left_is_missing, right_is_missing, left_is_open, right_is_open}
+use Rattle.certificate_theory.proofs.ReadStates.{lines_counted}
 use Rattle.menu_builder.specs.HandedOn.{plain_entry, Entry}
 use Rattle.menu_builder.specs.Menus.{entries_in}
 use Rattle.bisim_check.specs.Faults.{TellsFault}

@@ -8,10 +8,10 @@ use Rattle.behaviour_tree.specs.Over.{AreTermsOf}
 use Rattle.behaviour_tree.specs.StateView.{node_profiles, state_of}
 use Rattle.behaviour_tree.specs.declared.definitions.Spec.{Spec}
 use Rattle.behaviour_tree.specs.declared.states.State.{State}
-use Rattle.bisimulation_theory.specs.Certificate.{CertificateLine, CertificateFault, Comparison, Reading as PlainReading, first_reading, ListsTheStarts, accepted, refused, no_start_pair}
-use Rattle.bisimulation_theory.specs.Checking.{CertificateComesTo, is_accepted, has_faulty_line, lacks_starts, has_faulty_pair}
-use Rattle.bisimulation_theory.specs.MatchedPairs.{AllPairsAreMatched, PairsFail}
-use Rattle.bisimulation_theory.specs.NamedStates.{LinesAreRead, LinesFail}
+use Rattle.certificate_theory.specs.Certificate.{CertificateLine, CertificateFault, Comparison, Reading as PlainReading, first_reading, ListsTheStarts, accepted, refused, no_start_pair}
+use Rattle.certificate_theory.specs.Checking.{CertificateComesTo, is_accepted, has_faulty_line, lacks_starts, has_faulty_pair}
+use Rattle.certificate_theory.specs.MatchedPairs.{AllPairsAreMatched, PairsFail}
+use Rattle.certificate_theory.specs.NamedStates.{LinesAreRead, LinesFail}
 use Rattle.bisim_check.specs.Surveys.{IsStateIn}
 
 -- a copy of a state of the specification is one

@@ -8,8 +8,8 @@ use Rattle.behaviour_semantics.specs.Menu.{IsEntry}
 use Rattle.behaviour_semantics.specs.WellFormed.{Every}
 use Rattle.behaviour_semantics.proofs.InstanceLemmas.{every_at}
 use Rattle.behaviour_tree.specs.declared.definitions.Spec.{Spec}
-use Rattle.bisimulation_theory.specs.Certificate.{CertificateFault, no_state, no_entry, open_menu, no_start_pair}
-use Rattle.bisimulation_theory.specs.NamedStates.{numbered_entry, EntryLeads, NamesState, NamesNoState, state_is_missing, entry_is_missing, entry_is_open}
+use Rattle.certificate_theory.specs.Certificate.{CertificateFault, no_state, no_entry, open_menu, no_start_pair}
+use Rattle.certificate_theory.specs.NamedStates.{numbered_entry, EntryLeads, NamesState, NamesNoState, state_is_missing, entry_is_missing, entry_is_open}
 use Rattle.menu_builder.specs.HandedOn.{plain_entry, IsEntryOf, IsEntryOver, Entry, Menu}
 use Rattle.menu_builder.specs.Menus.{entries_in}
 use Rattle.bisim_check.specs.Faults.{TellsFault, unmatched_on}

@@ -20,10 +20,10 @@ use Rattle.behaviour_tree.specs.declared.definitions.Spec.{Spec}
 use Rattle.behaviour_tree.specs.declared.moves.Derivation.{Derivation}
 use Rattle.behaviour_tree.specs.declared.moves.Label.{Label}
 use Rattle.behaviour_tree.specs.declared.states.State.{State}
-use Rattle.bisimulation_theory.specs.AgreementLaws.{IsClosedEntryOf, ClosedEntriesAreEvents}
-use Rattle.bisimulation_theory.specs.Certificate.{ComparedSide}
-use Rattle.bisimulation_theory.specs.NamedStates.{EntryLeads}
-use Rattle.bisimulation_theory.proofs.ClosedEntries.{leaves_stay}
+use Rattle.certificate_theory.specs.AgreementLaws.{IsClosedEntryOf, ClosedEntriesAreEvents}
+use Rattle.certificate_theory.specs.Certificate.{ComparedSide}
+use Rattle.certificate_theory.specs.NamedStates.{EntryLeads}
+use Rattle.certificate_theory.proofs.ClosedEntries.{leaves_stay}
 use Rattle.menu_builder.specs.HandedOn.{canonical_derivation, plain_entry, Entry}
 use Rattle.menu_builder.specs.Menus.{entries_in}
 use Rattle.step_taker.specs.Taken.{IsStepFault, IsTaken, ground_of}

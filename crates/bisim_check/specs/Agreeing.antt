@@ -8,7 +8,7 @@ use Rattle.sort_terms.specs.declared.equations.Equation.{Equation}
 use Rattle.sort_terms.specs.declared.operations.Op.{Op}
 use Rattle.sort_terms.specs.declared.operations.Sort.{Sort}
 use Rattle.sort_terms.specs.declared.sorted.Sorted.{Sorted}
-use Rattle.bisimulation_theory.specs.SameData.{AreOneOperation, AreOneEquation}
+use Rattle.certificate_theory.specs.SameData.{AreOneOperation, AreOneEquation}
 
 abbrev pub AreOneSort : Sort → Sort → Type 0
 AreOneSort sort other = AreSame sort.name other.name

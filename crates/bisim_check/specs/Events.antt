@@ -3,8 +3,8 @@ use Rattle.std.specs.Prelude.{◌≡◌, ℕ, List, [], ◌∷◌, ◌++◌, Boo
 use Rattle.behaviour_semantics.specs.Solving.{Entry}
 use Rattle.behaviour_tree.specs.MoveView.{label_of}
 use Rattle.behaviour_tree.specs.StateView.{state_of}
-use Rattle.bisimulation_theory.specs.Certificate.{ComparedSide, CertificateFault}
-use Rattle.bisimulation_theory.specs.NamedStates.{EntryLeads}
+use Rattle.certificate_theory.specs.Certificate.{ComparedSide, CertificateFault}
+use Rattle.certificate_theory.specs.NamedStates.{EntryLeads}
 use Rattle.behaviour_semantics.specs.Behaviour.{Behaviour, Specification}
 use Rattle.bisim_check.specs.Faults.{unmatched_on}
 use Rattle.bisim_check.specs.Matching as plain

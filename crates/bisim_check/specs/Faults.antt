@@ -1,6 +1,6 @@
 -- The faults of certificates that those of the code stand for.
 use Rattle.std.specs.Prelude.{ℕ, Bool, true, false}
-use Rattle.bisimulation_theory.specs.Certificate.{CertificateFault, no_state, no_entry, open_menu, no_start_pair, unmatched_left, unmatched_right}
+use Rattle.certificate_theory.specs.Certificate.{CertificateFault, no_state, no_entry, open_menu, no_start_pair, unmatched_left, unmatched_right}
 use Rattle.bisim_check.specs.declared.faults.PairsFault.{PairsFault}
 use Rattle.bisim_check.specs.declared.faults.PairsFault.TheVariants as fault
 

@@ -2,7 +2,7 @@
 -- 4,294,967,295, and one space between them.
 use Rattle.std.specs.Prelude.{◌≡◌, ◌<◌, ◌^◌, ℕ, suc, List, [], ◌∷◌, ◌++◌, map, Some, codes, decimal, slice_get}
 use Rattle.behaviour_semantics.specs.WellFormed.{Every}
-use Rattle.bisimulation_theory.specs.Certificate.{CertificateLine, names_left, names_right, lists_pair}
+use Rattle.certificate_theory.specs.Certificate.{CertificateLine, names_left, names_right, lists_pair}
 use Rattle.session_histories.specs.TraceLine.{lines_of}
 
 abbrev pub two_numbers : ℕ → ℕ → List ℕ

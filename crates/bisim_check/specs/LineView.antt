@@ -1,6 +1,6 @@
 -- The lines of certificates that those of the code stand for.
 use Rattle.std.specs.Prelude.{ℕ}
-use Rattle.bisimulation_theory.specs.Certificate.{CertificateLine, names_left, names_right, lists_pair}
+use Rattle.certificate_theory.specs.Certificate.{CertificateLine, names_left, names_right, lists_pair}
 use Rattle.bisim_check.specs.declared.lines.PairLine.{PairLine}
 use Rattle.bisim_check.specs.declared.lines.PairLine.TheVariants.{Left, Right, Pair}
 use Rattle.bisim_check.specs.declared.lines.PairTextFault.{PairTextFault}

@@ -4,10 +4,10 @@ use Rattle.std.specs.Prelude.{◌≡◌, ◌<◌, ℕ, suc, List, [], ◌∷◌,
 use Rattle.behaviour_semantics.specs.Behaviour.{Behaviour, Specification}
 use Rattle.behaviour_semantics.specs.Label.{Label}
 use Rattle.behaviour_semantics.specs.Solving.{Entry}
-use Rattle.bisimulation_theory.specs.Agreement.{IdenticalLabels}
-use Rattle.bisimulation_theory.specs.Bisimulation.{turned_round}
-use Rattle.bisimulation_theory.specs.Certificate.{ComparedSide, ListedPair, AreListed}
-use Rattle.bisimulation_theory.specs.NamedStates.{EntryLeads}
+use Rattle.certificate_theory.specs.Agreement.{IdenticalLabels}
+use Rattle.certificate_theory.specs.Bisimulation.{turned_round}
+use Rattle.certificate_theory.specs.Certificate.{ComparedSide, ListedPair, AreListed}
+use Rattle.certificate_theory.specs.NamedStates.{EntryLeads}
 
 -- A label with the behaviour that it leads to.
 pub record Event : Type 0 where

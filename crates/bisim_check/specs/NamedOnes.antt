@@ -1,7 +1,7 @@
 -- One more state of a side.
 use Rattle.std.specs.Prelude.{◌≡◌, ℕ, List, [], ◌∷◌, ◌++◌}
-use Rattle.bisimulation_theory.specs.Certificate.{ComparedSide}
-use Rattle.bisimulation_theory.specs.NamedStates.{NamesState}
+use Rattle.certificate_theory.specs.Certificate.{ComparedSide}
+use Rattle.certificate_theory.specs.NamedStates.{NamesState}
 use Rattle.bisim_check.specs.Surveys.{behaviour_in, behaviours_in}
 use Rattle.bisim_check.specs.declared.surveys.Surveyed.{Surveyed}
 

@@ -3,7 +3,7 @@ use Rattle.std.specs.Prelude.{◌≡◌, ℕ, ◌%◌, List, [], ◌∷◌, ◌+
 use Rattle.same_behaviours.specs.Digests.{digest}
 use Rattle.same_behaviours.specs.Mixing.{mixed}
 use Rattle.behaviour_semantics.specs.Behaviour.{Behaviour}
-use Rattle.bisimulation_theory.specs.Certificate.{ListedPair}
+use Rattle.certificate_theory.specs.Certificate.{ListedPair}
 use Rattle.path_order.specs.HeadIndexView.{numbers_at}
 use Rattle.path_order.specs.declared.head_index.HeadIndex.{HeadIndex}
 use Rattle.bisim_check.specs.Readings.{pairs_in, ArePlaced}

@@ -6,7 +6,7 @@ use Rattle.behaviour_semantics.specs.Behaviour.{Behaviour, stop}
 use Rattle.behaviour_semantics.specs.WellFormed.{Every}
 use Rattle.behaviour_tree.specs.DefinitionView.{specification_of}
 use Rattle.behaviour_tree.specs.declared.definitions.Spec.{Spec}
-use Rattle.bisimulation_theory.specs.Certificate.{CertificateFault, open_menu, Comparison, ListedPair, Reading as PlainReading}
+use Rattle.certificate_theory.specs.Certificate.{CertificateFault, open_menu, Comparison, ListedPair, Reading as PlainReading}
 use Rattle.menu_builder.specs.HandedOn.{Entry, Menu}
 use Rattle.bisim_check.specs.Surveys.{AreSurveyed, behaviours_in}
 use Rattle.bisim_check.specs.declared.readings.Listed.{Listed}

@@ -12,7 +12,7 @@ use Rattle.behaviour_tree.specs.Over.{IsSpecOver, IsStateOf}
 use Rattle.behaviour_tree.specs.StateView.{state_of}
 use Rattle.behaviour_tree.specs.declared.definitions.Spec.{Spec}
 use Rattle.behaviour_tree.specs.declared.states.State.{State}
-use Rattle.bisimulation_theory.specs.Certificate.{ComparedSide, side_of}
+use Rattle.certificate_theory.specs.Certificate.{ComparedSide, side_of}
 use Rattle.menu_builder.specs.HandedOn.{IsEntryOver}
 use Rattle.menu_builder.specs.Menus.{entries_in}
 use Rattle.bisim_check.specs.declared.surveys.Surveyed.{Surveyed}

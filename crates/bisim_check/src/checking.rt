@@ -14,24 +14,23 @@ ghost use Rattle.bisim_check.specs.Readings.{
   IsListed,
 };
 ghost use Rattle.bisim_check.specs.Surveys.{AreSurveyed, behaviours_in, IsSideOf, IsStateIn};
-ghost use Rattle.bisimulation_theory.specs.Certificate.{
+ghost use Rattle.certificate_theory.specs.Certificate.{
   accepted,
   first_reading,
   lists_pair,
   refused,
   ListsTheStarts,
 };
-ghost use Rattle.bisimulation_theory.specs.Checking.{CertificateComesTo};
-ghost use Rattle.bisimulation_theory.specs.MatchedPairs.{
+ghost use Rattle.certificate_theory.specs.Checking.{CertificateComesTo};
+ghost use Rattle.certificate_theory.specs.MatchedPairs.{
   AllPairsAreMatched,
   PairFails,
   PairIsMatched,
   PairsFail,
 };
-ghost use Rattle.bisimulation_theory.specs.NamedStates.{LinesAreRead, LinesFail};
+ghost use Rattle.certificate_theory.specs.NamedStates.{LinesAreRead, LinesFail};
 ghost use Rattle.lotos_base.specs.Equation.{HasSortedSides};
-ghost use Rattle.menu_builder.specs.HandedOn.{KeepsData};
-ghost use Rattle.process_checks.specs.Ranks.{AreRanksOf};
+ghost use Rattle.menu_builder.specs.HandedOn.{AreRanksOf, KeepsData};
 ghost use Rattle.std.specs.Prelude.{
   ◌≡◌,
   ◌↔◌,
@@ -56,12 +55,12 @@ use crate::pair_index::pair_index;
 use crate::readings::{Listed, Reading};
 use crate::surveys::{Surveyed, survey};
 use behaviour_tree::{Spec, State};
-use bisimulation_theory::agreement::{
+use certificate_theory::agreement::{
     closed_entries_are_events, closed_labels_agree_where_identical,
 };
 use lotos_base::NoMemory;
+use menu_builder::Ranks;
 use path_order::head_index::HeadIndex;
-use process_checks::Ranks;
 use sort_terms::Deciding;
 use std::alloc::Global;
 

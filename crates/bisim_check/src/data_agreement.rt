@@ -1,7 +1,7 @@
 //! Whether two data are the same.
 
 ghost use Rattle.bisim_check.specs.Agreeing.{AreOneOp, AreOneRule, AreOneSort, AreOneTerm};
-ghost use Rattle.bisimulation_theory.specs.SameData.{AreSameData};
+ghost use Rattle.certificate_theory.specs.SameData.{AreSameData};
 ghost use Rattle.sort_terms.specs.EquationView.{data_of};
 ghost use Rattle.std.specs.Prelude.{◌≡◌, ◌↔◌, IsTrue};
 ghost use Rattle.lotos_base.specs.WrittenView.{form_of};

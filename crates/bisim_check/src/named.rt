@@ -22,8 +22,8 @@ ghost use Rattle.bisim_check.specs.Surveys.{
   IsStateIn,
   side_over,
 };
-ghost use Rattle.bisimulation_theory.specs.Certificate.{lists_pair, no_entry, no_state};
-ghost use Rattle.bisimulation_theory.specs.NamedStates.{
+ghost use Rattle.certificate_theory.specs.Certificate.{lists_pair, no_entry, no_state};
+ghost use Rattle.certificate_theory.specs.NamedStates.{
   LineFails,
   LineIsRead,
   NamesNoState,
@@ -32,9 +32,8 @@ ghost use Rattle.bisimulation_theory.specs.NamedStates.{
 };
 ghost use Rattle.lotos_base.specs.Equation.{Data};
 ghost use Rattle.lotos_base.specs.Term.{Term};
-ghost use Rattle.menu_builder.specs.HandedOn.{Entry, KeepsData};
+ghost use Rattle.menu_builder.specs.HandedOn.{AreRanksOf, Entry, KeepsData};
 ghost use Rattle.menu_builder.specs.Menus.{entries_in};
-ghost use Rattle.process_checks.specs.Ranks.{AreRanksOf};
 ghost use Rattle.std.specs.Prelude.{
   ◌≡◌,
   ◌++◌,
@@ -54,8 +53,7 @@ use crate::readings::{Listed, Reading};
 use crate::surveys::{Surveyed, survey, target};
 use behaviour_tree::{Spec, State};
 use lotos_base::NoMemory;
-use menu_builder::{Entry, Menu};
-use process_checks::Ranks;
+use menu_builder::{Entry, Menu, Ranks};
 use sort_terms::Deciding;
 use std::alloc::Global;
 

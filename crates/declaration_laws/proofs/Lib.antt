@@ -4,6 +4,14 @@ pub mod GateLemmas
 pub mod ScopeLemmas
 pub mod DeclaredLemmas
 mod EntryLemmas
-mod SameLookups
-mod SameReadings
+pub mod SameLookups
+pub mod SameReadings
 pub mod SameResolutions
+pub mod TokenOrder
+pub mod LexedOrder
+pub mod TermPlaceLemmas
+pub mod PartPlaceLemmas
+pub mod BehaviourPlaceLemmas
+pub mod TextPlaceLemmas
+pub mod ReadLemmas
+pub mod GateListLemmas

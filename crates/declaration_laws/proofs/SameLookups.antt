@@ -11,8 +11,8 @@ use Rattle.lotos_base.specs.WrittenTerm.{PlacedName}
 use Rattle.syntax_trees.specs.WrittenVariable.{WrittenVariable}
 use Rattle.syntax_trees.specs.WrittenDefinition.{WrittenHeading, WrittenInner, WrittenInners, inner_item, process, no_inner, inner_then}
 use Rattle.sort_terms.specs.ReadingOutcome.{is_operation_name, is_sort_name, one_name}
-use Rattle.bisimulation_theory.specs.SameData.{AreSameSorts, AreOneOperation, AreSameOperations}
-use Rattle.bisimulation_theory.proofs.SameSignatures.{AgreeSignatures}
+use Rattle.certificate_theory.specs.SameData.{AreSameSorts, AreOneOperation, AreSameOperations}
+use Rattle.certificate_theory.proofs.SameSignatures.{AgreeSignatures}
 use Rattle.scope_parts.specs.Numbering.{Numbers, process_count}
 use Rattle.scope_parts.specs.Resolution.{Resolution, resolved, faulty, and_then, put_in_front, beside}
 use Rattle.scope_parts.specs.Scope.{Callable, first_double}

@@ -8,7 +8,7 @@ use Rattle.lotos_base.specs.Twins.{form_eq}
 use Rattle.lotos_base.specs.WrittenTerm.{PlacedName, WrittenHead, WrittenTerm, WrittenTerms, written, no_written, written_then, written_head}
 use Rattle.sort_terms.specs.Reading.{Reads, AllRead, IsAsked, IsSortNamed}
 use Rattle.sort_terms.specs.ReadingOutcome.{ReadingRefusal, unknown_name, unknown_sort, ReadingOutcome, answered, refused, is_sort_name, is_variable_name, is_operation_name, unknown_at, unknown_sorts, in_text_order, unknown_in, unknown_in_each, ComesTo, IsReading, IsPairReading, ReadingIs, PairReadingIs, SortedTerm, SortedPair}
-use Rattle.bisimulation_theory.proofs.SameSignatures.{AgreeSignatures, agree_turned}
+use Rattle.certificate_theory.proofs.SameSignatures.{AgreeSignatures, agree_turned}
 use Rattle.declaration_laws.proofs.SameLookups.{sort_there, operation_there, is_operation_same, is_sort_same}
 
 -- an outcome of one question is that of another with the same answers

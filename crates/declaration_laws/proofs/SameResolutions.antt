@@ -11,8 +11,8 @@ use Rattle.syntax_trees.specs.WrittenBehaviour.{WrittenBehaviour, WrittenSign, c
 use Rattle.syntax_trees.specs.WrittenDefinition.{WrittenHeading, WrittenInner, WrittenInners, inner_item, process, no_inner, inner_then, inners_of, WrittenSpecification}
 use Rattle.behaviour_semantics.specs.Behaviour.{Behaviour, Specification, Test}
 use Rattle.sort_terms.specs.ReadingOutcome.{ReadingOutcome, answered, refused}
-use Rattle.bisimulation_theory.specs.SameData.{AreSameData}
-use Rattle.bisimulation_theory.proofs.SameSignatures.{AgreeSignatures}
+use Rattle.certificate_theory.specs.SameData.{AreSameData}
+use Rattle.certificate_theory.proofs.SameSignatures.{AgreeSignatures}
 use Rattle.scope_parts.specs.ScopeFault.{unknown_gate, unknown_process, unknown_sort, double_name, gate_count, value_count, no_bool, refused_term}
 use Rattle.scope_parts.specs.Resolution.{Resolution, resolved, faulty, Is, ThenResolves, Made, InFront, Beside}
 use Rattle.scope_parts.specs.Scope.{Scope, Callable, Binding}

@@ -4,3 +4,6 @@ pub mod DeclaredGates
 pub mod EntryGates
 pub mod SameData
 pub mod SameSpecification
+pub mod ReadPlaces
+pub mod ReadGateLists
+pub mod HandedOn

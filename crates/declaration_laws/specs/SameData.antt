@@ -2,7 +2,7 @@
 use Rattle.lotos_base.specs.Equation.{Data}
 use Rattle.syntax_trees.specs.WrittenDefinition.{WrittenSpecification}
 use Rattle.behaviour_semantics.specs.Behaviour.{Specification}
-use Rattle.bisimulation_theory.specs.SameData.{AreSameData}
+use Rattle.certificate_theory.specs.SameData.{AreSameData}
 use Rattle.scope_parts.specs.Resolution.{Resolution}
 use Rattle.scope_parts.specs.Definitions.{SpecificationIs}
 

@@ -83,8 +83,7 @@ fn push_numeral(into: &mut Vec<u8>, value: u32) -> Result<(), NoMemory>
 fn push_repeated(into: &mut Vec<u8>, text: &[u8], times: u32) -> Result<(), NoMemory>
     ensures { OnOk result (into.new.items ≡ into.old.items ++ repeated times text.now) }
 {
-    for time in 0..times {
-        let _ = time;
+    for _ in 0..times {
         push_text(into, text)?;
     }
     Ok(())

@@ -71,8 +71,7 @@ fn rounds<M: MenuMaker, D: Deciding>(
     ensures same_spec { session.new.spec ≡ session.old.spec }
     ensures same_known { KeepsData D.known_data D.canon data.old data.new }
 {
-    for turn in 0..4u8 {
-        let _ = turn;
+    for _ in 0..4u8 {
         round(alloc, values, cells, session, tally, data)?;
     }
     Ok(())

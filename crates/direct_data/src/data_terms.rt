@@ -13,8 +13,7 @@ ghost use Rattle.std.specs.Prelude.{IfOk};
 use crate::one_sort::have_one_sort;
 use crate::showing::shown;
 use crate::unifiers::{matched, unified};
-use critical_pairs::{Pair, pairs};
-use equation_book::Book;
+use equation_book::{Book, Pair, pairs};
 use lotos_base::Written;
 use lotos_grammar::{read_order, read_terms, read_types};
 use lotos_library::boolean::BOOLEAN;
@@ -223,6 +222,12 @@ pub fn rules_of(flat: &Flat) -> Result<Rules, Fail>
     }
 }
 
+/// The rules of the data of the types.
+pub fn rules_by(alloc: Global, types: &[u8]) -> Result<Rules, Fail> {
+    let flat = data(alloc, types)?;
+    rules_of(&flat)
+}
+
 // The one reading of the term.
 fn read(alloc: Global, signature: &Signature, written: &Written) -> Result<Sorted, Fail>
     ensures { IfOk result (λ term. IsOf (signature_of signature.now) (profiled_in term)) }
@@ -275,15 +280,19 @@ fn pairs_shown(alloc: Global, rules: &Rules) -> Result<String, Fail> {
     Ok(text)
 }
 
-// The answer to a question on the rules of the types: `pairs`, or a term, whose form is chosen.
-fn by_rules(alloc: Global, types: &[u8], question: &str) -> Result<String, Fail> {
-    let flat = data(alloc, types)?;
-    let rules = rules_of(&flat)?;
+// The answer to a question on rules: `pairs`, or a term, whose form is chosen.
+fn by_rules(alloc: Global, rules: &Rules, question: &str) -> Result<String, Fail> {
     if question == "pairs" {
-        return pairs_shown(alloc, &rules);
+        return pairs_shown(alloc, rules);
     }
-    let form = chosen_form(alloc, &rules, question)?;
+    let form = chosen_form(alloc, rules, question)?;
     shown(alloc, form.term())
+}
+
+// The answer to a question on the rules of the types.
+fn by_types(alloc: Global, types: &[u8], question: &str) -> Result<String, Fail> {
+    let rules = rules_by(alloc, types)?;
+    by_rules(alloc, &rules, question)
 }
 
 /// Types, and behind each of them questions with their answers. The first of two rules for one term
@@ -321,13 +330,13 @@ fn rules_have_their_pairs_and_forms(rt: HostRuntime) -> Result<(), Fail> {
         let (types, rows) = block.split_once('\n').unwrap_or((block, ""));
         for row in rows.split('\n') {
             let (question, expected) = row.split_once(" => ").unwrap_or((row, ""));
-            let given = by_rules(alloc, types.as_bytes(), question)?;
+            let given = by_types(alloc, types.as_bytes(), question)?;
             assert_eq!(rt; given.as_str(), expected, "{types}");
         }
     }
     let mut numbers = Vec::from_slice(alloc, BOOLEAN)?;
     numbers.extend_from_slice(NATURAL_NUMBER)?;
-    assert_eq!(rt; by_rules(alloc, numbers.as_slice(), "pairs")?.as_str(), "");
+    assert_eq!(rt; by_types(alloc, numbers.as_slice(), "pairs")?.as_str(), "");
     Ok(())
 }
 

@@ -4,7 +4,6 @@
 #![tactic(auto)]
 
 #[cfg(test)]
-mod certificates;
 #[cfg(test)]
 mod data_terms;
 #[cfg(test)]
@@ -13,6 +12,8 @@ mod names;
 mod one_sort;
 #[cfg(test)]
 mod outside;
+#[cfg(test)]
+mod requirements_of_types;
 #[cfg(test)]
 mod showing;
 #[cfg(test)]

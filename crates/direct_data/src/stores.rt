@@ -1,20 +1,17 @@
 //! Canonical terms of a store of terms that are kept once, beside the chosen forms that are made
 //! without one.
 
-use crate::data_terms::{data, one_term, rules_of};
-use critical_pairs::all_join;
+use crate::data_terms::{one_term, rules_by};
+use equation_book::{Store, all_join};
 use lotos_library::boolean::BOOLEAN;
 use lotos_library::natural_number::NATURAL_NUMBER;
 use std::alloc::Global;
 use std::test::Fail;
 use term_rewriter::normalise;
-use term_store::Store;
 
 // A store over the rules of the types, which join.
 fn store_of(alloc: Global, types: &[u8]) -> Result<Store, Fail> {
-    let flat = data(alloc, types)?;
-    let rules = rules_of(&flat)?;
-    match all_join(alloc, rules) {
+    match all_join(alloc, rules_by(alloc, types)?) {
         Ok(joined) => Ok(Store::open(alloc, joined.rules())?),
         Err(_) => Err(Fail::from("a pair does not join")),
     }

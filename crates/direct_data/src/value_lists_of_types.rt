@@ -1,10 +1,12 @@
 //! Lists of the values of sorts up to a size, by the types of whole texts.
 
+ghost use Rattle.sort_terms.specs.EquationView.{IsSortedFlat};
+
 use crate::data_terms::{data, rules_of};
 use crate::showing::shown;
 use lotos_library::boolean::BOOLEAN;
 use lotos_library::natural_number::NATURAL_NUMBER;
-use sort_terms::Sorted;
+use sort_terms::{Flat, Sorted};
 use std::alloc::Global;
 use std::test::Fail;
 use value_lists::{ListFault, values_of};
@@ -12,7 +14,19 @@ use value_lists::{ListFault, values_of};
 // The values of the sort with this number, or none where there are too many up to the size.
 fn values(alloc: Global, types: &[u8], sort: u32, size: u32) -> Result<Option<Vec<Sorted>>, Fail> {
     let flat = data(alloc, types)?;
-    let rules = rules_of(&flat)?;
+    values_over(alloc, &flat, sort, size)
+}
+
+// The same over the data.
+fn values_over(
+    alloc: Global,
+    flat: &Flat,
+    sort: u32,
+    size: u32,
+) -> Result<Option<Vec<Sorted>>, Fail>
+    requires { IsSortedFlat flat.now }
+{
+    let rules = rules_of(flat)?;
     match values_of(alloc, &flat.signature, &rules, sort, size) {
         Ok(values) => Ok(Some(values)),
         Err(ListFault::TooManyValues) => Ok(None),

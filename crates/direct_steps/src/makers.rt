@@ -5,21 +5,21 @@ ghost use Rattle.behaviour_tree.specs.Closed.{IsClosedNode};
 ghost use Rattle.behaviour_tree.specs.Over.{IsSpecOver, IsStateOf};
 ghost use Rattle.behaviour_tree.specs.StateView.{node_profiles, stands_for};
 ghost use Rattle.behaviour_tree.specs.declared.definitions.Spec.{Spec as WholeSpec};
-ghost use Rattle.demo_walks.specs.HandedOn.{AreRanksOf, book_canon};
 ghost use Rattle.lotos_base.specs.Signature.{IsWellFormedSignature, Signature};
+ghost use Rattle.menu_builder.specs.HandedOn.{AreRanksOf};
 ghost use Rattle.sort_terms.specs.EquationView.{data_of};
 ghost use Rattle.spec_acceptance.specs.Acceptance.{Acceptance};
 ghost use Rattle.spec_acceptance.specs.AcceptedView.{HoldsAccepted};
-ghost use Rattle.spec_acceptance.specs.HandedOn.{book_is_canon};
+ghost use Rattle.spec_acceptance.specs.HandedOn.{book_canon, book_is_canon};
 ghost use Rattle.std.specs.Prelude.{◌≡◌, IfOk};
 
 use crate::accepted::accept;
 use behaviour_tree::boxes::shared;
 use behaviour_tree::{Meet, Node, Spec, State};
-use demo_walks::{Book, FreshMenus, MenuMaker, Ranks};
 use lotos_base::NoMemory;
+use menu_builder::{FreshMenus, MenuMaker, Ranks};
 use sort_terms::{Deciding, Sorted};
-use spec_acceptance::Accepted;
+use spec_acceptance::{Accepted, Book};
 use std::alloc::Global;
 use std::test::Fail;
 

@@ -16,12 +16,13 @@ ghost use Rattle.lotos_base.specs.Signature.{IsSort};
 use crate::accepted::accept;
 use crate::shapes::shape;
 use behaviour_tree::{Derivation, Spec, State};
-use demo_walks::{Book, StepFault, read_terms, take, term_text};
 use lotos_base::{Name, Written};
+use printed_texts::term_text;
 use sort_terms::{Signature, Sorted, Variable, read_in};
-use spec_acceptance::Accepted;
+use spec_acceptance::{Accepted, Book, read_terms};
 use std::alloc::Global;
 use std::test::Fail;
+use step_taker::{StepFault, take};
 
 const BEFORE: &str = "specification X [a, b] : exit(S)
 type D is sorts S, T opns c, d : -> S s : -> T f : S -> S eqns forall x : S ofsort S f(x) = c endtype

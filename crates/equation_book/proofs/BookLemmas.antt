@@ -9,7 +9,7 @@ use Rattle.lotos_base.specs.Sorting.{HasSort, IsGround}
 use Rattle.lotos_base.specs.Equality.{Equal}
 use Rattle.lotos_base.proofs.TestLemmas.{Term-set}
 use Rattle.rewriting_theory.specs.Rule.{Rule as PlainRule}
-use Rattle.critical_pairs.specs.HandedOn.{store_canon, store_chooses}
+use Rattle.term_store.specs.StoreCanon.{store_canon, store_chooses}
 use Rattle.lotos_base.specs.Equation.{Data}
 use Rattle.rewriting_theory.specs.ChosenForm.{Chosen}
 use Rattle.rewriting_theory.proofs.ChosenLemmas.{chosen_one}
@@ -25,14 +25,14 @@ use Rattle.sort_terms.proofs.ProfiledTermLemmas.{fitting_has_sort, sorted_fits}
 use Rattle.path_order.specs.RuleSides.{IsOf-prop}
 use Rattle.path_order.specs.RulesView.{rules_in, plain_rules_in, precedence_in, signature_in}
 use Rattle.path_order.proofs.RulesLemmas.{rules_have_forms, rules_well_formed}
-use Rattle.critical_pairs.specs.declared.joined.Joined.{Joined}
-use Rattle.critical_pairs.proofs.JoinedLemmas.{joined_confluent}
+use Rattle.equation_book.specs.declared.joined.Joined.{Joined}
+use Rattle.equation_book.specs.JoinedFacts.{joined_confluent}
 use Rattle.path_order.specs.OrientFaultView.{IsOrientFault}
 use Rattle.path_order.specs.declared.orient_fault.OrientFault.{OrientFault}
 use Rattle.path_order.specs.declared.orient_fault.OrientFault.TheVariants.{Unorientable, NoMemory as OrientNoMemory}
-use Rattle.critical_pairs.specs.Joining.{AreUnjoinedBy, HoldsOfPairFault, IsPairFaultOver}
-use Rattle.critical_pairs.specs.declared.pair_fault.PairFault.{PairFault}
-use Rattle.critical_pairs.specs.declared.pair_fault.PairFault.TheVariants.{Unjoined, NoMemory as PairNoMemory}
+use Rattle.equation_book.specs.Joining.{AreUnjoinedBy, HoldsOfPairFault, IsPairFaultOver}
+use Rattle.equation_book.specs.declared.pair_fault.PairFault.{PairFault}
+use Rattle.equation_book.specs.declared.pair_fault.PairFault.TheVariants.{Unjoined, NoMemory as PairNoMemory}
 use Rattle.termination_theory.specs.Precedence.{Precedence}
 use Rattle.termination_theory.specs.Orientation.{NumberedRule, IsOrientation}
 use Rattle.lotos_base.specs.WrittenTerm.{ListedOperation}

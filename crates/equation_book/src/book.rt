@@ -13,9 +13,10 @@ ghost use Rattle.sort_terms.specs.EquationView.{data_of};
 ghost use Rattle.sort_terms.specs.SignatureView.{signature_of};
 ghost use Rattle.std.specs.Prelude.{◌≡◌, true};
 
-use critical_pairs::{Joined, Store};
+use crate::joined::Joined;
 use path_order::Rules;
 use sort_terms::Flat;
+use term_store::Store;
 
 /// Data, and the rules of their equations, which are confluent, with terms of the data that are
 /// kept once.

@@ -16,10 +16,12 @@ ghost use Rattle.std.specs.Prelude.{◌≡◌, IfErr, IfOk, map};
 
 use crate::book::Book;
 use crate::book_fault::{BookFault, NotOpened};
-use critical_pairs::{Joined, Store, all_join};
+use crate::joined::Joined;
+use crate::joining::all_join;
 use lotos_base::OrderItem;
 use path_order::{Precedence, orient};
 use sort_terms::Flat;
+use term_store::Store;
 
 impl Book {
     /// The book of the data, whose operations are ordered by the items and whose equations are

@@ -16,9 +16,9 @@ use Rattle.type_definitions.specs.Images.{operation_image, term_image, terms_ima
 use Rattle.type_definitions.specs.Presentation.{Presentation, nothing, with_new, is_same_operation, is_same_equation, is_same_place}
 use Rattle.type_definitions.specs.Union.{joined, joined_sort, joined_operation, joined_equations}
 use Rattle.type_definitions.specs.Flattened.{data_of}
-use Rattle.type_laws.proofs.ContainmentLemmas.{second_lies}
-use Rattle.type_laws.proofs.ContributionLemmas.{contributions}
-use Rattle.type_laws.proofs.OneToOneLemmas.{AreAlike, sort_name, same_operation}
+use Rattle.type_flatten.proofs.ContainmentLemmas.{second_lies}
+use Rattle.type_flatten.proofs.ContributionLemmas.{contributions}
+use Rattle.type_flatten.proofs.OneToOneLemmas.{AreAlike, sort_name, same_operation}
 
 -- no two equations stand at one place
 abbrev pub PlacesDiffer : List Equation → Type 0

@@ -19,8 +19,8 @@ use Rattle.lotos_rows.specs.Behaviours.{IsWrittenExitValue, IsSign, sign_choice,
 use Rattle.behaviour_semantics.specs.Behaviour.{Behaviour, stop, exit_with, action, inner_action, guard, choice, parallel, hide, enable, disable, let_be, choose_value, choose_gate, par_gate, call, relabel, Test, Offer, ExitValue, SynchronisationSet, Process, asked_variables, let_variables, sorts_of}
 use Rattle.behaviour_semantics.specs.WellFormed.{Every}
 use Rattle.printed_texts.specs.BehaviourText.{Naming, called_text, stands_in_brackets}
-use Rattle.scope_meanings.specs.Meanings.{PrintedScope, behind_variables, behind_gates, behind_left, ExitValueMeans, OfferMeans, TestMeans, PredicateMeans, CallMeans, BehaviourMeans}
-use Rattle.scope_meanings.specs.WrittenBehaviours.{Correspond, IsExitValueWritten, IsTestWritten, IsBehaviourWritten, stop_written, exit_written, action_written, inner_written, guard_written, choice_written, parallel_written, hide_written, enable_written, disable_written, let_written, value_choice_written, gate_choice_written, par_written, call_written}
+use Rattle.flat_sentences.specs.Meanings.{PrintedScope, behind_variables, behind_gates, behind_left, ExitValueMeans, OfferMeans, TestMeans, PredicateMeans, CallMeans, BehaviourMeans}
+use Rattle.flat_sentences.specs.WrittenBehaviours.{Correspond, IsExitValueWritten, IsTestWritten, IsBehaviourWritten, stop_written, exit_written, action_written, inner_written, guard_written, choice_written, parallel_written, hide_written, enable_written, disable_written, let_written, value_choice_written, gate_choice_written, par_written, call_written}
 use Rattle.flat_sentences.specs.PrintedWords.{Word, AreWords, a_word, name_word, commas_words, round_words, bracketed_words, term_words, gate_word, gates_words, declared_words, test_words, predicate_words, offers_words, exit_value_words, round_list_words, square_list_words, meet_words, enable_words, binding_words, gate_choice_words, unit_words, behaviour_words}
 use Rattle.flat_sentences.specs.WordLaws.{HasBinaryInfixes, HasTextForm, IsSentence, BehaviourWordsAreSentences}
 use Rattle.flat_sentences.proofs.WordParts.{first_of, parts_of, one_of, of_kind, Says, round_says}

@@ -11,10 +11,10 @@ use Rattle.behaviour_semantics.proofs.EveryLemmas.{every_front, every_back}
 use Rattle.printed_texts.specs.Brackets.{square, commas}
 use Rattle.printed_texts.specs.TermText.{term_text}
 use Rattle.printed_texts.specs.BehaviourText.{Naming, gate_text, gates_text, called_text, declared_text, test_text, predicate_text, offers_text, exit_value_text, round_list, square_list, sign_text, enable_sign, binding_text, stands_in_brackets, unit_text, between_blanks, behaviour_text}
-use Rattle.declaration_laws.specs.DeclarationOrder.{gates_bound, variables_bound}
-use Rattle.texts_read_back.specs.TextNames.{HasTextNames}
-use Rattle.texts_read_back.proofs.PartsOfText.{apart}
-use Rattle.scope_meanings.specs.Meanings.{PrintedScope, behind_variables, behind_gates, behind_left, CallMeans, BehaviourMeans}
+use Rattle.specification_laws.specs.TextNames.{HasTextNames}
+use Rattle.specification_laws.specs.HandedOn.{gates_bound, variables_bound}
+use Rattle.specification_laws.proofs.PartsOfText.{apart}
+use Rattle.flat_sentences.specs.Meanings.{PrintedScope, behind_variables, behind_gates, behind_left, CallMeans, BehaviourMeans}
 use Rattle.flat_sentences.specs.PrintedWords.{Word, a_word, name_word, term_words, gate_word, gates_words, declared_words, test_words, predicate_words, offers_words, exit_value_words, square_words, commas_words, round_list_words, square_list_words, meet_words, enable_words, binding_words, gate_choice_words, unit_words, behaviour_words}
 use Rattle.flat_sentences.specs.WordLaws.{HasTextForm}
 use Rattle.flat_sentences.specs.CutTexts.{AreWhole}

@@ -17,8 +17,8 @@ use Rattle.type_definitions.specs.TypeFault.{TypeFault, double_sort, double_oper
 use Rattle.type_definitions.specs.Presentation.{Presentation, presentation_limit, has_sort_clash, has_operation_clash, is_too_large}
 use Rattle.type_definitions.specs.Union.{presentation_fault}
 use Rattle.type_definitions.specs.Declarations.{with_sort, sort_fault, with_operation, operation_fault, fits_form, unknown_sort_among}
-use Rattle.scope_meanings.specs.WrittenBehaviours.{Correspond}
-use Rattle.scope_meanings.specs.WrittenSpecifications.{IsSortWritten}
+use Rattle.flat_sentences.specs.WrittenBehaviours.{Correspond}
+use Rattle.flat_sentences.specs.WrittenSpecifications.{IsSortWritten}
 use Rattle.flat_sentences.specs.WrittenData.{IsSortDeclared, IsOperationWritten}
 use Rattle.flat_sentences.proofs.Signatures.{own_sort, own_operation, IsKnownSort}
 

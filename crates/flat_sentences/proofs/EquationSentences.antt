@@ -14,9 +14,9 @@ use Rattle.lotos_rows.specs.Terms.{IsTerm}
 use Rattle.lotos_rows.specs.Equations.{IsWrittenEquation, without_premisses, ended_equation, AreForAll, IsEquationGroup, group_of_sort, AreEquations, equations}
 use Rattle.lotos_rows.specs.Types.{no_equations}
 use Rattle.behaviour_semantics.specs.WellFormed.{Every}
-use Rattle.texts_read_back.specs.WrittenAs.{IsWrittenAs}
-use Rattle.texts_read_back.specs.TermMeanings.{VariableMeans}
-use Rattle.scope_meanings.specs.WrittenBehaviours.{Correspond, IsVariableWritten}
+use Rattle.specification_laws.specs.WrittenAs.{IsWrittenAs}
+use Rattle.specification_laws.specs.TermMeanings.{VariableMeans}
+use Rattle.flat_sentences.specs.WrittenBehaviours.{Correspond, IsVariableWritten}
 use Rattle.flat_text.specs.DataText.{sort_if_any}
 use Rattle.flat_text.specs.EquationNames.{renamed_variables}
 use Rattle.flat_sentences.specs.PrintedWords.{Word, a_word, name_word, declarations_words, term_words}

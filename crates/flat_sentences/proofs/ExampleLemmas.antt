@@ -11,7 +11,7 @@ use Rattle.lotos_base.specs.Sorting.{Occurs}
 use Rattle.lotos_base.specs.Term.{variable}
 use Rattle.lotos_base.specs.Twins.{HasTwin, has_twin}
 use Rattle.sort_terms.proofs.WellFormedLemmas.{well_formed_test}
-use Rattle.texts_read_back.specs.WrittenAs.{no_mark}
+use Rattle.specification_laws.specs.WrittenAs.{no_mark}
 use Rattle.flat_text.specs.FlatCases.{operation_called, constant, applied, x_of, equation_of_sides}
 use Rattle.flat_sentences.specs.WrittenData.{AreSectionsWritten, StandApart}
 use Rattle.flat_sentences.specs.DataLaws.{IsNumberedEquation, AreDataOfText}

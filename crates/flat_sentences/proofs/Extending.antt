@@ -9,9 +9,9 @@ use Rattle.lotos_lexer.specs.Lexemes.{lexeme_of}
 use Rattle.lotos_lexer.specs.Pieces.{piece_at}
 use Rattle.lotos_lexer.specs.Tokens.{list_open_behind}
 use Rattle.printed_texts.specs.Brackets.{begins_with, spaced, round}
-use Rattle.texts_read_back.specs.TextNames.{IsWordSpelling, IsDigitSpelling, IsSignSpelling, IsOperationSpelling}
-use Rattle.texts_read_back.proofs.NameTokens.{IsApart, word_piece, digit_piece, sign_piece, digit_no_letter, sign_no_letter, sign_no_digit}
-use Rattle.texts_read_back.proofs.PartsOfText.{apart, opened_piece, opened_other}
+use Rattle.specification_laws.specs.TextNames.{IsWordSpelling, IsDigitSpelling, IsSignSpelling, IsOperationSpelling}
+use Rattle.specification_laws.proofs.NameTokens.{IsApart, word_piece, digit_piece, sign_piece, digit_no_letter, sign_no_letter, sign_no_digit}
+use Rattle.specification_laws.proofs.PartsOfText.{apart, opened_piece, opened_other}
 use Rattle.flat_sentences.specs.PrintedWords.{Word, a_word, name_word, operation_kind, operation_word, round_words}
 use Rattle.flat_sentences.specs.TextPieces as pieced
 use Rattle.flat_sentences.specs.CutTexts.{AreCut}

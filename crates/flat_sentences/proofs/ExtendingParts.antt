@@ -10,8 +10,8 @@ use Rattle.lotos_lexer.specs.Pieces.{piece_at}
 use Rattle.lotos_lexer.specs.Tokens.{list_open_behind}
 use Rattle.behaviour_semantics.specs.WellFormed.{Every}
 use Rattle.printed_texts.specs.Brackets.{commas}
-use Rattle.texts_read_back.proofs.NameTokens.{IsApart}
-use Rattle.texts_read_back.proofs.PartsOfText.{apart}
+use Rattle.specification_laws.proofs.NameTokens.{IsApart}
+use Rattle.specification_laws.proofs.PartsOfText.{apart}
 use Rattle.flat_text.specs.DataText.{line}
 use Rattle.flat_sentences.specs.PrintedWords.{Word, a_word, commas_words}
 use Rattle.flat_sentences.specs.TextPieces as pieced

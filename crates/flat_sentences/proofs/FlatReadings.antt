@@ -2,9 +2,9 @@
 use Rattle.lotos_base.specs.Signature.{IsWellFormedSignature}
 use Rattle.printed_texts.specs.BehaviourText.{Naming}
 use Rattle.syntax_trees.specs.TakenItems.{without_items}
-use Rattle.scope_meanings.specs.WrittenSpecifications.{renamed}
-use Rattle.scope_meanings.proofs.FlatResolved.{flat_means, flat_texts_stand_for_the_same}
-use Rattle.place_laws.proofs.LexedOrder.{tokens_rise}
+use Rattle.flat_sentences.specs.WrittenSpecifications.{renamed}
+use Rattle.flat_sentences.proofs.FlatResolved.{flat_means, flat_texts_stand_for_the_same}
+use Rattle.specification_laws.proofs.HandedOn.{tokens_rise}
 use Rattle.flat_sentences.specs.TypeWords.{type_words}
 use Rattle.flat_sentences.specs.WrittenData.{AreDataWritten}
 use Rattle.flat_sentences.specs.FlatReadings.{naming_of_flat, FlatTextsAreReadAsTheSame}

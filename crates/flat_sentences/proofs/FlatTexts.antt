@@ -18,17 +18,18 @@ use Rattle.printed_texts.specs.MenuText.{name_text}
 use Rattle.printed_texts.specs.BehaviourText.{Naming, process_names, behaviour_text}
 use Rattle.scope_parts.specs.Resolution.{resolved}
 use Rattle.scope_parts.specs.Definitions.{SpecificationIs, first_numbers, declared_gates}
-use Rattle.declaration_laws.specs.DeclarationOrder.{gates_bound, variables_bound, process_gates, process_variables, all_gates_of, Follow, HasGateNumber, IsInOrderOfText}
-use Rattle.declaration_laws.proofs.NumberLemmas.{declarations_have_the_next_number}
-use Rattle.texts_read_back.specs.TextNames.{IsWordSpelling, HasTextNames}
+use Rattle.specification_laws.proofs.HandedOn.{declarations_have_the_next_number}
+use Rattle.specification_laws.specs.TextNames.{IsWordSpelling, HasTextNames}
+use Rattle.specification_laws.specs.HandedOn.{gates_bound, variables_bound, process_gates, process_variables, all_gates_of, Follow}
+use Rattle.specification_laws.specs.HandedOn.{HasGateNumber, IsInOrderOfText}
 use Rattle.flat_text.specs.DataText.{line, data_text}
 use Rattle.flat_text.specs.GivenNames.{given_names}
 use Rattle.flat_text.specs.FlatText.{where_lines, flat_text}
 use Rattle.flat_text.proofs.GivenApart.{given_names_are_apart}
-use Rattle.scope_meanings.specs.WrittenSpecifications.{whole_of, called_names}
-use Rattle.scope_meanings.proofs.PartsMeant.{every_map}
-use Rattle.scope_meanings.proofs.DefinitionsMeant.{SpecificationMeans, behind_definition}
-use Rattle.scope_meanings.proofs.FlatResolved.{flat_means}
+use Rattle.flat_sentences.specs.WrittenSpecifications.{whole_of, called_names}
+use Rattle.flat_sentences.proofs.PartsMeant.{every_map}
+use Rattle.flat_sentences.proofs.DefinitionsMeant.{SpecificationMeans, behind_definition}
+use Rattle.flat_sentences.proofs.FlatResolved.{flat_means}
 use Rattle.flat_sentences.specs.PrintedWords.{Word, a_word, name_word, behaviour_words}
 use Rattle.flat_sentences.specs.FlatWords.{where_words, specification_words, HaveTextForms}
 use Rattle.flat_sentences.specs.CutTexts.{AreWhole}

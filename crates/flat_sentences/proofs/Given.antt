@@ -19,13 +19,13 @@ use Rattle.printed_texts.specs.TermText.{sort_text}
 use Rattle.type_definitions.specs.Presentation.{Presentation, presentation_limit}
 use Rattle.type_definitions.specs.Declarations.{sort_numbered}
 use Rattle.type_definitions.specs.DeclaredEquations.{EquationQuestion, AskedEquation, sort_asked, own_asked, equation_asked, asked_of_variables, asked_of_group, scope_from, scope_of, IsSide, equation_of_sides, sort_is_there, own_is_read, GiveAll, none_asked, next_gives}
-use Rattle.type_laws.proofs.HandedOn.{give_append}
+use Rattle.type_flatten.proofs.HandedOn.{give_append}
 use Rattle.type_presentations.proofs.SignatureLemmas.{sorts_differ, operations_differ}
-use Rattle.bisimulation_theory.specs.SameData.{AreOneEquation, AreSameEquations}
-use Rattle.texts_read_back.specs.WrittenAs.{IsWrittenAs}
-use Rattle.texts_read_back.proofs.WrittenLemmas.{terms_have_one_reading}
-use Rattle.scope_meanings.specs.Meanings.{AreInRow}
-use Rattle.scope_meanings.specs.WrittenBehaviours.{Correspond, IsVariableWritten}
+use Rattle.specification_laws.specs.HandedOn.{AreOneEquation, AreSameEquations}
+use Rattle.specification_laws.specs.WrittenAs.{IsWrittenAs}
+use Rattle.specification_laws.proofs.WrittenLemmas.{terms_have_one_reading}
+use Rattle.flat_sentences.specs.Meanings.{AreInRow}
+use Rattle.flat_sentences.specs.WrittenBehaviours.{Correspond, IsVariableWritten}
 use Rattle.flat_text.specs.DataText.{sort_if_any}
 use Rattle.flat_text.specs.EquationNames.{renamed_variables}
 use Rattle.flat_sentences.specs.WrittenData.{IsGroupWritten}

@@ -12,7 +12,7 @@ use Rattle.lotos_base.specs.Name.{folded}
 use Rattle.lotos_lexer.specs.Lexemes.{underscore_before, word_length, word_kind_in}
 use Rattle.lotos_lexer.specs.Spellings.{Spelling, reserved_words}
 use Rattle.behaviour_semantics.specs.WellFormed.{Every}
-use Rattle.texts_read_back.specs.TextNames.{IsWordSpelling}
+use Rattle.specification_laws.specs.TextNames.{IsWordSpelling}
 use Rattle.flat_text.specs.FreeNames.{has_name, with_number, least_free}
 use Rattle.flat_text.specs.GivenNames.{numbered, given_name, given_behind}
 use Rattle.flat_sentences.specs.FlatTextLaws.{GivenNamesAreWords}

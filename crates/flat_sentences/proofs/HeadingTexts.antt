@@ -12,14 +12,14 @@ use Rattle.printed_texts.specs.FunctionalityText.{sorts_text, functionality_text
 use Rattle.printed_texts.specs.BehaviourText.{Naming, gates_text, called_text, behaviour_text}
 use Rattle.scope_parts.specs.Numbering.{Numbers}
 use Rattle.scope_parts.specs.Definitions.{past_name}
-use Rattle.texts_read_back.specs.TextNames.{IsWordSpelling, HasTextNames}
-use Rattle.texts_read_back.proofs.NameTokens.{IsApart}
+use Rattle.specification_laws.specs.TextNames.{IsWordSpelling, HasTextNames}
+use Rattle.specification_laws.proofs.NameTokens.{IsApart}
 use Rattle.flat_text.specs.DataText.{line, sorted_variable}
 use Rattle.flat_text.specs.FlatText.{heading_gates, heading_parameters, heading, process_lines, processes_lines, where_lines}
-use Rattle.scope_meanings.specs.Meanings.{SortMeans}
-use Rattle.scope_meanings.specs.WrittenSpecifications.{called_names}
-use Rattle.scope_meanings.proofs.PartsMeant.{every_map}
-use Rattle.scope_meanings.proofs.DefinitionsMeant.{inside_of, FunctionalityMeans, DefinitionMeans, ProcessesMean, behind_definition}
+use Rattle.flat_sentences.specs.Meanings.{SortMeans}
+use Rattle.flat_sentences.specs.WrittenSpecifications.{called_names}
+use Rattle.flat_sentences.proofs.PartsMeant.{every_map}
+use Rattle.flat_sentences.proofs.DefinitionsMeant.{inside_of, FunctionalityMeans, DefinitionMeans, ProcessesMean, behind_definition}
 use Rattle.flat_sentences.specs.PrintedWords.{Word, a_word, name_word, gate_word, declared_words, commas_words, round_list_words, square_list_words, behaviour_words}
 use Rattle.flat_sentences.specs.WordLaws.{HasTextForm}
 use Rattle.flat_sentences.specs.FlatWords.{functionality_words, process_words, processes_words, where_words}

@@ -13,9 +13,9 @@ use Rattle.lotos_lexer.specs.Spellings.{reserved_words}
 use Rattle.lotos_lexer.specs.Lexemes.{lexeme_of, lexeme_at, word_length, word_kind_in, digit_name, operator, closing, run, single_sign}
 use Rattle.lotos_lexer.specs.Pieces.{close_at, comment, token, piece_at}
 use Rattle.printed_texts.specs.Brackets.{begins_with, spaced, square}
-use Rattle.texts_read_back.specs.TextNames.{IsWordSpelling}
-use Rattle.texts_read_back.proofs.NameTokens.{IsApart, word_piece}
-use Rattle.texts_read_back.proofs.PartsOfText.{apart}
+use Rattle.specification_laws.specs.TextNames.{IsWordSpelling}
+use Rattle.specification_laws.proofs.NameTokens.{IsApart, word_piece}
+use Rattle.specification_laws.proofs.PartsOfText.{apart}
 use Rattle.flat_sentences.specs.PrintedWords.{Word, a_word, name_word, square_words}
 use Rattle.flat_sentences.specs.CutTexts.{AreCut, AreWhole}
 use Rattle.flat_sentences.proofs.Extending.{word_cut, blank_cut, ExtendsIn, Extends, StaysApart, some_bytes}

@@ -1,3 +1,15 @@
+pub mod PartsResolved
+pub mod BehavioursResolved
+pub mod PartsMeant
+pub mod TermsMeant
+pub mod ChoicesMeant
+pub mod BehavioursMeant
+pub mod DefinitionsMeant
+pub mod FlatResolved
+pub mod BehaviourDepths
+pub mod BehavioursShallow
+pub mod FlatDepths
+pub mod MeaningExampleLemmas
 pub mod WordParts
 pub mod TermSentences
 pub mod PartSentences

@@ -18,10 +18,10 @@ use Rattle.scope_parts.specs.Sorts.{found_sort}
 use Rattle.scope_parts.specs.Behaviours.{numbers_from}
 use Rattle.scope_parts.proofs.FormedLists.{sort_formed}
 use Rattle.scope_parts.proofs.FormedDefinitions.{every_both}
-use Rattle.texts_read_back.specs.TextNames.{IsWordSpelling, HasTextNames}
-use Rattle.texts_read_back.specs.TermMeanings.{TermMeans, TermsMean}
-use Rattle.scope_meanings.specs.Meanings.{SortMeans, GateMeans, gate_texts, AreDeclaredGates, PrintedScope, behind_variables, behind_gates, behind_left}
-use Rattle.scope_meanings.proofs.PartsMeant.{every_map}
+use Rattle.specification_laws.specs.TextNames.{IsWordSpelling, HasTextNames}
+use Rattle.specification_laws.specs.TermMeanings.{TermMeans, TermsMean}
+use Rattle.flat_sentences.specs.Meanings.{SortMeans, GateMeans, gate_texts, AreDeclaredGates, PrintedScope, behind_variables, behind_gates, behind_left}
+use Rattle.flat_sentences.proofs.PartsMeant.{every_map}
 use Rattle.flat_sentences.specs.TermTextLaws.{HasNamedVariables, HaveNamedVariables}
 use Rattle.flat_sentences.specs.BehaviourTextLaws.{HasWordAsName, IsVariableNamed, HasScopeNames}
 

@@ -11,8 +11,8 @@ use Rattle.scope_parts.specs.Scope.{Binding, bound_to, bind, is_bound}
 use Rattle.flat_text.specs.GivenNames.{given_names}
 use Rattle.flat_text.specs.FlatText.{flat_naming}
 use Rattle.flat_text.proofs.GivenApart.{given_names_are_apart}
-use Rattle.scope_meanings.specs.Meanings.{NoneStandsTwice}
-use Rattle.scope_meanings.specs.WrittenSpecifications.{called_names}
+use Rattle.flat_sentences.specs.Meanings.{NoneStandsTwice}
+use Rattle.flat_sentences.specs.WrittenSpecifications.{called_names}
 use Rattle.flat_sentences.specs.FlatNamings.{FlatTextsHaveFlatNamings}
 
 -- a name that is apart from one is not bound by it

@@ -25,10 +25,10 @@ use Rattle.type_definitions.specs.ActualisationFaults.{actualising_of}
 use Rattle.type_definitions.specs.Flattened.{presentation_named, mention_of, mentions_with, IsPresentation, ArePresented, all_presented, next_presented, declared_with, without_formals, types_at}
 use Rattle.type_definitions.proofs.NumberLists.{among_cases, among_none}
 use Rattle.type_definitions.proofs.WithNewLemmas.{first_appearances}
-use Rattle.type_laws.proofs.HandedOn.{in_scope, occurs_numbered, adds_nothing, scopes_numbered, side_reads}
-use Rattle.type_laws.proofs.ContributionLemmas.{contributions}
-use Rattle.type_laws.specs.EquationVariables.{EquationsNumberByAppearance}
-use Rattle.scope_meanings.specs.Meanings.{AreInRow}
+use Rattle.type_flatten.proofs.HandedOn.{in_scope, occurs_numbered, adds_nothing, scopes_numbered, side_reads}
+use Rattle.type_flatten.proofs.ContributionLemmas.{contributions}
+use Rattle.type_flatten.specs.EquationVariables.{EquationsNumberByAppearance}
+use Rattle.flat_sentences.specs.Meanings.{AreInRow}
 use Rattle.flat_sentences.specs.DataLaws.{IsNumberedEquation, FlattenedEquationsAreNumbered}
 
 abbrev AreNumbered : List Equation → Type 0

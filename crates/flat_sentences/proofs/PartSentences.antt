@@ -21,10 +21,10 @@ use Rattle.behaviour_semantics.specs.Behaviour.{Test, Offer, give, ask, ExitValu
 use Rattle.behaviour_semantics.specs.WellFormed.{Every}
 use Rattle.printed_texts.specs.TermText.{sort_text}
 use Rattle.printed_texts.specs.BehaviourText.{Naming, gate_text, is_constant}
-use Rattle.texts_read_back.specs.WrittenAs.{IsWrittenAs, AreWrittenAs}
-use Rattle.texts_read_back.specs.TermMeanings.{TermsMean}
-use Rattle.scope_meanings.specs.Meanings.{PrintedScope, ValueMeans, ExitValueMeans, OfferMeans, TestMeans, PredicateMeans}
-use Rattle.scope_meanings.specs.WrittenBehaviours.{Correspond, IsVariableWritten, AreGatesWritten, IsExitValueWritten, IsOfferWritten, IsRightWritten, IsTestWritten, IsBindingWritten, IsMeetWritten, interleaving_written, full_written, synchronising_written, IsGateChoiceWritten, IsPredicateWritten}
+use Rattle.specification_laws.specs.WrittenAs.{IsWrittenAs, AreWrittenAs}
+use Rattle.specification_laws.specs.TermMeanings.{TermsMean}
+use Rattle.flat_sentences.specs.Meanings.{PrintedScope, ValueMeans, ExitValueMeans, OfferMeans, TestMeans, PredicateMeans}
+use Rattle.flat_sentences.specs.WrittenBehaviours.{Correspond, IsVariableWritten, AreGatesWritten, IsExitValueWritten, IsOfferWritten, IsRightWritten, IsTestWritten, IsBindingWritten, IsMeetWritten, interleaving_written, full_written, synchronising_written, IsGateChoiceWritten, IsPredicateWritten}
 use Rattle.flat_sentences.specs.PrintedWords.{Word, AreWords, a_word, name_word, square_words, commas_words, term_words, gate_word, gates_words, declared_words, declarations_words, sides_words, test_words, offer_words, offers_words, exit_value_words, meet_words, enable_words, binding_words, gate_choice_words, round_words, phrase_words, words_of_terms, predicate_words, round_list_words, square_list_words}
 use Rattle.flat_sentences.specs.WordLaws.{HasBinaryInfixes, IsSentence}
 use Rattle.flat_sentences.proofs.WordParts.{first_of, parts_of, one_of, no_words, of_kind, Says, between_says, square_says, round_says}

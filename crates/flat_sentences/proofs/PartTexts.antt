@@ -13,11 +13,11 @@ use Rattle.behaviour_semantics.specs.WellFormed.{Every}
 use Rattle.printed_texts.specs.Brackets.{begins_with, spaced, square, bracketed, commas, after_commas}
 use Rattle.printed_texts.specs.TermText.{Phrase, sort_text, variable_text, operand_text, of_text, arguments_text, prefix_phrase, operator_text, between_text, infix_phrase, application_phrase, phrase_of, phrases_of, node_phrase, term_text}
 use Rattle.printed_texts.specs.BehaviourText.{Naming, gate_text, gates_text, declared_text, declarations_text, is_constant, equation_text, premiss_text, test_text, predicate_text, offer_text, offers_text, exit_value_text, round_list, square_list, sign_text, enable_sign, binding_text, between_blanks}
-use Rattle.texts_read_back.specs.TextNames.{IsWordSpelling, IsOperationSpelling, HasTextNames}
-use Rattle.texts_read_back.specs.TermMeanings.{TermMeans, TermsMean}
-use Rattle.texts_read_back.proofs.PartsOfText.{apart}
-use Rattle.scope_meanings.specs.Meanings.{SortMeans, PrintedScope, ValueMeans, ExitValueMeans, OfferMeans, TestMeans, PredicateMeans, MeetMeans}
-use Rattle.scope_meanings.proofs.PartsMeant.{every_map}
+use Rattle.specification_laws.specs.TextNames.{IsWordSpelling, IsOperationSpelling, HasTextNames}
+use Rattle.specification_laws.specs.TermMeanings.{TermMeans, TermsMean}
+use Rattle.specification_laws.proofs.PartsOfText.{apart}
+use Rattle.flat_sentences.specs.Meanings.{SortMeans, PrintedScope, ValueMeans, ExitValueMeans, OfferMeans, TestMeans, PredicateMeans, MeetMeans}
+use Rattle.flat_sentences.proofs.PartsMeant.{every_map}
 use Rattle.flat_sentences.specs.PrintedWords.{Word, a_word, name_word, term_words, gate_word, gates_words, declared_words, declarations_words, sides_words, test_words, predicate_words, offer_words, offers_words, exit_value_words, commas_words, round_list_words, square_list_words, meet_words, enable_words, binding_words}
 use Rattle.flat_sentences.specs.CutTexts.{AreCut, AreWhole}
 use Rattle.flat_sentences.specs.BehaviourTextLaws.{HasWordAsName, IsVariableNamed, HasScopeNames}

@@ -12,7 +12,7 @@ use Rattle.lotos_lexer.specs.Pieces.{close_at, comment, token, piece_at}
 use Rattle.lotos_lexer.specs.Tokens as lexed
 use Rattle.lotos_lexer.specs.Tokens.{Lexed, start, behind, behind_all, with_token, token_at, list_open_behind, cut}
 use Rattle.lotos_lexer.proofs.CuttingLemmas.{cut-token, cut-blank}
-use Rattle.texts_read_back.proofs.CutPieces.{behind_bytes, behind_joined, spelled_there}
+use Rattle.specification_laws.proofs.CutPieces.{behind_bytes, behind_joined, spelled_there}
 use Rattle.flat_sentences.specs.PrintedWords.{Word, AreWords}
 use Rattle.flat_sentences.specs.TextPieces.{TextPiece, word_piece, blank_piece, bytes_of, words_of, AreTokens}
 use Rattle.flat_sentences.specs.PieceLaws.{TextsInPiecesAreCut, PieceExamples}

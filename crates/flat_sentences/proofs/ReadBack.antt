@@ -24,10 +24,10 @@ use Rattle.type_definitions.specs.Declarations.{with_sort, sort_fault, with_oper
 use Rattle.type_definitions.specs.DeclaredEquations.{GiveAll, asked_of_group}
 use Rattle.type_definitions.specs.Extension.{IsExtension}
 use Rattle.type_definitions.specs.Flattened.{all_presented, next_presented, declared_with, without_formals, data_of, IsFlattening}
-use Rattle.type_laws.proofs.ContributionLemmas.{contributions}
-use Rattle.type_laws.proofs.TypesFine.{flattened_data}
-use Rattle.type_laws.proofs.OneOutcome.{flattening_is_decided}
-use Rattle.bisimulation_theory.specs.SameData.{AreSameEquations}
+use Rattle.type_flatten.proofs.ContributionLemmas.{contributions}
+use Rattle.type_flatten.proofs.TypesFine.{flattened_data}
+use Rattle.type_flatten.proofs.OneOutcome.{flattening_is_decided}
+use Rattle.specification_laws.specs.HandedOn.{AreSameEquations}
 use Rattle.flat_sentences.specs.SameSpelling.{AreSortsSpelledAlike, AreOperationsSpelledAlike, AreDataSpelledAlike}
 use Rattle.flat_sentences.specs.WrittenData.{AreSectionsWritten, IsBodyWritten, AreItemsWritten, own_equations, equations_of_items, StandApart}
 use Rattle.flat_sentences.specs.DataLaws.{AreDataOfText, AreTypesOf, FlatDataAreReadBack}

@@ -18,8 +18,8 @@ use Rattle.sort_terms.specs.Reading.{NoneNamed}
 use Rattle.sort_terms.specs.ReadingOutcome.{one_name}
 use Rattle.printed_texts.specs.TermText.{sort_name, sort_text}
 use Rattle.type_definitions.specs.FirstPosition.{first_position}
-use Rattle.texts_read_back.specs.WrittenAs.{IsMarkOf, no_mark, mark, IsHeadOf, IsWrittenAs, AreWrittenAs}
-use Rattle.texts_read_back.specs.TermMeanings.{VariableMeans, IsUnhidden, TermMeans, TermsMean}
+use Rattle.specification_laws.specs.WrittenAs.{IsMarkOf, no_mark, mark, IsHeadOf, IsWrittenAs, AreWrittenAs}
+use Rattle.specification_laws.specs.TermMeanings.{VariableMeans, IsUnhidden, TermMeans, TermsMean}
 
 abbrev pub own_sort : List ℕ → Sort → Sort
 own_sort origin s = record { name = s.name; origin = origin }

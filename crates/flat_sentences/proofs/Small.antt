@@ -8,7 +8,7 @@ use Rattle.type_definitions.specs.Union.{Mentioned, with_mentioned, mention_faul
 use Rattle.type_definitions.specs.Flattened.{without_formals}
 use Rattle.type_definitions.proofs.FaultLemmas.{none_first, not_past}
 use Rattle.type_presentations.proofs.SizeLemmas.{IsSmall, within_limits}
-use Rattle.type_laws.proofs.TypesFine.{flattened_data}
+use Rattle.type_flatten.proofs.TypesFine.{flattened_data}
 use Rattle.flat_sentences.specs.DataLaws.{FlattenedEquationsAreNumbered, FlattenedDataAreOfText}
 
 few_here : (place : Place) (name : List ℕ) (p : Presentation) → presentation_fault place name p ≡ None → IsSmall p

@@ -19,10 +19,10 @@ use Rattle.printed_texts.specs.TermText.{sort_text}
 use Rattle.printed_texts.specs.BehaviourText.{Naming, called_text}
 use Rattle.scope_parts.specs.Numbering.{Numbers}
 use Rattle.scope_parts.specs.Definitions.{past_name, first_numbers}
-use Rattle.scope_meanings.specs.WrittenBehaviours.{Correspond, IsVariableWritten, AreGatesWritten, IsBehaviourWritten}
-use Rattle.scope_meanings.specs.WrittenSpecifications.{IsSortWritten, IsFunctionalityWritten, IsDefinitionWritten, AreProcessesWritten, whole_of, IsFlatlyWritten}
-use Rattle.scope_meanings.proofs.DefinitionsMeant.{inside_of, DefinitionMeans, behind_definition, ProcessesMean, SpecificationMeans}
-use Rattle.scope_meanings.proofs.FlatResolved.{flat_means, flat_texts_stand_for_the_same}
+use Rattle.flat_sentences.specs.WrittenBehaviours.{Correspond, IsVariableWritten, AreGatesWritten, IsBehaviourWritten}
+use Rattle.flat_sentences.specs.WrittenSpecifications.{IsSortWritten, IsFunctionalityWritten, IsDefinitionWritten, AreProcessesWritten, whole_of, IsFlatlyWritten}
+use Rattle.flat_sentences.proofs.DefinitionsMeant.{inside_of, DefinitionMeans, behind_definition, ProcessesMean, SpecificationMeans}
+use Rattle.flat_sentences.proofs.FlatResolved.{flat_means, flat_texts_stand_for_the_same}
 use Rattle.flat_sentences.specs.PrintedWords.{Word, AreWords, a_word, name_word, gate_word, commas_words, round_words, declared_words, declarations_words, round_list_words, square_list_words, behaviour_words}
 use Rattle.flat_sentences.specs.WordLaws.{HasBinaryInfixes, HasTextForm, IsSentence}
 use Rattle.flat_sentences.specs.FlatWords.{functionality_words, heading_words, process_words, processes_words, where_words, specification_words, HaveTextForms}

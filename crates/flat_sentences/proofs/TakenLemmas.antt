@@ -6,8 +6,8 @@ use Rattle.syntax_trees.specs.ReadableTrees.{IsReadableInner, AreReadableInners}
 use Rattle.syntax_trees.proofs.TakingItems.{listed-again}
 use Rattle.behaviour_semantics.specs.Behaviour.{Process}
 use Rattle.printed_texts.specs.BehaviourText.{Naming}
-use Rattle.declaration_laws.specs.SameSpecification.{AreSameProcesses}
-use Rattle.scope_meanings.specs.WrittenSpecifications.{AreProcessesWritten, renamed_processes}
+use Rattle.specification_laws.specs.HandedOn.{AreSameProcesses}
+use Rattle.flat_sentences.specs.WrittenSpecifications.{AreProcessesWritten, renamed_processes}
 use Rattle.flat_sentences.specs.FullLists.{InnerHasFullLists, InnersHaveFullLists, TextListsStay}
 use Rattle.flat_sentences.specs.FlatWordLaws.{FlatTreesStay, RenamedSpecificationsAreSame}
 

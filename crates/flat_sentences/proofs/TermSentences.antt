@@ -18,9 +18,9 @@ use Rattle.lotos_rows.specs.Words.{Between, between}
 use Rattle.lotos_rows.specs.Names.{named, IsOperationName, word_name, digit_name, sign_name}
 use Rattle.lotos_rows.specs.Terms.{applied, infix_term, of_sort, IsTerm, grouped_factors, one_factor, more_factors, IsFactor, without_sort, with_sort, IsBase, without_arguments, with_arguments, bracketed, AreTerms, one_term, more_terms}
 use Rattle.printed_texts.specs.TermText.{sort_name, sort_text, variable_text}
-use Rattle.texts_read_back.specs.WrittenAs.{IsWrittenAs, AreWrittenAs}
-use Rattle.texts_read_back.specs.TermMeanings.{TermMeans, TermsMean}
-use Rattle.texts_read_back.proofs.PrintedTerms.{IsUnmarked, unmarked_is, marked_is, OneOf}
+use Rattle.specification_laws.specs.WrittenAs.{IsWrittenAs, AreWrittenAs}
+use Rattle.specification_laws.specs.TermMeanings.{TermMeans, TermsMean}
+use Rattle.specification_laws.proofs.PrintedTerms.{IsUnmarked, unmarked_is, marked_is, OneOf}
 use Rattle.flat_sentences.specs.PrintedWords.{Word, IsWord, WordPhrase, a_word, name_word, operation_word, round_words, commas_words, phrase_words, bracketed_words, operand_words, sort_words, arguments_words, prefix_words, between_words, infix_words, application_words, node_words, words_of_term, words_of_terms}
 use Rattle.flat_sentences.specs.WordLaws.{HasBinaryInfixes, IsSentence, TermWordsAreSentences}
 use Rattle.flat_sentences.proofs.WordParts.{first_of, parts_of, one_of, no_words, of_kind, Says, round_says}

@@ -9,8 +9,8 @@ use Rattle.lotos_base.specs.Twins.{has_twin}
 use Rattle.lotos_lexer.specs.declared.kinds.TheConstants.{OF, COMMA}
 use Rattle.printed_texts.specs.Brackets.{bracketed, commas}
 use Rattle.printed_texts.specs.TermText.{Phrase, sort_name, sort_text, variable_text, phrase_text, operand_text, of_text, arguments_text, prefix_phrase, operator_text, between_text, infix_phrase, application_phrase, node_phrase, phrase_of, phrases_of, term_text}
-use Rattle.texts_read_back.specs.TextNames.{IsWordSpelling, HasTextNames}
-use Rattle.texts_read_back.proofs.PartsOfText.{apart, nothing_apart}
+use Rattle.specification_laws.specs.TextNames.{IsWordSpelling, HasTextNames}
+use Rattle.specification_laws.proofs.PartsOfText.{apart, nothing_apart}
 use Rattle.flat_sentences.specs.PrintedWords.{Word, WordPhrase, a_word, name_word, operation_word, commas_words, phrase_words, bracketed_words, operand_words, sort_words, arguments_words, prefix_words, between_words, infix_words, application_words, node_words, words_of_term, words_of_terms, term_words}
 use Rattle.flat_sentences.specs.TextPieces.{bytes_of}
 use Rattle.flat_sentences.specs.PieceLaws.{IsCutInto}

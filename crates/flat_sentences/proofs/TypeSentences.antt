@@ -13,8 +13,8 @@ use Rattle.lotos_rows.specs.Types.{no_equations, IsOperationLine, operations_lin
 use Rattle.lotos_rows.specs.Starts.{AreItems}
 use Rattle.behaviour_semantics.specs.WellFormed.{Every}
 use Rattle.printed_texts.specs.TermText.{sort_text}
-use Rattle.scope_meanings.specs.WrittenBehaviours.{Correspond}
-use Rattle.scope_meanings.specs.WrittenSpecifications.{IsSortWritten}
+use Rattle.flat_sentences.specs.WrittenBehaviours.{Correspond}
+use Rattle.flat_sentences.specs.WrittenSpecifications.{IsSortWritten}
 use Rattle.flat_sentences.specs.PrintedWords.{Word, AreWords, a_word, name_word, operation_word}
 use Rattle.flat_sentences.specs.WordLaws.{HasBinaryInfixes, IsSentence}
 use Rattle.flat_sentences.specs.TypeWords.{sort_list_words, operator_words, argument_words, profile_words, operation_line_words, operations_words, data_naming, equations_words, sections_words, type_words_over}

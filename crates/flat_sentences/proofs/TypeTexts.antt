@@ -15,8 +15,8 @@ use Rattle.behaviour_semantics.proofs.InstanceLemmas.{every_at}
 use Rattle.behaviour_semantics.proofs.RaisedDrafts.{every_map}
 use Rattle.printed_texts.specs.Brackets.{commas}
 use Rattle.printed_texts.specs.TermText.{sort_name, sort_text, variable_text, term_text}
-use Rattle.texts_read_back.specs.TextNames.{IsWordSpelling, IsOperationSpelling, HasTextNames}
-use Rattle.texts_read_back.proofs.PartsOfText.{apart}
+use Rattle.specification_laws.specs.TextNames.{IsWordSpelling, IsOperationSpelling, HasTextNames}
+use Rattle.specification_laws.proofs.PartsOfText.{apart}
 use Rattle.flat_text.specs.DataText.{line, sorts_lines, operator_name, argument_sorts, operation_line, operations_lines, sorted_variable, for_all, sort_if_any, equation_line, equations_lines, data_lines, data_text}
 use Rattle.flat_text.specs.EquationNames.{equation_names, renamed_variables}
 use Rattle.flat_sentences.specs.PrintedWords.{Word, a_word, name_word, operation_word, declared_words, declarations_words, term_words}

@@ -7,7 +7,7 @@ use Rattle.lotos_base.specs.Signature.{Signature}
 use Rattle.lotos_base.specs.Equation.{Variable, Equation, IsDeclared}
 use Rattle.behaviour_semantics.specs.WellFormed.{Every}
 use Rattle.printed_texts.specs.TermText.{variable_text}
-use Rattle.texts_read_back.specs.TextNames.{IsWordSpelling}
+use Rattle.specification_laws.specs.TextNames.{IsWordSpelling}
 use Rattle.flat_text.specs.FreeNames.{with_number, least_free}
 use Rattle.flat_text.specs.EquationNames.{operation_names, free_names, equation_names, named, renamed_variables}
 use Rattle.flat_text.proofs.EquationApart.{equation_names_are_apart}

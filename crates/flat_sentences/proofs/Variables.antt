@@ -13,8 +13,8 @@ use Rattle.lotos_base.specs.Equation.{Variable, Equation, IsDeclared}
 use Rattle.sort_terms.specs.Reading.{NoneNamed}
 use Rattle.sort_terms.specs.ReadingOutcome.{one_name}
 use Rattle.printed_texts.specs.TermText.{variable_text}
-use Rattle.texts_read_back.specs.TermMeanings.{VariableMeans}
-use Rattle.scope_meanings.specs.Meanings.{AreInRow}
+use Rattle.specification_laws.specs.TermMeanings.{VariableMeans}
+use Rattle.flat_sentences.specs.Meanings.{AreInRow}
 use Rattle.flat_text.specs.FreeNames.{has_name}
 use Rattle.flat_text.specs.EquationNames.{operation_names, equation_names, named, renamed_variables}
 use Rattle.flat_text.proofs.EquationApart.{equation_names_are_apart}

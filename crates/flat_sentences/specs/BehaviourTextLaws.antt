@@ -7,9 +7,9 @@ use Rattle.behaviour_semantics.specs.WellFormed.{Every}
 use Rattle.printed_texts.specs.TermText.{variable_text}
 use Rattle.printed_texts.specs.BehaviourText.{Naming, gate_text, called_text, behaviour_text}
 use Rattle.scope_parts.specs.Scope.{Binding}
-use Rattle.declaration_laws.specs.DeclarationOrder.{gates_bound, variables_bound}
-use Rattle.texts_read_back.specs.TextNames.{IsWordSpelling, HasTextNames}
-use Rattle.scope_meanings.specs.Meanings.{PrintedScope, BehaviourMeans}
+use Rattle.specification_laws.specs.TextNames.{IsWordSpelling, HasTextNames}
+use Rattle.specification_laws.specs.HandedOn.{gates_bound, variables_bound}
+use Rattle.flat_sentences.specs.Meanings.{PrintedScope, BehaviourMeans}
 use Rattle.flat_sentences.specs.PrintedWords.{behaviour_words}
 use Rattle.flat_sentences.specs.WordLaws.{HasTextForm}
 use Rattle.flat_sentences.specs.PieceLaws.{IsCutInto}

@@ -10,8 +10,8 @@ use Rattle.type_definitions.specs.TypeGraph.{IsAcyclic}
 use Rattle.type_definitions.specs.TypeFault.{TypeFault}
 use Rattle.type_definitions.specs.Presentation.{presentation_limit}
 use Rattle.type_definitions.specs.Flattened.{IsFlattening, IsFlatteningFault}
-use Rattle.texts_read_back.specs.TextNames.{HasTextNames}
-use Rattle.scope_meanings.specs.Meanings.{AreInRow}
+use Rattle.specification_laws.specs.TextNames.{HasTextNames}
+use Rattle.flat_sentences.specs.Meanings.{AreInRow}
 use Rattle.flat_sentences.specs.SameSpelling.{AreDataSpelledAlike}
 use Rattle.flat_sentences.specs.WrittenData.{AreDataWritten, StandApart, equations_of_items}
 

@@ -5,7 +5,7 @@ use Rattle.behaviour_semantics.specs.Behaviour.{Specification}
 use Rattle.printed_texts.specs.BehaviourText.{process_names}
 use Rattle.flat_text.specs.GivenNames.{given_names}
 use Rattle.flat_text.specs.FlatText.{flat_naming}
-use Rattle.scope_meanings.specs.WrittenSpecifications.{IsFlatNaming}
+use Rattle.flat_sentences.specs.WrittenSpecifications.{IsFlatNaming}
 
 -- As long as numbers stay below 2^64, up to which a number is known to have a text of its own.
 abbrev pub FlatTextsHaveFlatNamings : Type 0

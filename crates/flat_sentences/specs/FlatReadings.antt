@@ -12,8 +12,8 @@ use Rattle.behaviour_semantics.specs.Behaviour.{Specification}
 use Rattle.printed_texts.specs.BehaviourText.{Naming, process_names}
 use Rattle.scope_parts.specs.Resolution.{resolved}
 use Rattle.scope_parts.specs.Definitions.{SpecificationIs}
-use Rattle.declaration_laws.specs.SameSpecification.{AreSameSpecifications}
-use Rattle.scope_meanings.specs.WrittenSpecifications.{IsFlatlyWritten}
+use Rattle.specification_laws.specs.HandedOn.{AreSameSpecifications}
+use Rattle.flat_sentences.specs.WrittenSpecifications.{IsFlatlyWritten}
 use Rattle.flat_text.specs.GivenNames.{given_names}
 use Rattle.flat_text.specs.FlatText.{flat_naming}
 use Rattle.flat_sentences.specs.PrintedWords.{AreWords}

@@ -11,8 +11,8 @@ use Rattle.behaviour_semantics.specs.WellFormed.{Every}
 use Rattle.printed_texts.specs.BehaviourText.{process_names}
 use Rattle.scope_parts.specs.Resolution.{resolved}
 use Rattle.scope_parts.specs.Definitions.{SpecificationIs}
-use Rattle.declaration_laws.specs.DeclarationOrder.{all_variables_of}
-use Rattle.texts_read_back.specs.TextNames.{IsWordSpelling, HasTextNames}
+use Rattle.specification_laws.specs.TextNames.{IsWordSpelling, HasTextNames}
+use Rattle.specification_laws.specs.HandedOn.{all_variables_of}
 use Rattle.flat_text.specs.DataText.{data_text}
 use Rattle.flat_text.specs.GivenNames.{given_names}
 use Rattle.flat_text.specs.FlatText.{flat_text}

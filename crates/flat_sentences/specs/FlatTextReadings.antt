@@ -11,7 +11,7 @@ use Rattle.behaviour_semantics.specs.Behaviour.{Specification}
 use Rattle.printed_texts.specs.BehaviourText.{process_names}
 use Rattle.scope_parts.specs.Resolution.{resolved}
 use Rattle.scope_parts.specs.Definitions.{SpecificationIs}
-use Rattle.texts_read_back.specs.TextNames.{HasTextNames}
+use Rattle.specification_laws.specs.TextNames.{HasTextNames}
 use Rattle.flat_text.specs.FlatText.{flat_text}
 use Rattle.flat_sentences.specs.WordLaws.{IsSentence}
 use Rattle.flat_sentences.specs.DataLaws.{AreDataOfText}

@@ -7,11 +7,11 @@ use Rattle.syntax_trees.specs.WrittenItem.{WrittenItem}
 use Rattle.syntax_trees.specs.TakenItems.{without_items}
 use Rattle.syntax_trees.specs.WrittenDefinition.{WrittenSpecification}
 use Rattle.behaviour_semantics.specs.Behaviour.{Specification}
-use Rattle.declaration_laws.specs.SameSpecification.{AreSameSpecifications}
+use Rattle.specification_laws.specs.HandedOn.{AreSameSpecifications}
 use Rattle.printed_texts.specs.BehaviourText.{Naming}
 use Rattle.scope_parts.specs.Resolution.{resolved}
 use Rattle.scope_parts.specs.Definitions.{SpecificationIs}
-use Rattle.scope_meanings.specs.WrittenSpecifications.{IsFlatNaming, IsFlatlyWritten, renamed}
+use Rattle.flat_sentences.specs.WrittenSpecifications.{IsFlatNaming, IsFlatlyWritten, renamed}
 use Rattle.flat_sentences.specs.PrintedWords.{Word, AreWords}
 use Rattle.flat_sentences.specs.WordLaws.{HasBinaryInfixes, IsSentence}
 use Rattle.flat_sentences.specs.FlatWords.{specification_words, HaveTextForms}

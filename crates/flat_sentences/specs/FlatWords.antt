@@ -5,7 +5,7 @@ use Rattle.behaviour_semantics.specs.Behaviour.{Process, Specification}
 use Rattle.behaviour_semantics.specs.WellFormed.{Every}
 use Rattle.printed_texts.specs.TermText.{sort_text}
 use Rattle.printed_texts.specs.BehaviourText.{Naming, called_text}
-use Rattle.scope_meanings.specs.WrittenSpecifications.{whole_of}
+use Rattle.flat_sentences.specs.WrittenSpecifications.{whole_of}
 use Rattle.flat_sentences.specs.PrintedWords.{Word, a_word, name_word, gate_word, declared_words, round_list_words, square_list_words, behaviour_words}
 use Rattle.flat_sentences.specs.WordLaws.{HasTextForm}
 

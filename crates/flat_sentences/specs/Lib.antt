@@ -1,3 +1,10 @@
+pub mod Meanings
+pub mod WrittenBehaviours
+pub mod MeaningLaws
+pub mod WrittenSpecifications
+pub mod FlatLaws
+pub mod DepthLaws
+pub mod MeaningExamples
 pub mod PrintedWords
 pub mod WordLaws
 pub mod FlatWords

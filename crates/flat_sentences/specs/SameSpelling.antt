@@ -3,7 +3,7 @@
 use Rattle.std.specs.Prelude.{◌≡◌, List, [], ◌∷◌}
 use Rattle.lotos_base.specs.Signature.{Sort, Operation, Signature}
 use Rattle.lotos_base.specs.Equation.{Data}
-use Rattle.bisimulation_theory.specs.SameData.{AreSameEquations}
+use Rattle.specification_laws.specs.HandedOn.{AreSameEquations}
 
 -- The sorts are spelled alike, one by one.
 abbrev pub AreSortsSpelledAlike : List Sort → List Sort → Type 0

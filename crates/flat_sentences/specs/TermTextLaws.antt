@@ -4,7 +4,7 @@ use Rattle.lotos_base.specs.Signature.{Signature, IsWellFormedSignature}
 use Rattle.lotos_base.specs.Equation.{Variable}
 use Rattle.lotos_base.specs.Term.{Term, Terms, variable, node, no_terms, term_then}
 use Rattle.printed_texts.specs.TermText.{variable_text, term_text}
-use Rattle.texts_read_back.specs.TextNames.{IsWordSpelling, HasTextNames}
+use Rattle.specification_laws.specs.TextNames.{IsWordSpelling, HasTextNames}
 use Rattle.flat_sentences.specs.PrintedWords.{term_words}
 use Rattle.flat_sentences.specs.PieceLaws.{IsCutInto}
 

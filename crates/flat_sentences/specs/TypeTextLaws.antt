@@ -1,7 +1,7 @@
 -- The law of the text of the type of data: its tokens are the words of the type.
 use Rattle.std.specs.Prelude.{ℕ}
 use Rattle.lotos_base.specs.Equation.{Data, IsWellFormedData}
-use Rattle.texts_read_back.specs.TextNames.{HasTextNames}
+use Rattle.specification_laws.specs.TextNames.{HasTextNames}
 use Rattle.flat_text.specs.DataText.{data_text}
 use Rattle.flat_sentences.specs.CutTexts.{AreWhole}
 use Rattle.flat_sentences.specs.PieceLaws.{IsCutInto}

@@ -8,10 +8,10 @@ use Rattle.lotos_rows.specs.Terms.{IsTerm}
 use Rattle.lotos_rows.specs.Behaviours.{IsBehaviour}
 use Rattle.behaviour_semantics.specs.Behaviour.{Behaviour, stop, exit_with, action, inner_action, guard, choice, parallel, hide, enable, disable, let_be, choose_value, choose_gate, par_gate, call, relabel, Process}
 use Rattle.printed_texts.specs.BehaviourText.{Naming}
-use Rattle.texts_read_back.specs.WrittenAs.{IsWrittenAs}
-use Rattle.texts_read_back.specs.TermMeanings.{TermMeans}
-use Rattle.scope_meanings.specs.Meanings.{PrintedScope, BehaviourMeans}
-use Rattle.scope_meanings.specs.WrittenBehaviours.{IsBehaviourWritten}
+use Rattle.specification_laws.specs.WrittenAs.{IsWrittenAs}
+use Rattle.specification_laws.specs.TermMeanings.{TermMeans}
+use Rattle.flat_sentences.specs.Meanings.{PrintedScope, BehaviourMeans}
+use Rattle.flat_sentences.specs.WrittenBehaviours.{IsBehaviourWritten}
 use Rattle.flat_sentences.specs.PrintedWords.{AreWords, term_words, behaviour_words}
 
 -- infix operations have two arguments, as those that texts declare

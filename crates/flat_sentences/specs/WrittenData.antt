@@ -7,9 +7,9 @@ use Rattle.lotos_base.specs.Equation.{Variable, Equation, Data}
 use Rattle.lotos_base.specs.WrittenTerm.{PlacedName}
 use Rattle.syntax_trees.specs.WrittenEquation.{WrittenEquation, WrittenGroup}
 use Rattle.syntax_trees.specs.WrittenItem.{WrittenOperation, WrittenSections, WrittenTypeBody, extends, renames, actualises, WrittenItem, libraries, type_declared}
-use Rattle.texts_read_back.specs.WrittenAs.{IsWrittenAs}
-use Rattle.scope_meanings.specs.WrittenBehaviours.{Correspond, IsVariableWritten}
-use Rattle.scope_meanings.specs.WrittenSpecifications.{IsSortWritten}
+use Rattle.specification_laws.specs.WrittenAs.{IsWrittenAs}
+use Rattle.flat_sentences.specs.WrittenBehaviours.{Correspond, IsVariableWritten}
+use Rattle.flat_sentences.specs.WrittenSpecifications.{IsSortWritten}
 use Rattle.flat_text.specs.DataText.{sort_if_any}
 use Rattle.flat_text.specs.EquationNames.{renamed_variables}
 

@@ -10,7 +10,7 @@ ghost use Rattle.flat_sentences.specs.EquationPlaceLaws.{ReadEquationsStandApart
 ghost use Rattle.flat_sentences.specs.TypeTextLaws.{TypeTextsAreWords};
 ghost use Rattle.flat_sentences.specs.TypeWordLaws.{TypeWordsAreItems};
 
-use type_laws::equations::equations_number_by_appearance;
+use type_flatten::equation_laws::equations_number_by_appearance;
 
 /// Items that data are written as, one type with all their sorts, operations and equations, have no
 /// fault of types and come to the same data, but for places, origins and names of variables

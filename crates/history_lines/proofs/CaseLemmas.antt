@@ -3,8 +3,7 @@ use Rattle.std.proofs.Common.{◌≡◌, ℕ, List, [], refl}
 use Rattle.lotos_base.specs.declared.places.Place.{Place}
 use Rattle.lotos_lexer.specs.Tokens as lexed
 use Rattle.lotos_lexer.specs.Tokens.{tokens_of}
-use Rattle.session_log.specs.HandedOn.{BadByte, OpenComment, AreTerms, AreUnread}
-use Rattle.lotos_rows.specs.Words.{left_out}
+use Rattle.session_log.specs.HandedOn.{BadByte, OpenComment, AreTerms, AreUnread, left_out}
 
 -- a text without tokens is a list of no terms
 pub no_terms_in : (text : List ℕ) → tokens_of 0 text ≡ lexed.Tokens [] → AreTerms text []

@@ -1,6 +1,5 @@
 pub mod TextPieces
 pub mod RefusalLemmas
-pub mod ValueLemmas
 pub mod StepLemmas
 pub mod TextLemmas
 pub mod StateLemmas

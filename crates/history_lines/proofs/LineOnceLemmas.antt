@@ -11,9 +11,9 @@ use Rattle.sort_terms.specs.ReadingLaws.{ReadingComesToOneThing}
 use Rattle.behaviour_semantics.proofs.OptionLemmas.{some_value}
 use Rattle.session_log.proofs.HandedOn.{no_stop}
 use Rattle.session_log.specs.HandedOn.question_answers as questions
-use Rattle.list_lines.specs.ListLaws.{InstancesHaveOneAnswer, ValuesHaveOneAnswer}
-use Rattle.list_lines.specs.ListOutcome.{ListOutcome, EntryInstances}
-use Rattle.list_lines.specs.ListText.{instances_text, values_text}
+use Rattle.value_lists.specs.ListLineLaws.{InstancesHaveOneAnswer, ValuesHaveOneAnswer}
+use Rattle.value_lists.specs.ListOutcome.{ListOutcome, EntryInstances}
+use Rattle.value_lists.specs.ListText.{instances_text, values_text}
 use Rattle.lotos_base.specs.Term.{Term}
 use Rattle.history_lines.specs.OutcomeLaws.{IsLawfulStanding, AreAlike}
 use Rattle.history_lines.specs.Standing.{Standing, shown_trace}

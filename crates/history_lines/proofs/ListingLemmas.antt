@@ -9,9 +9,9 @@ use Rattle.session_log.specs.HandedOn.{entries_in, plain_entry, Menu, Spec, Book
 use Rattle.session_log.specs.HandedOn.{entry_numbered, SessionBasis}
 use Rattle.session_log.specs.CourseView.{basis_over}
 use Rattle.sort_terms.specs.EquationView.{data_of}
-use Rattle.list_lines.specs.ListOutcome.{refused, no_entry, too_many_values, HasTooMany, InstancesComeTo, has_no_entry, has_too_many_values}
-use Rattle.list_lines.specs.ListText.{instances_text, list_refusal_text}
-use Rattle.list_lines.specs.ListView.{AddsList, HasRules}
+use Rattle.value_lists.specs.ListOutcome.{refused, no_entry, too_many_values, HasTooMany, InstancesComeTo, has_no_entry, has_too_many_values}
+use Rattle.value_lists.specs.ListText.{instances_text, list_refusal_text}
+use Rattle.value_lists.specs.ListView.{AddsList, HasRules}
 
 -- ---- No entry
 

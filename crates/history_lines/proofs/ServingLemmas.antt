@@ -10,9 +10,9 @@ use Rattle.history_lines.specs.Standing.{Standing}
 use Rattle.history_lines.specs.CommandRefusal.{CommandRefusal, command_refusal_text}
 use Rattle.history_lines.specs.Befallen.{Befallen, says, says_faulty, leaves, come_to}
 use Rattle.session_log.specs.HandedOn.{IsNormalAnswer, IsComparison, normal_text, comparison_text, AddsOutcome, SessionBasis, HasUndone}
-use Rattle.list_lines.specs.ListOutcome.{ValuesComeTo, InstancesComeTo}
-use Rattle.list_lines.specs.ListText.{values_text, instances_text}
-use Rattle.list_lines.specs.ListView.{AddsList}
+use Rattle.value_lists.specs.ListOutcome.{ValuesComeTo, InstancesComeTo}
+use Rattle.value_lists.specs.ListText.{values_text, instances_text}
+use Rattle.value_lists.specs.ListView.{AddsList}
 use Rattle.session_log.specs.Courses.{IsUndone}
 use Rattle.history_lines.specs.StepAnswer.{took, declined, StepComesTo}
 use Rattle.history_lines.specs.ShelfAnswer.{refusal_in}

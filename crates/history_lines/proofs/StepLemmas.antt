@@ -15,13 +15,13 @@ use Rattle.behaviour_semantics.specs.Solving.{Entry as PlainEntry}
 use Rattle.session_log.specs.HandedOn.step_refusals as plain
 use Rattle.session_log.proofs.HandedOn.{free_of_count, fit_sorts}
 use Rattle.session_log.specs.RefusalView.{TellsStep}
+use Rattle.session_log.specs.Values.{IsFirstMisread, TellsMisread}
 use Rattle.session_log.specs.declared.refusals.StepRefusal.{StepRefusal as CodeRefusal}
 use Rattle.session_log.specs.declared.refusals.StepRefusal.TheVariants as step
 use Rattle.history_lines.specs.CommandRefusal.{ill_formed, no_step}
-use Rattle.history_lines.specs.StepAnswer.{StepAnswer, declined, IsFirstMisread, IsCounted, AreStepValues, StepComesTo, is_unread, is_miscounted, is_misread, is_unmet}
+use Rattle.history_lines.specs.StepAnswer.{StepAnswer, declined, IsCounted, AreStepValues, StepComesTo, is_unread, is_miscounted, is_misread, is_unmet}
 use Rattle.history_lines.specs.RefusalView.{declined_for_text}
 use Rattle.history_lines.specs.Serving.{Declines}
-use Rattle.history_lines.specs.Values.{TellsMisread}
 use Rattle.history_lines.specs.declared.refusals.Decline.TheVariants.{Terms, Step}
 
 module _ (basis : SessionBasis) (progress : Progress) (number : ℕ) (text : List ℕ) where

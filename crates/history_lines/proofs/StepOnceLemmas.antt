@@ -16,7 +16,8 @@ use Rattle.behaviour_semantics.specs.Solving.{Entry}
 use Rattle.behaviour_semantics.proofs.OptionLemmas.{some_value}
 use Rattle.session_log.proofs.HandedOn.{IsFree, free_of_count, met_free}
 use Rattle.history_lines.specs.CommandRefusal.{CommandRefusal, ill_formed, no_step}
-use Rattle.history_lines.specs.StepAnswer.{StepAnswer, took, declined, IsFirstMisread, StepComesTo, is_unread, is_miscounted, is_misread, is_unmet, is_taken}
+use Rattle.session_log.specs.Values.{IsFirstMisread}
+use Rattle.history_lines.specs.StepAnswer.{StepAnswer, took, declined, StepComesTo, is_unread, is_miscounted, is_misread, is_unmet, is_taken}
 
 -- ---- Questions in turn: each declines the line, or gives one thing to go on with
 

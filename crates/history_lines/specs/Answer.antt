@@ -5,8 +5,8 @@ use Rattle.behaviour_semantics.specs.Label.{Label}
 use Rattle.line_server.specs.Request.{Request, skip, show_menu, show_behaviour, show_trace, undo, leave, no_request, take_step, save, replay, show_normal, compare, list_values, list_instances, request_of}
 use Rattle.session_log.specs.HandedOn.{QuestionOutcome, IsNormalAnswer, IsComparison, normal_text, comparison_text, bad_command}
 use Rattle.session_log.specs.HandedOn.{SessionBasis, Progress, HasUndone, shown_label}
-use Rattle.list_lines.specs.ListOutcome.{ListOutcome, EntryInstances, ValuesComeTo, InstancesComeTo}
-use Rattle.list_lines.specs.ListText.{values_text, instances_text}
+use Rattle.value_lists.specs.ListOutcome.{ListOutcome, EntryInstances, ValuesComeTo, InstancesComeTo}
+use Rattle.value_lists.specs.ListText.{values_text, instances_text}
 use Rattle.history_lines.specs.Standing.{Standing, shown_menu, state_line, shown_trace}
 use Rattle.history_lines.specs.CommandRefusal.{ill_formed}
 use Rattle.history_lines.specs.Befallen.{Befallen, says, leaves, come_to}

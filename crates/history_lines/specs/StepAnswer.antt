@@ -1,27 +1,19 @@
 -- What the line of a step comes to.
-use Rattle.std.specs.Prelude.{◌≡◌, ◌⊎◌, ℕ, List, [], ◌∷◌, length, Some}
+use Rattle.std.specs.Prelude.{◌≡◌, ℕ, List, length, Some}
 use Rattle.lotos_base.specs.WrittenTerm.{WrittenTerm}
-use Rattle.lotos_base.specs.Signature.{Signature}
 use Rattle.lotos_base.specs.Term.{Term}
 use Rattle.sort_terms.specs.ReadingOutcome as reading
-use Rattle.sort_terms.specs.ReadingOutcome.{SortedTerm, ReadingIs, answered}
 use Rattle.behaviour_semantics.specs.Label.{Label}
 use Rattle.behaviour_semantics.specs.Solving.{Entry}
 use Rattle.session_log.specs.HandedOn.{bad_term, term_number, AreTerms, AreUnread, SessionBasis, Progress, StepRefusal, entry_numbered}
 use Rattle.session_log.specs.HandedOn.{number_refusal, condition_refusal, HasStepped, AreRead}
+use Rattle.session_log.specs.Values.{IsFirstMisread}
 use Rattle.history_lines.specs.CommandRefusal.{CommandRefusal, ill_formed, no_step}
 
 -- the step was taken, with a label, and the session has come so far; or the line is refused
 pub data StepAnswer : Type 0 where
   took : Label → Progress → StepAnswer
   declined : CommandRefusal → StepAnswer
-
--- The first of the written terms that has not one reading at its sort, without variables, is refused for this.
-abbrev pub IsFirstMisread : Signature → List ℕ → List WrittenTerm → reading.ReadingRefusal → Type 0
-IsFirstMisread signature (sort ∷ sorts) (term ∷ terms) refusal =
-    ReadingIs signature [] term (Some sort) (reading.refused refusal)
-    ⊎ ((read : SortedTerm) × ReadingIs signature [] term (Some sort) (answered read) × IsFirstMisread signature sorts terms refusal)
-IsFirstMisread signature _ _ refusal = ⊥
 
 -- The text has as many terms as the entry with this number has variables.
 pub record IsCounted (menu : List Entry) (number : ℕ) (text : List ℕ) (entry : Entry) (terms : List WrittenTerm) : Type 0 where

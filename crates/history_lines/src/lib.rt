@@ -16,7 +16,6 @@ pub mod serving;
 pub mod sessions;
 pub mod stepping;
 pub mod texts;
-pub mod values;
 
 pub use lines::HistoryLines;
 pub use served::{Served, serve};

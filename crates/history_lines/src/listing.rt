@@ -1,9 +1,9 @@
 //! The instances of an entry of the menu, in answer to a line.
 
 ghost use Rattle.behaviour_semantics.specs.Solving as solving;
-ghost use Rattle.list_lines.specs.ListOutcome.{InstancesComeTo};
-ghost use Rattle.list_lines.specs.ListText.{instances_text};
-ghost use Rattle.list_lines.specs.ListView.{AddsList};
+ghost use Rattle.value_lists.specs.ListOutcome.{InstancesComeTo};
+ghost use Rattle.value_lists.specs.ListText.{instances_text};
+ghost use Rattle.value_lists.specs.ListView.{AddsList};
 ghost use Rattle.session_log.specs.CourseView.{basis_over};
 ghost use Rattle.session_log.specs.Entries.{IsEntryAt};
 ghost use Rattle.session_log.specs.HandedOn.{
@@ -19,11 +19,11 @@ ghost use Rattle.sort_terms.specs.EquationView.{data_of};
 ghost use Rattle.sort_terms.specs.SignatureView.{signature_of};
 ghost use Rattle.std.specs.Prelude.{◌≡◌, ℕ, List, MatchOption, None, OnOk, Some};
 
-use list_lines::refusals::push_no_entry;
-use list_lines::{ListFault, push_instance_list, values_of_each};
 use lotos_base::NoMemory;
 use session_log::{Book, Entry, Menu, Spec, push_text};
 use sort_terms::Signature;
+use value_lists::refusals::push_no_entry;
+use value_lists::{ListFault, push_instance_list, values_of_each};
 
 /// Appends the instances of the entry with this number by values with at most `size` operations,
 /// each in the form of the line of a step, behind how many they are. The line is refused as

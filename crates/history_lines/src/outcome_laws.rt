@@ -2,12 +2,12 @@
 
 ghost use Rattle.history_lines.specs.OutcomeLaws.{LinesComeToOneThing, SessionsHaveOneReport};
 
-use list_lines::laws::lists_have_one_answer;
 use session_log::{
     questions_have_one_answer, replay_is_exact, sessions_follow_derivations, sessions_stay_lawful,
     steps_are_exact, texts_have_one_outcome,
 };
 use sort_terms::laws::reading_comes_to_one_thing;
+use value_lists::line_laws::lists_have_one_answer;
 
 /// A line comes to one thing at most where the shelf tells its texts and counts no fault; where it
 /// counts one, one thing is printed, and nothing is changed but the shelf.

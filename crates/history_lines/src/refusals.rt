@@ -5,12 +5,12 @@ ghost use Rattle.session_log.specs.HandedOn.{written_value};
 ghost use Rattle.sort_terms.specs.SignatureView.{signature_of};
 ghost use Rattle.std.specs.Prelude.{◌≡◌, ◌++◌, OnOk, codes, decimal, option_map};
 
-use list_lines::refusals::push_no_entry;
 use lotos_base::NoMemory;
 use session_log::{
     ReadFault, Refusal, ReplayFault, StepRefusal, push_number, push_refusal, push_text, push_value,
 };
 use sort_terms::{Signature, Sorted};
+use value_lists::refusals::push_no_entry;
 
 /// Why the line of a step is refused.
 #[derive(Debug, Drop)]

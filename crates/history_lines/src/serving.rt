@@ -4,9 +4,9 @@ ghost use Rattle.history_lines.specs.Calls.{CallsShelf, MayCallShelf};
 ghost use Rattle.history_lines.specs.LinesView.{IsServing, basis_of, reached, standing_of};
 ghost use Rattle.history_lines.specs.Serving.{moment_of, GivesAnswer, IsBeforeOrBehind};
 ghost use Rattle.line_server.specs.Request.{compare, list_instances, show_normal};
-ghost use Rattle.list_lines.specs.ListOutcome.{ValuesComeTo};
-ghost use Rattle.list_lines.specs.ListText.{values_text};
-ghost use Rattle.list_lines.specs.ListView.{AddsList};
+ghost use Rattle.value_lists.specs.ListOutcome.{ValuesComeTo};
+ghost use Rattle.value_lists.specs.ListText.{values_text};
+ghost use Rattle.value_lists.specs.ListView.{AddsList};
 ghost use Rattle.line_server.specs.RequestView.{wants};
 ghost use Rattle.line_server.specs.RequestLaws.{Carries};
 ghost use Rattle.lotos_base.specs.Outside.{Texts};
@@ -29,10 +29,10 @@ use crate::listing::push_instances;
 use crate::served::serve;
 use crate::texts::{bare_line, menu_lines};
 use line_server::{Answer, Lines, Request};
-use list_lines::push_value_list;
 use lotos_base::{NoMemory, Shelf};
 use session_log::{MenuMaker, push_comparison, push_normal, push_text, state_text};
 use std::alloc::Global;
+use value_lists::push_value_list;
 
 impl<M: MenuMaker> HistoryLines<'_, M> {
     /// The answer to a request. A `step`, `undo` or `replay` that is not refused changes the

@@ -33,9 +33,9 @@ ghost use Rattle.std.specs.Prelude.{
 use crate::lines::HistoryLines;
 use crate::refusals::Decline;
 use crate::texts::{bare_line, decline_line, did_line, undone_line};
-use crate::values::values_at;
 use lotos_base::{NoMemory, Written};
 use session_log::entries::counted_entry;
+use session_log::values::values_at;
 use session_log::{Label, MenuMaker, read_terms};
 use sort_terms::Sorted;
 use std::alloc::Global;
@@ -99,7 +99,7 @@ impl<M: MenuMaker> HistoryLines<'_, M> {
         ensures stays { StaysServing M.suits self.old self.new }
     {
         let terms = read_terms(alloc, text, 0)?;
-        let values = self.values_for(alloc, number, &terms)?;
+        let values = self.values_for(alloc, number, terms.as_slice())?;
         self.take_with(number, values)
     }
 
@@ -109,10 +109,10 @@ impl<M: MenuMaker> HistoryLines<'_, M> {
         &self,
         alloc: Global,
         number: u64,
-        terms: &Vec<Written>,
+        terms: &[Written],
     ) -> Result<Vec<Sorted>, Decline>
         requires serving { IsServing M.suits self.now }
-        ensures { (text : List ℕ) → AreTerms text (map written_term_of terms.now.items)
+        ensures { (text : List ℕ) → AreTerms text (map written_term_of terms.now)
             → MatchResult result
             (λ values. ChoosesValues (basis_of self.now) (reached self.now) number text
             values.items)

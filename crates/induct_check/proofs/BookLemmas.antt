@@ -5,11 +5,10 @@ use Rattle.equation_book.specs.BookCanonFacts.{book_oriented, book_sided}
 use Rattle.equation_book.specs.declared.book.Book.{Book}
 use Rattle.path_order.specs.RulesView.{rules_in, plain_rules_in, precedence_in}
 use Rattle.path_order.specs.declared.rules.Rules.{Rules}
-use Rattle.rewriting_theory.specs.Rule.{AreSortedRulesOf}
 use Rattle.sort_terms.specs.EquationView.{data_of}
 use Rattle.termination_theory.specs.Orientation.{NumberedRule, rules_of}
 use Rattle.termination_theory.proofs.ChosenCanonLemmas.{sorted_rules}
-use Rattle.induction_theory.specs.Splits.{Theory}
+use Rattle.induct_parts.specs.HandedOn.{Theory, AreSortedRulesOf}
 use Rattle.induct_parts.specs.SettingView.{known_theory}
 use Rattle.induct_check.specs.BookView.{book_theory}
 

@@ -3,8 +3,7 @@ use Rattle.std.proofs.Common.{◌≡◌, ◌≤◌, ◌<◌, ◌+◌, ◌==◌, 
 use Rattle.lotos_base.specs.Equation.{Variable}
 use Rattle.lotos_base.specs.Signature.{Signature}
 use Rattle.lotos_base.specs.WrittenTerm.{WrittenTerm}
-use Rattle.induction_theory.specs.Certificate.{Cover, TreeLine, PatternTree, ProofLine, Lemma}
-use Rattle.induction_theory.specs.Certified.{lines_of_trees, lines_of_tree, lines_of_lemma}
+use Rattle.induct_parts.specs.HandedOn.{Cover, TreeLine, PatternTree, ProofLine, Lemma, lines_of_trees, lines_of_tree, lines_of_lemma}
 use Rattle.induct_parts.specs.CertificateView.{lines_of_lemmas, lines_of_certificate}
 use Rattle.induct_check.specs.CertificateLines.{Form, cover_form, tree_form, split_form, lemma_form, left_form, right_form, use_form, leaf_form, same_form, no_form, form_of, path_of, byte_before, parts_at}
 use Rattle.induct_check.specs.CertificateReading.{OpenPart, among_covers, in_tree, behind_variables, behind_left, in_proof, NamedCase, ReadSoFar, Task, read_cover, read_tree, tree_line, read_variables, read_left, read_right, proof_line, no_task, among_covers_task, pattern_split, in_tree_task, left_task, right_task, variable_split, in_proof_task, task_of, Piece, new_cover, new_tree, new_tree_line, new_variables, new_left, new_lemma, new_proof_line, Gives, with_last, tree_with, lemma_with, stated, proof_behind, with_piece}

@@ -2,7 +2,7 @@
 use Rattle.std.proofs.Common.{◌<◌, ◌+◌, ◌^◌, ◌==◌, ℕ, suc, List, [], ◌∷◌, Bool, true, false, Option, None, Some, MatchOption, length, codes, if◌then◌else◌, arith, length-drop}
 use Rattle.std.specs.List.{position}
 use Rattle.std.specs.Str.{bytes_eq}
-use Rattle.induction_theory.specs.Certificate.{Use}
+use Rattle.induct_parts.specs.HandedOn.{Use}
 use Rattle.induct_check.specs.CertificateLines.{Form, lemma_form, no_form, cover_by, split_by, use_or_none, use_by, parts_at, form_alone, form_with, form_by, form_of, cut_by, cut_at_blank}
 use Rattle.induct_check.specs.FormView.{IsShort}
 

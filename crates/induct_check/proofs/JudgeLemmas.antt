@@ -1,11 +1,8 @@
 -- What a text is said to be, by what it comes to and by what was read.
 use Rattle.std.proofs.Common.{◌≡◌, ℕ, List, Option, None, Some, inl, inr, refl, sym, subst}
 use Rattle.lotos_base.specs.Signature.{Signature}
-use Rattle.induction_theory.specs.Certificate.{Certificate, Lemma}
-use Rattle.induction_theory.specs.Certified.{IsCertified, IsInductionFault}
-use Rattle.induction_theory.specs.Faults.{InductionFault, bad_line, no_variable, no_cover, no_tree, not_reducible, bad_use, not_same}
-use Rattle.induction_theory.specs.InductionLaws.{FirstFaultsAreOne, RightOnesHaveNoFault}
-use Rattle.induction_theory.specs.Splits.{Theory}
+use Rattle.induct_parts.specs.HandedOn.{Certificate, Lemma, IsCertified, IsInductionFault, InductionFault, bad_line, no_variable, no_cover}
+use Rattle.induct_parts.specs.HandedOn.{no_tree, not_reducible, bad_use, not_same, FirstFaultsAreOne, RightOnesHaveNoFault, Theory}
 use Rattle.induct_parts.specs.FaultView.{HoldsAtLine, HoldsOfFault}
 use Rattle.induct_parts.specs.SettingView.{AllCovered}
 use Rattle.induct_parts.specs.StatementView.{statement_of}

@@ -20,3 +20,5 @@ pub mod UseWords
 pub mod VariableLemmas
 pub mod VariableSteps
 pub mod WrittenLemmas
+pub mod HandedOn
+pub mod OneText

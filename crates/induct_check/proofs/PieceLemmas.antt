@@ -4,9 +4,9 @@ use Rattle.std.proofs.lemmas.List.{reverse-append}
 use Rattle.lotos_base.specs.Equation.{Variable}
 use Rattle.lotos_base.specs.Signature.{Signature, Operation, IsOperation}
 use Rattle.lotos_base.specs.WrittenTerm.{WrittenTerm}
-use Rattle.sentence_trees.specs.ReadingLaws.{TextsHaveOneOutcome}
+use Rattle.lotos_grammar.specs.HandedOn.{TextsHaveOneOutcome}
 use Rattle.sort_terms.specs.Reading.{IsSortNamed}
-use Rattle.induction_theory.specs.Certificate.{Cover, split_pattern, Statement, split_variable}
+use Rattle.induct_parts.specs.HandedOn.{Cover, split_pattern, Statement, split_variable}
 use Rattle.induct_check.specs.CertificateReading.{ItemsList, AreOperationsOf, AreLemmaVariables, IsWrittenSide, AreSides, number_named, cases_behind, Task, read_cover, read_tree, read_variables, read_left, read_right, proof_line, no_task, pattern_split, variable_split, among_covers_task, in_tree_task, left_task, right_task, Piece, new_cover, new_tree, new_tree_line, new_variables, new_left, new_lemma, Gives, FailsWithLeft}
 use Rattle.induct_check.specs.FormView.{form_in}
 use Rattle.induct_check.specs.declared.forms.Form.{Form}

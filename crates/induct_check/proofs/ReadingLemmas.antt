@@ -1,7 +1,7 @@
 -- What was read, piece by piece.
 use Rattle.std.proofs.Common.{◌≡◌, ◌≤◌, ℕ, List, [], ◌∷◌, ◌++◌, Some, slice_get, length, drop, map, refl, ap, sym, ◌∙◌, subst}
 use Rattle.lotos_base.proofs.ExampleHelpers.{Each}
-use Rattle.induction_theory.proofs.Each.{each_front, each_back, each_join}
+use Rattle.induct_parts.proofs.HandedOn.{each_front, each_back, each_join}
 use Rattle.induct_parts.proofs.StepLemmas.{pushed}
 use Rattle.std.proofs.Common.{Vec, Global}
 use Rattle.lotos_base.specs.Signature.{Signature}
@@ -11,11 +11,11 @@ use Rattle.induct_parts.specs.declared.certificates.PatternTree.{PatternTree}
 use Rattle.induct_parts.specs.declared.certificates.StatedLemma.{StatedLemma}
 use Rattle.induct_parts.specs.declared.certificates.TreeLine.{TreeLine}
 use Rattle.induct_parts.specs.declared.certificates.ProofLine.{ProofLine}
-use Rattle.induction_theory.specs.Certificate as plain
+use Rattle.induct_parts.specs.HandedOn.induction_certificate as plain
 use Rattle.std.proofs.Math.ListN.{drop_of_length-le}
 use Rattle.std.proofs.lemmas.List.{append-nil}
 use Rattle.induct_check.specs.CertificateReading.{with_last, tree_with, lemma_with, stated}
-use Rattle.induction_theory.specs.Certified.{IsStated}
+use Rattle.induct_parts.specs.HandedOn.{IsStated}
 use Rattle.lotos_base.specs.Equation.{Variable}
 use Rattle.induct_parts.specs.StatementView.{IsStatementOf, statement_of}
 use Rattle.induct_parts.specs.declared.statements.Statement.{Statement}

@@ -11,8 +11,7 @@ use Rattle.sort_terms.specs.Reading.{Reads, AllRead, IsSortNamed}
 use Rattle.sort_terms.specs.ReadingOutcome.{ReadingRefusal, ComesTo, answered, SortedPair, IsPairReading, unknown_in}
 use Rattle.sort_terms.proofs.ReadsLemmas.{reads_sorted}
 use Rattle.syntax_trees.specs.WrittenVariable.{WrittenVariable}
-use Rattle.induction_theory.specs.Certificate.{Statement}
-use Rattle.induction_theory.specs.Certified.{IsStated}
+use Rattle.induct_parts.specs.HandedOn.{Statement, IsStated}
 use Rattle.induct_check.specs.CertificateReading.{AreNumbered, AreSides, stated}
 use Rattle.induct_check.specs.PieceView.{AreKnownVariables}
 

@@ -1,6 +1,6 @@
 -- Faults of what was read, and the stop.
 use Rattle.std.proofs.Common.{◌≡◌, ◌↔◌, ℕ, Bool, true, false, not, IsTrue, IsFalse, inl, inr, refl, sym, subst}
-use Rattle.induction_theory.specs.Faults.{no_tree}
+use Rattle.induct_parts.specs.HandedOn.{no_tree}
 use Rattle.induct_parts.specs.FaultView.{HoldsAtLine, HoldsOfFault}
 use Rattle.induct_parts.specs.declared.at_line.AtLine.{AtLine}
 use Rattle.induct_parts.specs.declared.line_fault.LineFault.{LineFault}

@@ -1,7 +1,7 @@
 -- The words of a use.
 use Rattle.std.proofs.Common.{◌≡◌, ℕ, List, [], ◌∷◌, Option, None, length, map, get_or, refl, arith}
 use Rattle.lotos_base.specs.Equality.{Direction}
-use Rattle.induction_theory.specs.Certificate.{Side, Source}
+use Rattle.induct_parts.specs.HandedOn.{Side, Source}
 use Rattle.induct_check.specs.CertificateLines.{use_from, use_by}
 
 pub not_five : (ws : List (List ℕ)) → (length ws ≡ 5 → ⊥) → None ≡ use_by ws

@@ -12,7 +12,7 @@ use Rattle.induct_check.proofs.VariableLemmas.{variables_once}
 tokens_once : (some other : List Token) → lexed.Tokens some ≡ lexed.Tokens other → some ≡ other
 tokens_once some other e = cc e
 
-written_once : (text : List ℕ) (some other : List WrittenVariable) → AreVariablesIn text some → AreVariablesIn text other → some ≡ other
+pub written_once : (text : List ℕ) (some other : List WrittenVariable) → AreVariablesIn text some → AreVariablesIn text other → some ≡ other
 written_once text some other h k =
     variables_once text k.0 some other
     (subst (λ (ts : List Token). AreVariables text ts some) (tokens_once h.0 k.0 (sym h.1 ∙ k.1)) h.2) k.2

@@ -3,7 +3,7 @@ use Rattle.sort_terms.specs.EquationView.{data_of}
 use Rattle.path_order.specs.RulesView.{plain_rules_in}
 use Rattle.equation_book.specs.BookCanon.{book_canon}
 use Rattle.equation_book.specs.declared.book.Book.{Book}
-use Rattle.induction_theory.specs.Splits.{Theory}
+use Rattle.induct_parts.specs.HandedOn.{Theory}
 
 abbrev pub book_theory : Book → Theory
 book_theory book =

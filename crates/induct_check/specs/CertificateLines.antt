@@ -6,7 +6,7 @@ use Rattle.std.specs.Option.{option_map}
 use Rattle.std.specs.Str.{bytes_eq}
 use Rattle.std.specs.Str.Parse.{digits_value}
 use Rattle.lotos_base.specs.Equality.{Direction, forward, backward}
-use Rattle.induction_theory.specs.Certificate.{Side, left_side, right_side, Source, by_lemma, by_hypothesis, Use}
+use Rattle.induct_parts.specs.HandedOn.{Side, left_side, right_side, Source, by_lemma, by_hypothesis, Use}
 
 -- ---- Parts
 

@@ -9,12 +9,12 @@ use Rattle.lotos_lexer.specs.Tokens as lexed
 use Rattle.lotos_lexer.specs.Tokens.{tokens_of}
 use Rattle.lotos_rows.specs.Names.{AreVariables}
 use Rattle.path_order.specs.Listed.{AreListedBy}
-use Rattle.sentence_trees.specs.Reading.{IsOrderReading, IsTermsReading}
+use Rattle.lotos_grammar.specs.HandedOn.{IsOrderReading, IsTermsReading}
 use Rattle.sort_terms.specs.Reading.{IsSortNamed}
 use Rattle.sort_terms.specs.ReadingOutcome.{one_name, unknown_name, unknown_sort, ReadingIs, PairReadingIs, answered, refused}
 use Rattle.syntax_trees.specs.WrittenVariable.{WrittenVariable}
-use Rattle.induction_theory.specs.Certificate.{Cover, TreeLine, split_pattern, leaf_here, PatternTree, Statement, ProofLine, split_variable, use_it, same_sides, Lemma, Certificate}
-use Rattle.induction_theory.specs.Covers.{Numbered, cover_of, in_signature_order}
+use Rattle.induct_parts.specs.HandedOn.{Cover, TreeLine, split_pattern, leaf_here, PatternTree, Statement, ProofLine, split_variable}
+use Rattle.induct_parts.specs.HandedOn.{use_it, same_sides, Lemma, Certificate, Numbered, cover_of, in_signature_order}
 use Rattle.induct_check.specs.CertificateLines.{Form, cover_form, tree_form, split_form, lemma_form, left_form, right_form, use_form, leaf_form, same_form, no_form, path_of}
 
 -- ---- Operations that items list

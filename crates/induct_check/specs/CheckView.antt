@@ -1,8 +1,6 @@
 -- What it is for the text of a certificate to be right, and which of two faults is told.
 use Rattle.std.specs.Prelude.{◌≡◌, ◌⊎◌, ℕ, List, Option, None, Some}
-use Rattle.induction_theory.specs.Certificate.{Lemma, Certificate}
-use Rattle.induction_theory.specs.Certified.{IsCertified}
-use Rattle.induction_theory.specs.Splits.{Theory}
+use Rattle.induct_parts.specs.HandedOn.{Lemma, Certificate, IsCertified, Theory}
 use Rattle.induct_parts.specs.FaultView.{HoldsAtLine}
 use Rattle.induct_parts.specs.SettingView.{AllCovered}
 use Rattle.induct_parts.specs.declared.at_line.AtLine.{AtLine}

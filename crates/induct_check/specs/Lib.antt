@@ -12,3 +12,5 @@ pub mod ReadingView
 pub mod TextFaults
 pub mod VariableStates
 pub mod VariableView
+pub mod FaultTexts
+pub mod HandedOn

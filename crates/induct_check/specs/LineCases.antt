@@ -1,7 +1,7 @@
 -- Worked cases: the forms of some lines.
 use Rattle.std.specs.Prelude.{◌≡◌, [], ◌∷◌, None, Some, codes}
 use Rattle.lotos_base.specs.Equality.{forward, backward}
-use Rattle.induction_theory.specs.Certificate.{left_side, right_side, by_lemma, by_hypothesis}
+use Rattle.induct_parts.specs.HandedOn.{left_side, right_side, by_lemma, by_hypothesis}
 use Rattle.induct_check.specs.CertificateLines.{parts_at, path_of, cover_form, tree_form, split_form, lemma_form, left_form, use_form, leaf_form, same_form, no_form, form_of}
 
 -- Lines that have a form.

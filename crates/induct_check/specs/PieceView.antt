@@ -6,7 +6,7 @@ use Rattle.lotos_base.specs.Signature.{Signature, Operation, IsOperation}
 use Rattle.lotos_base.specs.WrittenView.{written_term_of}
 use Rattle.sort_terms.specs.EquationView.{variable_of}
 use Rattle.sort_terms.specs.Reading.{IsScopeOver}
-use Rattle.induction_theory.specs.Certified.{IsStated}
+use Rattle.induct_parts.specs.HandedOn.{IsStated}
 use Rattle.induct_parts.specs.CertificateView.{cover_in, tree_line_of, proof_line_of}
 use Rattle.induct_parts.specs.StatementView.{IsStatementOf, statement_of}
 use Rattle.induct_check.specs.CertificateReading as plain

@@ -2,10 +2,7 @@
 use Rattle.std.specs.Prelude.{◌≡◌, ◌⊎◌, ◌<◌, ℕ, suc, List, [], ◌∷◌, Bool, true, false, ◌||◌, Option, None, Some, codes, IsTrue, IsFalse}
 use Rattle.std.specs.Str.{bytes_eq}
 use Rattle.lotos_base.specs.Signature.{Signature}
-use Rattle.induction_theory.specs.Certificate.{Certificate}
-use Rattle.induction_theory.specs.Faults.{InductionFault, bad_line, no_tree}
-use Rattle.induction_theory.specs.Splits.{Theory}
-use Rattle.induction_theory.specs.Certified.{IsInductionFault}
+use Rattle.induct_parts.specs.HandedOn.{Certificate, InductionFault, bad_line, no_tree, Theory, IsInductionFault}
 use Rattle.induct_check.specs.CertificateLines.{parts_at, cut_at_blank, form_of}
 use Rattle.induct_check.specs.CertificateReading.{OpenPart, among_covers, in_tree, behind_variables, behind_left, in_proof, ReadSoFar, nothing_read, Task, task_of, Piece, Gives, FailsWithLeft, with_piece}
 

@@ -14,10 +14,16 @@ ghost use Rattle.induct_parts.specs.CertificateView.{
   lines_of_certificate,
 };
 ghost use Rattle.induct_parts.specs.FaultView.{HoldsAtLine};
+ghost use Rattle.induct_parts.specs.HandedOn.{AreSortedRulesOf};
+ghost use Rattle.induct_parts.specs.SettingView.{
+  AllHold,
+  IsKnownCertificate,
+  IsKnownLemma,
+  known_theory,
+};
 ghost use Rattle.induct_parts.specs.declared.line_fault.LineFault.TheVariants.{BadLine};
-ghost use Rattle.induct_parts.specs.SettingView.{AllHold, IsKnownCertificate, known_theory};
+ghost use Rattle.lotos_base.proofs.ExampleHelpers.{Each};
 ghost use Rattle.path_order.specs.RulesView.{plain_rules_in};
-ghost use Rattle.rewriting_theory.specs.Rule.{AreSortedRulesOf};
 ghost use Rattle.sort_terms.specs.SignatureView.{signature_of};
 ghost use Rattle.std.specs.Option.{option_map};
 ghost use Rattle.std.specs.Prelude.{
@@ -41,8 +47,8 @@ use crate::reading::{Read, Stop, read_certificate};
 use induct_parts::at_line::AtLine;
 use induct_parts::certificates::StatedLemma;
 use induct_parts::checking::check_certificate;
+use induct_parts::first_faults_are_one;
 use induct_parts::line_fault::LineFault;
-use induction_theory::certificates::first_faults_are_one;
 use path_order::Rules;
 use path_order::items::indexed;
 use sort_terms::{Deciding, Reader, Signature};
@@ -69,6 +75,8 @@ pub fn check_lemmas<D: Deciding>(
         (lemmas_in lemmas.items)) }
     ensures hold { IfOk result (λ lemmas. AllHold (D.known_data data_.old)
         (lemmas_in lemmas.items)) }
+    ensures known { IfOk result (λ lemmas. Each (IsKnownLemma (signature_of signature.now))
+        lemmas.items) }
     ensures refused { IfErr result (λ at. HoldsAtLine (IsTextFault
         (known_theory (D.known_data data_.old) rules.now (D.canon data_.old)) text.now) at) }
 {
@@ -104,6 +112,8 @@ fn judged<D: Deciding>(
         (lemmas_in lemmas.items)) }
     ensures hold { IfOk result (λ lemmas. AllHold (D.known_data data_.old)
         (lemmas_in lemmas.items)) }
+    ensures known { IfOk result (λ lemmas. Each (IsKnownLemma (signature_of signature.now))
+        lemmas.items) }
     ensures refused { IfErr result (λ at. (text : List ℕ)
         → TextComesTo (signature_of signature.now) text (read_text read)
         → HoldsAtLine (IsTextFault
@@ -120,6 +130,7 @@ fn judged<D: Deciding>(
 fn accepted(read: Read) -> Result<Vec<StatedLemma>, AtLine>
     ensures lemmas { IfOk result (λ lemmas. ((read_text read).stop ≡ None)
         × ((read_text read).certificate.lemmas ≡ lemmas_in lemmas.items)) }
+    ensures same { IfOk result (λ lemmas. lemmas.items ≡ read.certificate.lemmas.items) }
     ensures stop { IfErr result (λ at. (stop : PlainStop) × ((read_text read).stop ≡ Some stop)
         × (at.line ≡ stop.line) × (at.fault ≡ BadLine)) }
 {

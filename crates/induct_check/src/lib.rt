@@ -5,6 +5,7 @@
 pub mod books;
 pub mod cases;
 pub mod checking;
+pub mod fault_texts;
 pub mod forms;
 pub mod known;
 pub mod names;
@@ -15,3 +16,10 @@ pub mod pieces;
 pub mod reading;
 pub mod sides;
 pub mod variables;
+
+pub use books::check_text;
+pub use fault_texts::fault_line;
+pub use induct_parts::at_line::AtLine;
+pub use induct_parts::certificates::StatedLemma;
+pub use induct_parts::meeting::met_by;
+pub use induct_parts::{first_faults_are_one, met_requirements_hold, right_certificates_hold};

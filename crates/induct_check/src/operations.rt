@@ -8,9 +8,8 @@ ghost use Rattle.std.specs.Prelude.{ℕ, IfOk, List, MatchOption, map};
 
 use crate::known::Known;
 use lotos_base::{NoMemory, OrderItem};
-use lotos_grammar::{ReadFault, read_order};
+use lotos_grammar::{ReadFault, read_order, texts_have_one_outcome};
 use path_order::items::listed_by;
-use sentence_trees::reading_laws::texts_have_one_outcome;
 
 /// The operations that the items in the text list, if the text is items without statuses, each of
 /// which lists an operation.

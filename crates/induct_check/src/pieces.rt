@@ -54,7 +54,7 @@ use crate::variables::lemma_variables;
 use induct_parts::certificates::{Cover, ProofLine, TreeLine};
 use induct_parts::statements::Statement;
 use lotos_base::{Name, NoMemory, Written};
-use sentence_trees::reading_laws::texts_have_one_outcome;
+use lotos_grammar::texts_have_one_outcome;
 use sort_terms::Variable;
 use std::alloc::Global;
 

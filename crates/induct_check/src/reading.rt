@@ -28,9 +28,9 @@ ghost use Rattle.induct_parts.specs.CertificateView.{
   tree_line_of,
   trees_in,
 };
+ghost use Rattle.induct_parts.specs.HandedOn.{IsStated};
 ghost use Rattle.induct_parts.specs.SettingView.{IsKnownCertificate, IsKnownLemma};
 ghost use Rattle.induct_parts.specs.StatementView.{IsStatementOf, statement_of};
-ghost use Rattle.induction_theory.specs.Certified.{IsStated};
 ghost use Rattle.lotos_base.proofs.ExampleHelpers.{Each};
 ghost use Rattle.lotos_base.specs.Equation.{Variable as PlainVariable};
 ghost use Rattle.lotos_base.specs.Signature.{IsOperation, Operation, Signature};

@@ -2,8 +2,8 @@
 
 ghost use Rattle.induct_check.specs.CertificateReading.{AreSides, IsWrittenSide, NamesAreKnown};
 ghost use Rattle.induct_check.specs.KnownView.{IsKnown, known_signature};
+ghost use Rattle.induct_parts.specs.HandedOn.{Statement as PlainStatement};
 ghost use Rattle.induct_parts.specs.StatementView.{IsStatementOf, statement_of};
-ghost use Rattle.induction_theory.specs.Certificate.{Statement as PlainStatement};
 ghost use Rattle.lotos_base.specs.WrittenTerm.{WrittenTerm};
 ghost use Rattle.lotos_base.specs.WrittenView.{written_term_of};
 ghost use Rattle.sort_terms.specs.EquationView.{variable_of};
@@ -26,8 +26,7 @@ ghost use Rattle.std.specs.Prelude.{
 use crate::known::Known;
 use induct_parts::statements::Statement;
 use lotos_base::{NoMemory, Written};
-use lotos_grammar::{ReadFault, read_terms};
-use sentence_trees::reading_laws::texts_have_one_outcome;
+use lotos_grammar::{ReadFault, read_terms, texts_have_one_outcome};
 use sort_terms::laws::reading_comes_to_one_thing;
 use sort_terms::{Scope, SortFault, Variable};
 

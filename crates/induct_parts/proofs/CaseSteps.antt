@@ -11,17 +11,16 @@ use Rattle.lotos_base.proofs.Members.{at_map}
 use Rattle.sort_terms.specs.ProfiledTerm.{ProfiledTerm, bare, IsOf}
 use Rattle.sort_terms.specs.SortedView.{term_in}
 use Rattle.sort_terms.specs.declared.sorted.Sorted.{Sorted}
-use Rattle.induction_theory.specs.Certificate.{Statement}
-use Rattle.induction_theory.specs.Covers.{Numbered}
-use Rattle.induction_theory.specs.Patterns.{put_for, operation_on}
-use Rattle.induction_theory.specs.Splits.{Theory, Case as PlainCase, Proving as PlainProving, IsInScope, in_both, case_with, with_goal, first_case, hypotheses_behind}
-use Rattle.induction_theory.specs.Certified.{statements_of}
-use Rattle.induction_theory.specs.Requirements.{OccursInSide}
-use Rattle.induction_theory.specs.Uses.{IsUsed}
-use Rattle.induction_theory.specs.Certificate.{Use}
-use Rattle.induction_theory.proofs.CaseLemmas.{IsFineHypothesis, IsFineCase, case_fine}
-use Rattle.induction_theory.proofs.LemmasHold.{first_fine}
-use Rattle.induction_theory.proofs.UseSound.{IsSortedStatement, used_fine}
+use Rattle.certificate_theory.specs.InductionCertificate.{Statement, Use}
+use Rattle.certificate_theory.specs.Covers.{Numbered}
+use Rattle.certificate_theory.specs.Patterns.{put_for, operation_on}
+use Rattle.certificate_theory.specs.Splits.{Theory, Case as PlainCase, Proving as PlainProving, IsInScope, in_both, case_with, with_goal, first_case, hypotheses_behind}
+use Rattle.certificate_theory.specs.Certified.{statements_of}
+use Rattle.certificate_theory.specs.Requirements.{OccursInSide}
+use Rattle.certificate_theory.specs.Uses.{IsUsed}
+use Rattle.certificate_theory.proofs.CaseLemmas.{IsFineHypothesis, IsFineCase, case_fine}
+use Rattle.certificate_theory.proofs.LemmasHold.{first_fine}
+use Rattle.certificate_theory.proofs.UseSound.{IsSortedStatement, used_fine}
 use Rattle.induct_parts.specs.StatementView.{statement_of, profiles_in, IsStatementOf}
 use Rattle.induct_parts.specs.CertificateView.{lemma_in, lemmas_in}
 use Rattle.induct_parts.specs.SettingView.{setting_signature, theory_in, IsSet, IsKnownLemma, proving_in, AreKnownBefore}

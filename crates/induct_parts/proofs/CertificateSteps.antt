@@ -11,13 +11,13 @@ use Rattle.rewriting_theory.specs.Rule.{AreSortedRulesOf}
 use Rattle.path_order.specs.RulesView.{plain_rules_in}
 use Rattle.path_order.specs.declared.rules.Rules.{Rules}
 use Rattle.path_order.proofs.RulesLemmas.{rules_end}
-use Rattle.induction_theory.specs.Certificate.{Cover, PatternTree, Lemma}
-use Rattle.induction_theory.specs.Covers.{IsListedIn, HasResult, IsRightCover, cover_of}
-use Rattle.induction_theory.specs.Lines.{AreRightBehind}
-use Rattle.induction_theory.specs.Certified.{IsFit, IsStated, IsCertificateOver}
-use Rattle.induction_theory.proofs.CoverLemmas.{cover_found}
-use Rattle.induction_theory.proofs.LineLemmas.{right_at}
-use Rattle.induction_theory.proofs.TestedCertificates.{among_member}
+use Rattle.certificate_theory.specs.InductionCertificate.{Cover, PatternTree, Lemma}
+use Rattle.certificate_theory.specs.Covers.{IsListedIn, HasResult, IsRightCover, cover_of}
+use Rattle.certificate_theory.specs.Lines.{AreRightBehind}
+use Rattle.certificate_theory.specs.Certified.{IsFit, IsStated, IsCertificateOver}
+use Rattle.certificate_theory.proofs.CoverLemmas.{cover_found}
+use Rattle.certificate_theory.proofs.LineLemmas.{right_at}
+use Rattle.certificate_theory.proofs.TestedCertificates.{among_member}
 use Rattle.induct_parts.specs.CertificateView.{trees_in, tree_in, lemmas_in, lemma_in, certificate_in}
 use Rattle.induct_parts.specs.SettingView.{setting_signature, setting_covers, setting_rules, theory_in, IsSet, IsKnownLemma, IsKnownCertificate, known_theory}
 use Rattle.induct_parts.specs.declared.certificates.Certificate.{Certificate as CodeCertificate}

@@ -12,10 +12,10 @@ use Rattle.sort_terms.specs.Operations.{operation_of}
 use Rattle.sort_terms.specs.SignatureView.{signature_of}
 use Rattle.sort_terms.specs.declared.operations.Op.{Op}
 use Rattle.sort_terms.specs.declared.signatures.Signature.{Signature}
-use Rattle.induction_theory.specs.Certificate.{Cover}
-use Rattle.induction_theory.specs.Covers.{IsListedIn, cover_of, HasResult, IsRightCover}
-use Rattle.induction_theory.proofs.Each.{from_join}
-use Rattle.induction_theory.proofs.TestedCertificates.{AllOnce, among_member, member_among}
+use Rattle.certificate_theory.specs.InductionCertificate.{Cover}
+use Rattle.certificate_theory.specs.Covers.{IsListedIn, cover_of, HasResult, IsRightCover}
+use Rattle.certificate_theory.proofs.Each.{from_join}
+use Rattle.certificate_theory.proofs.TestedCertificates.{AllOnce, among_member, member_among}
 
 -- ---- an answer and what it says
 

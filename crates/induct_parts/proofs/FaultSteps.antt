@@ -1,12 +1,12 @@
 -- From the faults of covers, trees and lemmas to the first fault of a certificate, and from right ones to a right certificate.
 use Rattle.std.proofs.Common.{◌≡◌, ℕ, suc, ◌+◌, [], length}
-use Rattle.induction_theory.specs.Certificate.{Certificate}
-use Rattle.induction_theory.specs.Covers.{IsRightCover}
-use Rattle.induction_theory.specs.Faults.{no_tree}
-use Rattle.induction_theory.specs.Lines.{AreRightBehind, FirstIsWrong}
-use Rattle.induction_theory.specs.Splits.{Theory}
-use Rattle.induction_theory.specs.Certified.{IsFit, IsCertificateOver, IsWrongCover, IsRightTree, IsWrongTree, IsRightLemma, IsWrongLemma, AreComplete, IsCertified, IsFirstLack, IsInductionFault, in_covers, in_trees, behind_trees, in_lemmas, lines_of_cover, lines_of_tree, lines_of_trees, lines_of_lemma}
-use Rattle.induction_theory.proofs.LemmasHold.{covers_hold, lemmas_hold}
+use Rattle.certificate_theory.specs.InductionCertificate.{Certificate}
+use Rattle.certificate_theory.specs.Covers.{IsRightCover}
+use Rattle.certificate_theory.specs.Faults.{no_tree}
+use Rattle.certificate_theory.specs.Lines.{AreRightBehind, FirstIsWrong}
+use Rattle.certificate_theory.specs.Splits.{Theory}
+use Rattle.certificate_theory.specs.Certified.{IsFit, IsCertificateOver, IsWrongCover, IsRightTree, IsWrongTree, IsRightLemma, IsWrongLemma, AreComplete, IsCertified, IsFirstLack, IsInductionFault, in_covers, in_trees, behind_trees, in_lemmas, lines_of_cover, lines_of_tree, lines_of_trees, lines_of_lemma}
+use Rattle.certificate_theory.proofs.LemmasHold.{covers_hold, lemmas_hold}
 use Rattle.induct_parts.specs.FaultView.{HoldsAtLine}
 use Rattle.induct_parts.specs.SettingView.{AllCovered, AllHold}
 use Rattle.induct_parts.specs.declared.at_line.AtLine.{AtLine}

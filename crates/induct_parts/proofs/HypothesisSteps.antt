@@ -16,10 +16,10 @@ use Rattle.sort_terms.specs.declared.sorted.Sorted.{Sorted}
 use Rattle.sort_terms.specs.declared.terms.Term.{Term as CodeTerm}
 use Rattle.sort_terms.specs.declared.terms.Term.TheVariants.{Var}
 use Rattle.sort_terms.proofs.BuiltLists.{profiled_Var}
-use Rattle.induction_theory.specs.Certificate.{Statement as PlainStatement}
-use Rattle.induction_theory.specs.Patterns.{put_for, operation_on}
-use Rattle.induction_theory.specs.Requirements.{OccursInSide}
-use Rattle.induction_theory.specs.Splits.{in_both, hypotheses_for, hypotheses_behind}
+use Rattle.certificate_theory.specs.InductionCertificate.{Statement as PlainStatement}
+use Rattle.certificate_theory.specs.Patterns.{put_for, operation_on}
+use Rattle.certificate_theory.specs.Requirements.{OccursInSide}
+use Rattle.certificate_theory.specs.Splits.{in_both, hypotheses_for, hypotheses_behind}
 use Rattle.induct_parts.specs.StatementView.{statement_of, profiles_in}
 use Rattle.induct_parts.specs.SettingView.{setting_signature, proving_in}
 use Rattle.induct_parts.specs.CaseView.{case_in, IsKnownCase}

@@ -4,9 +4,9 @@ use Rattle.std.specs.Prelude.{◌⊎◌, ◌↔◌, Some, slice_get, IsTrue}
 use Rattle.std.proofs.lemmas.Option.{same_Some, slice_get_within}
 use Rattle.lotos_base.specs.Signature.{Signature}
 use Rattle.lotos_base.specs.Substitution.{is_listed}
-use Rattle.induction_theory.specs.Certificate.{Cover, PatternTree}
-use Rattle.induction_theory.specs.Covers.{IsListedIn, HasResult}
-use Rattle.induction_theory.specs.Certified.{with_trees, AreComplete, LacksTree, IsFirstLack}
+use Rattle.certificate_theory.specs.InductionCertificate.{Cover, PatternTree}
+use Rattle.certificate_theory.specs.Covers.{IsListedIn, HasResult}
+use Rattle.certificate_theory.specs.Certified.{with_trees, AreComplete, LacksTree, IsFirstLack}
 
 -- ---- one operation
 

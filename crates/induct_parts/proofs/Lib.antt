@@ -24,3 +24,4 @@ pub mod PieceSteps
 pub mod FaultSteps
 pub mod WholeSteps
 pub mod MeetingLemmas
+pub mod HandedOn

@@ -3,7 +3,7 @@ use Rattle.std.proofs.Common.{◌≡◌, ◌<◌, ◌≤◌, ℕ, suc, ◌+◌, 
 use Rattle.std.proofs.lemmas.List.{length-map}
 use Rattle.std.proofs.Math.ListN.{drop_of_length-le}
 use Rattle.lotos_base.proofs.Pieces.{next_member}
-use Rattle.induction_theory.specs.Certified.{lines_of_tree, lines_of_trees, lines_of_lemma}
+use Rattle.certificate_theory.specs.Certified.{lines_of_tree, lines_of_trees, lines_of_lemma}
 use Rattle.induct_parts.specs.CertificateView.{tree_in, tree_line_of, trees_in, lemma_in, proof_line_of, lemmas_in, lines_of_lemmas}
 use Rattle.induct_parts.specs.declared.certificates.PatternTree.{PatternTree as CodeTree}
 use Rattle.induct_parts.specs.declared.certificates.StatedLemma.{StatedLemma}

@@ -5,10 +5,10 @@ use Rattle.std.proofs.lemmas.List.{map-append, reverse-append, length-reverse, n
 use Rattle.std.proofs.Math.ListN.{drop_of_length-le}
 use Rattle.lotos_base.proofs.Pieces.{next_member}
 use Rattle.lotos_base.proofs.ExampleHelpers.{Each}
-use Rattle.induction_theory.specs.Faults.{InductionFault, bad_line}
-use Rattle.induction_theory.specs.Lines.{DealsWith, nothing_left, LinesReach, no_line, line_first, FailsToDeal, line_missing, line_surplus, line_wrong, AreRightBehind, no_more, right_then, FirstIsWrong, wrong_here, wrong_later}
-use Rattle.induction_theory.proofs.Each.{each_join}
-use Rattle.induction_theory.proofs.LineLemmas.{reach_then_deal, reach_then_fail}
+use Rattle.certificate_theory.specs.Faults.{InductionFault, bad_line}
+use Rattle.certificate_theory.specs.Lines.{DealsWith, nothing_left, LinesReach, no_line, line_first, FailsToDeal, line_missing, line_surplus, line_wrong, AreRightBehind, no_more, right_then, FirstIsWrong, wrong_here, wrong_later}
+use Rattle.certificate_theory.proofs.Each.{each_join}
+use Rattle.certificate_theory.proofs.LineLemmas.{reach_then_deal, reach_then_fail}
 use Rattle.induct_parts.specs.FaultView.{HoldsOfFault, FromLine}
 use Rattle.induct_parts.specs.declared.line_fault.LineFault.{LineFault}
 use Rattle.induct_parts.specs.declared.line_fault.LineFault.TheVariants.{BadLine, NoVariable, NoCover, NoTree, NotReducible, BadUse, NotSame, NoMemory}

@@ -10,7 +10,7 @@ use Rattle.sort_terms.specs.Operations.{operation_of}
 use Rattle.sort_terms.specs.SignatureView.{signature_of}
 use Rattle.sort_terms.specs.declared.operations.Op.{Op}
 use Rattle.sort_terms.specs.declared.signatures.Signature.{Signature as CodeSignature}
-use Rattle.induction_theory.specs.Covers.{Numbered, IsListedIn, HasResult}
+use Rattle.certificate_theory.specs.Covers.{Numbered, IsListedIn, HasResult}
 use Rattle.induct_parts.proofs.StepLemmas.{IsMadeSoFar, one_more, listed_makes, if_listed, listed_first}
 
 -- numbers of operations of the code are those of the signature

@@ -21,10 +21,8 @@ use Rattle.term_match.specs.Search.{looked_up, searched, all_searched}
 use Rattle.term_match.proofs.MatchLemmas.{numbers_of, search_is_match, search_is_distinct}
 use Rattle.term_match.proofs.RoomLemmas.{distinct_rest}
 use Rattle.term_match.proofs.SearchLemmas.{Pairs, search_complete, binding_agrees}
-use Rattle.induction_theory.specs.Certificate.{Statement}
-use Rattle.induction_theory.specs.Requirements.{OccursInSide, IsRenamedStatement}
-use Rattle.induction_theory.specs.Certificate.{Lemma}
-use Rattle.induction_theory.specs.Requirements.{stated, IsMetBy, IsLeftOpen}
+use Rattle.certificate_theory.specs.InductionCertificate.{Statement, Lemma}
+use Rattle.certificate_theory.specs.Requirements.{OccursInSide, IsRenamedStatement, stated, IsMetBy, IsLeftOpen}
 use Rattle.lotos_base.specs.Equation.{Equation as PlainEquation}
 use Rattle.lotos_base.specs.Signature.{Signature}
 use Rattle.sort_terms.specs.EquationView.{equation_of}

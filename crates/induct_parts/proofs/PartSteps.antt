@@ -10,9 +10,9 @@ use Rattle.sort_terms.specs.ProfiledTerm.{profiled_node, IsOf}
 use Rattle.sort_terms.specs.SortedView.{profiled_in, term_in}
 use Rattle.sort_terms.specs.declared.operations.Op.{Op}
 use Rattle.sort_terms.specs.declared.sorted.Sorted.{Sorted}
-use Rattle.induction_theory.specs.Patterns.{put_for}
-use Rattle.induction_theory.specs.Requirements.{OccursInSide}
-use Rattle.induction_theory.specs.Splits.{IsInScope, in_both, case_with, hypotheses_behind}
+use Rattle.certificate_theory.specs.Patterns.{put_for}
+use Rattle.certificate_theory.specs.Requirements.{OccursInSide}
+use Rattle.certificate_theory.specs.Splits.{IsInScope, in_both, case_with, hypotheses_behind}
 use Rattle.induct_parts.specs.CaseView.{case_in, IsKnownCase}
 use Rattle.induct_parts.specs.SettingView.{setting_signature, theory_in, proving_in, IsSet}
 use Rattle.induct_parts.specs.StatementView.{statement_of, IsStatementOf}

@@ -9,9 +9,9 @@ use Rattle.lotos_base.specs.Substitution.{substituted}
 use Rattle.sort_terms.specs.ProfiledTerm.{profiled_node, bare, head_sort, IsOf}
 use Rattle.sort_terms.specs.SortedView.{profiled_in, term_in}
 use Rattle.sort_terms.specs.declared.sorted.Sorted.{Sorted}
-use Rattle.induction_theory.specs.Covers.{Numbered}
-use Rattle.induction_theory.specs.Patterns.{Pattern, put_for, operation_on, first_pattern, split_with}
-use Rattle.induction_theory.proofs.ArgumentLemmas.{from_occurs, AreOne, put_occurs}
+use Rattle.certificate_theory.specs.Covers.{Numbered}
+use Rattle.certificate_theory.specs.Patterns.{Pattern, put_for, operation_on, first_pattern, split_with}
+use Rattle.certificate_theory.proofs.ArgumentLemmas.{from_occurs, AreOne, put_occurs}
 use Rattle.induct_parts.specs.Variables.{profiled_variables}
 use Rattle.induct_parts.specs.CaseView.{IsKnownPattern}
 use Rattle.induct_parts.proofs.PutLemmas.{variables_bare, variables_over}

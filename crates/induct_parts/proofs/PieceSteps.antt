@@ -3,13 +3,13 @@ use Rattle.std.proofs.Common.{◌≡◌, ℕ, suc, ◌+◌, List, [], ◌∷◌,
 use Rattle.std.specs.Prelude.{IsFalse}
 use Rattle.lotos_base.specs.Signature.{Operation, IsOperation}
 use Rattle.lotos_base.specs.Substitution.{is_listed}
-use Rattle.induction_theory.specs.Certificate.{Cover, TreeLine, PatternTree, ProofLine, Lemma}
-use Rattle.induction_theory.specs.Faults.{InductionFault, bad_line}
-use Rattle.induction_theory.specs.Lines.{DealsWith, FailsToDeal}
-use Rattle.induction_theory.specs.Patterns.{Pattern, PatternComesTo, IsWrongAtPattern, first_pattern}
-use Rattle.induction_theory.specs.Proofs.{CaseComesTo, IsWrongAtCase}
-use Rattle.induction_theory.specs.Splits.{Theory, Case, Proving, first_case}
-use Rattle.induction_theory.specs.Certified.{with_trees, proving_of, IsRightTree, IsWrongTree, IsRightLemma, IsWrongLemma}
+use Rattle.certificate_theory.specs.InductionCertificate.{Cover, TreeLine, PatternTree, ProofLine, Lemma}
+use Rattle.certificate_theory.specs.Faults.{InductionFault, bad_line}
+use Rattle.certificate_theory.specs.Lines.{DealsWith, FailsToDeal}
+use Rattle.certificate_theory.specs.Patterns.{Pattern, PatternComesTo, IsWrongAtPattern, first_pattern}
+use Rattle.certificate_theory.specs.Proofs.{CaseComesTo, IsWrongAtCase}
+use Rattle.certificate_theory.specs.Splits.{Theory, Case, Proving, first_case}
+use Rattle.certificate_theory.specs.Certified.{with_trees, proving_of, IsRightTree, IsWrongTree, IsRightLemma, IsWrongLemma}
 use Rattle.induct_parts.specs.FaultView.{HoldsOfFault, FromLine}
 use Rattle.induct_parts.specs.declared.line_fault.LineFault.{LineFault}
 use Rattle.induct_parts.specs.declared.line_fault.LineFault.TheVariants.{BadLine}

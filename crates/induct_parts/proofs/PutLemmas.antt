@@ -13,7 +13,7 @@ use Rattle.sort_terms.specs.declared.sorted.Sorted.{Sorted}
 use Rattle.term_match.specs.ProfiledInstance.{profiled_binding, profiled_instance, bare_pairs}
 use Rattle.term_match.specs.SubstView.{profiled_pairs}
 use Rattle.term_match.proofs.InstanceLemmas.{instance_of}
-use Rattle.induction_theory.specs.Patterns.{put_for, variables_from}
+use Rattle.certificate_theory.specs.Patterns.{put_for, variables_from}
 use Rattle.induct_parts.specs.Variables.{profiled_variables}
 
 -- The variable with the number has the sort of the term wherever it occurs.

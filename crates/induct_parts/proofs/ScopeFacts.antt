@@ -4,9 +4,9 @@ use Rattle.std.specs.Prelude.{Some, slice_get}
 use Rattle.std.proofs.lemmas.Bool.{lt-ltb, le-ltb}
 use Rattle.std.proofs.lemmas.Option.{slice_get_within, slice_get-get_or}
 use Rattle.lotos_base.specs.Substitution.{is_listed, substituted}
-use Rattle.induction_theory.specs.Covers.{Numbered}
-use Rattle.induction_theory.specs.Patterns.{put_for, operation_on}
-use Rattle.induction_theory.specs.Splits.{Case as PlainCase, Proving as PlainProving, IsInScope, in_both, hypotheses_for, hypotheses_behind}
+use Rattle.certificate_theory.specs.Covers.{Numbered}
+use Rattle.certificate_theory.specs.Patterns.{put_for, operation_on}
+use Rattle.certificate_theory.specs.Splits.{Case as PlainCase, Proving as PlainProving, IsInScope, in_both, hypotheses_for, hypotheses_behind}
 use Rattle.induct_parts.specs.CaseView.{case_in}
 use Rattle.induct_parts.specs.declared.cases.Case.{Case}
 

@@ -13,12 +13,12 @@ use Rattle.sort_terms.specs.declared.operations.Op.{Op}
 use Rattle.sort_terms.specs.declared.terms.Term.{Term}
 use Rattle.sort_terms.specs.declared.terms.Term.TheVariants.{Var, Node}
 use Rattle.sort_terms.proofs.BuiltLists.{profiled_Node, profiled_Var}
-use Rattle.induction_theory.proofs.Each.{each_join}
-use Rattle.induction_theory.proofs.CertificateTests.{stands}
-use Rattle.induction_theory.proofs.TestedLines.{stands_decided}
-use Rattle.induction_theory.specs.Certificate.{Source}
-use Rattle.induction_theory.specs.Splits.{Proving}
-use Rattle.induction_theory.specs.Uses.{StandsForItself}
+use Rattle.certificate_theory.proofs.Each.{each_join}
+use Rattle.certificate_theory.proofs.CertificateTests.{stands}
+use Rattle.certificate_theory.proofs.TestedLines.{stands_decided}
+use Rattle.certificate_theory.specs.InductionCertificate.{Source}
+use Rattle.certificate_theory.specs.Splits.{Proving}
+use Rattle.certificate_theory.specs.Uses.{StandsForItself}
 use Rattle.induct_parts.proofs.CoverFacts.{says_no, says_yes}
 
 -- ---- what holds of each member up to an index

@@ -3,17 +3,17 @@ use Rattle.std.proofs.Common.{◌≡◌, ◌<◌, ◌≤◌, ℕ, suc, ◌+◌, 
 use Rattle.std.specs.Prelude.{◌||◌, if◌then◌else◌}
 use Rattle.std.proofs.lemmas.List.{append_assoc, append-nil, map-append}
 use Rattle.lotos_base.proofs.ExampleHelpers.{Each}
-use Rattle.induction_theory.proofs.Each.{each_join}
+use Rattle.certificate_theory.proofs.Each.{each_join}
 use Rattle.std.proofs.Math.ListN.{drop_of_length-le}
 use Rattle.lotos_base.specs.Signature.{Operation}
 use Rattle.lotos_base.specs.Substitution.{substituted, is_listed}
 use Rattle.lotos_base.specs.Term.{variable}
 use Rattle.lotos_base.specs.Tests.{occurs}
 use Rattle.lotos_base.proofs.Pieces.{next_member}
-use Rattle.induction_theory.specs.Certificate.{Statement}
-use Rattle.induction_theory.specs.Covers.{Numbered, listed_from}
-use Rattle.induction_theory.specs.Patterns.{put_for}
-use Rattle.induction_theory.specs.Splits.{in_both, hypotheses_for, absent_from}
+use Rattle.certificate_theory.specs.InductionCertificate.{Statement}
+use Rattle.certificate_theory.specs.Covers.{Numbered, listed_from}
+use Rattle.certificate_theory.specs.Patterns.{put_for}
+use Rattle.certificate_theory.specs.Splits.{in_both, hypotheses_for, absent_from}
 
 -- What the rest makes, behind what is made so far, is the whole.
 abbrev pub IsMadeSoFar : {A Y : Type 0} → (ℕ → List A → List Y) → List A → List Y → ℕ → List Y → Type 0

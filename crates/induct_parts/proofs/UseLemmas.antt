@@ -25,12 +25,12 @@ use Rattle.term_match.specs.SubstView.{profiled_pairs}
 use Rattle.term_match.proofs.InstanceLemmas.{binding_bare}
 use Rattle.term_match.proofs.MatchLemmas.{numbers_of, numbers_same}
 use Rattle.term_match.proofs.StateLemmas.{binding_either}
-use Rattle.induction_theory.specs.Certificate.{Statement, Source, Use}
-use Rattle.induction_theory.specs.Splits.{Theory, Case, Proving}
-use Rattle.induction_theory.specs.Uses.{taken_side, placed_side, side_at, with_side, IsOfSource, StandsForItself, IsUsed}
-use Rattle.induction_theory.proofs.CertificateTests.{each_variable, stands, masked}
-use Rattle.induction_theory.proofs.OnceLemmas.{instances_agree}
-use Rattle.induction_theory.proofs.TestedLines.{Decides-each, stands_decided, masked_fixed, masked_same}
+use Rattle.certificate_theory.specs.InductionCertificate.{Statement, Source, Use}
+use Rattle.certificate_theory.specs.Splits.{Theory, Case, Proving}
+use Rattle.certificate_theory.specs.Uses.{taken_side, placed_side, side_at, with_side, IsOfSource, StandsForItself, IsUsed}
+use Rattle.certificate_theory.proofs.CertificateTests.{each_variable, stands, masked}
+use Rattle.certificate_theory.proofs.OnceLemmas.{instances_agree}
+use Rattle.certificate_theory.proofs.TestedLines.{Decides-each, stands_decided, masked_fixed, masked_same}
 use Rattle.induct_parts.specs.UseView.{closes}
 use Rattle.induct_parts.proofs.PutLemmas.{occurring_known}
 

@@ -14,12 +14,12 @@ use Rattle.sort_terms.specs.declared.sorted.Sorted.{Sorted}
 use Rattle.term_match.specs.Matched.{IsPair}
 use Rattle.term_match.specs.SubstView.{profiled_pair, profiled_pairs}
 use Rattle.term_match.proofs.UnifierLemmas.{pair_of_code}
-use Rattle.induction_theory.specs.Certificate.{Statement as PlainStatement, Lemma as PlainLemma}
-use Rattle.induction_theory.specs.Certified.{statements_of}
-use Rattle.induction_theory.specs.Requirements.{OccursInSide}
-use Rattle.induction_theory.specs.Uses.{IsOfSource, StandsForItself}
-use Rattle.induction_theory.proofs.Each.{each_of}
-use Rattle.induction_theory.proofs.CaseLemmas.{IsFineHypothesis}
+use Rattle.certificate_theory.specs.InductionCertificate.{Statement as PlainStatement, Lemma as PlainLemma}
+use Rattle.certificate_theory.specs.Certified.{statements_of}
+use Rattle.certificate_theory.specs.Requirements.{OccursInSide}
+use Rattle.certificate_theory.specs.Uses.{IsOfSource, StandsForItself}
+use Rattle.certificate_theory.proofs.Each.{each_of}
+use Rattle.certificate_theory.proofs.CaseLemmas.{IsFineHypothesis}
 use Rattle.induct_parts.specs.StatementView.{statement_of, IsStatementOf}
 use Rattle.induct_parts.specs.CertificateView.{lemma_in, lemmas_in, source_of}
 use Rattle.induct_parts.specs.SettingView.{setting_signature, IsKnownLemma, proving_in, AreKnownBefore}

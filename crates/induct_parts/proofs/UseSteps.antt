@@ -21,11 +21,11 @@ use Rattle.term_match.specs.SubstView.{profiled_pairs, substitution_of}
 use Rattle.term_match.specs.declared.substitutions.Subst.{Subst}
 use Rattle.term_match.proofs.InstanceLemmas.{instance_of}
 use Rattle.term_match.proofs.PathLemmas.{subterm_bare, subterm_of, subterm_fits, put_of, replaced_at}
-use Rattle.induction_theory.specs.Certificate.{Statement as PlainStatement}
-use Rattle.induction_theory.specs.Requirements.{OccursInSide}
-use Rattle.induction_theory.specs.Uses.{taken_side, placed_side, side_at, with_side, StandsForItself, IsUsed}
-use Rattle.induction_theory.proofs.CertificateTests.{each_variable}
-use Rattle.induction_theory.proofs.TestedLines.{UseTells, tells}
+use Rattle.certificate_theory.specs.InductionCertificate.{Statement as PlainStatement}
+use Rattle.certificate_theory.specs.Requirements.{OccursInSide}
+use Rattle.certificate_theory.specs.Uses.{taken_side, placed_side, side_at, with_side, StandsForItself, IsUsed}
+use Rattle.certificate_theory.proofs.CertificateTests.{each_variable}
+use Rattle.certificate_theory.proofs.TestedLines.{UseTells, tells}
 use Rattle.induct_parts.specs.StatementView.{statement_of, profiles_in, IsStatementOf, side_in, taken_in, placed_in, with_profiled_side}
 use Rattle.induct_parts.specs.CertificateView.{side_of, direction_of, source_of, use_of}
 use Rattle.induct_parts.specs.SettingView.{setting_signature, theory_in, proving_in}

@@ -5,9 +5,9 @@ use Rattle.lotos_base.specs.Equation.{Data}
 use Rattle.lotos_base.specs.Signature.{Signature}
 use Rattle.lotos_base.specs.Term.{Term}
 use Rattle.path_order.specs.RulesView.{plain_rules_in}
-use Rattle.induction_theory.specs.Certificate.{Certificate}
-use Rattle.induction_theory.specs.Splits.{Theory}
-use Rattle.induction_theory.specs.Certified.{IsFit, IsCertificateOver, IsCertified, IsInductionFault, lines_of_trees}
+use Rattle.certificate_theory.specs.InductionCertificate.{Certificate}
+use Rattle.certificate_theory.specs.Splits.{Theory}
+use Rattle.certificate_theory.specs.Certified.{IsFit, IsCertificateOver, IsCertified, IsInductionFault, lines_of_trees}
 use Rattle.induct_parts.specs.CertificateView.{certificate_in, covers_in, trees_in, lemmas_in, cover_in, lines_of_certificate, lines_of_lemmas}
 use Rattle.induct_parts.specs.FaultView.{HoldsAtLine}
 use Rattle.induct_parts.specs.SettingView.{setting_signature, theory_in, IsKnownCertificate, known_theory, AllCovered, AllHold}

@@ -5,9 +5,9 @@ use Rattle.lotos_base.specs.Sorting.{Occurs}
 use Rattle.lotos_base.proofs.ExampleHelpers.{Each}
 use Rattle.sort_terms.specs.SortedView.{term_in}
 use Rattle.term_match.specs.Matched.{TermHasOneSortPerNumber}
-use Rattle.induction_theory.specs.Patterns.{Pattern as PlainPattern}
-use Rattle.induction_theory.specs.Splits.{Case as PlainCase}
-use Rattle.induction_theory.proofs.CaseLemmas.{IsFineCase}
+use Rattle.certificate_theory.specs.Patterns.{Pattern as PlainPattern}
+use Rattle.certificate_theory.specs.Splits.{Case as PlainCase}
+use Rattle.certificate_theory.proofs.CaseLemmas.{IsFineCase}
 use Rattle.induct_parts.specs.StatementView.{statement_of, IsStatementOf}
 use Rattle.induct_parts.specs.declared.cases.Case.{Case}
 use Rattle.induct_parts.specs.declared.patterns.Pattern.{Pattern}

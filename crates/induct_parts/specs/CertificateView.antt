@@ -1,8 +1,8 @@
 -- What certificates of the code stand for.
 use Rattle.std.specs.Prelude.{ℕ, ◌+◌, List, [], ◌∷◌, map, length}
 use Rattle.lotos_base.specs.Equality as equality
-use Rattle.induction_theory.specs.Certificate as plain
-use Rattle.induction_theory.specs.Certified.{lines_of_trees, lines_of_lemma}
+use Rattle.certificate_theory.specs.InductionCertificate as plain
+use Rattle.certificate_theory.specs.Certified.{lines_of_trees, lines_of_lemma}
 use Rattle.induct_parts.specs.StatementView.{statement_of}
 use Rattle.induct_parts.specs.declared.certificates.Cover.{Cover}
 use Rattle.induct_parts.specs.declared.certificates.TreeLine.{TreeLine}

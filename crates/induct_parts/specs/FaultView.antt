@@ -1,6 +1,6 @@
 -- What the faults of the code say.
 use Rattle.std.specs.Prelude.{◌≡◌, ◌+◌, ℕ}
-use Rattle.induction_theory.specs.Faults.{InductionFault, bad_line, no_variable, no_cover, no_tree, not_reducible, bad_use, not_same}
+use Rattle.certificate_theory.specs.Faults.{InductionFault, bad_line, no_variable, no_cover, no_tree, not_reducible, bad_use, not_same}
 use Rattle.induct_parts.specs.StatementView.{statement_of}
 use Rattle.induct_parts.specs.declared.line_fault.LineFault.{LineFault}
 use Rattle.induct_parts.specs.declared.line_fault.LineFault.TheVariants.{BadLine, NoVariable, NoCover, NoTree, NotReducible, BadUse, NotSame, NoMemory}

@@ -8,3 +8,4 @@ pub mod Variables
 pub mod UseView
 pub mod Meeting
 pub mod Shown
+pub mod HandedOn

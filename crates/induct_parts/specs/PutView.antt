@@ -4,8 +4,8 @@ use Rattle.lotos_base.specs.Signature.{IsOperation}
 use Rattle.sort_terms.specs.Operations.{operation_of}
 use Rattle.sort_terms.specs.ProfiledTerm.{profiled_node}
 use Rattle.sort_terms.specs.SortedView.{profiled_in}
-use Rattle.induction_theory.specs.Covers.{Numbered}
-use Rattle.induction_theory.specs.Splits.{IsInScope}
+use Rattle.certificate_theory.specs.Covers.{Numbered}
+use Rattle.certificate_theory.specs.Splits.{IsInScope}
 use Rattle.induct_parts.specs.SettingView.{setting_signature}
 use Rattle.induct_parts.specs.CaseView.{case_in}
 use Rattle.induct_parts.specs.Variables.{profiled_variables}

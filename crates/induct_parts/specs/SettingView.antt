@@ -6,12 +6,12 @@ use Rattle.lotos_base.specs.Equation.{Data}
 use Rattle.lotos_base.proofs.ExampleHelpers.{Each}
 use Rattle.sort_terms.specs.SignatureView.{signature_of}
 use Rattle.path_order.specs.RulesView.{plain_rules_in}
-use Rattle.induction_theory.specs.Certificate.{Cover, Lemma}
+use Rattle.certificate_theory.specs.InductionCertificate.{Cover, Lemma}
 use Rattle.rewriting_theory.specs.Rule.{Rule}
-use Rattle.induction_theory.specs.Covers.{IsCoveredBy, IsListedIn, HasResult, cover_of}
-use Rattle.induction_theory.specs.Splits.{Theory, Proving as PlainProving}
-use Rattle.induction_theory.specs.Certified.{IsFit, IsStated, statements_of}
-use Rattle.induction_theory.specs.Requirements.{HoldsByInduction}
+use Rattle.certificate_theory.specs.Covers.{IsCoveredBy, IsListedIn, HasResult, cover_of}
+use Rattle.certificate_theory.specs.Splits.{Theory, Proving as PlainProving}
+use Rattle.certificate_theory.specs.Certified.{IsFit, IsStated, statements_of}
+use Rattle.certificate_theory.specs.Requirements.{HoldsByInduction}
 use Rattle.path_order.specs.declared.rules.Rules.{Rules}
 use Rattle.induct_parts.specs.declared.certificates.Certificate.{Certificate}
 use Rattle.induct_parts.specs.StatementView.{IsStatementOf}

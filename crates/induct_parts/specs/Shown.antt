@@ -4,8 +4,8 @@ use Rattle.lotos_base.specs.Substitution.{substituted, renaming}
 use Rattle.rewriting_theory.specs.Numbering.{variable_numbers}
 use Rattle.term_match.specs.Appearance.{noted, counted}
 use Rattle.term_match.specs.Renumbering.{new_number}
-use Rattle.induction_theory.specs.Certificate.{Statement}
-use Rattle.induction_theory.specs.Splits.{in_both}
+use Rattle.certificate_theory.specs.InductionCertificate.{Statement}
+use Rattle.certificate_theory.specs.Splits.{in_both}
 
 -- the numbers of its variables, each at its first place
 abbrev pub appearances_in : Statement → List ℕ

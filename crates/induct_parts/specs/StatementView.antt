@@ -3,7 +3,7 @@ use Rattle.lotos_base.specs.Signature.{Signature}
 use Rattle.sort_terms.specs.ProfiledTerm.{ProfiledTerm, IsOf}
 use Rattle.sort_terms.specs.SortedView.{profiled_in, term_in}
 use Rattle.sort_terms.specs.declared.sorted.Sorted.{Sorted}
-use Rattle.induction_theory.specs.Certificate as plain
+use Rattle.certificate_theory.specs.InductionCertificate as plain
 use Rattle.induct_parts.specs.declared.statements.Statement.{Statement}
 use Rattle.induct_parts.specs.declared.certificates.Side.{Side}
 use Rattle.induct_parts.specs.declared.certificates.Side.TheVariants.{Left, Right}

@@ -10,11 +10,11 @@ use Rattle.term_match.specs.Matched.{IsMatchedBy}
 use Rattle.term_match.specs.ProfiledPath.{profiled_subterm}
 use Rattle.term_match.specs.SubstView.{profiled_pairs}
 use Rattle.term_match.specs.declared.substitutions.Subst.{Subst}
-use Rattle.induction_theory.specs.Certificate as plain
-use Rattle.induction_theory.specs.Splits.{Proving as PlainProving}
-use Rattle.induction_theory.specs.Uses.{IsOfSource, StandsForItself}
-use Rattle.induction_theory.specs.Requirements.{OccursInSide}
-use Rattle.induction_theory.proofs.CertificateTests.{each_variable, stands}
+use Rattle.certificate_theory.specs.InductionCertificate as plain
+use Rattle.certificate_theory.specs.Splits.{Proving as PlainProving}
+use Rattle.certificate_theory.specs.Uses.{IsOfSource, StandsForItself}
+use Rattle.certificate_theory.specs.Requirements.{OccursInSide}
+use Rattle.certificate_theory.proofs.CertificateTests.{each_variable, stands}
 use Rattle.induct_parts.specs.StatementView.{statement_of, IsStatementOf, side_in, taken_in, placed_in}
 use Rattle.induct_parts.specs.CertificateView.{source_of}
 use Rattle.induct_parts.specs.SettingView.{setting_signature, proving_in}

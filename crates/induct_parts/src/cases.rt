@@ -9,7 +9,7 @@ ghost use Rattle.induct_parts.specs.SettingView.{
   theory_in,
 };
 ghost use Rattle.induct_parts.specs.StatementView.{statement_of};
-ghost use Rattle.induction_theory.specs.Splits.{IsInScope, absent_from, first_case};
+ghost use Rattle.certificate_theory.specs.Splits.{IsInScope, absent_from, first_case};
 ghost use Rattle.lotos_base.specs.Substitution.{is_listed};
 ghost use Rattle.lotos_base.specs.Tests.{occurs};
 ghost use Rattle.std.specs.Prelude.{

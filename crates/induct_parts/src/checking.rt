@@ -14,13 +14,13 @@ ghost use Rattle.induct_parts.specs.SettingView.{
   setting_covers,
   setting_signature,
 };
-ghost use Rattle.induction_theory.specs.Certified.{
+ghost use Rattle.certificate_theory.specs.Certified.{
   AreComplete,
   IsCertified,
   IsFirstLack,
   IsInductionFault,
 };
-ghost use Rattle.induction_theory.specs.Faults.{no_tree};
+ghost use Rattle.certificate_theory.specs.Faults.{no_tree};
 ghost use Rattle.path_order.specs.RulesView.{plain_rules_in};
 ghost use Rattle.rewriting_theory.specs.Rule.{AreSortedRulesOf};
 ghost use Rattle.sort_terms.specs.SignatureView.{signature_of};

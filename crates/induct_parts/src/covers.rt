@@ -2,13 +2,13 @@
 
 ghost use Rattle.induct_parts.specs.CertificateView.{cover_in, covers_in};
 ghost use Rattle.induct_parts.specs.FaultView.{HoldsAtLine};
-ghost use Rattle.induction_theory.specs.Certified.{IsWrongCover, lines_of_cover};
-ghost use Rattle.induction_theory.specs.Covers.{
+ghost use Rattle.certificate_theory.specs.Certified.{IsWrongCover, lines_of_cover};
+ghost use Rattle.certificate_theory.specs.Covers.{
   HasResult,
   IsRightCover,
   cover_of as first_cover_of,
 };
-ghost use Rattle.induction_theory.specs.Lines.{AreRightBehind, FirstIsWrong};
+ghost use Rattle.certificate_theory.specs.Lines.{AreRightBehind, FirstIsWrong};
 ghost use Rattle.lotos_base.specs.Substitution.{is_listed as is_listed_in};
 ghost use Rattle.sort_terms.specs.SignatureView.{signature_of};
 ghost use Rattle.std.specs.Option.{option_map};

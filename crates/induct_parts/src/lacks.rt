@@ -1,7 +1,7 @@
 //! Operations with the result of a cover that neither stand in it nor have a tree.
 
 ghost use Rattle.induct_parts.specs.CertificateView.{cover_in, covers_in, trees_in};
-ghost use Rattle.induction_theory.specs.Certified.{AreComplete, IsFirstLack, LacksTree};
+ghost use Rattle.certificate_theory.specs.Certified.{AreComplete, IsFirstLack, LacksTree};
 ghost use Rattle.sort_terms.specs.SignatureView.{signature_of};
 ghost use Rattle.std.specs.Prelude.{◌≡◌, ◌↔◌, ◌<◌, ℕ, IsTrue, MatchOption, length};
 

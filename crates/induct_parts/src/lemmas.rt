@@ -18,24 +18,24 @@ ghost use Rattle.induct_parts.specs.SettingView.{
   setting_signature,
   theory_in,
 };
-ghost use Rattle.induction_theory.specs.Certificate.{
+ghost use Rattle.certificate_theory.specs.InductionCertificate.{
   ProofLine as PlainLine,
   use_it,
 };
-ghost use Rattle.induction_theory.specs.Certified.{
+ghost use Rattle.certificate_theory.specs.Certified.{
   IsRightLemma,
   IsWrongLemma,
   lines_of_lemma,
 };
-ghost use Rattle.induction_theory.specs.Faults.{bad_line, not_same};
-ghost use Rattle.induction_theory.specs.Lines.{
+ghost use Rattle.certificate_theory.specs.Faults.{bad_line, not_same};
+ghost use Rattle.certificate_theory.specs.Lines.{
   AreRightBehind,
   DealsWith,
   FailsToDeal,
   FirstIsWrong,
   LinesReach,
 };
-ghost use Rattle.induction_theory.specs.Proofs.{CaseComesTo, IsWrongAtCase};
+ghost use Rattle.certificate_theory.specs.Proofs.{CaseComesTo, IsWrongAtCase};
 ghost use Rattle.lotos_base.proofs.ExampleHelpers.{Each};
 ghost use Rattle.std.specs.Prelude.{
   ◌≡◌,

@@ -22,3 +22,7 @@ pub mod splits;
 pub mod statements;
 pub mod trees;
 pub mod uses;
+
+pub use certificate_theory::induction_certificates::{
+    first_faults_are_one, met_requirements_hold, right_certificates_hold,
+};

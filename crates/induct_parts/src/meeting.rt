@@ -10,7 +10,7 @@ ghost use Rattle.induct_parts.specs.Meeting.{
   seen_with,
 };
 ghost use Rattle.induct_parts.specs.SettingView.{IsKnownLemma};
-ghost use Rattle.induction_theory.specs.Requirements.{
+ghost use Rattle.certificate_theory.specs.Requirements.{
   IsLeftOpen,
   IsMetBy,
   IsRenamedStatement,

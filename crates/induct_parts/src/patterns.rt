@@ -9,14 +9,14 @@ ghost use Rattle.induct_parts.specs.SettingView.{
   setting_rules,
   setting_signature,
 };
-ghost use Rattle.induction_theory.specs.Certificate.{leaf_here, split_pattern};
-ghost use Rattle.induction_theory.specs.Covers.{
+ghost use Rattle.certificate_theory.specs.InductionCertificate.{leaf_here, split_pattern};
+ghost use Rattle.certificate_theory.specs.Covers.{
   HasResult,
   IsListedIn,
   cover_of as first_cover_of,
 };
-ghost use Rattle.induction_theory.specs.Faults.{no_cover};
-ghost use Rattle.induction_theory.specs.Patterns.{
+ghost use Rattle.certificate_theory.specs.Faults.{no_cover};
+ghost use Rattle.certificate_theory.specs.Patterns.{
   IsWrongAtPattern,
   PatternComesTo,
   first_pattern,

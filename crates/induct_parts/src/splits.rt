@@ -9,15 +9,15 @@ ghost use Rattle.induct_parts.specs.SettingView.{
   setting_signature,
   theory_in,
 };
-ghost use Rattle.induction_theory.specs.Certificate.{split_variable};
-ghost use Rattle.induction_theory.specs.Covers.{
+ghost use Rattle.certificate_theory.specs.InductionCertificate.{split_variable};
+ghost use Rattle.certificate_theory.specs.Covers.{
   HasResult,
   IsListedIn,
   cover_of as first_cover_of,
 };
-ghost use Rattle.induction_theory.specs.Faults.{no_cover};
-ghost use Rattle.induction_theory.specs.Proofs.{CaseComesTo, IsWrongAtCase};
-ghost use Rattle.induction_theory.specs.Splits.{IsInScope, case_with, cases_of_split};
+ghost use Rattle.certificate_theory.specs.Faults.{no_cover};
+ghost use Rattle.certificate_theory.specs.Proofs.{CaseComesTo, IsWrongAtCase};
+ghost use Rattle.certificate_theory.specs.Splits.{IsInScope, case_with, cases_of_split};
 ghost use Rattle.lotos_base.proofs.ExampleHelpers.{Each};
 ghost use Rattle.lotos_base.specs.Signature.{IsOperation, Operation};
 ghost use Rattle.lotos_base.specs.Substitution.{is_listed as is_listed_in};

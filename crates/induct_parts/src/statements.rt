@@ -8,9 +8,9 @@ ghost use Rattle.induct_parts.specs.StatementView.{
   statement_of,
   taken_in,
 };
-ghost use Rattle.induction_theory.specs.Patterns.{put_for as put_for_variable};
-ghost use Rattle.induction_theory.specs.Requirements.{OccursInSide};
-ghost use Rattle.induction_theory.specs.Splits.{in_both};
+ghost use Rattle.certificate_theory.specs.Patterns.{put_for as put_for_variable};
+ghost use Rattle.certificate_theory.specs.Requirements.{OccursInSide};
+ghost use Rattle.certificate_theory.specs.Splits.{in_both};
 ghost use Rattle.lotos_base.specs.Signature.{Signature};
 ghost use Rattle.lotos_base.specs.Sorting.{Occurs};
 ghost use Rattle.lotos_base.specs.Substitution.{substituted};

@@ -10,23 +10,23 @@ ghost use Rattle.induct_parts.specs.SettingView.{
   setting_signature,
   theory_in,
 };
-ghost use Rattle.induction_theory.specs.Certificate.{TreeLine as PlainLine};
-ghost use Rattle.induction_theory.specs.Certified.{
+ghost use Rattle.certificate_theory.specs.InductionCertificate.{TreeLine as PlainLine};
+ghost use Rattle.certificate_theory.specs.Certified.{
   IsRightTree,
   IsWrongTree,
   lines_of_tree,
   lines_of_trees,
   with_trees,
 };
-ghost use Rattle.induction_theory.specs.Faults.{bad_line};
-ghost use Rattle.induction_theory.specs.Lines.{
+ghost use Rattle.certificate_theory.specs.Faults.{bad_line};
+ghost use Rattle.certificate_theory.specs.Lines.{
   AreRightBehind,
   DealsWith,
   FailsToDeal,
   FirstIsWrong,
   LinesReach,
 };
-ghost use Rattle.induction_theory.specs.Patterns.{IsWrongAtPattern, PatternComesTo};
+ghost use Rattle.certificate_theory.specs.Patterns.{IsWrongAtPattern, PatternComesTo};
 ghost use Rattle.lotos_base.proofs.ExampleHelpers.{Each};
 ghost use Rattle.lotos_base.specs.Equation.{Data};
 ghost use Rattle.lotos_base.specs.Signature.{IsOperation, Operation};

@@ -16,13 +16,13 @@ ghost use Rattle.induct_parts.specs.StatementView.{
   with_profiled_side,
 };
 ghost use Rattle.induct_parts.specs.UseView.{IsKnownSource, IsMatchOf, StandsRight, closes};
-ghost use Rattle.induction_theory.proofs.CertificateTests.{
+ghost use Rattle.certificate_theory.proofs.CertificateTests.{
   each_variable,
   each_variable_among,
   stands as variable_stands,
 };
-ghost use Rattle.induction_theory.specs.Certificate.{Statement as PlainStatement};
-ghost use Rattle.induction_theory.specs.Uses.{IsOfSource, IsUsed, StandsForItself};
+ghost use Rattle.certificate_theory.specs.InductionCertificate.{Statement as PlainStatement};
+ghost use Rattle.certificate_theory.specs.Uses.{IsOfSource, IsUsed, StandsForItself};
 ghost use Rattle.lotos_base.proofs.ExampleHelpers.{Each};
 ghost use Rattle.lotos_base.specs.Equation.{Data};
 ghost use Rattle.lotos_base.specs.Term.{Term as PlainTerm};

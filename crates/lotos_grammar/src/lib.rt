@@ -19,4 +19,4 @@ pub use syntax_trees::{
     ItemText, Named, OfferText, OpText, PairText, ProcessText, Sign, SpecText, TestText, VarText,
     discard, group,
 };
-pub use text_depth::ReadFault;
+pub use text_depth::{ReadFault, texts_have_one_outcome};

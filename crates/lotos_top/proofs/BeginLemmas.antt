@@ -5,13 +5,10 @@ use Rattle.lotos_base.specs.Equation.{Data}
 use Rattle.behaviour_semantics.specs.Behaviour.{Specification}
 use Rattle.behaviour_semantics.specs.Replacement.{with_values, binding_of}
 use Rattle.sort_terms.specs.EquationView.{data_of}
-use Rattle.spec_acceptance.specs.HandedOn.{book_canon, book_chooses, book_is_canon, Book, rules_in, precedence_in, rules_of, Chooses}
-use Rattle.spec_acceptance.specs.Acceptance.{Acceptance}
-use Rattle.demo_walks.specs.HandedOn.{Progress, Situation, first_situation, IsSituation, basis_over, progress_of, pasts_of, AreSuited}
-use Rattle.demo_walks.specs.HandedOn.{IsKeptState, IsLawfulSession, Past, Session, specification_of, state_of, Spec, State}
-use Rattle.demo_walks.specs.HandedOn.{CanBegin}
-use Rattle.spec_acceptance.specs.AcceptedView.{HoldsAccepted}
-use Rattle.spec_acceptance.specs.declared.accepted.Accepted.{Accepted}
+use Rattle.certificate_verbs.specs.HandedOn.{book_canon, book_chooses, book_is_canon, Book, rules_in, precedence_in, rules_of, Chooses}
+use Rattle.certificate_verbs.specs.HandedOn.{Acceptance, HoldsAccepted, Accepted, Progress, Situation, first_situation, IsSituation}
+use Rattle.certificate_verbs.specs.HandedOn.{basis_over, progress_of, pasts_of, AreSuited, IsKeptState, IsLawfulSession, Past, Session}
+use Rattle.certificate_verbs.specs.HandedOn.{specification_of, state_of, CodeSpec as Spec, State, CanBegin}
 use Rattle.menu_parts.specs.KeptMenus.{Suits}
 use Rattle.menu_parts.specs.declared.makers.PartMenus.{PartMenus}
 use Rattle.lotos_top.specs.Opening.{SessionBegins}

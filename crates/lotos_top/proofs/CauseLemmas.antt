@@ -2,28 +2,27 @@
 use Rattle.std.proofs.Common.{◌≡◌, ◌⊎◌, inl, inr, ℕ, ◌<◌, List, [], ◌∷◌, ◌++◌, length, Option, None, Some, IsSomeAnd, refl, sym, ap, subst, ◌∙◌, arith, length-append}
 use Rattle.std.proofs.lemmas.Option.{none-some}
 use Rattle.lotos_base.specs.Counts.{Rises}
-use Rattle.spec_acceptance.specs.HandedOn.{ShelfState, GotFile, Refused}
-use Rattle.spec_acceptance.specs.Acceptance.{Asked, Founded, IsAccepted, IsFounded}
-use Rattle.spec_acceptance.specs.Doing.{Did}
-use Rattle.spec_acceptance.specs.Part.{Comes, goes_on, unread, stops, wants_memory, Part, Then, Has, Telling}
+use Rattle.certificate_verbs.specs.HandedOn.{ShelfState, GotFile, Refused, Asked, Founded, IsAccepted, IsFounded, Did, Comes, goes_on}
+use Rattle.certificate_verbs.specs.HandedOn.{unread, stops, wants_memory, Part, Then, Has, Telling, SessionPoint, history_machine}
+use Rattle.certificate_verbs.specs.HandedOn.{Beginning, CommandLine, Compared, check, session, demonstration, flattening, bisimilarity}
+use Rattle.certificate_verbs.specs.HandedOn.{Induced, induction}
 use Rattle.line_server.specs.Limits.{input_limit}
 use Rattle.line_server.specs.Session.{SessionCame, finished, quit, input_failed, too_long, output_failed, closing_failed, wanted_memory}
 use Rattle.line_server.specs.Turn.{around, IsRead}
 use Rattle.line_server.specs.Writing.{Stream}
 use Rattle.line_server.specs.declared.ends.SessionEnd.{SessionEnd}
-use Rattle.demo_walks.specs.HandedOn.{SessionPoint, history_machine, Beginning}
+use Rattle.certificate_verbs.specs.Certificates.{bisimilar_printed}
+use Rattle.certificate_verbs.specs.Finishing.{Print, print, Finish, prints, serves, unread_printed, refusal_printed}
+use Rattle.certificate_verbs.specs.declared.ended.Ended.{Ended}
+use Rattle.certificate_verbs.specs.declared.ended.Ended.TheVariants.{Done, SpecRefused, WordsRefused, FileFault, InputFault, OutputFault, NoMemory, InputTooLong, CertificateRefused}
+use Rattle.certificate_verbs.proofs.ComparedParts.{checks_on, checks_refuses, no_refusal}
+use Rattle.certificate_verbs.proofs.InducedParts.{induces_on, induces_refuses}
 use Rattle.lotos_top.specs.Causes.{GivesWay, IsReadPast, ServesLines, IsDemonstration, IsUnread, AnswersHaveCauses}
-use Rattle.lotos_top.specs.Certificates.{bisimilar_printed}
 use Rattle.lotos_top.specs.Flattening.{flat_printed}
 use Rattle.lotos_top.specs.Opening.{opening_text}
 use Rattle.lotos_top.specs.Parts.{Opens}
 use Rattle.lotos_top.specs.Run.{Streams, Writes, whole, in_part, nothing, Prints, ServesSession, in_front, in_want, behind, Stops, Follows, Ran, ended_by}
-use Rattle.lotos_top.specs.Words.{CommandLine, Compared, check, session, demonstration, flattening, bisimilarity}
-use Rattle.lotos_top.specs.Finishing.{Print, print, Finish, prints, serves, unread_printed, refusal_printed}
 use Rattle.lotos_top.specs.Work.{work_of}
-use Rattle.lotos_top.specs.declared.ended.Ended.{Ended}
-use Rattle.lotos_top.specs.declared.ended.Ended.TheVariants.{Done, SpecRefused, WordsRefused, FileFault, InputFault, OutputFault, NoMemory, InputTooLong, CertificateRefused}
-use Rattle.lotos_top.proofs.BisimilarityLemmas.{checks_on, checks_refuses}
 
 -- ---- A text that is printed
 
@@ -344,6 +343,13 @@ certificate_plainly c = record {
   refuses = λ files p came. inr (checks_refuses c files p came);
 }
 
+induction_plainly : (i : Induced) → PrintsPlainly (work_of (Some (induction i)))
+induction_plainly i = record {
+  finishes = λ files finish came.
+      let shown = induces_on i files finish came in (print shown.report Done, shown.finishes, inl refl);
+  refuses = λ files p came. inr (induces_refuses i files p came);
+}
+
 module _ (shelf between shelf_after : ShelfState) (before after : Streams) (answer : Ended) where
   no_line_causes : (comes : Comes Print Finish) → Did shelf between (work_of None) comes
       → Follows comes between shelf_after before after answer
@@ -426,6 +432,7 @@ module _ (shelf between shelf_after : ShelfState) (before after : Streams) (answ
   causes_of (Some (flattening spec order)) comes did follows =
       plain_causes (flattening spec order) (flatten_plainly spec order) comes did follows
   causes_of (Some (bisimilarity c)) comes did follows = plain_causes (bisimilarity c) (certificate_plainly c) comes did follows
+  causes_of (Some (induction i)) comes did follows = plain_causes (induction i) (induction_plainly i) comes did follows
 
 pub causes : (line : Option CommandLine) (shelf shelf_after : ShelfState) (before after : Streams) (answer : Ended)
     → Ran line shelf shelf_after before after answer → AnswersHaveCauses line shelf shelf_after before after answer

@@ -4,28 +4,21 @@ use Rattle.lotos_base.specs.Equation.{Data}
 use Rattle.lotos_base.specs.Outside.{Texts}
 use Rattle.sort_terms.specs.EquationView.{data_of}
 use Rattle.behaviour_semantics.specs.Behaviour.{Specification}
-use Rattle.demo_walks.specs.HandedOn.{specification_of}
 use Rattle.flat_text.specs.FlatText.{flat_text}
-use Rattle.spec_acceptance.specs.HandedOn.{ShelfState, GotFile, AreGotFrom, Refused}
-use Rattle.spec_acceptance.specs.Acceptance.{Founded, IsFounded}
-use Rattle.spec_acceptance.specs.AcceptanceOutcomes.{got_from, ComesOfPart}
-use Rattle.spec_acceptance.specs.Doing.{Did}
-use Rattle.spec_acceptance.specs.Known.{FoundsWith}
-use Rattle.spec_acceptance.specs.Part.{Comes, goes_on, unread, stops, wants_memory, Part, Has}
-use Rattle.spec_acceptance.specs.PartLaws.{Lacks}
-use Rattle.spec_acceptance.specs.declared.books.WithBook.{WithBook}
-use Rattle.spec_acceptance.proofs.DoingLemmas.{has_done}
-use Rattle.spec_acceptance.proofs.OneAnswer.{foundings_over_texts_are_one}
-use Rattle.lotos_top.specs.Finishing.{Print, Finish, prints}
+use Rattle.certificate_verbs.specs.HandedOn.{ShelfState, GotFile, AreGotFrom, Refused, Founded, IsFounded, got_from, ComesOfPart, Did}
+use Rattle.certificate_verbs.specs.HandedOn.{FoundsWith, Comes, goes_on, unread, stops, wants_memory, Part, Has, Lacks, WithBook}
+use Rattle.certificate_verbs.specs.HandedOn.{specification_of, flattening}
+use Rattle.certificate_verbs.proofs.HandedOn.{has_done, foundings_over_texts_are_one}
+use Rattle.certificate_verbs.specs.Finishing.{Print, Finish, prints}
+use Rattle.certificate_verbs.specs.Printed.{print_in}
+use Rattle.certificate_verbs.specs.declared.printing.Alone.{Alone}
+use Rattle.certificate_verbs.specs.declared.ended.Ended.TheVariants.{Done}
+use Rattle.certificate_verbs.proofs.PrintedLemmas.{print_is, goes_on_to}
+use Rattle.certificate_verbs.proofs.PartLemmas.{got_alone}
 use Rattle.lotos_top.specs.Flattening.{flat_printed, Flattens, flattened_by, IsByFounding}
-use Rattle.lotos_top.specs.Prepared.{print_in, IsReady}
-use Rattle.lotos_top.specs.Words.{flattening}
+use Rattle.lotos_top.specs.Prepared.{IsReady}
 use Rattle.lotos_top.specs.Work.{work_of}
-use Rattle.lotos_top.specs.declared.opening.Alone.{Alone}
 use Rattle.lotos_top.specs.declared.opening.Ready.TheVariants as ready
-use Rattle.lotos_top.specs.declared.ended.Ended.TheVariants.{Done}
-use Rattle.lotos_top.proofs.OpeningLemmas.{print_is, goes_on_to}
-use Rattle.lotos_top.proofs.WorkLemmas.{got_alone}
 
 -- ---- What is ready
 

@@ -2,7 +2,7 @@
 use Rattle.std.proofs.Common.{◌≡◌, ℕ, List, ◌++◌, length, codes, decimal, ap, ◌∙◌}
 use Rattle.lotos_base.proofs.Pieces.{two_pieces}
 use Rattle.lotos_base.specs.Equation.{Data}
-use Rattle.demo_walks.specs.HandedOn.{head_text}
+use Rattle.certificate_verbs.specs.HandedOn.{head_text}
 
 pub named : (s t shown name : List ℕ) → t ≡ s ++ shown → shown ≡ name → t ≡ s ++ name
 named s t shown name is same = is ∙ ap (λ (xs : List ℕ). s ++ xs) same

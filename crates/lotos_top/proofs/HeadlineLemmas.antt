@@ -3,33 +3,28 @@ use Rattle.std.proofs.Common.{◌≡◌, ◌⊎◌, inl, inr, ℕ, ◌≤◌, Bo
 use Rattle.std.proofs.lemmas.List.{append-nil}
 use Rattle.lotos_base.specs.Counts.{Rises}
 use Rattle.lotos_base.specs.Outside.{Texts}
-use Rattle.spec_acceptance.specs.HandedOn.{ShelfState, Refused}
-use Rattle.spec_acceptance.specs.Acceptance.{Asked, Acceptance, IsAccepted}
-use Rattle.spec_acceptance.specs.AcceptanceOutcomes.{ComesOver}
-use Rattle.spec_acceptance.specs.Doing.{Did}
-use Rattle.spec_acceptance.specs.Part.{Comes, goes_on, unread, stops, wants_memory}
-use Rattle.spec_acceptance.proofs.OneAnswer.{comes_over, outcomes_over_texts_are_one}
+use Rattle.certificate_verbs.specs.HandedOn.{ShelfState, Refused, Asked, Acceptance, IsAccepted, ComesOver, Did, Comes, goes_on, unread}
+use Rattle.certificate_verbs.specs.HandedOn.{stops, wants_memory, AreAnswered, Standing, SessionPoint, point, history_machine, Beginning}
+use Rattle.certificate_verbs.specs.HandedOn.{standing_at, LinesLeadOn, ServedLinesAreAnswered, CommandLine, session}
+use Rattle.certificate_verbs.proofs.HandedOn.{comes_over, outcomes_over_texts_are_one}
 use Rattle.line_server.specs.Answered as served
 use Rattle.line_server.specs.Cutting.{complete, unfinished, last_line, lines_in}
 use Rattle.line_server.specs.Limits.{input_limit}
 use Rattle.line_server.specs.Session.{SessionCame, finished, quit, input_failed, too_long, output_failed, closing_failed, wanted_memory}
 use Rattle.line_server.specs.Turn.{around, IsRead}
 use Rattle.line_server.specs.Writing.{Stream, WritesAll}
-use Rattle.line_server.specs.declared.ends.SessionEnd.{SessionEnd}
 use Rattle.line_server.proofs.Cuts.{complete-append}
 use Rattle.line_server.proofs.AnsweredLines.{answered_still}
-use Rattle.demo_walks.specs.HandedOn.{AreAnswered, Standing, SessionPoint, point, history_machine, Beginning, standing_at}
-use Rattle.demo_walks.specs.HandedOn.{LinesLeadOn, ServedLinesAreAnswered}
+use Rattle.line_server.specs.declared.ends.SessionEnd.{SessionEnd}
+use Rattle.certificate_verbs.specs.Finishing.{Print, Finish}
+use Rattle.certificate_verbs.specs.declared.ended.Ended.{Ended}
+use Rattle.certificate_verbs.specs.declared.ended.Ended.TheVariants.{Done, NoMemory}
 use Rattle.lotos_top.specs.Headline.{Stands, IsSteady, Simulates, Headline}
 use Rattle.lotos_top.specs.Opening.{SessionBegins, opening_text}
 use Rattle.lotos_top.specs.Run.{Streams, ServesSession, in_front, in_want, behind, Follows, Ran, ended_by}
-use Rattle.lotos_top.specs.Words.{CommandLine, session}
-use Rattle.lotos_top.specs.Finishing.{Print, Finish}
 use Rattle.lotos_top.specs.Work.{work_of}
 use Rattle.lotos_top.proofs.RunLemmas.{follows_rise, rises_on}
 use Rattle.lotos_top.proofs.WorkLemmas.{session_on, session_unread, session_stops, opened_on}
-use Rattle.lotos_top.specs.declared.ended.Ended.{Ended}
-use Rattle.lotos_top.specs.declared.ended.Ended.TheVariants.{Done, NoMemory}
 
 -- ---- Counts
 

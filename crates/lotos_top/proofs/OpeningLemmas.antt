@@ -3,29 +3,25 @@ use Rattle.std.proofs.Common.{◌≡◌, inl, inr, ℕ, zero, List, [], ◌∷�
 use Rattle.std.proofs.lemmas.Option.{none-some}
 use Rattle.lotos_base.specs.MemShelf.{File, text_under, texts_of, faults_of, calls_of}
 use Rattle.lotos_base.specs.Outside.{Texts}
+use Rattle.certificate_verbs.specs.HandedOn.{ShelfState, shelf_state, GotFile, IsFileOf, Refused, refused_of, Acceptance, Asked}
+use Rattle.certificate_verbs.specs.HandedOn.{AcceptsText, IsAccepted, goes_on, unread, stops, wants_memory, Part, Has, Did, Failed}
+use Rattle.certificate_verbs.specs.HandedOn.{NotAccepted, File as Lacking, Spec, NoMemory, IsSummary, demo_text, past_of, progress_of}
+use Rattle.certificate_verbs.specs.HandedOn.{Course, Past, Beginning, CommandLine, check, session, demonstration, usage_text}
+use Rattle.certificate_verbs.proofs.HandedOn.{did_then, has_done, wants_nothing, failed_first}
 use Rattle.lotos_base.specs.declared.memory_shelf.MemShelf.{MemShelf}
-use Rattle.demo_walks.specs.DemoSummary.{IsSummary}
-use Rattle.demo_walks.specs.DemoText.{demo_text}
-use Rattle.demo_walks.specs.HandedOn.{past_of, progress_of, Course, Past, Beginning}
-use Rattle.spec_acceptance.specs.HandedOn.{ShelfState, shelf_state, GotFile, IsFileOf, Refused, refused_of, refusal_text}
-use Rattle.spec_acceptance.specs.Acceptance.{Acceptance, Asked, AcceptsText, IsAccepted}
-use Rattle.spec_acceptance.specs.Part.{Comes, goes_on, unread, stops, wants_memory, Part, Then, Has, Telling}
-use Rattle.spec_acceptance.specs.Doing.{Did, Failed}
-use Rattle.spec_acceptance.specs.declared.not_accepted.NotAccepted.{NotAccepted}
-use Rattle.spec_acceptance.specs.declared.not_accepted.NotAccepted.TheVariants.{File as Lacking, Spec, NoMemory}
-use Rattle.spec_acceptance.proofs.DoingLemmas.{did_then, has_done, wants_nothing, failed_first}
+use Rattle.certificate_verbs.specs.Printed.{print_in, IsFaultPrinted}
+use Rattle.certificate_verbs.specs.Finishing.{Print, print, prints, serves, refusal_printed}
+use Rattle.certificate_verbs.specs.declared.printing.Alone.{Alone}
+use Rattle.certificate_verbs.specs.declared.ended.Ended.TheVariants.{Done, WordsRefused}
+use Rattle.certificate_verbs.proofs.PartLemmas.{gives_none}
+use Rattle.certificate_verbs.proofs.PrintedLemmas.{print_is, goes_on_to}
 use Rattle.lotos_top.specs.Opening.{SessionBegins, opening_text}
-use Rattle.lotos_top.specs.Prepared.{begun, print_in, printed_by, CameTo, IsReady, IsFaultPrinted, FailsAlone}
-use Rattle.lotos_top.specs.Finishing.{Print, print, Finish, prints, serves, refusal_printed, word_or_none}
+use Rattle.lotos_top.specs.Prepared.{begun, CameTo, IsReady, FailsAlone}
 use Rattle.lotos_top.specs.Parts.{Finds, Opens}
 use Rattle.lotos_top.specs.Work.{work_of}
-use Rattle.lotos_top.specs.Words.{CommandLine, check, session, demonstration, usage_text}
 use Rattle.lotos_top.specs.declared.opening.Opened.{Opened}
-use Rattle.lotos_top.specs.declared.opening.Alone.{Alone}
 use Rattle.lotos_top.specs.declared.opening.Ready.TheVariants as ready
-use Rattle.lotos_top.specs.declared.ended.Ended.{Ended}
-use Rattle.lotos_top.specs.declared.ended.Ended.TheVariants.{Done, SpecRefused, WordsRefused}
-use Rattle.lotos_top.proofs.WorkLemmas.{gives_none, found, told, told_unread, told_stops, told_wants, ended_unread, ended_stops, want_first, opened_on}
+use Rattle.lotos_top.proofs.WorkLemmas.{found, opened_on}
 
 -- ---- What was accepted is opened
 
@@ -48,74 +44,7 @@ pub open_failed : (a b : ShelfState) (accepts : Part Refused Acceptance) (fault 
     → Failed a b (Opens accepts) fault
 open_failed a b accepts fault failed = failed_first a b accepts (λ (it : Acceptance). Finds (SessionBegins it)) fault failed
 
--- ---- A print of the code
-
-pub print_is : (alone : Alone) (text : List ℕ) (status : Ended) → alone.text.items ≡ text → alone.ended ≡ status
-    → print_in alone ≡ print text status
-print_is alone text status t e = λ i. print (t i) (e i)
-
--- the line of a refusal
-pub some_print : (found_ : Option Refused) (alone : Alone) (spec : List ℕ) (order : Option (List ℕ)) (word : List ℕ)
-    → word ≡ word_or_none order
-    → IfSome found_ (λ it. alone.text.items ≡ refusal_text spec word it) → alone.ended ≡ SpecRefused
-    → IfSome found_ (λ it. print_in alone ≡ refusal_printed spec order it)
-some_print None alone spec order word same made ended = tt
-some_print (Some told_) alone spec order word same made ended =
-    print_is alone (refusal_text spec (word_or_none order) told_) SpecRefused (made ∙ ap (λ (it : List ℕ). refusal_text spec it told_) same)
-    ended
-
-refused_print : (found_ : Option Refused) (told_ : Refused) (p : Print) (spec : List ℕ) (order : Option (List ℕ)) → found_ ≡ Some told_
-    → IfSome found_ (λ it. p ≡ refusal_printed spec order it) → p ≡ refusal_printed spec order told_
-refused_print found_ told_ p spec order is made = rw is at made
-
 -- ---- The lines of words
-
--- what comes behind a part whose refusals are told by these names
-module _ {A : Type 0} (spec : List ℕ) (order : Option (List ℕ)) (part : Part Refused A) (next : A → Part Print Finish)
-    (before after : ShelfState) where
-  -- it was fine, and what is printed for it follows
-  pub goes_on_to : (a : A) (finish : Finish) → Did before after part (goes_on a) → Did after after (next a) (goes_on finish)
-      → Did before after (Then (Telling (refusal_printed spec order) part) next) (goes_on finish)
-  goes_on_to a finish did follows =
-      did_then before after after (Telling (refusal_printed spec order) part) next a (goes_on finish)
-      (told before after (refusal_printed spec order) part a did) follows
-
-  -- a fault is printed
-  pub fault_ready : (fault : NotAccepted) (p : Print) → Failed before after part fault → IsFaultPrinted spec order fault p
-      → (comes : Comes Print Finish) × Did before after (Then (Telling (refusal_printed spec order) part) next) comes
-      × (printed_by comes ≡ Some p)
-  fault_ready (Lacking name) p failed is = (
-    unread name.items,
-    ended_unread before after (Telling (refusal_printed spec order) part) next name.items
-        (told_unread before after (refusal_printed spec order) part name.items failed),
-    ap (λ (it : Print). Some it) (sym is),
-  )
-  fault_ready (Spec r) p failed is = (
-    stops (refusal_printed spec order failed.0),
-    ended_stops before after (Telling (refusal_printed spec order) part) next (refusal_printed spec order failed.0)
-        (told_stops before after (refusal_printed spec order) part failed.0 failed.2),
-    ap (λ (it : Print). Some it) (sym (refused_print (refused_of r) failed.0 p spec order failed.1 is)),
-  )
-  fault_ready NoMemory p failed is = absurd is
-
-  -- and where it is not, for want of memory, it came
-  pub fault_came : (fault : NotAccepted) → Failed before after part fault
-      → (comes : Comes Print Finish) × Did before after (Then (Telling (refusal_printed spec order) part) next) comes
-  fault_came (Lacking name) failed = (
-    unread name.items,
-    ended_unread before after (Telling (refusal_printed spec order) part) next name.items
-        (told_unread before after (refusal_printed spec order) part name.items failed),
-  )
-  fault_came (Spec r) failed = (
-    stops (refusal_printed spec order failed.0),
-    ended_stops before after (Telling (refusal_printed spec order) part) next (refusal_printed spec order failed.0)
-        (told_stops before after (refusal_printed spec order) part failed.0 failed.2),
-  )
-  fault_came NoMemory failed = (
-    wants_memory,
-    want_first before after (Telling (refusal_printed spec order) part) next
-        (told_wants before after (refusal_printed spec order) part failed),
-  )
 
 -- `check` and `run` of what is accepted
 pub checked_came : (asked : Asked) (before after : ShelfState) (begins : Beginning)
@@ -229,7 +158,14 @@ module _ (cells : ℕ) (now : ShelfState) where
     (
       [],
       gives_none now,
-      (refl, inl (inl (failed.0, failed.2, refused_print (refused_of r) failed.0 (print_in alone) (codes "demo") None failed.1 is))),
+      (
+        refl,
+        inl (inl (
+          failed.0,
+          failed.2,
+          subst (λ (found_ : Option Refused). IfSome found_ (λ it. print_in alone ≡ refusal_printed (codes "demo") None it)) failed.1 is,
+        )),
+      ),
     ),
     refl,
   )

@@ -3,24 +3,22 @@ use Rattle.std.proofs.Common.{◌≡◌, ◌⊎◌, inl, inr, ℕ, ◌<◌, ◌�
 use Rattle.std.proofs.lemmas.Bool.{cases_lt}
 use Rattle.std.proofs.lemmas.Option.{same_Some, none-some}
 use Rattle.lotos_base.specs.Counts.{Rises}
-use Rattle.spec_acceptance.specs.HandedOn.{ShelfState}
-use Rattle.spec_acceptance.specs.Doing.{Did}
-use Rattle.spec_acceptance.specs.Part.{Comes, goes_on, unread, stops, wants_memory, Part}
+use Rattle.certificate_verbs.specs.HandedOn.{ShelfState, Did, Comes, goes_on, unread, stops, wants_memory, Part, moment_of}
+use Rattle.certificate_verbs.specs.HandedOn.{IsBeforeOrBehind, SessionPoint, LineLeaves, history_machine, Beginning, CommandLine}
 use Rattle.line_server.specs.Answered.{FailedAt, WantedAt, LeftAt}
 use Rattle.line_server.specs.Session.{SessionCame, finished, quit, input_failed, too_long, output_failed, closing_failed, wanted_memory}
 use Rattle.line_server.specs.Request.{request_of}
 use Rattle.line_server.specs.Turn.{Surroundings}
 use Rattle.line_server.specs.Writing.{Stream, WritesAll, WritesBeginning}
+use Rattle.certificate_verbs.proofs.HandedOn.{counts_rise, count_rises}
 use Rattle.line_server.specs.declared.ends.SessionEnd.{SessionEnd}
-use Rattle.demo_walks.specs.HandedOn.{moment_of, IsBeforeOrBehind, SessionPoint, LineLeaves, history_machine, Beginning}
-use Rattle.demo_walks.proofs.HandedOn.{counts_rise, count_rises}
-use Rattle.lotos_top.specs.Prepared.{begun, print_in, printed_by, CameTo, IsReady}
+use Rattle.certificate_verbs.specs.Printed.{print_in, printed_by}
+use Rattle.certificate_verbs.specs.Finishing.{Print, Finish, prints, serves, unread_printed}
+use Rattle.certificate_verbs.specs.declared.ended.Ended.{Ended}
+use Rattle.certificate_verbs.specs.declared.ended.Ended.TheVariants.{NoMemory, OutputFault}
+use Rattle.certificate_verbs.specs.declared.printing.Alone.{Alone}
+use Rattle.lotos_top.specs.Prepared.{begun, CameTo, IsReady}
 use Rattle.lotos_top.specs.Run.{Streams, Writes, whole, in_part, nothing, Prints, ServesSession, in_front, in_want, behind, Follows, Ran}
-use Rattle.lotos_top.specs.Words.{CommandLine}
-use Rattle.lotos_top.specs.Finishing.{Print, Finish, prints, serves, unread_printed}
-use Rattle.lotos_top.specs.declared.ended.Ended.{Ended}
-use Rattle.lotos_top.specs.declared.ended.Ended.TheVariants.{NoMemory, OutputFault}
-use Rattle.lotos_top.specs.declared.opening.Alone.{Alone}
 use Rattle.lotos_top.specs.declared.opening.Opened.{Opened}
 use Rattle.lotos_top.specs.declared.opening.Ready.TheVariants as ready
 

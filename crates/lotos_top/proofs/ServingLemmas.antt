@@ -1,16 +1,15 @@
 -- A session that is served behind its head.
 use Rattle.std.proofs.Common.{◌≡◌, ℕ, List, subst, refl}
 use Rattle.lotos_base.specs.Counts.{Rises}
-use Rattle.spec_acceptance.specs.HandedOn.{ShelfState}
+use Rattle.certificate_verbs.specs.HandedOn.{ShelfState, Standing, point, history_machine, Beginning, standing_at}
 use Rattle.line_server.specs.Session.{IsSessionServed}
 use Rattle.line_server.specs.Turn.{around}
 use Rattle.line_server.specs.Writing.{Stream, WritesAll, WritesBeginning}
 use Rattle.line_server.specs.declared.ends.SessionEnd.{SessionEnd}
-use Rattle.demo_walks.specs.HandedOn.{Standing, point, history_machine, Beginning, standing_at}
+use Rattle.certificate_verbs.specs.declared.ended.Ended.{Ended}
+use Rattle.certificate_verbs.specs.declared.ended.Ended.TheVariants.{OutputFault}
 use Rattle.lotos_top.specs.Opening.{opening_text}
 use Rattle.lotos_top.specs.Run.{Streams, ServesSession, in_front, behind, ended_by}
-use Rattle.lotos_top.specs.declared.ended.Ended.{Ended}
-use Rattle.lotos_top.specs.declared.ended.Ended.TheVariants.{OutputFault}
 
 pub serves_behind : (begun : Beginning) (shelf shelf_after : ShelfState) (before after : Streams) (answer : Ended) (text : List ℕ)
     (between : Stream) (last : Standing) (end : SessionEnd) → text ≡ opening_text begun

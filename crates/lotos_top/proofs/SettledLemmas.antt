@@ -2,30 +2,29 @@
 use Rattle.std.proofs.Common.{◌≡◌, ◌⊎◌, inl, inr, ℕ, List, Option, None, Some, refl, sym, ◌∙◌, subst}
 use Rattle.lotos_base.specs.Counts.{Rises}
 use Rattle.lotos_base.specs.Outside.{Texts}
-use Rattle.spec_acceptance.specs.HandedOn.{ShelfState, GotFile, AreGotFrom, Refused}
-use Rattle.spec_acceptance.specs.Acceptance.{Asked, Acceptance, IsAccepted}
-use Rattle.spec_acceptance.specs.AcceptanceOutcomes.{got_from, ComesOfPart, ComesOver}
-use Rattle.spec_acceptance.specs.Doing.{Did}
-use Rattle.spec_acceptance.specs.Part.{Comes, goes_on, unread, stops, wants_memory, Then, Has}
-use Rattle.spec_acceptance.specs.PartLaws.{Lacks}
-use Rattle.spec_acceptance.proofs.OneAnswer.{part_comes_over, outcomes_over_texts_are_one}
-use Rattle.demo_walks.specs.HandedOn.{Beginning}
+use Rattle.certificate_verbs.specs.HandedOn.{ShelfState, GotFile, AreGotFrom, Refused, Asked, Acceptance, IsAccepted, got_from, ComesOfPart}
+use Rattle.certificate_verbs.specs.HandedOn.{ComesOver, Did, Comes, goes_on, unread, stops, wants_memory, Then, Has, Lacks, Beginning}
+use Rattle.certificate_verbs.specs.HandedOn.{FirstFaultsAreOne, RightOnesHaveNoFault, RequirementsAreMetOnce, MetIsNotOpen, CommandLine}
+use Rattle.certificate_verbs.specs.HandedOn.{check, session, demonstration, flattening, bisimilarity, Compared, induction, Induced}
+use Rattle.certificate_verbs.specs.HandedOn.{CertificatesComeToOneThing}
+use Rattle.certificate_verbs.proofs.HandedOn.{part_comes_over, outcomes_over_texts_are_one}
+use Rattle.certificate_verbs.specs.Comparing.{IsOneCheck}
+use Rattle.certificate_verbs.specs.Inducing.{IsOneInduction}
+use Rattle.certificate_verbs.specs.Finishing.{Print, print, Finish, prints, serves, refusal_printed}
+use Rattle.certificate_verbs.specs.declared.ended.Ended.{Ended}
+use Rattle.certificate_verbs.specs.declared.ended.Ended.TheVariants.{Done, NoMemory}
+use Rattle.certificate_verbs.proofs.OneInduction.{inductions_over_texts_are_one}
+use Rattle.certificate_verbs.proofs.OneCertificate.{checks_over_texts_are_one}
+use Rattle.certificate_verbs.proofs.PartLemmas.{got_alone}
 use Rattle.lotos_top.specs.Flattening.{IsByFounding}
 use Rattle.lotos_top.specs.Opening.{SessionBegins, opening_text}
-use Rattle.bisimulation_theory.specs.CertificateLaws.{CertificatesComeToOneThing}
-use Rattle.lotos_top.specs.Comparing.{IsOneCheck}
-use Rattle.lotos_top.proofs.OneCertificate.{checks_over_texts_are_one}
 use Rattle.lotos_top.specs.Run.{Streams, Follows, Ran}
 use Rattle.lotos_top.specs.Settled.{WorkOver, IsFinishFor, IsByAcceptance, AsksFor, DoesWorkOver, IsSettled}
-use Rattle.lotos_top.specs.Words.{CommandLine, check, session, demonstration, flattening, bisimilarity, Compared}
-use Rattle.lotos_top.specs.Finishing.{Print, print, Finish, prints, serves, refusal_printed}
 use Rattle.lotos_top.specs.Parts.{OpensAsked}
 use Rattle.lotos_top.specs.Work.{work_of}
-use Rattle.lotos_top.specs.declared.ended.Ended.{Ended}
-use Rattle.lotos_top.specs.declared.ended.Ended.TheVariants.{Done, NoMemory}
 use Rattle.lotos_top.proofs.FlatteningLemmas.{flattens_over}
 use Rattle.lotos_top.proofs.RunLemmas.{did_texts, follows_rise, rises_on}
-use Rattle.lotos_top.proofs.WorkLemmas.{opened_on, opened_unread, opened_stops, got_alone}
+use Rattle.lotos_top.proofs.WorkLemmas.{opened_on, opened_unread, opened_stops}
 
 -- ---- What a line asks for
 
@@ -101,6 +100,7 @@ by_acceptance texts (Some (session one)) comes work asked outcome asks over =
 by_acceptance texts (Some (demonstration cells)) comes work asked outcome asks over = absurd asks
 by_acceptance texts (Some (flattening spec order)) comes work asked outcome asks over = absurd asks
 by_acceptance texts (Some (bisimilarity c)) comes work asked outcome asks over = absurd asks
+by_acceptance texts (Some (induction i)) comes work asked outcome asks over = absurd asks
 
 by_founding : (texts : Texts) (line : Option CommandLine) (comes : Comes Print Finish) → WorkOver texts line comes → (spec : List ℕ)
     (order : Option (List ℕ)) → line ≡ Some (flattening spec order) → IsByFounding texts spec order comes
@@ -114,41 +114,57 @@ by_certificate once texts line comes work c is = λ other over.
     checks_over_texts_are_one once texts c comes other
     (subst (λ (it : Option CommandLine). ComesOfPart texts (work_of it) comes) is work) over
 
+by_induction : FirstFaultsAreOne → RightOnesHaveNoFault → RequirementsAreMetOnce → MetIsNotOpen → (texts : Texts)
+    (line : Option CommandLine) (comes : Comes Print Finish) → WorkOver texts line comes → (i : Induced) → line ≡ Some (induction i)
+    → IsOneInduction texts i comes
+by_induction one none met open_ texts line comes work i is = λ other over.
+    inductions_over_texts_are_one one none met open_ texts i comes other
+    (subst (λ (it : Option CommandLine). ComesOfPart texts (work_of it) comes) is work) over
+
 -- ---- What a run did
 
-does : CertificatesComeToOneThing → (texts : Texts) (line : Option CommandLine) (shelf between shelf_after : ShelfState)
+-- the laws by which one thing comes of certificates
+pub record CertificateLaws : Type 0 where
+  pub once : CertificatesComeToOneThing
+  pub one_fault : FirstFaultsAreOne
+  pub no_fault : RightOnesHaveNoFault
+  pub met_once : RequirementsAreMetOnce
+  pub not_open : MetIsNotOpen
+
+does : CertificateLaws → (texts : Texts) (line : Option CommandLine) (shelf between shelf_after : ShelfState)
     (before after : Streams) (answer : Ended) (comes : Comes Print Finish) → shelf.texts ≡ Some texts → Did shelf between (work_of line) comes → WorkOver texts line comes
     → Follows comes between shelf_after before after answer → DoesWorkOver texts line shelf_after before after answer
-does once texts line shelf between shelf_after before after answer comes told did work follows = record {
+does laws texts line shelf between shelf_after before after answer comes told did work follows = record {
   comes = comes;
   work = work;
   by_acceptance = by_acceptance texts line comes work;
   by_founding = by_founding texts line comes work;
-  by_certificate = by_certificate once texts line comes work;
+  by_certificate = by_certificate laws.once texts line comes work;
+  by_induction = by_induction laws.one_fault laws.no_fault laws.met_once laws.not_open texts line comes work;
   between = between;
   texts_between = did_texts shelf between (work_of line) comes did ∙ told;
   follows = follows;
 }
 
-settled_by : CertificatesComeToOneThing → (line : Option CommandLine) (shelf between shelf_after : ShelfState) (before after : Streams)
+settled_by : CertificateLaws → (line : Option CommandLine) (shelf between shelf_after : ShelfState) (before after : Streams)
     (answer : Ended) (texts : Texts) → shelf.texts ≡ Some texts → (¬ Rises shelf.faults between.faults) → (comes : Comes Print Finish)
     → Did shelf between (work_of line) comes → Follows comes between shelf_after before after answer
     → (answer ≡ NoMemory) ⊎ DoesWorkOver texts line shelf_after before after answer
-settled_by once line shelf between shelf_after before after answer texts told steady (goes_on finish) did follows =
-    inr (does once texts line shelf between shelf_after before after answer (goes_on finish) told did
+settled_by laws line shelf between shelf_after before after answer texts told steady (goes_on finish) did follows =
+    inr (does laws texts line shelf between shelf_after before after answer (goes_on finish) told did
     (part_comes_over texts (work_of line) shelf between (goes_on finish) told steady tt did) follows)
-settled_by once line shelf between shelf_after before after answer texts told steady (unread name) did follows =
-    inr (does once texts line shelf between shelf_after before after answer (unread name) told did
+settled_by laws line shelf between shelf_after before after answer texts told steady (unread name) did follows =
+    inr (does laws texts line shelf between shelf_after before after answer (unread name) told did
     (part_comes_over texts (work_of line) shelf between (unread name) told steady tt did) follows)
-settled_by once line shelf between shelf_after before after answer texts told steady (stops p) did follows =
-    inr (does once texts line shelf between shelf_after before after answer (stops p) told did
+settled_by laws line shelf between shelf_after before after answer texts told steady (stops p) did follows =
+    inr (does laws texts line shelf between shelf_after before after answer (stops p) told did
     (part_comes_over texts (work_of line) shelf between (stops p) told steady tt did) follows)
-settled_by once line shelf between shelf_after before after answer texts told steady wants_memory did follows = inl follows.is
+settled_by laws line shelf between shelf_after before after answer texts told steady wants_memory did follows = inl follows.is
 
-pub settled : CertificatesComeToOneThing → (line : Option CommandLine) (shelf shelf_after : ShelfState) (before after : Streams)
+pub settled : CertificateLaws → (line : Option CommandLine) (shelf shelf_after : ShelfState) (before after : Streams)
     (answer : Ended) → Ran line shelf shelf_after before after answer → IsSettled line shelf shelf_after before after answer
-settled once line shelf shelf_after before after answer ran = λ texts told steady.
-    settled_by once line shelf ran.between shelf_after before after answer texts told
+settled laws line shelf shelf_after before after answer ran = λ texts told steady.
+    settled_by laws line shelf ran.between shelf_after before after answer texts told
     (λ rises.
     steady (rises_on shelf.faults ran.between.faults shelf_after.faults
     (follows_rise ran.comes ran.between shelf_after before after answer ran.follows) rises)) ran.comes ran.did ran.follows

@@ -1,22 +1,16 @@
 -- What a yes to a certificate of bisimulation means: the two specifications are strongly bisimilar, and do the same.
 use Rattle.std.specs.Prelude.{◌≡◌, ℕ, List, [], ◌∷◌, ◌++◌, Option, None, Some}
 use Rattle.lotos_base.specs.Term.{Term}
-use Rattle.bisim_check.specs.LineTexts.{ArePairLines}
-use Rattle.bisimulation_theory.specs.Certificate.{CertificateLine}
-use Rattle.bisimulation_theory.specs.CertificateLaws.{AreShownBisimilar, DoTheSame}
-use Rattle.bisimulation_theory.specs.SameData.{AreSameData}
 use Rattle.line_server.specs.Writing.{WritesAll}
-use Rattle.spec_acceptance.specs.Acceptance.{Acceptance, IsAccepted}
-use Rattle.spec_acceptance.specs.AcceptedView.{asked_for}
-use Rattle.spec_acceptance.specs.HandedOn.{ShelfState, GotFile, Gives}
-use Rattle.spec_acceptance.specs.Part.{goes_on}
-use Rattle.lotos_top.specs.Certificates.{bisimilar_text}
-use Rattle.lotos_top.specs.Comparing.{comparison_by}
-use Rattle.lotos_top.specs.Opening.{AreNormalForms}
+use Rattle.certificate_verbs.specs.HandedOn.{Acceptance, IsAccepted, asked_for, ShelfState, GotFile, Gives, goes_on, ArePairLines}
+use Rattle.certificate_verbs.specs.HandedOn.{CommandLine, Compared, bisimilarity, CertificateLine, AreShownBisimilar, DoTheSame}
+use Rattle.certificate_verbs.specs.HandedOn.{AreSameData}
+use Rattle.certificate_verbs.specs.Certificates.{bisimilar_text}
+use Rattle.certificate_verbs.specs.Comparing.{comparison_by}
+use Rattle.certificate_verbs.specs.NormalForms.{AreNormalForms}
+use Rattle.certificate_verbs.specs.declared.ended.Ended.{Ended}
+use Rattle.certificate_verbs.specs.declared.ended.Ended.TheVariants.{Done}
 use Rattle.lotos_top.specs.Run.{Streams}
-use Rattle.lotos_top.specs.Words.{CommandLine, Compared, bisimilarity}
-use Rattle.lotos_top.specs.declared.ended.Ended.{Ended}
-use Rattle.lotos_top.specs.declared.ended.Ended.TheVariants.{Done}
 
 -- The two specifications are accepted with the first ones of the files that the shelf gave; their data are the same; the last file
 -- is the certificate; its pairs are a strong bisimulation with the pair of the two behaviours in which the specifications begin;

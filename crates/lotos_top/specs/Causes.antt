@@ -2,12 +2,11 @@
 -- time.
 use Rattle.std.specs.Prelude.{◌≡◌, ◌⊎◌, ℕ, ◌+◌, ◌<◌, List, ◌++◌, length, Option, None, Some, IfSome, IsSomeAnd}
 use Rattle.lotos_base.specs.Counts.{Rises}
-use Rattle.spec_acceptance.specs.HandedOn.{ShelfState}
+use Rattle.certificate_verbs.specs.HandedOn.{ShelfState, CommandLine, session, demonstration}
 use Rattle.line_server.specs.Limits.{input_limit}
+use Rattle.certificate_verbs.specs.declared.ended.Ended.{Ended}
+use Rattle.certificate_verbs.specs.declared.ended.Ended.TheVariants.{WordsRefused, FileFault, InputFault, OutputFault, NoMemory, InputTooLong}
 use Rattle.lotos_top.specs.Run.{Streams}
-use Rattle.lotos_top.specs.Words.{CommandLine, session, demonstration}
-use Rattle.lotos_top.specs.declared.ended.Ended.{Ended}
-use Rattle.lotos_top.specs.declared.ended.Ended.TheVariants.{WordsRefused, FileFault, InputFault, OutputFault, NoMemory, InputTooLong}
 
 -- another answer stands in the place of this one: the output failed at its text, or memory was wanted
 abbrev pub GivesWay : Ended → Type 0

@@ -2,12 +2,10 @@
 use Rattle.std.specs.Prelude.{◌≡◌, ℕ, List, Option}
 use Rattle.lotos_base.specs.Outside.{Texts}
 use Rattle.flat_text.specs.FlatText.{flat_text}
-use Rattle.spec_acceptance.specs.Acceptance.{Founded, IsFounded}
-use Rattle.spec_acceptance.specs.AcceptanceOutcomes.{ComesOfPart}
-use Rattle.spec_acceptance.specs.HandedOn.{Refused}
-use Rattle.spec_acceptance.specs.Part.{Comes, goes_on, unread, stops, wants_memory, Part, Then, Has, Telling}
-use Rattle.lotos_top.specs.Finishing.{Print, print, Finish, prints, refusal_printed}
-use Rattle.lotos_top.specs.declared.ended.Ended.TheVariants.{Done}
+use Rattle.certificate_verbs.specs.HandedOn.{Founded, IsFounded, ComesOfPart, Refused, Comes, goes_on, unread, stops, wants_memory, Part}
+use Rattle.certificate_verbs.specs.HandedOn.{Then, Has, Telling}
+use Rattle.certificate_verbs.specs.Finishing.{Print, print, Finish, prints, refusal_printed}
+use Rattle.certificate_verbs.specs.declared.ended.Ended.TheVariants.{Done}
 
 -- the flat text of what was accepted
 abbrev pub flat_printed : Founded → Print

@@ -2,18 +2,14 @@
 use Rattle.std.specs.Prelude.{◌≡◌, ◌⊎◌, ℕ, ◌<◌, ◌≤◌, List, ◌++◌, length, Option, Some}
 use Rattle.lotos_base.specs.Counts.{last_count}
 use Rattle.lotos_base.specs.Outside.{Texts}
-use Rattle.spec_acceptance.specs.HandedOn.{ShelfState}
-use Rattle.spec_acceptance.specs.Acceptance.{Asked, Acceptance}
-use Rattle.spec_acceptance.specs.Part.{goes_on}
-use Rattle.spec_acceptance.specs.AcceptanceOutcomes.{ComesOver}
+use Rattle.certificate_verbs.specs.HandedOn.{ShelfState, Asked, Acceptance, goes_on, ComesOver, Beginning, standing_at, Standing}
+use Rattle.certificate_verbs.specs.HandedOn.{AreAnswered, CommandLine, session}
 use Rattle.line_server.specs.Limits.{input_limit}
-use Rattle.demo_walks.specs.HandedOn.{Beginning, standing_at, Standing, AreAnswered}
 use Rattle.line_server.specs.Cutting.{lines_in}
+use Rattle.certificate_verbs.specs.declared.ended.Ended.{Ended}
+use Rattle.certificate_verbs.specs.declared.ended.Ended.TheVariants.{Done, NoMemory}
 use Rattle.lotos_top.specs.Opening.{SessionBegins, opening_text}
 use Rattle.lotos_top.specs.Run.{Streams}
-use Rattle.lotos_top.specs.Words.{CommandLine, session}
-use Rattle.lotos_top.specs.declared.ended.Ended.{Ended}
-use Rattle.lotos_top.specs.declared.ended.Ended.TheVariants.{Done, NoMemory}
 
 -- a count stands, below its last value
 abbrev pub Stands : ℕ → ℕ → Type 0

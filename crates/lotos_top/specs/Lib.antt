@@ -1,16 +1,12 @@
-pub mod Words
 pub mod Opening
-pub mod Finishing
 pub mod Parts
 pub mod Flattening
-pub mod Certificates
-pub mod Comparing
 pub mod Work
 pub mod Run
 pub mod Causes
 pub mod Settled
 pub mod Bisimilarity
+pub mod Induction
 pub mod Headline
 pub mod Prepared
-pub mod Status
 pub mod HandedOn

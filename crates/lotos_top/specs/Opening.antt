@@ -1,16 +1,8 @@
 -- Where the session of what was accepted begins, and what is printed before it.
 use Rattle.std.specs.Prelude.{◌≡◌, ℕ, List, ◌++◌, map}
-use Rattle.lotos_base.specs.Term.{Term}
 use Rattle.behaviour_semantics.specs.Replacement.{with_values, binding_of}
-use Rattle.spec_acceptance.specs.HandedOn.{IsOpenedBy, Precedence, NumberedRule, rules_of, Chooses}
-use Rattle.spec_acceptance.specs.Acceptance.{Acceptance}
-use Rattle.demo_walks.specs.HandedOn.{head_text, shown_menu, Beginning, CanBegin}
-
--- the normal forms are those by the rules that the order's items make of the equations
-abbrev pub AreNormalForms : Acceptance → (Term → Term) → Type 0
-AreNormalForms acceptance canon =
-    (precedence : Precedence) × (rules : List NumberedRule) × IsOpenedBy acceptance.items acceptance.data_ precedence rules
-    × Chooses (rules_of rules) canon
+use Rattle.certificate_verbs.specs.HandedOn.{Acceptance, head_text, shown_menu, Beginning, CanBegin}
+use Rattle.certificate_verbs.specs.NormalForms.{AreNormalForms}
 
 -- the session of what was accepted begins in the body of the specification, in which the normal forms of the start values stand
 -- for the parameters, with the exact menu of it, and without steps

@@ -1,11 +1,9 @@
 -- Parts of the work, of which the lines of words are made.
 use Rattle.std.specs.Prelude.{◌≡◌, ◌⊎◌, ℕ, List, []}
-use Rattle.spec_acceptance.specs.Acceptance.{Asked, Acceptance, IsAccepted}
-use Rattle.spec_acceptance.specs.Part.{goes_on, unread, stops, wants_memory, Part, Then, Telling}
-use Rattle.spec_acceptance.specs.HandedOn.{Refused}
-use Rattle.demo_walks.specs.HandedOn.{Beginning}
+use Rattle.certificate_verbs.specs.HandedOn.{Asked, Acceptance, IsAccepted, goes_on, unread, stops, wants_memory, Part, Then, Telling}
+use Rattle.certificate_verbs.specs.HandedOn.{Refused, Beginning}
+use Rattle.certificate_verbs.specs.Finishing.{Print, Finish, unread_printed, refusal_printed}
 use Rattle.lotos_top.specs.Opening.{SessionBegins}
-use Rattle.lotos_top.specs.Finishing.{Print, Finish, unread_printed, refusal_printed}
 
 -- something with this property, for which no file is got, and which nothing refuses
 abbrev pub Finds : {E B : Type 0} → (B → Type 0) → Part E B

@@ -1,21 +1,18 @@
 -- A whole run: what came of its work, and what it did then.
 use Rattle.std.specs.Prelude.{◌≡◌, Option}
 use Rattle.lotos_base.specs.Counts.{Rises}
-use Rattle.spec_acceptance.specs.HandedOn.{ShelfState}
-use Rattle.spec_acceptance.specs.Doing.{Did}
-use Rattle.spec_acceptance.specs.Part.{Comes, goes_on, unread, stops, wants_memory}
+use Rattle.certificate_verbs.specs.HandedOn.{ShelfState, Did, Comes, goes_on, unread, stops, wants_memory, Standing, point, history_machine}
+use Rattle.certificate_verbs.specs.HandedOn.{Beginning, standing_at, CommandLine}
 use Rattle.line_server.specs.Session.{IsSessionServed}
 use Rattle.line_server.specs.Turn.{around}
 use Rattle.line_server.specs.Writing.{Stream, WritesAll, WritesBeginning}
 use Rattle.line_server.specs.declared.ends.SessionEnd.{SessionEnd}
 use Rattle.line_server.specs.declared.ends.SessionEnd.TheVariants as end
-use Rattle.demo_walks.specs.HandedOn.{Standing, point, history_machine, Beginning, standing_at}
+use Rattle.certificate_verbs.specs.Finishing.{Print, Finish, prints, serves, unread_printed}
+use Rattle.certificate_verbs.specs.declared.ended.Ended.{Ended}
+use Rattle.certificate_verbs.specs.declared.ended.Ended.TheVariants.{Done, InputFault, OutputFault, NoMemory, InputTooLong}
 use Rattle.lotos_top.specs.Opening.{opening_text}
-use Rattle.lotos_top.specs.Words.{CommandLine}
-use Rattle.lotos_top.specs.Finishing.{Print, Finish, prints, serves, unread_printed}
 use Rattle.lotos_top.specs.Work.{work_of}
-use Rattle.lotos_top.specs.declared.ended.Ended.{Ended}
-use Rattle.lotos_top.specs.declared.ended.Ended.TheVariants.{Done, InputFault, OutputFault, NoMemory, InputTooLong}
 
 -- input and output at one time
 pub record Streams : Type 0 where

@@ -2,20 +2,17 @@
 use Rattle.std.specs.Prelude.{◌≡◌, ◌⊎◌, ℕ, List, Option, Some}
 use Rattle.lotos_base.specs.Counts.{Rises}
 use Rattle.lotos_base.specs.Outside.{Texts}
-use Rattle.spec_acceptance.specs.HandedOn.{ShelfState, Refused}
-use Rattle.spec_acceptance.specs.Acceptance.{Asked, Acceptance}
-use Rattle.spec_acceptance.specs.AcceptanceOutcomes.{ComesOfPart, ComesOver}
-use Rattle.spec_acceptance.specs.Part.{Comes, goes_on, unread, stops}
-use Rattle.demo_walks.specs.HandedOn.{Beginning}
-use Rattle.lotos_top.specs.Comparing.{IsOneCheck}
+use Rattle.certificate_verbs.specs.HandedOn.{ShelfState, Refused, Asked, Acceptance, ComesOfPart, ComesOver, Comes, goes_on, unread, stops}
+use Rattle.certificate_verbs.specs.HandedOn.{Beginning, CommandLine, Compared, check, session, flattening, bisimilarity, Induced, induction}
+use Rattle.certificate_verbs.specs.Comparing.{IsOneCheck}
+use Rattle.certificate_verbs.specs.Inducing.{IsOneInduction}
+use Rattle.certificate_verbs.specs.Finishing.{Print, print, Finish, prints, serves, refusal_printed}
+use Rattle.certificate_verbs.specs.declared.ended.Ended.{Ended}
+use Rattle.certificate_verbs.specs.declared.ended.Ended.TheVariants.{Done, NoMemory}
 use Rattle.lotos_top.specs.Flattening.{IsByFounding}
 use Rattle.lotos_top.specs.Opening.{SessionBegins, opening_text}
 use Rattle.lotos_top.specs.Run.{Streams, Follows}
-use Rattle.lotos_top.specs.Words.{CommandLine, Compared, check, session, flattening, bisimilarity}
-use Rattle.lotos_top.specs.Finishing.{Print, print, Finish, prints, serves, refusal_printed}
 use Rattle.lotos_top.specs.Work.{work_of}
-use Rattle.lotos_top.specs.declared.ended.Ended.{Ended}
-use Rattle.lotos_top.specs.declared.ended.Ended.TheVariants.{Done, NoMemory}
 
 -- this comes of the work of the line over these texts, where memory is there
 abbrev pub WorkOver : Texts → Option CommandLine → Comes Print Finish → Type 0
@@ -44,7 +41,7 @@ AsksFor line asked = ⊥
 
 -- The run did what comes of the work over these texts, which are still there between the work and what follows from it. Where a
 -- specification is asked for, that is by the one thing that comes of its acceptance over them; where it is flattened, by the one
--- thing that comes of it up to the book of its data; and one thing comes of a certificate that is checked.
+-- thing that comes of it up to the book of its data; and one thing comes of each certificate that is checked.
 pub record DoesWorkOver (texts : Texts) (line : Option CommandLine) (shelf_after : ShelfState) (before after : Streams) (answer : Ended)
     : Type 0 where
   pub comes : Comes Print Finish
@@ -54,6 +51,7 @@ pub record DoesWorkOver (texts : Texts) (line : Option CommandLine) (shelf_after
       → IsByAcceptance line asked outcome comes
   pub by_founding : (spec : List ℕ) (order : Option (List ℕ)) → line ≡ Some (flattening spec order) → IsByFounding texts spec order comes
   pub by_certificate : (c : Compared) → line ≡ Some (bisimilarity c) → IsOneCheck texts c comes
+  pub by_induction : (i : Induced) → line ≡ Some (induction i) → IsOneInduction texts i comes
   pub between : ShelfState
   pub texts_between : between.texts ≡ Some texts
   pub follows : Follows comes between shelf_after before after answer

@@ -1,17 +1,14 @@
 -- The work of a line of words: which files are got for it, and what is done in the end.
 use Rattle.std.specs.Prelude.{◌≡◌, ℕ, [], Option, Some, None, codes}
-use Rattle.spec_acceptance.specs.Acceptance.{AcceptsText}
-use Rattle.spec_acceptance.specs.Part.{Part, Then, Has, Telling}
-use Rattle.demo_walks.specs.HandedOn.{Beginning}
-use Rattle.demo_walks.specs.DemoText.{demo_text}
-use Rattle.demo_walks.specs.DemoSummary.{IsSummary}
+use Rattle.certificate_verbs.specs.HandedOn.{AcceptsText, Part, Then, Has, Telling, Beginning, demo_text, IsSummary, CommandLine, check}
+use Rattle.certificate_verbs.specs.HandedOn.{session, demonstration, flattening, bisimilarity, induction, usage_text}
+use Rattle.certificate_verbs.specs.Finishing.{Print, print, Finish, prints, serves, refusal_printed}
+use Rattle.certificate_verbs.specs.Comparing.{ChecksCertificate}
+use Rattle.certificate_verbs.specs.Inducing.{ChecksInduction}
+use Rattle.certificate_verbs.specs.declared.ended.Ended.TheVariants.{Done, WordsRefused}
 use Rattle.lotos_top.specs.Opening.{opening_text}
-use Rattle.lotos_top.specs.Finishing.{Print, print, Finish, prints, serves, refusal_printed}
 use Rattle.lotos_top.specs.Parts.{Finds, Opens, OpensAsked, WithoutFiles}
-use Rattle.lotos_top.specs.Comparing.{ChecksCertificate}
 use Rattle.lotos_top.specs.Flattening.{Flattens}
-use Rattle.lotos_top.specs.Words.{CommandLine, check, session, demonstration, flattening, bisimilarity, usage_text}
-use Rattle.lotos_top.specs.declared.ended.Ended.TheVariants.{Done, WordsRefused}
 
 -- the summary of the walk through a session that begins so
 abbrev pub IsSummaryPrinted : ℕ → Beginning → Finish → Type 0
@@ -32,3 +29,4 @@ work_of (Some (session asked)) = Then (OpensAsked asked) (λ begun. Has (serves 
 work_of (Some (demonstration cells)) = Demonstrates cells
 work_of (Some (flattening spec order)) = Flattens spec order
 work_of (Some (bisimilarity c)) = ChecksCertificate c
+work_of (Some (induction i)) = ChecksInduction i

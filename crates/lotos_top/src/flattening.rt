@@ -1,19 +1,16 @@
 //! The words that flatten a specification.
 
+ghost use Rattle.certificate_verbs.specs.HandedOn.{flattening, shelf_state, specification_of};
+ghost use Rattle.certificate_verbs.specs.declared.ended.Ended.TheVariants.{Done as done};
 ghost use Rattle.flat_text.specs.FlatText.{flat_text};
-ghost use Rattle.demo_walks.specs.HandedOn.{specification_of};
 ghost use Rattle.lotos_top.specs.Prepared.{CameTo, IsReady};
-ghost use Rattle.lotos_top.specs.Words.{flattening};
-ghost use Rattle.lotos_top.specs.declared.ended.Ended.TheVariants.{Done as done};
 ghost use Rattle.sort_terms.specs.EquationView.{data_of};
-ghost use Rattle.spec_acceptance.specs.HandedOn.{shelf_state};
 ghost use Rattle.std.specs.Prelude.{◌≡◌, IfOk, MatchResult, Some, option_map};
 
-use crate::ended::Ended;
-use crate::opening::{Alone, Ready, failed_alone};
+use crate::opening::Ready;
+use certificate_verbs::{Alone, Ended, WithBook, failed_alone, founded_under};
 use flat_text::write_flat;
 use lotos_base::{NoMemory, Shelf};
-use spec_acceptance::{WithBook, founded_under};
 use std::alloc::Global;
 
 /// Makes ready what `flatten` prints.

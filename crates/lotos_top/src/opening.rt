@@ -1,49 +1,38 @@
 //! What is made ready before anything is written: the specification with its first menu, or the
 //! line that says why there is none.
 
-ghost use Rattle.demo_walks.specs.DemoSummary.{IsSummary};
-ghost use Rattle.demo_walks.specs.HandedOn.{head_text, unread_text};
-ghost use Rattle.lotos_base.specs.Name.{spelling};
-ghost use Rattle.lotos_top.specs.Opening.{SessionBegins, opening_text};
-ghost use Rattle.lotos_top.specs.Prepared.{
-  CameTo,
-  FailsAlone,
-  IsFaultPrinted,
-  IsLawfulAt,
-  IsReady,
-  begun,
-  print_in,
-};
-ghost use Rattle.lotos_top.specs.Words.{
+ghost use Rattle.certificate_verbs.specs.HandedOn.{
+  Acceptance,
+  AcceptsText,
   CommandLine,
+  Did,
+  Failed,
+  HoldsAccepted,
+  IsAccepted,
+  IsSummary,
+  ShelfState,
+  are_within,
+  asked_for,
   check,
   command_line,
   demonstration,
+  goes_on,
+  head_text,
   session,
-  usage_text,
-};
-ghost use Rattle.lotos_top.specs.Parts.{Opens};
-ghost use Rattle.lotos_top.specs.Finishing.{word_or_none};
-ghost use Rattle.lotos_top.specs.declared.ended.Ended.TheVariants.{
-  Done as done,
-  FileFault as file_fault,
-  SpecRefused as spec_refused,
-  WordsRefused as words_refused,
-};
-ghost use Rattle.sort_terms.specs.EquationView.{data_of};
-ghost use Rattle.sort_terms.specs.SignatureView.{signature_of};
-ghost use Rattle.spec_acceptance.specs.Acceptance.{Acceptance, AcceptsText, IsAccepted};
-ghost use Rattle.spec_acceptance.specs.AcceptedView.{HoldsAccepted, asked_for};
-ghost use Rattle.spec_acceptance.specs.Doing.{Did, Failed};
-ghost use Rattle.spec_acceptance.specs.HandedOn.{
-  ShelfState,
-  are_within,
-  refusal_text,
-  refused_of,
   shelf_state,
+  usage_text,
   words_of,
 };
-ghost use Rattle.spec_acceptance.specs.Part.{goes_on};
+ghost use Rattle.certificate_verbs.specs.declared.ended.Ended.TheVariants.{
+  Done as done,
+  WordsRefused as words_refused,
+};
+ghost use Rattle.lotos_base.specs.Name.{spelling};
+ghost use Rattle.lotos_top.specs.Opening.{SessionBegins, opening_text};
+ghost use Rattle.lotos_top.specs.Parts.{Opens};
+ghost use Rattle.lotos_top.specs.Prepared.{CameTo, FailsAlone, IsLawfulAt, IsReady, begun};
+ghost use Rattle.sort_terms.specs.EquationView.{data_of};
+ghost use Rattle.sort_terms.specs.SignatureView.{signature_of};
 ghost use Rattle.std.specs.Prelude.{
   ◌≡◌,
   ◌++◌,
@@ -52,22 +41,21 @@ ghost use Rattle.std.specs.Prelude.{
   Option,
   Some,
   IfOk,
-  IfSome,
   IsTrue,
   MatchResult,
   OnOk,
   option_map,
 };
 
-use crate::commands::{Command, USAGE, parse_command};
-use crate::comparing::compared;
-use crate::ended::Ended;
+use crate::certificates::{compared, induced};
 use crate::flattening::flattened;
-use demo_walks::{Session, Spec, demo_text, menu_text, push_number, push_text, write_summary};
+use certificate_verbs::{
+    Accepted, Alone, Book, Command, Ended, NotAccepted, Session, Spec, USAGE, demo_text,
+    failed_alone, menu_text, parse_command, push_number, push_text, write_summary,
+};
 use lotos_base::{MemShelf, NoMemory, Shelf};
 use menu_parts::PartMenus;
 use sort_terms::Signature;
-use spec_acceptance::{Accepted, Book, NotAccepted, Refused, refusal_line};
 use std::alloc::Global;
 
 /// A specification that is accepted, where its session begins.
@@ -87,15 +75,6 @@ pub struct Front {
     pub text: Vec<u8>,
     /// The signature.
     pub signature: Signature,
-}
-
-/// A text that is printed with nothing behind it, and how the run ends then.
-#[derive(Drop)]
-pub struct Alone {
-    /// The text.
-    pub text: Vec<u8>,
-    /// The status.
-    pub ended: Ended,
 }
 
 /// What is ready: a text that is printed with nothing behind it, or a session that is served.
@@ -137,6 +116,7 @@ pub fn prepare<F: Shelf>(alloc: Global, words: &[String], shelf: &mut F) -> Resu
         Some(Command::Bisim { spec, other, pairs }) => {
             compared(alloc, spec, other, pairs, shelf)
         }
+        Some(Command::Induct { spec, proofs }) => induced(alloc, spec, proofs, shelf),
         None => usage_ready(alloc),
     }
 }
@@ -297,68 +277,6 @@ pub fn opened_alone(alloc: Global, opened: &Opened) -> Result<Alone, NoMemory>
     Ok(Alone {
         text,
         ended: Ended::Done,
-    })
-}
-
-/// What is printed where the specification is not accepted: the line of the file that could not be
-/// got, or that of the refusal.
-pub fn failed_alone(
-    alloc: Global,
-    spec: &str,
-    order: Option<&str>,
-    fault: &NotAccepted,
-) -> Result<Alone, NoMemory>
-    ensures { IfOk result (λ alone. IsFaultPrinted spec.now
-        (option_map (λ word. word.now) order.entry) fault.now (print_in alone)) }
-{
-    match fault {
-        NotAccepted::File { name } => unread_alone(alloc, name.as_slice()),
-        NotAccepted::Spec(refused) => refused_alone(alloc, spec, order_name(order), refused),
-        NotAccepted::NoMemory => Err(NoMemory),
-    }
-}
-
-// The name of the order file, and nothing where there is none.
-fn order_name(order: Option<&str>) -> &str
-    ensures { result.now ≡ word_or_none (option_map (λ word. word.now) order.entry) }
-{
-    match order {
-        None => "",
-        Some(name) => name,
-    }
-}
-
-// The line of a file that could not be got.
-fn unread_alone(alloc: Global, name: &[u8]) -> Result<Alone, NoMemory>
-    ensures { IfOk result
-        (λ alone. (alone.text.items ≡ unread_text name.now) × (alone.ended ≡ file_fault)) }
-{
-    let mut text = Vec::new(alloc);
-    push_text(&mut text, b"cannot read ")?;
-    push_text(&mut text, name)?;
-    push_text(&mut text, b"\n")?;
-    Ok(Alone {
-        text,
-        ended: Ended::FileFault,
-    })
-}
-
-// The line of a refusal.
-fn refused_alone(
-    alloc: Global,
-    spec: &str,
-    order: &str,
-    refused: &Refused,
-) -> Result<Alone, NoMemory>
-    ensures { IfOk result (λ alone. IfSome (refused_of refused.now)
-        (λ told. alone.text.items ≡ refusal_text spec.now order.now told)
-        × (alone.ended ≡ spec_refused)) }
-{
-    let mut text = Vec::new(alloc);
-    refusal_line(spec, order, refused, &mut text)?;
-    Ok(Alone {
-        text,
-        ended: Ended::SpecRefused,
     })
 }
 

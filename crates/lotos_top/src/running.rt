@@ -1,27 +1,26 @@
 //! The whole program over any outside.
 
-ghost use Rattle.demo_walks.specs.HandedOn.{IsServing};
+ghost use Rattle.certificate_verbs.specs.HandedOn.{IsServing, command_line, shelf_state, words_of};
+ghost use Rattle.certificate_verbs.specs.Printed.{print_in};
 ghost use Rattle.line_server.specs.Writing.{stream};
 ghost use Rattle.lotos_top.specs.Bisimilarity.{YesMeansBisimilar};
 ghost use Rattle.lotos_top.specs.Causes.{AnswersHaveCauses};
 ghost use Rattle.lotos_top.specs.Headline.{Headline};
+ghost use Rattle.lotos_top.specs.Induction.{YesMeansInductive};
 ghost use Rattle.lotos_top.specs.Opening.{opening_text};
-ghost use Rattle.lotos_top.specs.Prepared.{IsLawfulAt, beginning_of, begun, print_in};
+ghost use Rattle.lotos_top.specs.Prepared.{IsLawfulAt, beginning_of, begun};
 ghost use Rattle.lotos_top.specs.Run.{Ran, ServesSession, Writes, ended_by, streams};
 ghost use Rattle.lotos_top.specs.Settled.{IsSettled};
-ghost use Rattle.lotos_top.specs.Words.{command_line};
 ghost use Rattle.menu_parts.specs.KeptMenus.{Suits};
 ghost use Rattle.sort_terms.specs.SignatureView.{signature_of};
-ghost use Rattle.spec_acceptance.specs.HandedOn.{shelf_state, words_of};
 ghost use Rattle.std.specs.Prelude.{◌≡◌, MatchResult};
 
-use crate::ended::Ended;
-use crate::opening::{Alone, Front, Opened, Ready, front_of, prepare};
-use bisimulation_theory::certificates::{
-    accepted_certificates_show_bisimilarity, accepted_starts_do_the_same,
-    certificates_come_to_one_thing,
+use crate::opening::{Front, Opened, Ready, front_of, prepare};
+use certificate_verbs::{
+    Alone, Ended, HistoryLines, accepted_certificates_show_bisimilarity,
+    accepted_starts_do_the_same, certificates_come_to_one_thing, first_faults_are_one,
+    lines_lead_on, met_requirements_hold, serve_input, served_lines_are_answered,
 };
-use demo_walks::{HistoryLines, lines_lead_on, serve_input, served_lines_are_answered};
 use line_server::{SessionEnd, write_whole};
 use lotos_base::{Failed, NoMemory, Shelf, Sink, Source};
 use menu_parts::PartMenus;
@@ -35,13 +34,17 @@ use std::alloc::Global;
 /// on with the session of the input: it answers each line and prints the answer before it reads on.
 /// `demo` makes a specification of so many cells, walks through its session and prints the summary;
 /// it asks nothing of the shelf and reads no input. `flatten` gets the files that `check` gets and
-/// prints the flat text of the specification, whatever start values its parameters get.
+/// prints the flat text of the specification, whatever start values its parameters get. `bisim` gets
+/// the files of two specifications and a certificate of bisimulation, and says how many pairs it
+/// lists. `induct` gets those of one specification and a certificate of induction, and says how many
+/// lemmas it has and which of them meet the requirements of the specification's types.
 ///
 /// The answer is `WordsRefused` exactly where the words are no line of the usage, `FileFault` where
 /// a file could not be got, `SpecRefused` where the specification is refused, whose first fault is
-/// printed, `InputFault` exactly where the input's count of faults rose, `InputTooLong` where byte
-/// 16,777,217 of the session was read, and else `Done`. In place of each stands `OutputFault`
-/// exactly where the output's count of faults rose, and `NoMemory` where memory was wanted; then
+/// printed, `CertificateRefused` where a certificate is, likewise, `InputFault` exactly where the
+/// input's count of faults rose, `InputTooLong` where byte 16,777,217 of the session was read, and
+/// else `Done`. In place of each stands `OutputFault` exactly where the output's count of faults
+/// rose, and `NoMemory` where memory was wanted; then
 /// what is written is a beginning of the report.
 pub fn run<F: Shelf, S: Source, K: Sink>(
     alloc: Global,
@@ -90,6 +93,14 @@ pub fn run<F: Shelf, S: Source, K: Sink>(
         (streams (stream (S.left input.new) (S.faults input.new))
         (stream (K.written output.new) (K.faults output.new)))
         result }
+    ensures inductive { YesMeansInductive (command_line (words_of words.now))
+        (shelf_state (F.texts shelf.old) (F.faults shelf.old) (F.calls shelf.old))
+        (shelf_state (F.texts shelf.new) (F.faults shelf.new) (F.calls shelf.new))
+        (streams (stream (S.left input.old) (S.faults input.old))
+        (stream (K.written output.old) (K.faults output.old)))
+        (streams (stream (S.left input.new) (S.faults input.new))
+        (stream (K.written output.new) (K.faults output.new)))
+        result }
 {
     // (These do nothing. They carry the laws that the clauses stand on.)
     lines_lead_on();
@@ -97,6 +108,8 @@ pub fn run<F: Shelf, S: Source, K: Sink>(
     accepted_certificates_show_bisimilarity();
     accepted_starts_do_the_same();
     certificates_come_to_one_thing();
+    first_faults_are_one();
+    met_requirements_hold();
     run_over(alloc, words, shelf, input, output)
 }
 

@@ -14,7 +14,10 @@ pub mod nodes;
 pub mod numbers;
 
 pub use behaviours::{behaviour_moves, call_moves};
-pub use draft_parts::{Entry, Menu, label_copy};
+pub use draft_parts::meeting::have_sorts;
+pub use draft_parts::rules::{hide_label, may_move_alone, meet_at, relabel};
+pub use draft_parts::{Call, Entry, Menu, Variant, label_copy};
+pub use draft_solving::solve;
 pub use levels::Levels;
 pub use makers::{FreshMenus, MenuMaker};
 pub use menus::menu;

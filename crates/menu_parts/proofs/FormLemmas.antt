@@ -23,12 +23,12 @@ use Rattle.behaviour_semantics.specs.Derives.{leaves_in}
 use Rattle.behaviour_semantics.specs.Shape.{let_bound}
 use Rattle.behaviour_semantics.proofs.ClosedTargets.{opened_closed}
 use Rattle.step_taker.proofs.BodyLemmas.{keeps_ground}
-use Rattle.kept_menu_laws.specs.PartRule.{all_by_rule, passing_on}
-use Rattle.kept_menu_laws.specs.PartMenus.{hide_menu, relabel_menu, call_menu, enable_menu, called_body, let_body}
-use Rattle.kept_menu_laws.specs.PartMenuLaws.{MakeTheMenu}
-use Rattle.kept_menu_laws.proofs.PartMenuLemmas.{make_the_menu}
+use Rattle.menu_parts.specs.PartRule.{all_by_rule, passing_on}
+use Rattle.menu_parts.specs.PartMenus.{hide_menu, relabel_menu, call_menu, enable_menu, called_body, let_body}
+use Rattle.menu_parts.specs.PartMenuLaws.{MakeTheMenu}
+use Rattle.menu_parts.proofs.PartMenuLemmas.{make_the_menu}
 use Rattle.behaviour_semantics.specs.Label.{gate_under}
-use Rattle.shared_entries.specs.HandedOn.{call_pairs}
+use Rattle.menu_builder.specs.HandedOn.{call_pairs}
 use Rattle.step_taker.specs.HandedOn.{HasClosedParts}
 use Rattle.step_taker.specs.Sides.{IsSideState, side_of, side_profiles}
 use Rattle.step_taker.specs.Taken.{Ground}

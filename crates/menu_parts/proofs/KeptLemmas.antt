@@ -8,14 +8,14 @@ use Rattle.behaviour_semantics.specs.WellFormed.{Every}
 use Rattle.behaviour_tree.specs.StateView.{stands_for}
 use Rattle.behaviour_tree.specs.declared.states.Node.{Node}
 use Rattle.lotos_base.specs.Signature.{Signature}
-use Rattle.shared_entries.specs.HandedOn.{IsEntryOver}
-use Rattle.shared_entries.specs.HandedOn.{Entry}
-use Rattle.kept_menu_laws.specs.PartMenus.{parallel_menu, sides_menu}
-use Rattle.shared_entries.specs.Items.{AreTerms, HasEntryTerms, HasItemTerms, IsItemOver, Terms, entry_terms, item_terms, plain_item}
-use Rattle.shared_entries.specs.Joined.{AreBeside}
-use Rattle.shared_entries.specs.Rules.{AreMadeBy, made_by}
-use Rattle.shared_entries.specs.declared.items.Item.{Item}
-use Rattle.shared_entries.specs.declared.rules.PartRule.{PartRule}
+use Rattle.event_offers.specs.Offers.{IsEntryOver}
+use Rattle.event_offers.specs.declared.drafts.Entry.{Entry}
+use Rattle.menu_parts.specs.PartMenus.{parallel_menu, sides_menu}
+use Rattle.menu_parts.specs.Items.{AreTerms, HasEntryTerms, HasItemTerms, IsItemOver, Terms, entry_terms, item_terms, plain_item}
+use Rattle.menu_parts.specs.Joined.{AreBeside}
+use Rattle.menu_parts.specs.Rules.{AreMadeBy, made_by}
+use Rattle.menu_parts.specs.declared.items.Item.{Item}
+use Rattle.menu_parts.specs.declared.rules.PartRule.{PartRule}
 use Rattle.step_taker.specs.Taken.{Ground}
 use Rattle.step_taker.specs.Walked.{IsPassableNode}
 use Rattle.menu_parts.specs.Forms.{IsBase, IsExactOn, IsMadeBeside, IsMadeOf, IsMadeOfEither}

@@ -17,10 +17,10 @@ use Rattle.behaviour_tree.specs.StateView.{node_profiles, stands_for, state_of}
 use Rattle.behaviour_tree.specs.declared.definitions.Spec.{Spec}
 use Rattle.behaviour_tree.specs.declared.states.Node.{Node}
 use Rattle.behaviour_tree.specs.declared.states.State.{State}
-use Rattle.shared_entries.specs.HandedOn.{IsEntryOver}
-use Rattle.shared_entries.specs.HandedOn.{Menu}
+use Rattle.event_offers.specs.Offers.{IsEntryOver}
+use Rattle.event_offers.specs.declared.menus.Menu.{Menu}
 use Rattle.menu_builder.specs.Menus.{entries_in}
-use Rattle.shared_entries.specs.Items.{HasEntryTerms, HasItemTerms, plain_item}
+use Rattle.menu_parts.specs.Items.{HasEntryTerms, HasItemTerms, plain_item}
 use Rattle.step_taker.specs.Taken.{Ground, ground_of}
 use Rattle.step_taker.specs.Walked.{IsClosedOn, IsPassableNode}
 use Rattle.menu_parts.specs.Forms.{IsBase, IsExactOn}

@@ -7,13 +7,13 @@ use Rattle.behaviour_semantics.specs.Listing.{IsAmong}
 use Rattle.behaviour_semantics.specs.Solving as solving
 use Rattle.behaviour_semantics.specs.WellFormed.{AreOver, Every}
 use Rattle.behaviour_tree.specs.DefinitionView.{specification_of}
-use Rattle.shared_entries.specs.HandedOn.{plain_entry}
-use Rattle.shared_entries.specs.HandedOn.{IsEntryOver, IsOrderedEntry}
-use Rattle.shared_entries.specs.HandedOn.{Entry}
-use Rattle.shared_entries.proofs.HandedOn.{ordered_entry}
-use Rattle.kept_menu_laws.proofs.SolvedMenus.{IsSolvedForm, form_order, IsMenu, menu_of}
-use Rattle.shared_entries.specs.Items.{HasEntryTerms, HasItemTerms, IsItemOver, plain_item}
-use Rattle.shared_entries.specs.declared.items.Item.{Item}
+use Rattle.event_offers.specs.OfferView.{plain_entry}
+use Rattle.event_offers.specs.Offers.{IsEntryOver, IsOrderedEntry}
+use Rattle.event_offers.specs.declared.drafts.Entry.{Entry}
+use Rattle.menu_builder.proofs.HandedOn.{ordered_entry}
+use Rattle.menu_parts.proofs.SolvedMenus.{IsSolvedForm, form_order, IsMenu, menu_of}
+use Rattle.menu_parts.specs.Items.{HasEntryTerms, HasItemTerms, IsItemOver, plain_item}
+use Rattle.menu_parts.specs.declared.items.Item.{Item}
 use Rattle.step_taker.specs.Taken.{Ground}
 use Rattle.step_taker.specs.Walked.{IsClosedOn}
 use Rattle.menu_parts.specs.Forms.{IsBase, IsExactOn}

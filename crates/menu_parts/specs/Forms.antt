@@ -10,9 +10,9 @@ use Rattle.behaviour_tree.specs.BehaviourView.{meet_of}
 use Rattle.behaviour_tree.specs.DefinitionView.{specification_of}
 use Rattle.behaviour_tree.specs.Over.{IsSpecOver}
 use Rattle.behaviour_tree.specs.StateView.{stands_for}
-use Rattle.kept_menu_laws.specs.PartMenus.{joins, parallel_menu, sides_menu}
-use Rattle.shared_entries.specs.Rules.{made_by}
-use Rattle.shared_entries.specs.declared.rules.PartRule.{PartRule}
+use Rattle.menu_parts.specs.PartMenus.{joins, parallel_menu, sides_menu}
+use Rattle.menu_parts.specs.Rules.{made_by}
+use Rattle.menu_parts.specs.declared.rules.PartRule.{PartRule}
 use Rattle.step_taker.specs.Taken.{Ground}
 use Rattle.step_taker.specs.Walked.{IsPassableNode}
 use Rattle.menu_parts.specs.declared.forms.Form.{Form}

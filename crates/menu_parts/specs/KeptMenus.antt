@@ -10,9 +10,9 @@ use Rattle.behaviour_semantics.specs.WellFormed.{Every}
 use Rattle.behaviour_tree.specs.DefinitionView.{specification_of}
 use Rattle.behaviour_tree.specs.StateView.{stands_for}
 use Rattle.behaviour_tree.specs.declared.definitions.Spec.{Spec}
-use Rattle.shared_entries.specs.Items.{HasItemTerms, plain_item}
+use Rattle.menu_parts.specs.Items.{HasItemTerms, plain_item}
 use Rattle.step_taker.specs.Taken.{Ground, ground_of}
-use Rattle.process_checks.specs.Ranks.{AreRanksOf}
+use Rattle.menu_builder.specs.HandedOn.{AreRanksOf}
 use Rattle.menu_parts.specs.Forms.{IsBase, IsExactOn}
 use Rattle.menu_parts.specs.declared.kept.Kept.{Kept, Whole, One', Two'}
 use Rattle.menu_parts.specs.declared.kept.Listed.{Listed}

@@ -21,10 +21,11 @@ ghost use Rattle.step_taker.specs.Taken.{Ground, ground_of};
 ghost use Rattle.step_taker.specs.Walked.{IsPassable, IsPassableNode};
 
 use crate::parts::own_node;
+use crate::rules::PartRule;
 use behaviour_tree::boxes::shared;
 use behaviour_tree::{Beh, Meet, Node, Process};
 use lotos_base::NoMemory;
-use shared_entries::{Call, PartRule, Variant};
+use menu_builder::{Call, Variant};
 use sort_terms::{Deciding, Sorted, Variable};
 use std::alloc::Global;
 use std::rc::Rc;

@@ -5,9 +5,9 @@ ghost use Rattle.menu_parts.specs.KeptMenus.{IsKept, IsListed, listed_for};
 ghost use Rattle.std.specs.Prelude.{◌≡◌, ◌↔◌, IfSome, IsTrue};
 ghost use Rattle.step_taker.specs.Taken.{Ground};
 
+use crate::items::Item;
 use behaviour_tree::Node;
 use same_behaviours::same_nodes;
-use shared_entries::Item;
 use std::rc::Rc;
 
 /// The exact menu of what a node stands for.

@@ -3,11 +3,12 @@ use Rattle.std.proofs.Common.{◌≡◌, ℕ, List, ◌++◌, Option, sym}
 use Rattle.std.proofs.lemmas.List.{append-nil}
 use Rattle.lotos_base.specs.Equation.{Data}
 use Rattle.behaviour_semantics.specs.Behaviour.{Specification}
-use Rattle.start_values.specs.HandedOn.{ReadFault, term_told}
-use Rattle.start_values.specs.HandedOn.read_faults as read
+use Rattle.lotos_grammar.specs.HandedOn.{ReadFault}
+use Rattle.scope_parts.specs.FaultView.{term_told}
+use Rattle.lotos_grammar.specs.HandedOn.read_faults as read
 use Rattle.sort_terms.specs.declared.sort_faults.SortFault.{SortFault}
 use Rattle.sort_terms.specs.declared.sort_faults.SortFault.TheVariants as sort
-use Rattle.start_values.specs.RefusalView.{told_of_text, told_of_type_term, told_of_scopes, told_of_start}
+use Rattle.refusal_lines.specs.RefusalView.{told_of_text, told_of_type_term, told_of_scopes, told_of_start}
 use Rattle.refusal_lines.specs.TextNames.{TextNames}
 use Rattle.refusal_lines.specs.LineView.{detail_told}
 

@@ -1,3 +1,7 @@
+pub mod ListLemmas
+pub mod OutcomeLemmas
+pub mod WordLemmas
+pub mod ValueLemmas
 pub mod DetailLemmas
 pub mod LineLemmas
 pub mod HandedOn

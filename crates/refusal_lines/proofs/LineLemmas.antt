@@ -2,9 +2,9 @@
 use Rattle.std.proofs.Common.{◌≡◌, ℕ, List, ◌++◌, map, Option, None, Some, option_map, IfSome, ◌∙◌, ap}
 use Rattle.lotos_base.specs.Name.{spelling}
 use Rattle.lotos_base.specs.declared.names.Name.{Name}
-use Rattle.start_values.specs.Refusal as plain
-use Rattle.start_values.specs.RefusalView.{with_known}
-use Rattle.start_values.specs.declared.refused.Refused.{Refused}
+use Rattle.refusal_lines.specs.Refusal as plain
+use Rattle.refusal_lines.specs.RefusalView.{with_known}
+use Rattle.refusal_lines.specs.declared.refused.Refused.{Refused}
 use Rattle.refusal_lines.specs.TextNames.{TextNames, at_text}
 use Rattle.refusal_lines.specs.RefusalText.{refusal_text}
 use Rattle.refusal_lines.specs.LineView.{data_in, spec_in, words_told, place_told, detail_told}

@@ -1,30 +1,49 @@
 -- What crates above this one need of the crates below it.
-pub use Rattle.start_values.specs.HandedOn.{book_canon, IsOpenedBy, Gathered, ShelfState, AreUnjoinedBy, equation_at, ArePeaksOf, GivesFile}
-pub use Rattle.start_values.specs.HandedOn.{IsBookFault, BookFault, TextFault, text_fault_of, TextIsMisread, ReadFault, nothing_yet, item}
-pub use Rattle.start_values.specs.HandedOn.{memory_wanted, memory_ends, IsSpecificationReading, Book, LibraryFault, CodeGathered, too_many}
-pub use Rattle.start_values.specs.HandedOn.{IsOrderReadFault, IsOrderReading, IsSpecificationFault, misread, GatheringOutcome, all_gathered}
-pub use Rattle.start_values.specs.HandedOn.{faulty, without_file, gathered_of, IsGathered, AsksInAll, FailsBy, GotFile, AreGotFrom, Files}
-pub use Rattle.start_values.specs.HandedOn.{IsFileOf, book_is_canon, Becomes, LacksFrom, ComesFrom, HasOneOutcome, Gives, GivesAndLacks}
-pub use Rattle.start_values.specs.HandedOn.{GivesSome, with_type, Waiting, mention, MentionComesTo, read_before, one_too_many, in_place}
-pub use Rattle.start_values.specs.HandedOn.{not_read, no_file, wanted_before_text, wanted_behind_text, goes_on, stops, nothing_waits, then}
-pub use Rattle.start_values.specs.HandedOn.{a_type, mentions, ends, book_chooses, shelf_state, calls_after, Problem}
-pub use Rattle.start_values.specs.HandedOn.book_faults
-pub use Rattle.start_values.specs.HandedOn.gathered
-pub use Rattle.start_values.specs.HandedOn.library_faults
-pub use Rattle.start_values.specs.HandedOn.read_faults
-pub use Rattle.start_values.specs.HandedOn.text_fault
-pub use Rattle.start_values.specs.Refusal.{Refused, Refusal, wrong_scopes, too_many_libraries, unknown_operation, twice_listed, bad_status}
-pub use Rattle.start_values.specs.Refusal as refusal
-pub use Rattle.start_values.specs.Refusal.{unorientable, unjoined, mismatch, unguarded, too_long, bad_byte, open_comment, wrong_syntax}
-pub use Rattle.start_values.specs.Refusal.{too_deep, wrong_names, wrong_types}
-pub use Rattle.start_values.specs.RefusalView.{refused_of, told_of_text, told_of_scopes, with_known, refusal_of}
-pub use Rattle.start_values.specs.StartLaws.{StartValuesAreGround}
-pub use Rattle.start_values.specs.StartValues.{AreStartValues, IsStartFault, Start, HaveValues, WordTerm}
-pub use Rattle.start_values.specs.StartView as start_view
-pub use Rattle.start_values.specs.StartView.{FailsAs, parameter_sorts}
-pub use Rattle.start_values.specs.WordLimits.{words_of, are_within, words_limit, word_bytes_limit, total_length}
-pub use Rattle.start_values.specs.declared.faults.StartFault.{StartFault}
-pub use Rattle.start_values.specs.declared.faults.StartFault.TheVariants as start_faults
-pub use Rattle.start_values.specs.declared.refused.Refused.{Refused as CodeRefused}
-pub use Rattle.start_values.specs.declared.spec_fault.SpecFault.{SpecFault}
-pub use Rattle.start_values.specs.declared.spec_fault.SpecFault.TheVariants as spec_faults
+pub use Rattle.equation_book.specs.BookCanon.{book_canon}
+pub use Rattle.equation_book.specs.BookCanonFacts.{book_chooses, book_is_canon}
+pub use Rattle.equation_book.specs.Joining.{AreUnjoinedBy, ArePeaksOf}
+pub use Rattle.equation_book.specs.Listing.{equation_at}
+pub use Rattle.equation_book.specs.Refusal.{IsOpenedBy, IsBookFault}
+pub use Rattle.equation_book.specs.declared.book.Book.{Book}
+pub use Rattle.equation_book.specs.declared.book_fault.BookFault.{BookFault}
+pub use Rattle.equation_book.specs.declared.book_fault.BookFault.TheVariants as book_faults
+pub use Rattle.lotos_grammar.specs.GatheredView.{gathered_of}
+pub use Rattle.lotos_grammar.specs.Gathering.{library_file, Gathered, GatheringOutcome, all_gathered, faulty, without_file, memory_wanted}
+pub use Rattle.lotos_grammar.specs.Gathering.{Becomes, nothing_yet, item, with_type, Waiting, mention, MentionComesTo, read_before, no_file}
+pub use Rattle.lotos_grammar.specs.Gathering.{one_too_many, in_place, not_read, wanted_before_text, wanted_behind_text, goes_on, stops}
+pub use Rattle.lotos_grammar.specs.Gathering.{nothing_waits, a_type, mentions, then, ends, memory_ends, too_many, misread, GotFile, Problem}
+pub use Rattle.lotos_grammar.specs.GatheringLaws.{AreGotFrom, Files, LacksFrom, ComesFrom}
+pub use Rattle.lotos_grammar.specs.HandedOn.{IsSpecificationReading, IsOrderReadFault, IsOrderReading, IsSpecificationFault, HasOneOutcome}
+pub use Rattle.lotos_grammar.specs.HandedOn.{ReadFault}
+pub use Rattle.lotos_grammar.specs.HandedOn.read_faults
+pub use Rattle.lotos_grammar.specs.Progress.{IsGathered, AsksInAll, FailsBy}
+pub use Rattle.lotos_grammar.specs.ShelfUse.{ShelfState, GivesFile, IsFileOf, Gives, GivesAndLacks, GivesSome, shelf_state, calls_after}
+pub use Rattle.lotos_grammar.specs.TextFault as text_fault
+pub use Rattle.lotos_grammar.specs.TextFault.{TextFault, text_fault_of, TextIsMisread}
+pub use Rattle.lotos_grammar.specs.declared.faults.LibraryFault.{LibraryFault}
+pub use Rattle.lotos_grammar.specs.declared.faults.LibraryFault.TheVariants as library_faults
+pub use Rattle.lotos_grammar.specs.declared.gathered.Gathered as gathered
+pub use Rattle.lotos_grammar.specs.declared.gathered.Gathered.{Gathered as CodeGathered}
+pub use Rattle.process_checks.specs.Calls.{calls_of, process_at, called_by, graph_of}
+pub use Rattle.process_checks.specs.Exits.{Blames}
+pub use Rattle.process_checks.specs.Functionality.{Functionality, Disagreement, all_disagreements, value_sort, variable_sort, declared_by}
+pub use Rattle.process_checks.specs.Functionality.{of_either, of_both, functionality, are_same, at_sign, disagreements, at_definition}
+pub use Rattle.process_checks.specs.Functionality.{of_definition, of_processes}
+pub use Rattle.process_checks.specs.Graph.{IsFirstOnCycle, IsKeptCycle, LiesOnCycle, IsCallAt, CallsLead, CallStandsBefore, ComeNoLater}
+pub use Rattle.process_checks.specs.Graph.{IsKeptWay}
+pub use Rattle.process_checks.specs.Ranks.{AreRanksOf, IsSiteAt, IsUnguarded, RefusesRanks}
+pub use Rattle.process_checks.specs.Ways.{CallsHaveCycle}
+pub use Rattle.process_checks.specs.declared.calls.CallSite.{CallSite}
+pub use Rattle.process_checks.specs.declared.mismatches.ExitFault.{ExitFault}
+pub use Rattle.process_checks.specs.declared.mismatches.ExitFault.TheVariants as exit_faults
+pub use Rattle.process_checks.specs.declared.rank_table.RankFault.{RankFault}
+pub use Rattle.process_checks.specs.declared.rank_table.RankFault.TheVariants as rank_faults
+pub use Rattle.process_checks.specs.declared.rank_table.Ranks.{Ranks}
+pub use Rattle.scope_parts.specs.Definitions.{SpecificationIs}
+pub use Rattle.scope_parts.specs.FaultView.{term_told, told_by, Told, nothing_told, never_told, told, OfTold, FaultIs}
+pub use Rattle.scope_parts.specs.GateLists.{TextHasGateLists}
+pub use Rattle.scope_parts.specs.Resolution.{resolved, faulty as resolution_faulty, Resolution}
+pub use Rattle.scope_parts.specs.ScopeFault as scope_fault
+pub use Rattle.scope_parts.specs.ScopeFault.{fault_place, refusal_place, ScopeFault as PlainScopeFault}
+pub use Rattle.scope_parts.specs.declared.scope_faults.ScopeFault.{ScopeFault}
+pub use Rattle.scope_parts.specs.declared.scope_faults.ScopeFault.TheVariants as scope_faults

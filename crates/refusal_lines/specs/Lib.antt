@@ -1,3 +1,9 @@
+pub mod WordLimits
+pub mod StartValues
+pub mod StartLaws
+pub mod StartView
+pub mod Refusal
+pub mod RefusalView
 pub mod RefusalWords
 pub mod RefusalPlace
 pub mod TextNames

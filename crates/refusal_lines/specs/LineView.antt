@@ -7,10 +7,10 @@ use Rattle.behaviour_tree.specs.DefinitionView.{specification_of}
 use Rattle.behaviour_tree.specs.declared.definitions.Spec.{Spec}
 use Rattle.sort_terms.specs.EquationView.{data_of}
 use Rattle.sort_terms.specs.declared.equations.Flat.{Flat}
-use Rattle.start_values.specs.Refusal.{Refusal}
-use Rattle.start_values.specs.RefusalView.{refusal_of}
-use Rattle.start_values.specs.declared.refused.Refused.{Refused}
-use Rattle.refusal_lines.specs.RefusalWords.{words_of}
+use Rattle.refusal_lines.specs.Refusal.{Refusal}
+use Rattle.refusal_lines.specs.RefusalView.{refusal_of}
+use Rattle.refusal_lines.specs.declared.refused.Refused.{Refused}
+use Rattle.refusal_lines.specs.RefusalWords.{words_of_refusal}
 use Rattle.refusal_lines.specs.RefusalPlace.{place_of}
 use Rattle.refusal_lines.specs.RefusalDetail.{detail_of}
 use Rattle.refusal_lines.specs.TextNames as plain
@@ -19,7 +19,7 @@ use Rattle.refusal_lines.specs.declared.text_names.TextNames.{TextNames}
 
 abbrev pub words_told : Option Refusal → List ℕ
 words_told None = []
-words_told (Some refusal) = words_of refusal
+words_told (Some refusal) = words_of_refusal refusal
 
 abbrev pub place_told : Option Data → Option Refusal → Option Place
 place_told known None = None

@@ -6,10 +6,10 @@ use Rattle.lotos_base.specs.Term.{Term}
 use Rattle.behaviour_semantics.specs.Behaviour.{Process, Specification}
 use Rattle.type_definitions.specs.MentionFaults.{MentionFault, double_type, unknown_type, type_cycle}
 use Rattle.type_definitions.specs.TypeFault.{TypeFault, double_sort, unknown_sort, double_operation, unknown_operation as no_operation, not_formal, missing_actual, premised, unknown_name, no_reading, two_readings, too_large}
-use Rattle.start_values.specs.HandedOn.scope_fault as scope
+use Rattle.scope_parts.specs.ScopeFault as scope
 use Rattle.printed_texts.specs.FunctionalityText.{functionality_text}
 use Rattle.printed_texts.specs.TermText.{term_text}
-use Rattle.start_values.specs.Refusal.{Refusal, too_long, bad_byte, open_comment, wrong_syntax, too_deep, too_many_libraries, wrong_names, wrong_types, wrong_scopes, mismatch, unguarded, unknown_operation, twice_listed, bad_status, unorientable, unjoined, start_values, start_term}
+use Rattle.refusal_lines.specs.Refusal.{Refusal, too_long, bad_byte, open_comment, wrong_syntax, too_deep, too_many_libraries, wrong_names, wrong_types, wrong_scopes, mismatch, unguarded, unknown_operation, twice_listed, bad_status, unorientable, unjoined, start_values, start_term}
 use Rattle.refusal_lines.specs.TextNames.{TextNames, place_text}
 use Rattle.refusal_lines.specs.RefusalPlace.{place_of_equation}
 

@@ -4,8 +4,8 @@ use Rattle.std.specs.Prelude.{ℕ, Option, None, Some, option_map, slice_get}
 use Rattle.lotos_base.specs.Equation.{Place, Equation, Data}
 use Rattle.type_definitions.specs.MentionFaults.{MentionFault, double_type, unknown_type, type_cycle}
 use Rattle.type_definitions.specs.TypeFault.{TypeFault, double_sort, unknown_sort, double_operation, unknown_operation as no_operation, not_formal, missing_actual, premised, unknown_name, no_reading, two_readings, too_large}
-use Rattle.start_values.specs.HandedOn.{fault_place, refusal_place}
-use Rattle.start_values.specs.Refusal.{Refusal, too_long, bad_byte, open_comment, wrong_syntax, too_deep, too_many_libraries, wrong_names, wrong_types, wrong_scopes, mismatch, unguarded, unknown_operation, twice_listed, bad_status, unorientable, unjoined, start_values, start_term}
+use Rattle.scope_parts.specs.ScopeFault.{fault_place, refusal_place}
+use Rattle.refusal_lines.specs.Refusal.{Refusal, too_long, bad_byte, open_comment, wrong_syntax, too_deep, too_many_libraries, wrong_names, wrong_types, wrong_scopes, mismatch, unguarded, unknown_operation, twice_listed, bad_status, unorientable, unjoined, start_values, start_term}
 
 -- where a text begins
 abbrev pub beginning : ℕ → Place

@@ -3,8 +3,8 @@ use Rattle.std.specs.Prelude.{ℕ, List, codes}
 use Rattle.sort_terms.specs.ReadingOutcome as reading
 use Rattle.type_definitions.specs.MentionFaults.{MentionFault, double_type, unknown_type, type_cycle}
 use Rattle.type_definitions.specs.TypeFault.{TypeFault, double_sort, unknown_sort, double_operation, unknown_operation as no_operation, not_formal, missing_actual, premised, unknown_name, no_reading, two_readings, too_large}
-use Rattle.start_values.specs.HandedOn.scope_fault as scope
-use Rattle.start_values.specs.Refusal.{Refusal, too_long, bad_byte, open_comment, wrong_syntax, too_deep, too_many_libraries, wrong_names, wrong_types, wrong_scopes, mismatch, unguarded, unknown_operation, twice_listed, bad_status, unorientable, unjoined, start_values, start_term}
+use Rattle.scope_parts.specs.ScopeFault as scope
+use Rattle.refusal_lines.specs.Refusal.{Refusal, too_long, bad_byte, open_comment, wrong_syntax, too_deep, too_many_libraries, wrong_names, wrong_types, wrong_scopes, mismatch, unguarded, unknown_operation, twice_listed, bad_status, unorientable, unjoined, start_values, start_term}
 
 -- of the names of types
 abbrev pub words_of_names : MentionFault → List ℕ
@@ -45,22 +45,22 @@ words_of_scopes (scope.no_bool place) = codes "306 NoBool"
 words_of_scopes (scope.refused_term refusal) = words_of_term refusal
 
 -- of all
-abbrev pub words_of : Refusal → List ℕ
-words_of (bad_byte place) = codes "101 BadByte"
-words_of (open_comment place) = codes "102 OpenComment"
-words_of (too_long text) = codes "103 TooLong"
-words_of (wrong_syntax place) = codes "104 Syntax"
-words_of (too_deep place) = codes "105 TooDeep"
-words_of (too_many_libraries place name) = codes "106 Libraries"
-words_of (wrong_names fault) = words_of_names fault
-words_of (wrong_types fault) = words_of_types fault
-words_of (wrong_scopes fault) = words_of_scopes fault
-words_of (mismatch place left right) = codes "401 Mismatch"
-words_of (unguarded place process cycle) = codes "402 Unguarded"
-words_of (unknown_operation place name) = codes "501 OrderOperation"
-words_of (twice_listed place name) = codes "502 TwiceListed"
-words_of (bad_status place name) = codes "503 BadStatus"
-words_of (unorientable equation) = codes "601 Unorientable"
-words_of (unjoined first second peak left right) = codes "602 Unjoined"
-words_of (start_values wanted given) = codes "701 StartValues"
-words_of (start_term refusal) = words_of_term refusal
+abbrev pub words_of_refusal : Refusal → List ℕ
+words_of_refusal (bad_byte place) = codes "101 BadByte"
+words_of_refusal (open_comment place) = codes "102 OpenComment"
+words_of_refusal (too_long text) = codes "103 TooLong"
+words_of_refusal (wrong_syntax place) = codes "104 Syntax"
+words_of_refusal (too_deep place) = codes "105 TooDeep"
+words_of_refusal (too_many_libraries place name) = codes "106 Libraries"
+words_of_refusal (wrong_names fault) = words_of_names fault
+words_of_refusal (wrong_types fault) = words_of_types fault
+words_of_refusal (wrong_scopes fault) = words_of_scopes fault
+words_of_refusal (mismatch place left right) = codes "401 Mismatch"
+words_of_refusal (unguarded place process cycle) = codes "402 Unguarded"
+words_of_refusal (unknown_operation place name) = codes "501 OrderOperation"
+words_of_refusal (twice_listed place name) = codes "502 TwiceListed"
+words_of_refusal (bad_status place name) = codes "503 BadStatus"
+words_of_refusal (unorientable equation) = codes "601 Unorientable"
+words_of_refusal (unjoined first second peak left right) = codes "602 Unjoined"
+words_of_refusal (start_values wanted given) = codes "701 StartValues"
+words_of_refusal (start_term refusal) = words_of_term refusal

@@ -3,7 +3,7 @@
 use Rattle.std.specs.Prelude.{ℕ, ◌-◌, List, [], ◌++◌, Option, None, Some, slice_get, nat_eq, if◌then◌else◌, codes, decimal}
 use Rattle.lotos_base.specs.Equation.{Place}
 use Rattle.lotos_library.specs.Library.{library_text}
-use Rattle.start_values.specs.HandedOn.{library_file}
+use Rattle.lotos_grammar.specs.Gathering.{library_file}
 
 -- the two words, and the names of the libraries that were read, in the order of the numbers of their texts
 pub record TextNames : Type 0 where

@@ -6,8 +6,8 @@ ghost use Rattle.lotos_base.specs.Name.{spelling};
 ghost use Rattle.refusal_lines.specs.LineView.{data_in, detail_told, names_of, spec_in};
 ghost use Rattle.refusal_lines.specs.RefusalDetail.{behind_blank, counts_text};
 ghost use Rattle.refusal_lines.specs.TextNames as plain;
-ghost use Rattle.start_values.specs.HandedOn.{told_by};
-ghost use Rattle.start_values.specs.RefusalView.{
+ghost use Rattle.scope_parts.specs.FaultView.{told_by};
+ghost use Rattle.refusal_lines.specs.RefusalView.{
   refusal_of,
   told_of_book,
   told_of_exits,
@@ -18,12 +18,16 @@ ghost use Rattle.start_values.specs.RefusalView.{
 ghost use Rattle.std.specs.Prelude.{◌≡◌, ◌++◌, OnOk, Option};
 
 use crate::evidence::{Forms, push_cycle, push_equation, push_mismatch, push_pair};
+use crate::refused::Refused;
+use crate::spec_fault::SpecFault;
 use crate::text_names::TextNames;
 use behaviour_tree::Spec;
+use equation_book::BookFault;
 use lotos_base::{Name, NoMemory};
 use printed_texts::brackets::{push_number, push_text};
+use process_checks::{ExitFault, RankFault};
+use scope_parts::ScopeFault;
 use sort_terms::Flat;
-use start_values::{BookFault, ExitFault, RankFault, Refused, ScopeFault, SpecFault};
 use type_definitions::TypeFault;
 
 /// Appends the detail of a refusal, behind a blank, if it has one.

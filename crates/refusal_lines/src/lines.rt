@@ -2,16 +2,16 @@
 
 ghost use Rattle.refusal_lines.specs.LineView.{line_told, names_of};
 ghost use Rattle.refusal_lines.specs.RefusalText.{refusal_text};
-ghost use Rattle.start_values.specs.RefusalView.{refused_of};
+ghost use Rattle.refusal_lines.specs.RefusalView.{refused_of};
 ghost use Rattle.std.specs.Prelude.{◌≡◌, ◌++◌, IfSome, MatchResult, OnOk};
 
 use crate::details::push_detail;
 use crate::places::place;
+use crate::refused::Refused;
 use crate::text_names::{TextNames, push_at};
 use crate::words::words;
 use lotos_base::NoMemory;
 use printed_texts::brackets::push_text;
-use start_values::Refused;
 
 /// Appends the line of a refusal: `refused`, its number and name, where it stands, and its detail.
 /// `spec` and `order` are the words for the specification and the order file; `order` is empty

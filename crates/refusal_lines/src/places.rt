@@ -5,8 +5,8 @@ ghost use Rattle.lotos_base.specs.WrittenView.{text_place_of};
 ghost use Rattle.refusal_lines.specs.LineView.{data_in, place_told};
 ghost use Rattle.refusal_lines.specs.RefusalPlace.{place_of_equation};
 ghost use Rattle.sort_terms.specs.EquationView.{data_of};
-ghost use Rattle.start_values.specs.HandedOn.{term_told, told_by};
-ghost use Rattle.start_values.specs.RefusalView.{
+ghost use Rattle.scope_parts.specs.FaultView.{term_told, told_by};
+ghost use Rattle.refusal_lines.specs.RefusalView.{
   refusal_of,
   told_of_book,
   told_of_exits,
@@ -20,9 +20,13 @@ ghost use Rattle.start_values.specs.RefusalView.{
 ghost use Rattle.std.specs.Option.{option_map};
 ghost use Rattle.std.specs.Prelude.{◌≡◌, Option, Some};
 
+use crate::spec_fault::SpecFault;
+use equation_book::BookFault;
 use lotos_base::Place;
+use lotos_grammar::ReadFault;
+use process_checks::{ExitFault, RankFault};
+use scope_parts::ScopeFault;
 use sort_terms::{Flat, SortFault};
-use start_values::{BookFault, ExitFault, RankFault, ReadFault, ScopeFault, SpecFault};
 use type_definitions::TypeFault;
 
 /// Where a refusal stands, if it stands anywhere.

@@ -10,7 +10,7 @@ ghost use Rattle.refusal_lines.specs.TextNames.{
   place_text,
   text_name,
 };
-ghost use Rattle.start_values.specs.HandedOn.{library_file};
+ghost use Rattle.lotos_grammar.specs.Gathering.{library_file};
 ghost use Rattle.std.specs.Option.{option_map};
 ghost use Rattle.std.specs.Prelude.{◌≡◌, ◌++◌, OnOk, map, slice_get};
 

@@ -1,8 +1,8 @@
 //! The number and the name of each refusal.
 
 ghost use Rattle.refusal_lines.specs.LineView.{words_told};
-ghost use Rattle.start_values.specs.HandedOn.{term_told, told_by};
-ghost use Rattle.start_values.specs.RefusalView.{
+ghost use Rattle.scope_parts.specs.FaultView.{term_told, told_by};
+ghost use Rattle.refusal_lines.specs.RefusalView.{
   refusal_of,
   told_of_book,
   told_of_exits,
@@ -15,8 +15,12 @@ ghost use Rattle.start_values.specs.RefusalView.{
 };
 ghost use Rattle.std.specs.Prelude.{◌≡◌, ℕ};
 
+use crate::spec_fault::SpecFault;
+use equation_book::BookFault;
+use lotos_grammar::ReadFault;
+use process_checks::{ExitFault, RankFault};
+use scope_parts::ScopeFault;
 use sort_terms::SortFault;
-use start_values::{BookFault, ExitFault, RankFault, ReadFault, ScopeFault, SpecFault};
 use type_definitions::TypeFault;
 
 /// The number and the name of a refusal.

@@ -8,24 +8,19 @@ use Rattle.behaviour_semantics.specs.Behaviour.{Specification, sorts_of}
 use Rattle.behaviour_semantics.specs.Label.{Label}
 use Rattle.behaviour_semantics.specs.Replacement.{with_values, binding_of}
 use Rattle.lotos_top.specs.HandedOn.{Beginning, Progress, head_text, shown_menu, Asked, Founded, Founds, IsFounded, start_of}
-use Rattle.lotos_top.specs.HandedOn.{StartsWithValues, Acceptance, accepted_with, AcceptsText, IsAccepted, got_from, ComesOfPart}
-use Rattle.lotos_top.specs.HandedOn.{ComesOver, asked_for, GotFile, AreGotFrom, IsOpenedBy, Refused, with_spec, Comes, goes_on, unread}
-use Rattle.lotos_top.specs.HandedOn.{stops, wants_memory, Part, Then, Has, GetsFile, is_got, is_lacking, is_wanting}
-use Rattle.lotos_top.specs.Finishing.{print, Finish, prints, serves}
+use Rattle.lotos_top.specs.HandedOn.{StartsWithValues, Acceptance, accepted_with, AcceptsText, IsAccepted, got_from, ComesOfPart, ComesOver}
+use Rattle.lotos_top.specs.HandedOn.{asked_for, GotFile, AreGotFrom, IsOpenedBy, Refused, with_spec, Comes, goes_on, unread, stops}
+use Rattle.lotos_top.specs.HandedOn.{wants_memory, Part, Then, Has, GetsFile, is_got, is_lacking, is_wanting, print, Finish, prints, serves}
+use Rattle.lotos_top.specs.HandedOn.{Done, Refusal, AreStartValues, IsStartFault}
 use Rattle.lotos_top.specs.Opening.{SessionBegins, opening_text}
 use Rattle.lotos_top.specs.Parts.{Finds, OpensAsked}
-use Rattle.lotos_top.specs.declared.ended.Ended.TheVariants.{Done}
-use Rattle.printed_texts.specs.MenuText.{label_text, menu_text}
-use Rattle.session_histories.specs.Replay.{shown_label}
-use Rattle.start_values.specs.Refusal.{Refusal}
-use Rattle.start_values.specs.StartValues.{AreStartValues, IsStartFault}
 use Rattle.session_laws.specs.SameBases.{AreSameBases}
 use Rattle.session_laws.specs.SameChecksLaws.{start_over}
-use Rattle.declaration_laws.specs.SameSpecification.{AreSameSpecifications}
+use Rattle.flat_sentences.specs.HandedOn.{AreSameSpecifications, shown_label, label_text, menu_text}
 use Rattle.flat_sentences.specs.SameSpelling.{AreDataSpelledAlike}
 use Rattle.session_laws.proofs.SameMenus.{turned}
 use Rattle.session_laws.proofs.SameOrders.{opened_over}
-use Rattle.session_laws.proofs.SameReadings.{starts_over, start_fault_over}
+use Rattle.session_laws.proofs.SameStarts.{starts_over, start_fault_over}
 use Rattle.session_laws.proofs.SameSessions.{sessions_agree}
 use Rattle.session_laws.proofs.SameTexts.{label_printed, menu_printed, head_printed, texts_agree}
 use Rattle.session_laws.proofs.SpelledAlike.{same_data, spelling_turned}

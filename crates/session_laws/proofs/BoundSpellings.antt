@@ -12,6 +12,7 @@ use Rattle.syntax_trees.specs.TakenItems.{without_items, process_then, processes
 use Rattle.syntax_trees.proofs.TakingItems.{listed-again}
 use Rattle.behaviour_semantics.specs.Behaviour.{Behaviour, stop, Offer, give, ask, Process, Specification, asked_variables, let_variables}
 use Rattle.behaviour_semantics.specs.WellFormed.{Every}
+use Rattle.behaviour_semantics.proofs.ListLemmas.{Every-append}
 use Rattle.scope_parts.specs.Resolution.{Resolution, resolved, faulty, and_then, put_in_front, Beside}
 use Rattle.scope_parts.specs.Scope.{Binding, Scope, Callable, first_double}
 use Rattle.scope_parts.specs.Numbering.{Numbers, asked_for, past}
@@ -20,11 +21,9 @@ use Rattle.scope_parts.specs.Terms.{BindingIs, BindingsAre, let_names, LetIs, Of
 use Rattle.scope_parts.specs.Choices.{GateChoice, ParChoice, under_gates, under_par, under_values}
 use Rattle.scope_parts.specs.Behaviours.{SignIs, BehaviourIs}
 use Rattle.scope_parts.specs.Definitions.{Heading, DefinitionIs, InnerIs, InnersAre, SpecificationIs}
-use Rattle.declaration_laws.proofs.ScopeLemmas.{one_value, beside_there}
-use Rattle.session_histories.specs.BoundNames.{names_of_variables, bound_names}
-use Rattle.specification_laws.specs.HandedOn.{IsWordSpelling}
+use Rattle.flat_sentences.proofs.HandedOn.{one_value, beside_there}
+use Rattle.flat_sentences.specs.HandedOn.{IsWordSpelling, names_of_variables, bound_names}
 use Rattle.session_laws.specs.PrintedStates.{IsNamedProcess}
-use Rattle.session_laws.proofs.WrittenNames.{every_joined}
 use Rattle.session_laws.proofs.VariableSpellings.{IsVariableSpelled, IsOfferSpelled, IsLetSpelled, DeclaresWords, AreVariablesSpelled, IsInnerNamed, AreInnersNamed, IsTreeNamed}
 
 -- ---- Variables
@@ -36,7 +35,7 @@ abbrev AreNamed : List Variable → Type 0
 AreNamed xs = Every IsWordSpelling (names_of_variables xs)
 
 both : (xs ys : List (List ℕ)) → Every IsWordSpelling xs → Every IsWordSpelling ys → Every IsWordSpelling (xs ++ ys)
-both xs ys first second = every_joined IsWordSpelling xs ys first second
+both xs ys first second = Every-append IsWordSpelling xs ys first second
 
 -- a list without a double name is what it is without that question
 beside_so : {A : Type 0} (double : Option PlacedName) (Others : Resolution A → Type 0) (x : A) → Beside double Others (resolved x)
@@ -226,7 +225,7 @@ module _ (signature : Signature) where
     inners_processes no_inner visible before numbers found is all = subst (Every IsNamedProcess) (sym (one_value found [] is)) tt
     inners_processes (inner_then first others) visible before numbers found is all =
         subst (Every IsNamedProcess) (sym is.2.2)
-        (every_joined IsNamedProcess is.0 is.2.0 (inner_processes first _ _ _ is.0 is.1 all.0)
+        (Every-append IsNamedProcess is.0 is.2.0 (inner_processes first _ _ _ is.0 is.1 all.0)
         (inners_processes others _ _ _ is.2.0 is.2.1 all.1))
 
 -- ---- The types taken out

@@ -9,11 +9,12 @@ use Rattle.syntax_trees.specs.WrittenBehaviour.{WrittenSign, choice_sign, interl
 use Rattle.syntax_trees.specs.WrittenDefinition.{WrittenInner, WrittenInners, inner_item, process, no_inner, inner_then, inners_of, WrittenSpecification}
 use Rattle.behaviour_semantics.specs.Behaviour.{Process, Specification}
 use Rattle.behaviour_semantics.specs.WellFormed.{Every}
+use Rattle.behaviour_semantics.proofs.ListLemmas.{Every-append}
 use Rattle.scope_parts.specs.Numbering.{asked_for, accepted}
 use Rattle.scope_parts.specs.Terms.{let_names}
-use Rattle.declaration_laws.specs.DeclarationOrder.{variables_in, inner_variables, inners_variables, declared_variables, all_variables_of, Follow, HasVariableNumber}
-use Rattle.declaration_laws.proofs.NumberLemmas.{declarations_have_the_next_number}
-use Rattle.specification_laws.specs.HandedOn.{IsWordSpelling}
+use Rattle.flat_sentences.proofs.HandedOn.{declarations_have_the_next_number}
+use Rattle.flat_sentences.specs.HandedOn.{IsWordSpelling, variables_in, inner_variables, inners_variables, declared_variables}
+use Rattle.flat_sentences.specs.HandedOn.{all_variables_of, Follow, HasVariableNumber}
 use Rattle.flat_sentences.specs.FlatTextLaws.{HasSpecificationNames}
 use Rattle.flat_sentences.specs.BehaviourTextLaws.{IsVariableNamed}
 use Rattle.session_laws.specs.PrintedStates.{IsNamedProcess}
@@ -23,7 +24,6 @@ use Rattle.session_laws.proofs.BoundSpellings.{IsNamedSpecification, inners_keep
 use Rattle.session_laws.proofs.GatheredNames.{tree_spelled}
 use Rattle.session_laws.proofs.TokenSpellings.{tokens_spelled}
 use Rattle.session_laws.proofs.VariableSpellings.{IsVariableSpelled, IsOfferSpelled, IsLetSpelled, DeclaresWords, AreVariablesSpelled, IsInnerNamed, AreInnersNamed, IsTreeNamed, specification_named}
-use Rattle.session_laws.proofs.WrittenNames.{every_joined}
 
 -- ---- What a text declares
 
@@ -45,7 +45,7 @@ in_sign disabling all = tt
 in_sign (enabling given) all = all
 
 both : (xs ys : List WrittenVariable) → Every IsVariableSpelled xs → Every IsVariableSpelled ys → Every IsVariableSpelled (xs ++ ys)
-both xs ys first second = every_joined IsVariableSpelled xs ys first second
+both xs ys first second = Every-append IsVariableSpelled xs ys first second
 
 in_behaviour : (w : WrittenBehaviour) → AreVariablesSpelled w → Every IsVariableSpelled (variables_in w)
 in_behaviour (stop place) all = tt

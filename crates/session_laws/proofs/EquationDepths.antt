@@ -10,8 +10,9 @@ use Rattle.syntax_trees.specs.WrittenEquation.{WrittenEquation, WrittenGroup, Wr
 use Rattle.syntax_trees.specs.WrittenItem.{WrittenTypeBody, extends, renames, actualises}
 use Rattle.sort_terms.specs.ReadingOutcome.{one_name, unknown_in, SortedTerm, IsReading}
 use Rattle.behaviour_semantics.specs.WellFormed.{Every}
-use Rattle.specification_laws.specs.HandedOn.{term_depth, depth_among}
-use Rattle.specification_laws.proofs.HandedOn.{IsShallow, shallow_parts, term_within, answer_is}
+use Rattle.behaviour_semantics.proofs.ListLemmas.{Every-append}
+use Rattle.flat_sentences.specs.HandedOn.{term_depth, depth_among}
+use Rattle.flat_sentences.proofs.HandedOn.{IsShallow, shallow_parts, term_within, answer_is}
 use Rattle.type_definitions.specs.DeclaredTypes.{DeclaredType}
 use Rattle.type_definitions.specs.Images.{term_image, terms_image, equation_image}
 use Rattle.type_definitions.specs.Presentation.{Presentation, nothing, with_new, is_same_equation}
@@ -24,7 +25,6 @@ use Rattle.type_definitions.specs.ActualisationFaults.{actualising_of}
 use Rattle.type_definitions.specs.Flattened.{presentation_named, mention_of, mentions_with, IsPresentation, ArePresented, all_presented, next_presented, declared_with, without_formals, types_at, IsFlattening}
 use Rattle.flat_sentences.proofs.Numbered.{declarations_keep}
 use Rattle.session_laws.proofs.FlattenedNames.{new_every, mapped_every, ordered_every}
-use Rattle.session_laws.proofs.WrittenNames.{every_joined}
 
 -- ---- Terms
 
@@ -120,7 +120,7 @@ module _ (limit : ℕ) where
       step _ _ (sort_is_there place name there) shallow = fits
       step _ _ (formal_is_read asked left right one other premisses) shallow = fits
       step _ _ (own_is_read asked left right none one other small) shallow =
-          every_joined EquationFits p.equations (equation_of_sides asked.equation.place (scope_of p asked) left right ∷ []) fits (
+          Every-append EquationFits p.equations (equation_of_sides asked.equation.place (scope_of p asked) left right ∷ []) fits (
             record {
               left = side_fits p asked asked.equation.left left one shallow.0 (appearing left right);
               right = side_fits p asked asked.equation.right right other shallow.1 (appearing left right);
@@ -155,9 +155,9 @@ module _ (limit : ℕ) where
   groups_ask formal variables (group ∷ groups) shallow =
       let parts = shallow_parts limit (flat_map nodes_of_equation group.equations)
       (flat_map (λ (g : WrittenGroup). flat_map nodes_of_equation g.equations) groups) shallow in
-      every_joined QuestionFits (asked_of_group formal variables group) (flat_map (asked_of_group formal variables) groups) (
+      Every-append QuestionFits (asked_of_group formal variables group) (flat_map (asked_of_group formal variables) groups) (
         tt,
-        every_joined QuestionFits (asked_of_variables group.variables)
+        Every-append QuestionFits (asked_of_variables group.variables)
             (map
             (λ (e : WrittenEquation).
             equation_asked formal (record { variables = variables ++ group.variables; sort = group.sort; equation = e }))
@@ -170,7 +170,7 @@ module _ (limit : ℕ) where
   section_asks : (formal : Bool) (section : WrittenEquations) → IsShallow limit (nodes_of_equations section)
       → Every QuestionFits (asked_of_section formal section)
   section_asks formal section shallow =
-      every_joined QuestionFits (asked_of_variables section.variables)
+      Every-append QuestionFits (asked_of_variables section.variables)
       (flat_map (asked_of_group formal section.variables) section.groups) (variables_ask section.variables)
       (groups_ask formal section.variables section.groups shallow)
 
@@ -194,7 +194,7 @@ module _ (limit : ℕ) where
   type_fits done name (extends imports sections) p all shallow is =
       let parts = shallow_parts limit (nodes_of_equations sections.formal_equations) (nodes_of_equations sections.equations) shallow in
       given_fits (extended (mentions_with done imports) name sections) p (asked_of sections) is.1
-      (every_joined QuestionFits (asked_of_section true sections.formal_equations) (asked_of_section false sections.equations)
+      (Every-append QuestionFits (asked_of_section true sections.formal_equations) (asked_of_section false sections.equations)
       (section_asks true sections.formal_equations parts.0) (section_asks false sections.equations parts.1))
       (subst (Every EquationFits) (sym (declarations_keep name (union_of (mentions_with done imports)) sections))
       (union_fits (mentions_with done imports) (mentions_fit done imports all)))
@@ -214,7 +214,7 @@ module _ (limit : ℕ) where
   all_presented_fit done _ _ (all_presented _) mentioned shallow = mentioned
   all_presented_fit done _ _ (next_presented _ all t ts p is more) mentioned shallow =
       all_presented_fit (done ++ declared_with t p ∷ []) ts all more
-      (every_joined MentionFits done (declared_with t p ∷ []) mentioned (type_fits done t.name t.body p mentioned shallow.0 is, tt))
+      (Every-append MentionFits done (declared_with t p ∷ []) mentioned (type_fits done t.name t.body p mentioned shallow.0 is, tt))
       shallow.1
 
   informal_fit : (all : List Mentioned) → Every MentionFits all → Every MentionFits (without_formals all)

@@ -10,14 +10,12 @@ use Rattle.lotos_base.specs.Limits.{text_limit}
 use Rattle.lotos_base.specs.Signature.{Signature, Sort, Operation}
 use Rattle.lotos_base.specs.Sorting.{sort_of}
 use Rattle.behaviour_semantics.specs.Behaviour.{Process, Specification}
-use Rattle.printed_texts.specs.BehaviourText.{Naming, process_names, behaviour_text}
-use Rattle.printed_texts.specs.Brackets.{commas, after_commas}
-use Rattle.printed_texts.specs.TermText.{term_text}
 use Rattle.flat_sentences.specs.DataLaws.{HasFewVariables}
-use Rattle.flat_sentences.specs.HandedOn.{line, sorts_lines, operation_line, operations_lines, equations_lines, equation_line, for_all, sorted_variable}
-use Rattle.flat_sentences.specs.HandedOn.{sort_if_any, data_lines, data_text, given_behind, given_names, free_names, equation_names}
-use Rattle.flat_sentences.specs.HandedOn.{operation_names, named, renamed_variables, least_free, given_name, heading, process_lines}
-use Rattle.flat_sentences.specs.HandedOn.{processes_lines, where_lines, flat_naming, flat_text}
+use Rattle.flat_sentences.specs.HandedOn.{line, sorts_lines, operation_line, operations_lines, equations_lines, equation_line, for_all}
+use Rattle.flat_sentences.specs.HandedOn.{sorted_variable, sort_if_any, data_lines, data_text, given_behind, given_names, free_names}
+use Rattle.flat_sentences.specs.HandedOn.{equation_names, operation_names, named, renamed_variables, least_free, given_name, heading}
+use Rattle.flat_sentences.specs.HandedOn.{process_lines, processes_lines, where_lines, flat_naming, flat_text, Naming, process_names}
+use Rattle.flat_sentences.specs.HandedOn.{behaviour_text, commas, after_commas, term_text}
 use Rattle.flat_sentences.proofs.Given.{sort_within}
 
 -- ---- Lists

@@ -3,14 +3,11 @@ use Rattle.std.proofs.Common.{◌≡◌, ◌≤◌, ◌+◌, ℕ, zero, suc, Lis
 use Rattle.std.specs.Prelude.{option_map}
 use Rattle.lotos_base.specs.Limits.{text_limit}
 use Rattle.lotos_base.specs.Outside.{Texts}
-use Rattle.specification_laws.specs.AgreementLaws.{NoDisagreementIsAgreement}
-use Rattle.flat_sentences.specs.HandedOn.{flat_text}
-use Rattle.lotos_top.specs.Finishing.{Print, print, Finish, prints, serves, refusal_printed}
+use Rattle.flat_sentences.specs.HandedOn.{flat_text, NoDisagreementIsAgreement}
 use Rattle.lotos_top.specs.Flattening.{flat_printed}
-use Rattle.lotos_top.specs.HandedOn.{Beginning, Founded, IsFounded, asked_for, Comes, goes_on, Has, Telling, ComesOfPart}
-use Rattle.lotos_top.specs.HandedOn.{Refused}
+use Rattle.lotos_top.specs.HandedOn.{Beginning, Founded, IsFounded, asked_for, Comes, goes_on, Has, Telling, ComesOfPart, Refused, Print}
+use Rattle.lotos_top.specs.HandedOn.{print, Finish, prints, serves, refusal_printed, Done}
 use Rattle.lotos_top.specs.Opening.{opening_text}
-use Rattle.lotos_top.specs.declared.ended.Ended.TheVariants.{Done}
 use Rattle.lotos_top.proofs.HandedOn.{outcomes_over_texts_are_one}
 use Rattle.session_laws.specs.Alike.{AreFoundedAlike}
 use Rattle.session_laws.specs.AlikeLaws.{FoundedOver, RunAlike}

@@ -10,15 +10,15 @@ use Rattle.syntax_trees.specs.WrittenItem.{WrittenItem, libraries, type_declared
 use Rattle.syntax_trees.specs.WrittenDefinition.{WrittenInners, inner_item, process, no_inner, inner_then, inners_of, WrittenSpecification}
 use Rattle.sentence_trees.specs.Reading.{node_limit}
 use Rattle.behaviour_semantics.specs.Behaviour.{Process, Specification}
-use Rattle.printed_texts.specs.BehaviourText.{Naming}
 use Rattle.type_definitions.specs.DeclaredTypes.{types_of}
 use Rattle.scope_parts.specs.Resolution.{resolved}
-use Rattle.specification_laws.specs.HandedOn.{HasTextNames}
-use Rattle.specification_laws.proofs.HandedOn.{IsShallow, shallow_joined}
+use Rattle.flat_sentences.proofs.HandedOn.{IsShallow, shallow_joined, same_data_resolve_alike}
 use Rattle.flat_sentences.specs.DataLaws.{AreDataOfText, FlattenedDataAreOfText}
 use Rattle.flat_sentences.specs.FlatReadings.{IsSameReading, naming_of_flat}
 use Rattle.flat_sentences.specs.FlatTextReadings.{IsFlatTextReadBack, FlatTextsAreReadBack}
-use Rattle.flat_sentences.specs.HandedOn.{AreProcessesWritten, flat_text, nodes_of_definitions, FlatTextsAreNoDeeper}
+use Rattle.flat_sentences.specs.WrittenSpecifications.{AreProcessesWritten}
+use Rattle.flat_sentences.specs.HandedOn.{flat_text, HasTextNames, Naming}
+use Rattle.flat_sentences.specs.DepthLaws.{nodes_of_definitions, FlatTextsAreNoDeeper}
 use Rattle.flat_sentences.specs.SameSpelling.{AreDataSpelledAlike}
 use Rattle.flat_sentences.specs.WrittenData.{AreItemsWritten, AreDataWritten}
 use Rattle.lotos_top.specs.HandedOn.{Founded, FoundedBy, Founds, GetsFile, ReadsSpecification, Gathered, Gathers, goes_on, Becomes, item}
@@ -34,7 +34,6 @@ use Rattle.session_laws.proofs.FlatBounds.{few_processes, few_variables}
 use Rattle.session_laws.proofs.FlatShallow.{definitions_left, items_stand, equations_fit}
 use Rattle.session_laws.proofs.FlattenedNames.{data_spelled}
 use Rattle.session_laws.proofs.GatheredNames.{tree_spelled}
-use Rattle.session_laws.proofs.SameResolutions.{texts_are_resolved_alike}
 use Rattle.session_laws.proofs.SpelledAlike.{same_data}
 use Rattle.session_laws.proofs.WentOn.{went_on}
 
@@ -127,7 +126,7 @@ module _ (deep : FlatTextsAreNoDeeper) (of_text : FlattenedDataAreOfText) (reads
           gathers = gathers_it data_ (naming_of_flat data_ spec) spec.processes tree is.types_written is.flatly.processes;
           has_data = ((is.types.declared_once, is.types.all_known, is.types.acyclic), is.types.there.1);
           stands =
-              texts_are_resolved_alike data_ is.types.there.0 (without_items tree) (resolved is.again)
+              same_data_resolve_alike data_ is.types.there.0 (without_items tree) (resolved is.again)
               (same_data data_ is.types.there.0 spelled) is.stands;
         };
         spelled = spelled;

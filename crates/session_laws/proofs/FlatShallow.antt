@@ -13,17 +13,18 @@ use Rattle.syntax_trees.specs.WrittenDefinition.{WrittenInner, WrittenInners, in
 use Rattle.sentence_trees.specs.Reading.{node_limit, IsTypesReading}
 use Rattle.behaviour_semantics.specs.Behaviour.{Specification}
 use Rattle.behaviour_semantics.specs.WellFormed.{Every}
+use Rattle.behaviour_semantics.proofs.ListLemmas.{Every-append}
 use Rattle.type_definitions.specs.DeclaredTypes.{types_of}
-use Rattle.flat_sentences.specs.HandedOn.{IsWrittenAs, Correspond, renamed_variables, nodes_of_definitions}
+use Rattle.flat_sentences.specs.HandedOn.{IsWrittenAs, renamed_variables, term_depth}
+use Rattle.flat_sentences.specs.WrittenBehaviours.{Correspond}
+use Rattle.flat_sentences.specs.DepthLaws.{nodes_of_definitions}
 use Rattle.flat_sentences.specs.WrittenData.{IsGroupWritten, IsEquationWritten, IsBodyWritten, AreItemsWritten, AreDataWritten}
-use Rattle.specification_laws.specs.HandedOn.{term_depth}
-use Rattle.specification_laws.proofs.HandedOn.{IsShallow, shallow_parts, shallow_joined, term_shallow}
+use Rattle.flat_sentences.proofs.HandedOn.{IsShallow, shallow_joined, term_shallow, shallow_parts}
 use Rattle.lotos_top.specs.HandedOn.{Becomes, nothing_yet, item}
 use Rattle.session_laws.proofs.AcceptedNames.{gathered_there}
 use Rattle.session_laws.proofs.AcceptedParts.{StandsOn}
 use Rattle.session_laws.proofs.EquationDepths.{EquationFits, TypeFits, data_fit}
 use Rattle.session_laws.proofs.GatheredItems.{all_have}
-use Rattle.session_laws.proofs.WrittenNames.{every_joined}
 
 module _ (limit : ℕ) where
   -- ---- Items that are no deeper than the limit
@@ -47,7 +48,7 @@ module _ (limit : ℕ) where
     inners_items_fit no_inner shallow = tt
     inners_items_fit (inner_then first others) shallow =
         let parts = shallow_parts limit (nodes_of_inner first) (nodes_of_inners others) shallow in
-        every_joined ItemFits (items_of_inner first) (items_of_inners others) (inner_items_fit first parts.0)
+        Every-append ItemFits (items_of_inner first) (items_of_inners others) (inner_items_fit first parts.0)
         (inners_items_fit others parts.1)
 
   types_fit : (items : List WrittenItem) → Every ItemFits items → Every (TypeFits limit) (types_of items)
@@ -90,7 +91,7 @@ module _ (limit : ℕ) where
       let inners : WrittenInners = inners_of tree.inner in
       let behind = shallow_parts limit (flat_map nodes_of_item tree.items) (behaviour_nodes 1 tree.body ++ nodes_of_inners inners) shallow
       in
-      every_joined ItemFits tree.items (items_of_inners inners) (items_fit tree.items behind.0)
+      Every-append ItemFits tree.items (items_of_inners inners) (items_fit tree.items behind.0)
       (inners_items_fit inners (shallow_parts limit (behaviour_nodes 1 tree.body) (nodes_of_inners inners) behind.1).1)
 
   -- ---- Data that are written

@@ -23,8 +23,9 @@ use Rattle.type_definitions.specs.DeclaredTypes.{DeclaredType}
 use Rattle.type_definitions.specs.Flattened.{presentation_named, mention_of, mentions_with, IsPresentation, declared_with, ArePresented, all_presented, next_presented, without_formals, types_at, IsFlattening}
 use Rattle.type_definitions.proofs.FaultLemmas.{none_first, not_past}
 use Rattle.behaviour_semantics.specs.WellFormed.{Every}
-use Rattle.specification_laws.specs.HandedOn.{IsWordSpelling, IsOperationSpelling, HasTextNames}
-use Rattle.session_laws.proofs.WrittenNames.{every_joined, IsWord, IsOperatorDeclared, GivesWord, GivesOperator, ArePairsSpelled, AreSectionsSpelled, IsBodySpelled}
+use Rattle.behaviour_semantics.proofs.ListLemmas.{Every-append}
+use Rattle.flat_sentences.specs.HandedOn.{IsWordSpelling, IsOperationSpelling, HasTextNames}
+use Rattle.session_laws.proofs.WrittenNames.{IsWord, IsOperatorDeclared, GivesWord, GivesOperator, ArePairsSpelled, AreSectionsSpelled, IsBodySpelled}
 use Rattle.session_laws.proofs.GatheredNames.{IsTypeSpelled}
 
 -- ---- What is said of a signature
@@ -60,7 +61,7 @@ new_every {A} P same kept (x ∷ others) first second =
   where
     by : (found : Bool) → Every P (if found then kept else kept ++ x ∷ [])
     by true = first
-    by false = every_joined P kept (x ∷ []) first (second.0, tt)
+    by false = Every-append P kept (x ∷ []) first (second.0, tt)
 
 pub mapped_every : {A B : Type 0} (P : A → Type 0) (Q : B → Type 0) (f : A → B) → ((x : A) → P x → Q (f x)) → (xs : List A) → Every P xs
     → Every Q (map f xs)
@@ -99,7 +100,7 @@ sorts_spelled : (origin : List ℕ) (formal : Bool) (p : Presentation) (names : 
 sorts_spelled origin formal p [] is all = is
 sorts_spelled origin formal p (name ∷ names) is all =
     sorts_spelled origin formal (with_sort origin formal p name) names (record {
-      sorts = every_joined IsSortSpelled p.signature.sorts _ is.sorts (all.0, tt);
+      sorts = Every-append IsSortSpelled p.signature.sorts _ is.sorts (all.0, tt);
       operations = is.operations;
     }) all.1
 
@@ -120,7 +121,7 @@ operation_spelled origin formal p declared is named none =
     (not_past (not (fits_form declared.form (length declared.arguments))) _ (none_first _ _ none).0) in
     record {
       sorts = is.sorts;
-      operations = every_joined IsOperationSpelled p.signature.operations _ is.operations (
+      operations = Every-append IsOperationSpelled p.signature.operations _ is.operations (
         record {
           name = named;
           two = λ between. lengths _ declared.arguments ∙ fits declared.form (length declared.arguments) form between;
@@ -281,7 +282,7 @@ all_presented_spelled : (done : List Mentioned) (types : List DeclaredType) (all
 all_presented_spelled done _ _ (all_presented _) mentioned spelled = mentioned
 all_presented_spelled done _ _ (next_presented _ all t ts p is more) mentioned spelled =
     all_presented_spelled (done ++ declared_with t p ∷ []) ts all more
-    (every_joined IsMentionSpelled done (declared_with t p ∷ []) mentioned
+    (Every-append IsMentionSpelled done (declared_with t p ∷ []) mentioned
     (presented_spelled done t.name t.body p mentioned spelled.0 is, tt)) spelled.1
 
 -- ---- Data
@@ -295,7 +296,7 @@ pub ordered_every : (P : DeclaredType → Type 0) (types : List DeclaredType) (o
     → Every P (types_at types order)
 ordered_every P types [] all = tt
 ordered_every P types (number ∷ order) all =
-    every_joined P (option_to_list (slice_get types number)) (types_at types order) (found_every P types number all)
+    Every-append P (option_to_list (slice_get types number)) (types_at types order) (found_every P types number all)
     (ordered_every P types order all)
 
 informal_every : (all : List Mentioned) → Every IsMentionSpelled all → Every IsMentionSpelled (without_formals all)

@@ -1,14 +1,14 @@
 -- What the items of a text and of the libraries have, the items that are gathered have.
 use Rattle.std.proofs.Common.{◌≡◌, ℕ, List, [], ◌∷◌, ◌++◌, map, refl, subst}
 use Rattle.lotos_base.specs.WrittenTerm.{PlacedName}
-use Rattle.syntax_trees.specs.WrittenItem.{WrittenItem, libraries, type_declared}
+use Rattle.syntax_trees.specs.WrittenItem.{WrittenItem, type_declared}
 use Rattle.sentence_trees.specs.Reading.{IsTypesReading}
 use Rattle.lotos_top.specs.HandedOn.{GotFile, Gathered, nothing_yet, with_type, Waiting, item, mention, GatheringOutcome, all_gathered}
 use Rattle.lotos_top.specs.HandedOn.{faulty, without_file, memory_wanted, MentionComesTo, read_before, one_too_many, in_place, not_read}
 use Rattle.lotos_top.specs.HandedOn.{no_file, wanted_before_text, wanted_behind_text, gathering_goes_on as goes_on}
 use Rattle.lotos_top.specs.HandedOn.{gathering_stops as stops, Becomes, nothing_waits, a_type, mentions, then, ends, memory_ends}
 use Rattle.behaviour_semantics.specs.WellFormed.{Every}
-use Rattle.session_laws.proofs.WrittenNames.{every_joined}
+use Rattle.behaviour_semantics.proofs.ListLemmas.{Every-append}
 
 stopped : (so_far : Gathered) (at : PlacedName) (files : List GotFile) (outcome : GatheringOutcome)
     → MentionComesTo so_far at files (stops outcome) → (gathered : Gathered) → outcome ≡ all_gathered gathered → ⊥
@@ -55,15 +55,15 @@ module _ (Has : WrittenItem → Type 0)
   gathered_have so_far _ _ _ (nothing_waits _) types waiting gathered is = subst OutcomeHas is types
   gathered_have so_far _ files outcome (a_type {place = place} {name = name} {body = body} {rest = rest} more) types waiting gathered is =
       gathered_have (with_type (type_declared place name body) so_far) rest files outcome more
-      (every_joined Has so_far.types (type_declared place name body ∷ []) types (waiting.0, tt)) waiting.1 gathered is
+      (Every-append Has so_far.types (type_declared place name body ∷ []) types (waiting.0, tt)) waiting.1 gathered is
   gathered_have so_far _ files outcome (mentions {names = names} {rest = rest} more) types waiting gathered is =
       gathered_have so_far (map mention names ++ rest) files outcome more types
-      (every_joined WaitingHas (map mention names) rest (mentions_wait names) waiting.1) gathered is
+      (Every-append WaitingHas (map mention names) rest (mentions_wait names) waiting.1) gathered is
   gathered_have so_far _ _ outcome
       (then {next = next} {at = at} {rest = rest} {files = files} {later = later} {items = items} comes more) types waiting gathered is =
       let found = mention_has so_far next at files items types comes in
       gathered_have next (map item items ++ rest) later outcome more found.types
-      (every_joined WaitingHas (map item items) rest (items_wait items found.items) waiting.1) gathered is
+      (Every-append WaitingHas (map item items) rest (items_wait items found.items) waiting.1) gathered is
   gathered_have so_far _ files outcome (ends {at = at} comes) types waiting gathered is =
       absurd (stopped so_far at files outcome comes gathered is)
   gathered_have so_far waiting _ _ (memory_ends _ _) types all gathered is = absurd (cc is)

@@ -11,10 +11,11 @@ use Rattle.scope_parts.specs.Numbering.{own_gates, inner_gates, inners_gates}
 use Rattle.scope_parts.specs.Definitions.{declared_gates}
 use Rattle.behaviour_semantics.specs.WellFormed.{Every}
 use Rattle.behaviour_semantics.proofs.EveryLemmas.{every_front, every_back}
-use Rattle.specification_laws.specs.HandedOn.{IsWordSpelling}
+use Rattle.behaviour_semantics.proofs.ListLemmas.{Every-append}
+use Rattle.flat_sentences.specs.HandedOn.{IsWordSpelling}
 use Rattle.session_laws.proofs.GatheredItems.{all_have}
 use Rattle.session_laws.proofs.TokenSpellings.{tokens_spelled}
-use Rattle.session_laws.proofs.WrittenNames.{every_joined, IsBodySpelled, IsItemSpelled, items_spelled, specification_spelled}
+use Rattle.session_laws.proofs.WrittenNames.{IsBodySpelled, IsItemSpelled, items_spelled, specification_spelled}
 
 -- ---- Texts
 
@@ -56,8 +57,8 @@ mutual
       → Every IsWordSpelling (inners_gates others) → Every IsWordSpelling (inners_gates (process_then first others))
   first_keeps (inner_item it) others has have = have
   first_keeps (process heading body inner) others has have =
-      every_joined IsWordSpelling (own_gates heading body ++ inners_gates (processes_of inner)) (inners_gates others)
-      (every_joined IsWordSpelling (own_gates heading body) (inners_gates (processes_of inner))
+      Every-append IsWordSpelling (own_gates heading body ++ inners_gates (processes_of inner)) (inners_gates others)
+      (Every-append IsWordSpelling (own_gates heading body) (inners_gates (processes_of inner))
       (every_front IsWordSpelling (own_gates heading body) (inners_gates inner) has)
       (inners_keep inner (every_back IsWordSpelling (own_gates heading body) (inners_gates inner) has))) have
 
@@ -71,7 +72,7 @@ mutual
 pub gates_left : (tree : WrittenSpecification) → IsTreeSpelled tree → Every IsWordSpelling (declared_gates (without_items tree))
 gates_left tree is =
     let inners = inners_of tree.inner in
-    every_joined IsWordSpelling (own_gates tree.heading tree.body) (inners_gates (inners_of (without_items tree).inner))
+    Every-append IsWordSpelling (own_gates tree.heading tree.body) (inners_gates (inners_of (without_items tree).inner))
     (every_front IsWordSpelling (own_gates tree.heading tree.body) (inners_gates inners) is.gates)
     (subst (λ (it : WrittenInners). Every IsWordSpelling (inners_gates it)) (sym (listed-again (processes_of inners)))
     (inners_keep inners (every_back IsWordSpelling (own_gates tree.heading tree.body) (inners_gates inners) is.gates)))

@@ -22,14 +22,12 @@ pub mod SameMoves
 pub mod SameMenus
 pub mod SameOrders
 pub mod SameFunctionalities
-pub mod SameReadings
+pub mod SameStarts
 pub mod SameChecks
 pub mod SpelledAlike
 pub mod SameTexts
 pub mod SameStates
 pub mod SameSessions
-pub mod SameTerms
-pub mod SameResolutions
 pub mod WentOn
 pub mod ReadBackLemmas
 pub mod AlikeLemmas

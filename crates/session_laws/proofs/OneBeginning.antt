@@ -10,12 +10,11 @@ use Rattle.termination_theory.specs.Orientation.{NumberedRule, rules_of, IsOrien
 use Rattle.termination_theory.proofs.OrientationLemmas.{oriented_well_formed, rules_of_data}
 use Rattle.type_definitions.specs.DeclaredTypes.{types_of}
 use Rattle.behaviour_semantics.specs.Replacement.{with_values, binding_of}
-use Rattle.session_histories.specs.Session.{SessionBasis, Progress}
-use Rattle.session_histories.specs.Lawful.{IsSituation}
-use Rattle.session_histories.proofs.StepLemmas.{one_situation}
+use Rattle.flat_sentences.specs.HandedOn.{SessionBasis, Progress, IsSituation}
+use Rattle.flat_sentences.proofs.HandedOn.{one_situation}
 use Rattle.lotos_top.proofs.HandedOn.{over_once, statuses_once, data_within, greater_also, AreAlike, rules_once}
-use Rattle.lotos_top.specs.HandedOn.{Beginning, Acceptance, DataAreWellFormed}
-use Rattle.lotos_top.specs.Opening.{AreNormalForms, SessionBegins}
+use Rattle.lotos_top.specs.HandedOn.{Beginning, Acceptance, DataAreWellFormed, AreNormalForms}
+use Rattle.lotos_top.specs.Opening.{SessionBegins}
 use Rattle.session_laws.specs.OneBeginning.{SessionsBeginOnce}
 use Rattle.session_laws.proofs.AcceptedParts.{StandsOn, accepted_on}
 

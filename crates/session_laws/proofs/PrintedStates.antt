@@ -12,24 +12,18 @@ use Rattle.behaviour_semantics.specs.Behaviour.{Behaviour, Process, Specificatio
 use Rattle.behaviour_semantics.specs.Listing.{IsAmong}
 use Rattle.behaviour_semantics.specs.Run.{Reaches}
 use Rattle.behaviour_semantics.specs.WellFormed.{Every}
-use Rattle.behaviour_semantics.proofs.ListLemmas.{Every-weaker, Every-among}
-use Rattle.printed_texts.specs.BehaviourText.{state_text}
-use Rattle.session_histories.specs.Lawful.{LeadTo}
-use Rattle.session_histories.specs.Session.{Situation, derivations_of}
-use Rattle.session_histories.specs.SessionLaws.{SessionsFollowDerivations}
+use Rattle.behaviour_semantics.proofs.ListLemmas.{Every-weaker, Every-among, Every-append}
 use Rattle.lotos_top.specs.HandedOn.{Beginning, Standing, IsReached, Acceptance}
 use Rattle.lotos_top.specs.Opening.{SessionBegins}
-use Rattle.session_histories.specs.BoundNames.{bound_names, names_in_bodies, names_at_hand, MovesKeepNames}
-use Rattle.session_histories.specs.StateTexts.{StateTextsAreOfNames}
-use Rattle.session_histories.specs.TextBytes.{AllPass, is_printable}
-use Rattle.specification_laws.specs.HandedOn.{IsWordSpelling, IsOperationSpelling}
+use Rattle.flat_sentences.specs.HandedOn.{IsWordSpelling, IsOperationSpelling, LeadTo, Situation, derivations_of, SessionsFollowDerivations}
+use Rattle.flat_sentences.specs.HandedOn.{bound_names, names_in_bodies, names_at_hand, MovesKeepNames, StateTextsAreOfNames, AllPass}
+use Rattle.flat_sentences.specs.HandedOn.{is_printable, state_text}
 use Rattle.session_laws.specs.AcceptedNames.{HasAcceptedNames, AcceptedNamesAreOfText}
 use Rattle.session_laws.specs.PrintedStates.{IsNamedProcess, HasNamedDefinitions, AcceptedDefinitionsAreNamed, IsPrintedLine, StatesPrintOnOneLine}
 use Rattle.session_laws.proofs.AcceptedParts.{StandsOn, accepted_on}
 use Rattle.session_laws.proofs.BoundSpellings.{IsNamedSpecification, specification_binds}
 use Rattle.session_laws.proofs.TokenSpellings.{tokens_spelled}
 use Rattle.session_laws.proofs.VariableSpellings.{IsTreeNamed, specification_named}
-use Rattle.session_laws.proofs.WrittenNames.{every_joined}
 
 -- ---- The definitions of an accepted specification
 
@@ -146,7 +140,7 @@ by_position P (x ∷ xs) so = (so 0 x refl, by_position P xs (λ k. so (suc k)))
 names_of_bodies : (processes : List Process) → Every IsNamedProcess processes → Every IsWordSpelling (names_in_bodies processes)
 names_of_bodies [] all = tt
 names_of_bodies (p ∷ processes) all =
-    every_joined IsWordSpelling (bound_names p.body) (names_in_bodies processes) all.0.variables (names_of_bodies processes all.1)
+    Every-append IsWordSpelling (bound_names p.body) (names_in_bodies processes) all.0.variables (names_of_bodies processes all.1)
 
 from_among : (P : List ℕ → Type 0) (xs : List (List ℕ)) → ((name : List ℕ) → IsAmong name xs → P name) → Every P xs
 from_among P [] so = tt
@@ -183,7 +177,7 @@ at_hand keep acceptance begun begins has =
     subst (λ (it : Specification). Every IsWordSpelling (names_at_hand it.processes begun.progress.situation.state))
     (sym begins.specification_is)
     (subst (λ (it : Behaviour). Every IsWordSpelling (names_at_hand acceptance.spec.processes it)) (sym begins.state_is)
-    (every_joined IsWordSpelling _ (names_in_bodies acceptance.spec.processes)
+    (Every-append IsWordSpelling _ (names_in_bodies acceptance.spec.processes)
     (subst (Every IsWordSpelling) (sym (keep.closed _ acceptance.spec.body)) has.variables)
     (names_of_bodies acceptance.spec.processes has.processes)))
 

@@ -9,8 +9,7 @@ use Rattle.session_laws.proofs.WentOn.{front, back}
 use Rattle.syntax_trees.specs.WrittenDefinition.{WrittenSpecification}
 use Rattle.behaviour_semantics.specs.Behaviour.{Specification}
 use Rattle.behaviour_tree.specs.DefinitionView.{specification_of}
-use Rattle.specification_laws.specs.AgreementLaws.{NoDisagreementIsAgreement}
-use Rattle.declaration_laws.specs.SameSpecification.{AreSameSpecifications}
+use Rattle.flat_sentences.specs.HandedOn.{NoDisagreementIsAgreement, AreSameSpecifications}
 use Rattle.flat_sentences.specs.SameSpelling.{AreDataSpelledAlike}
 use Rattle.session_laws.proofs.SameChecks.{pass_the_same_checks}
 use Rattle.session_laws.proofs.SameMenus.{do_the_same}

@@ -7,9 +7,8 @@ use Rattle.lotos_base.specs.WrittenTerm.{WrittenTerm, written}
 use Rattle.syntax_trees.specs.Depth.{nodes_of_term, nodes_of_terms}
 use Rattle.sort_terms.specs.ReadingOutcome.{unknown_in, IsReading}
 use Rattle.behaviour_semantics.specs.WellFormed.{Every}
-use Rattle.session_histories.specs.Replay.{AreRead}
-use Rattle.specification_laws.specs.HandedOn.{term_depth}
-use Rattle.specification_laws.proofs.HandedOn.{IsShallow, shallow_parts, term_within, answer_is}
+use Rattle.flat_sentences.specs.HandedOn.{term_depth, AreRead}
+use Rattle.flat_sentences.proofs.HandedOn.{IsShallow, shallow_parts, term_within, answer_is}
 
 value_within : (signature : Signature) (limit sort : ℕ) (w : WrittenTerm) (t : Term)
     → AreRead signature (sort ∷ []) (w ∷ []) (t ∷ []) → IsShallow limit (nodes_of_term w) → term_depth t ≤ limit

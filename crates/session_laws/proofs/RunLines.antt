@@ -3,11 +3,9 @@ use Rattle.std.proofs.Common.{◌≡◌, ◌⊎◌, inl, inr, ℕ, Bool, true, f
 use Rattle.line_server.specs.Answered as served
 use Rattle.line_server.specs.Answered.{no_line, ended_by, behind_one}
 use Rattle.lotos_top.specs.HandedOn.{SessionPoint, history_machine, Beginning, ShelfState, GotFile, Gives, Asked, Did, Comes, goes_on}
+use Rattle.lotos_top.specs.HandedOn.{session, Print, Finish, prints, serves, Ended}
 use Rattle.lotos_top.specs.Run.{Streams, Ran}
-use Rattle.lotos_top.specs.Words.{session}
-use Rattle.lotos_top.specs.Finishing.{Print, Finish, prints, serves}
 use Rattle.lotos_top.specs.Work.{work_of}
-use Rattle.lotos_top.specs.declared.ended.Ended.{Ended}
 use Rattle.session_laws.proofs.AcceptedParts.{second}
 use Rattle.session_laws.specs.RunLines.{ServesAccepted, IsAnsweredThere, RunLinesAreAnswered}
 

@@ -1,12 +1,13 @@
 -- Same specifications over same data pass the same checks.
 use Rattle.behaviour_tree.specs.DefinitionView.{specification_of}
-use Rattle.bisimulation_theory.proofs.InterchangeableData.{signatures_agree, data_turned}
-use Rattle.specification_laws.specs.AgreementLaws.{NoDisagreementIsAgreement}
+use Rattle.certificate_theory.proofs.InterchangeableData.{signatures_agree, data_turned}
+use Rattle.flat_sentences.proofs.HandedOn.{reading_too}
+use Rattle.flat_sentences.specs.HandedOn.{NoDisagreementIsAgreement}
 use Rattle.session_laws.specs.SameChecksLaws.{SameSpecificationsPassTheSameChecks}
 use Rattle.session_laws.proofs.SameFunctionalities.{agree_over, disagreements_over}
 use Rattle.session_laws.proofs.SameMenus.{turned}
 use Rattle.session_laws.proofs.SameOrders.{precedence_over, opened_over}
-use Rattle.session_laws.proofs.SameReadings.{reading_over, starts_over, start_fault_over}
+use Rattle.session_laws.proofs.SameStarts.{starts_over, start_fault_over}
 
 pub pass_the_same_checks : NoDisagreementIsAgreement → SameSpecificationsPassTheSameChecks
 pass_the_same_checks laws = record {
@@ -20,7 +21,7 @@ pass_the_same_checks laws = record {
       precedence_over data_.signature other.signature (signatures_agree data_ other same) items precedence;
   rules = opened_over;
   readings = λ data_ other scope w expected outcome same.
-      reading_over data_.signature other.signature scope w expected outcome (signatures_agree data_ other same);
+      reading_too data_.signature other.signature (signatures_agree data_ other same) scope w expected outcome;
   starts = starts_over;
   start_faults = start_fault_over;
 }

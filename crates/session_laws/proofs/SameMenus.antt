@@ -15,10 +15,10 @@ use Rattle.behaviour_semantics.specs.Solving.{Entry}
 use Rattle.behaviour_semantics.specs.Menu.{EqualTerms, EqualLabels, Meets, label_at, derivation_at, HasEntry, Exact}
 use Rattle.behaviour_semantics.specs.Guardedness.{HasEdge, IsWalk, IsCycle, unguarded_calls}
 use Rattle.behaviour_semantics.proofs.OptionLemmas.{some_value}
-use Rattle.bisimulation_theory.specs.SameData.{AreSameData}
-use Rattle.bisimulation_theory.proofs.SameSignatures.{are_values}
-use Rattle.bisimulation_theory.proofs.InterchangeableData.{signatures_agree, data_turned, equal_over}
-use Rattle.declaration_laws.specs.SameSpecification.{AreOneProcess, AreSameProcesses, AreSameSpecifications}
+use Rattle.certificate_theory.specs.SameData.{AreSameData}
+use Rattle.certificate_theory.proofs.SameSignatures.{are_values}
+use Rattle.certificate_theory.proofs.InterchangeableData.{signatures_agree, data_turned, equal_over}
+use Rattle.flat_sentences.specs.HandedOn.{AreOneProcess, AreSameProcesses, AreSameSpecifications}
 use Rattle.session_laws.specs.SameSpecificationLaws.{SameSpecificationsDoTheSame}
 use Rattle.session_laws.proofs.SameMoves.{moves_alike}
 

@@ -10,10 +10,10 @@ use Rattle.behaviour_semantics.specs.Replacement.{with_values, binding_of}
 use Rattle.behaviour_semantics.specs.Rule.{move_together, pairwise, label_values, synchronises}
 use Rattle.behaviour_semantics.specs.Shape.{Shape, act, quit, inner_step, guarded, left_side, right_side, both_sides, hidden, enabled, passed, let_bound, with_value, at_gate, called, relabelled}
 use Rattle.behaviour_semantics.specs.Move.{Setting, Move, opened, together, enabling, relabelling, act_move, quit_move, guarded_move, left_move, right_move, both_move, hidden_move, enabled_move, passed_move, let_move, value_move, gate_move, called_move, relabelled_move, move_of}
-use Rattle.bisimulation_theory.specs.SameData.{AreSameData}
-use Rattle.bisimulation_theory.proofs.SameSignatures.{AgreeSignatures, sorts_asked, same_sorts_asked}
-use Rattle.bisimulation_theory.proofs.InterchangeableData.{signatures_agree}
-use Rattle.declaration_laws.specs.SameSpecification.{AreOneProcess, AreSameProcesses}
+use Rattle.certificate_theory.specs.SameData.{AreSameData}
+use Rattle.certificate_theory.proofs.SameSignatures.{AgreeSignatures, sorts_asked, same_sorts_asked}
+use Rattle.certificate_theory.proofs.InterchangeableData.{signatures_agree}
+use Rattle.flat_sentences.specs.HandedOn.{AreOneProcess, AreSameProcesses}
 use Rattle.session_laws.proofs.SamePlaces.{Both, processes_found}
 
 -- two functions that have the same values are the same

@@ -1,6 +1,5 @@
 -- Same data have the same orders of operations and the same rules.
 use Rattle.std.proofs.Common.{◌≡◌, ◌<◌, ℕ, List, [], ◌∷◌, length, Option, None, Some, sym, ◌∙◌, subst}
-use Rattle.std.specs.Prelude.{slice_get}
 use Rattle.lotos_base.specs.WrittenTerm.{WrittenProfile, ListedOperation}
 use Rattle.lotos_base.specs.Signature.{Signature, Operation}
 use Rattle.lotos_base.specs.Equation.{Equation, Data}
@@ -13,25 +12,20 @@ use Rattle.path_order.specs.Listed.{AreSortsNamed, HasProfile, IsListedBy, AreLi
 use Rattle.path_order.specs.Listing.{AreListed, none_listed, listed_then, IsTwice, IsFineItem}
 use Rattle.path_order.specs.Statuses.{IsFromRight}
 use Rattle.path_order.specs.OrderedBy.{IsPrecedenceBy}
-use Rattle.start_values.specs.HandedOn.{IsOpenedBy}
-use Rattle.bisimulation_theory.specs.SameData.{AreOneEquation, AreSameEquations, AreOneOperation, AreSameData}
-use Rattle.bisimulation_theory.proofs.SameSignatures.{AgreeSignatures, agree_turned}
-use Rattle.bisimulation_theory.proofs.InterchangeableData.{signatures_agree}
-use Rattle.session_laws.proofs.SamePlaces.{OneName, like, sorts_found, operations_found, as_many_operations}
+use Rattle.lotos_top.specs.HandedOn.{IsOpenedBy}
+use Rattle.certificate_theory.specs.SameData.{AreOneEquation, AreSameEquations, AreOneOperation, AreSameData}
+use Rattle.certificate_theory.proofs.SameSignatures.{AgreeSignatures, agree_turned}
+use Rattle.certificate_theory.proofs.InterchangeableData.{signatures_agree}
+use Rattle.flat_sentences.proofs.HandedOn.{sort_there, operation_there}
+use Rattle.session_laws.proofs.SamePlaces.{as_many_operations}
 
 -- ---- Which operations an item lists
 
 module _ (signature other : Signature) (same : AgreeSignatures signature other) where
-  pub sort_named : (sort : ℕ) (name : List ℕ) → IsSortNamed signature sort name → IsSortNamed other sort name
+  sort_named : (sort : ℕ) (name : List ℕ) → IsSortNamed signature sort name → IsSortNamed other sort name
   sort_named sort name is =
-      let at = like OneName (slice_get signature.sorts sort) (slice_get other.sorts sort)
-      (sorts_found signature.sorts other.sorts same.sorts sort) is.0 is.1 in
+      let at = sort_there signature.sorts other.sorts same.sorts sort is.0 is.1 in
       (at.0, at.1, sym at.2 ∙ is.2)
-
-  pub operation_like : (f : ℕ) (o : Operation) → slice_get signature.operations f ≡ Some o
-      → (p : Operation) × (slice_get other.operations f ≡ Some p) × AreOneOperation o p
-  operation_like f = like AreOneOperation (slice_get signature.operations f) (slice_get other.operations f)
-      (operations_found signature.operations other.operations same.operations f)
 
   sorts_named : (sorts : List ℕ) (names : List (List ℕ)) → AreSortsNamed signature sorts names → AreSortsNamed other sorts names
   sorts_named [] [] are = tt
@@ -50,7 +44,7 @@ module _ (signature other : Signature) (same : AgreeSignatures signature other) 
 
   listed_over : (item : ListedOperation) (f : ℕ) → IsListedBy signature item f → IsListedBy other item f
   listed_over item f is =
-      let at = operation_like f is.operation is.is_there in
+      let at = operation_there signature.operations other.operations same.operations f is.operation is.is_there in
       record {
         operation = at.0;
         is_there = at.1;

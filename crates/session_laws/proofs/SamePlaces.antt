@@ -1,12 +1,11 @@
 -- What lists that agree one by one have at one place.
 use Rattle.std.proofs.Common.{◌≡◌, ℕ, zero, suc, List, [], ◌∷◌, length, Option, None, Some, refl, ap, subst}
 use Rattle.std.specs.Prelude.{slice_get}
-use Rattle.lotos_base.specs.Names.{AreOneName}
-use Rattle.lotos_base.specs.Signature.{Sort, Operation}
+use Rattle.lotos_base.specs.Signature.{Operation}
 use Rattle.behaviour_semantics.specs.Behaviour.{Process}
 use Rattle.behaviour_semantics.proofs.OptionLemmas.{some_value}
-use Rattle.bisimulation_theory.specs.SameData.{AreSameSorts, AreOneOperation, AreSameOperations}
-use Rattle.declaration_laws.specs.SameSpecification.{AreOneProcess, AreSameProcesses}
+use Rattle.certificate_theory.specs.SameData.{AreSameOperations}
+use Rattle.flat_sentences.specs.HandedOn.{AreOneProcess, AreSameProcesses}
 
 -- both are there and are related, or neither is there
 abbrev pub Both : {X : Type 0} → (X → X → Type 0) → Option X → Option X → Type 0
@@ -21,25 +20,6 @@ like R None None both x is = let none : None ≡ Some x = is in absurd cc
 like R None (Some y) both x is = absurd both
 like R (Some z) None both x is = absurd both
 like R (Some z) (Some y) both x is = (y, refl, subst (λ (a : _). R a y) (some_value is) both)
-
-abbrev pub OneName : Sort → Sort → Type 0
-OneName s r = AreOneName s.name r.name
-
-pub sorts_found : (sorts others : List Sort) → AreSameSorts sorts others → (n : ℕ)
-    → Both OneName (slice_get sorts n) (slice_get others n)
-sorts_found [] [] same n = tt
-sorts_found (s ∷ sorts) (r ∷ others) same zero = same.0
-sorts_found (s ∷ sorts) (r ∷ others) same (suc n) = sorts_found sorts others same.1 n
-sorts_found [] (r ∷ others) same n = absurd same
-sorts_found (s ∷ sorts) [] same n = absurd same
-
-pub operations_found : (operations others : List Operation) → AreSameOperations operations others → (n : ℕ)
-    → Both AreOneOperation (slice_get operations n) (slice_get others n)
-operations_found [] [] same n = tt
-operations_found (o ∷ operations) (p ∷ others) same zero = same.0
-operations_found (o ∷ operations) (p ∷ others) same (suc n) = operations_found operations others same.1 n
-operations_found [] (p ∷ others) same n = absurd same
-operations_found (o ∷ operations) [] same n = absurd same
 
 pub as_many_operations : (operations others : List Operation) → AreSameOperations operations others → length operations ≡ length others
 as_many_operations [] [] same = refl

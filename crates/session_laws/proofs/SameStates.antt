@@ -6,9 +6,9 @@ use Rattle.lotos_base.specs.Term.{Term}
 use Rattle.lotos_base.specs.Equation.{Data, Variable}
 use Rattle.behaviour_semantics.specs.Behaviour.{Behaviour, stop, exit_with, action, inner_action, guard, choice, parallel, hide, enable, disable, let_be, choose_value, choose_gate, par_gate, call, relabel, Process, Specification}
 use Rattle.behaviour_semantics.specs.WellFormed.{Every, AreTermsIn, IsCall, IsBehaviour, IsDefinition, IsSpecification, AreOver}
-use Rattle.bisimulation_theory.specs.SameData.{AreSameData}
-use Rattle.bisimulation_theory.proofs.InterchangeableData.{interchangeable}
-use Rattle.declaration_laws.specs.SameSpecification.{AreOneProcess, AreSameProcesses, AreSameSpecifications}
+use Rattle.certificate_theory.specs.SameData.{AreSameData}
+use Rattle.certificate_theory.proofs.InterchangeableData.{interchangeable}
+use Rattle.flat_sentences.specs.HandedOn.{AreOneProcess, AreSameProcesses, AreSameSpecifications}
 use Rattle.session_laws.proofs.SamePlaces.{like, processes_found}
 
 module _ (signature : Signature) (names : ℕ) (processes others : List Process) (alike : AreSameProcesses processes others) where

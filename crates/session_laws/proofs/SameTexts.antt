@@ -7,13 +7,13 @@ use Rattle.lotos_base.specs.Equation.{Equation, Data, Variable}
 use Rattle.behaviour_semantics.specs.Behaviour.{Behaviour, stop, exit_with, action, inner_action, guard, choice, parallel, hide, enable, disable, let_be, choose_value, choose_gate, par_gate, call, relabel, Test, Offer, give, ask, ExitValue, exit_value, any_of, SynchronisationSet, no_gates, all_gates, at_gates, asked_variables, let_variables, Specification}
 use Rattle.behaviour_semantics.specs.Label.{Label, inner_event, gate_event, exit_event}
 use Rattle.behaviour_semantics.specs.Solving.{Entry}
-use Rattle.printed_texts.specs.Brackets.{round, square, commas}
-use Rattle.printed_texts.specs.BehaviourText.{Naming, process_names, gate_text, gates_text, called_text, declared_text, test_text, predicate_text, offer_text, offers_text, exit_value_text, round_list, square_list, sign_text, enable_sign, binding_text, pair_text, unit_text, between_blanks, behaviour_text, state_text}
-use Rattle.printed_texts.specs.MenuText.{entry_term_text, name_text, values_text, exit_values_text, label_text, sorted_texts, for_text, condition_text, if_text, entry_text, lines_text, menu_text}
-use Rattle.printed_texts.specs.ReportLines.{head_text}
-use Rattle.printed_texts.specs.TermText.{sort_text, numbered_text, term_text}
-use Rattle.bisimulation_theory.specs.SameData.{AreSameEquations}
-use Rattle.declaration_laws.specs.SameSpecification.{AreSameSpecifications}
+use Rattle.certificate_theory.specs.SameData.{AreSameEquations}
+use Rattle.flat_sentences.specs.HandedOn.{AreSameSpecifications, round, square, commas, Naming, process_names, gate_text, gates_text}
+use Rattle.flat_sentences.specs.HandedOn.{called_text, declared_text, test_text, predicate_text, offer_text, offers_text, exit_value_text}
+use Rattle.flat_sentences.specs.HandedOn.{round_list, square_list, sign_text, enable_sign, binding_text, pair_text, unit_text}
+use Rattle.flat_sentences.specs.HandedOn.{between_blanks, behaviour_text, state_text, entry_term_text, name_text, values_text}
+use Rattle.flat_sentences.specs.HandedOn.{exit_values_text, label_text, sorted_texts, for_text, condition_text, if_text, entry_text}
+use Rattle.flat_sentences.specs.HandedOn.{lines_text, menu_text, head_text, sort_text, numbered_text, term_text}
 use Rattle.flat_sentences.specs.SameSpelling.{AreSortsSpelledAlike, AreSignaturesSpelledAlike, AreDataSpelledAlike}
 use Rattle.session_laws.specs.SameTextsLaws.{naming_with, TextsAgreeButForProcesses}
 use Rattle.session_laws.proofs.SameMoves.{pointwise}

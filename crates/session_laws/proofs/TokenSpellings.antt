@@ -20,10 +20,11 @@ use Rattle.lotos_lexer.specs.Lexemes.{word_length, kind_in, word_kind_in, lexeme
 use Rattle.lotos_lexer.specs.Pieces.{close_at, comment, token, piece_at}
 use Rattle.lotos_lexer.specs.Tokens as lexed
 use Rattle.lotos_lexer.specs.Tokens.{Lexed, behind, at_next_line, at_next_column, token_at, with_token, list_open_behind, cut, start, tokens_of}
-use Rattle.specification_laws.proofs.WordLemmas.{word_within, word_again, run_within, run_again, taken_long, first_stays, word_some, run_some, first_alphanumeric}
+use Rattle.flat_sentences.proofs.HandedOn.{word_within, word_again, run_within, run_again, taken_long, first_stays, word_some, run_some}
+use Rattle.flat_sentences.proofs.HandedOn.{first_alphanumeric}
 use Rattle.lotos_rows.specs.Names.{spelled}
 use Rattle.behaviour_semantics.specs.WellFormed.{Every}
-use Rattle.specification_laws.specs.HandedOn.{IsWordSpelling, IsDigitSpelling, IsSignSpelling}
+use Rattle.flat_sentences.specs.HandedOn.{IsWordSpelling, IsDigitSpelling, IsSignSpelling}
 
 -- ---- What a token of a kind is spelled as
 

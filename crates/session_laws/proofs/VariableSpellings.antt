@@ -15,9 +15,10 @@ use Rattle.lotos_rows.specs.Definitions.{IsHeading, heading, IsProcess, a_proces
 use Rattle.lotos_rows.specs.Starts.{IsWrittenSpecification, a_specification}
 use Rattle.behaviour_semantics.specs.WellFormed.{Every}
 use Rattle.behaviour_semantics.proofs.EveryLemmas.{every_front, every_back}
-use Rattle.specification_laws.specs.HandedOn.{IsWordSpelling}
+use Rattle.behaviour_semantics.proofs.ListLemmas.{Every-append}
+use Rattle.flat_sentences.specs.HandedOn.{IsWordSpelling}
 use Rattle.session_laws.proofs.TokenSpellings.{IsSpelledIn}
-use Rattle.session_laws.proofs.WrittenNames.{every_joined, flat_every, IsWord, AreSpelled, Gives, front, back, optional_gives, many_gives, separated_gives, between_gives, token_word, names_words}
+use Rattle.session_laws.proofs.WrittenNames.{flat_every, IsWord, AreSpelled, Gives, front, back, optional_gives, many_gives, separated_gives, between_gives, token_word, names_words}
 
 -- ---- What is said of the parts of a tree
 
@@ -189,7 +190,7 @@ module _ (text : List ℕ) where
         let behind_a = back text a (b ++ (c ++ semicolon ∷ tokens)) all.1 in
         first_spelled _ operands signs
         (λ behaviour has. (
-          every_joined IsOfferSpelled first (flat_map (λ group. group) offers)
+          Every-append IsOfferSpelled first (flat_map (λ group. group) offers)
               (offer_spelled a first is_first (front text a (b ++ (c ++ semicolon ∷ tokens)) all.1))
               (flat_every IsOfferSpelled offers
               (many_gives text (IsWrittenOffer text) (Every IsOfferSpelled) offer_spelled b offers are

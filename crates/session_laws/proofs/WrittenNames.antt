@@ -21,18 +21,15 @@ use Rattle.scope_parts.specs.Numbering.{spelled, each_once_from, each_once, choi
 use Rattle.scope_parts.specs.Definitions.{declared_gates}
 use Rattle.behaviour_semantics.specs.WellFormed.{Every}
 use Rattle.behaviour_semantics.proofs.EveryLemmas.{every_front, every_back}
-use Rattle.specification_laws.specs.HandedOn.{IsWordSpelling, IsOperationSpelling}
+use Rattle.behaviour_semantics.proofs.ListLemmas.{Every-append}
+use Rattle.flat_sentences.specs.HandedOn.{IsWordSpelling, IsOperationSpelling}
 use Rattle.session_laws.proofs.TokenSpellings.{IsSpelledIn}
 
 -- ---- Lists
 
-pub every_joined : {X : Type 0} (P : X → Type 0) (xs ys : List X) → Every P xs → Every P ys → Every P (xs ++ ys)
-every_joined P [] ys first second = second
-every_joined P (x ∷ xs) ys first second = (first.0, every_joined P xs ys first.1 second)
-
 pub flat_every : {X : Type 0} (P : X → Type 0) (lists : List (List X)) → Every (Every P) lists → Every P (flat_map (λ list. list) lists)
 flat_every P [] all = tt
-flat_every P (list ∷ lists) all = every_joined P list (flat_map (λ l. l) lists) all.0 (flat_every P lists all.1)
+flat_every P (list ∷ lists) all = Every-append P list (flat_map (λ l. l) lists) all.0 (flat_every P lists all.1)
 
 -- ---- What is said of the parts of a tree
 
@@ -110,7 +107,7 @@ grouped_gates : {operands : List WrittenBehaviour} {signs : List PlacedSign} {be
     → IsGrouped strength_of joined operands signs behaviour → Every AreGatesSpelled operands → AreGatesSpelled behaviour
 grouped_gates alone all = all.0
 grouped_gates (split {operands = operands} {others = others} {left = left} {right = right} before after is also) all =
-    every_joined IsWordSpelling (gates_in left) (gates_in right)
+    Every-append IsWordSpelling (gates_in left) (gates_in right)
     (grouped_gates is (every_front AreGatesSpelled operands others all))
     (grouped_gates also (every_back AreGatesSpelled operands others all))
 
@@ -311,7 +308,7 @@ module _ (text : List ℕ) where
     operands_gates _ _ _
         (hiding {in_ = in_} {name_tokens = names} {tokens = tokens} {gates = gates} {inside = inside} word are is within) all =
         let rest = back names (in_ ∷ tokens) all.1 in (
-          every_joined IsWordSpelling (each_once (spelled gates)) (gates_in inside)
+          Every-append IsWordSpelling (each_once (spelled gates)) (gates_in inside)
               (once_every IsWordSpelling [] (spelled gates)
               (names_every gates (names_words names gates are (front names (in_ ∷ tokens) all.1))))
               (behaviour_gates tokens inside within rest.1),
@@ -324,7 +321,7 @@ module _ (text : List ℕ) where
         (behaviour_gates tokens inside within (back values (sign ∷ tokens) all.1).1, tt)
     operands_gates _ _ _
         (choosing_gates {sign = sign} {gate_tokens = names} {tokens = tokens} {gates = gates} {inside = inside} word are is within) all = (
-          every_joined IsWordSpelling (choice_names gates) (gates_in inside)
+          Every-append IsWordSpelling (choice_names gates) (gates_in inside)
               (choices_every gates (choices_spelled names gates are (front names (sign ∷ tokens) all.1)))
               (behaviour_gates tokens inside within (back names (sign ∷ tokens) all.1).1),
           tt,
@@ -332,7 +329,7 @@ module _ (text : List ℕ) where
     operands_gates _ _ _
         (parallel_over_gates {gate_tokens = names} {sign_tokens = signs} {tokens = tokens} {gates = gates} {inside = inside}
         word are is within) all = (
-          every_joined IsWordSpelling (choice_names gates) (gates_in inside)
+          Every-append IsWordSpelling (choice_names gates) (gates_in inside)
               (choices_every gates (choices_spelled names gates are (front names (signs ++ tokens) all.1)))
               (behaviour_gates tokens inside within (back signs tokens (back names (signs ++ tokens) all.1))),
           tt,
@@ -392,8 +389,8 @@ module _ (text : List ℕ) where
         let rest = where_spelled c inner there_ (front c (end ∷ []) behind_b) in
         record {
           gates =
-              every_joined IsWordSpelling (own_gates given body) (inners_gates (inners_of inner))
-              (every_joined IsWordSpelling (spelled given.gates) (gates_in body)
+              Every-append IsWordSpelling (own_gates given body) (inners_gates (inners_of inner))
+              (Every-append IsWordSpelling (spelled given.gates) (gates_in body)
               (heading_gates a given head (front a (sign ∷ (b ++ (c ++ end ∷ []))) all.1))
               (behaviour_gates b body behaviour (front b (c ++ end ∷ []) behind_a.1)))
               rest.gates;
@@ -415,8 +412,8 @@ module _ (text : List ℕ) where
         let others = inner_spelled rest inner more (back tokens rest all) in
         let first = process_spelled tokens definition is (front tokens rest all) in
         record {
-          gates = every_joined IsWordSpelling (inner_gates definition) (inners_gates (inners_of inner)) first.gates others.gates;
-          items = every_joined IsItemSpelled (items_of_inner definition) (items_of_inners (inners_of inner)) first.items others.items;
+          gates = Every-append IsWordSpelling (inner_gates definition) (inners_gates (inners_of inner)) first.gates others.gates;
+          items = Every-append IsItemSpelled (items_of_inner definition) (items_of_inners (inners_of inner)) first.items others.items;
         }
 
   -- ---- The text of a specification
@@ -431,10 +428,10 @@ module _ (text : List ℕ) where
       let behind_b = back b (word ∷ (c ++ (d ++ end ∷ []))) behind_a in
       let behind_c = back c (d ++ end ∷ []) behind_b.1 in
       let rest = where_spelled d inner there_ (front d (end ∷ []) behind_c) in (
-        every_joined IsItemSpelled items (items_of_inners (inners_of inner))
+        Every-append IsItemSpelled items (items_of_inners (inners_of inner))
             (items_spelled b items are (front b (word ∷ (c ++ (d ++ end ∷ []))) behind_a)) rest.items,
-        every_joined IsWordSpelling (own_gates given body) (inners_gates (inners_of inner))
-            (every_joined IsWordSpelling (spelled given.gates) (gates_in body)
+        Every-append IsWordSpelling (own_gates given body) (inners_gates (inners_of inner))
+            (Every-append IsWordSpelling (spelled given.gates) (gates_in body)
             (heading_gates a given head (front a (b ++ word ∷ (c ++ (d ++ end ∷ []))) all.1))
             (behaviour_gates c body behaviour (front c (d ++ end ∷ []) behind_b.1)))
             rest.gates,

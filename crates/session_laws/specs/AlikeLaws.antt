@@ -1,10 +1,8 @@
 -- A text that stands for the same as an accepted specification is accepted too, and what is accepted alike runs alike.
 use Rattle.std.specs.Prelude.{◌≡◌, ℕ, List, Option, Some}
 use Rattle.lotos_base.specs.Outside.{Texts}
-use Rattle.lotos_top.specs.Finishing.{Print, prints, serves}
 use Rattle.lotos_top.specs.HandedOn.{Beginning, Acceptance, Founded, IsFounded, ComesOfPart, ComesOver, asked_for, Comes, goes_on, stops}
-use Rattle.lotos_top.specs.HandedOn.{Refused}
-use Rattle.lotos_top.specs.Words.{check, session}
+use Rattle.lotos_top.specs.HandedOn.{Refused, check, session, Print, prints, serves}
 use Rattle.lotos_top.specs.Work.{work_of}
 use Rattle.session_laws.specs.ReadBack.{IsReadBack, StandsUnder}
 use Rattle.session_laws.specs.Alike.{AreFoundedAlike, AreAcceptedAlike, BeginAlike}

@@ -4,12 +4,10 @@ use Rattle.std.specs.Prelude.{◌≡◌, ◌≤◌, ℕ, List, Option, Some, len
 use Rattle.lotos_base.specs.Limits.{text_limit}
 use Rattle.lotos_base.specs.Outside.{Texts}
 use Rattle.flat_sentences.specs.HandedOn.{flat_text}
-use Rattle.lotos_top.specs.Finishing.{Print, Finish, prints, serves}
 use Rattle.lotos_top.specs.Flattening.{flat_printed}
 use Rattle.lotos_top.specs.HandedOn.{Beginning, Acceptance, Founded, IsFounded, ComesOfPart, ComesOver, asked_for, Comes, goes_on, stops}
-use Rattle.lotos_top.specs.HandedOn.{Refused}
+use Rattle.lotos_top.specs.HandedOn.{Refused, check, session, flattening, Print, Finish, prints, serves}
 use Rattle.lotos_top.specs.Settled.{WorkOver}
-use Rattle.lotos_top.specs.Words.{check, session, flattening}
 use Rattle.session_laws.specs.Alike.{AreFoundedAlike, AreAcceptedAlike, BeginAlike}
 use Rattle.session_laws.specs.AlikeLaws.{FoundedOver}
 use Rattle.session_laws.specs.ReadBack.{IsReadBack}

@@ -12,7 +12,6 @@ pub mod SameChecksLaws
 pub mod SameTextsLaws
 pub mod SameBases
 pub mod SameSessionsLaws
-pub mod SameResolutionsLaws
 pub mod ReadBack
 pub mod Alike
 pub mod AlikeLaws

@@ -1,9 +1,8 @@
 -- The numbers of entries and the values that a session got by its lines are such as a line of a trace can hold.
 use Rattle.std.specs.Prelude.{◌≡◌, ℕ, Bool, List, []}
 use Rattle.behaviour_semantics.specs.WellFormed.{Every}
-use Rattle.specification_laws.specs.HandedOn.{IsWithinLine}
+use Rattle.flat_sentences.specs.HandedOn.{IsWithinLine, Progress, items_of}
 use Rattle.line_server.specs.Answered as served
-use Rattle.session_histories.specs.Session.{Progress, items_of}
 use Rattle.lotos_top.specs.HandedOn.{Standing, Befallen, LineComesTo, SessionPoint, history_machine}
 
 -- the number of each entry has at most ten digits, and the values are nested at most as deep as those that are read

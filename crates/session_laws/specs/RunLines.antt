@@ -3,12 +3,9 @@ use Rattle.std.specs.Prelude.{◌≡◌, ◌⊎◌, ℕ, Bool, true, false, List
 use Rattle.line_server.specs.Answered as served
 use Rattle.line_server.specs.Machine.{Reply}
 use Rattle.lotos_top.specs.HandedOn.{SessionPoint, LineIs, history_machine, Beginning, ShelfState, Gives, Asked, Acceptance, IsAccepted}
-use Rattle.lotos_top.specs.HandedOn.{goes_on, GotFile}
+use Rattle.lotos_top.specs.HandedOn.{goes_on, GotFile, session, serves, Ended}
 use Rattle.lotos_top.specs.Opening.{SessionBegins}
 use Rattle.lotos_top.specs.Run.{Streams, Ran}
-use Rattle.lotos_top.specs.Words.{session}
-use Rattle.lotos_top.specs.Finishing.{serves}
-use Rattle.lotos_top.specs.declared.ended.Ended.{Ended}
 
 -- the shelf gave the files with which the specification was accepted, and its session begins so
 pub record ServesAccepted (asked : Asked) (shelf between : ShelfState) (begun : Beginning) : Type 0 where

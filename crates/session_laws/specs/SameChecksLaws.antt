@@ -9,16 +9,12 @@ use Rattle.behaviour_semantics.specs.Behaviour.{Specification}
 use Rattle.behaviour_tree.specs.DefinitionView.{specification_of}
 use Rattle.behaviour_tree.specs.Over.{IsSpecOver}
 use Rattle.behaviour_tree.specs.declared.definitions.Spec.{Spec}
-use Rattle.bisimulation_theory.specs.SameData.{AreSameData}
-use Rattle.specification_laws.specs.HasFunctionality.{AllAgree}
+use Rattle.certificate_theory.specs.SameData.{AreSameData}
+use Rattle.flat_sentences.specs.HandedOn.{AllAgree, AreSameSpecifications, all_disagreements}
 use Rattle.termination_theory.specs.Precedence.{Precedence}
 use Rattle.termination_theory.specs.Orientation.{NumberedRule}
 use Rattle.path_order.specs.OrderedBy.{IsPrecedenceBy}
-use Rattle.process_checks.specs.Functionality.{all_disagreements}
-use Rattle.start_values.specs.HandedOn.{IsOpenedBy}
-use Rattle.start_values.specs.Refusal.{Refusal}
-use Rattle.start_values.specs.StartValues.{Start, AreStartValues, IsStartFault}
-use Rattle.declaration_laws.specs.SameSpecification.{AreSameSpecifications}
+use Rattle.lotos_top.specs.HandedOn.{IsOpenedBy, Refusal, Start, AreStartValues, IsStartFault}
 
 -- parameters of these sorts over the signature of the data, and the words that are to be their values
 abbrev pub start_over : Data → List ℕ → List (List ℕ) → Start

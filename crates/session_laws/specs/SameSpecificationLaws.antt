@@ -10,8 +10,8 @@ use Rattle.behaviour_semantics.specs.Draft.{draft_of}
 use Rattle.behaviour_semantics.specs.Solving.{Entry}
 use Rattle.behaviour_semantics.specs.Menu.{Exact}
 use Rattle.behaviour_semantics.specs.Guardedness.{IsGuarded}
-use Rattle.bisimulation_theory.specs.SameData.{AreSameData}
-use Rattle.declaration_laws.specs.SameSpecification.{AreSameProcesses, AreSameSpecifications}
+use Rattle.certificate_theory.specs.SameData.{AreSameData}
+use Rattle.flat_sentences.specs.HandedOn.{AreSameProcesses, AreSameSpecifications}
 
 pub record SameSpecificationsDoTheSame : Type 0 where
   -- same specifications are the same the other way round too

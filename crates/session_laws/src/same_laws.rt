@@ -1,12 +1,11 @@
 //! Specifications that are the same. Each function carries a law as its contract and does nothing.
 
 ghost use Rattle.session_laws.specs.SameChecksLaws.{SameSpecificationsPassTheSameChecks};
-ghost use Rattle.session_laws.specs.SameResolutionsLaws.{TextsAreResolvedAlike};
 ghost use Rattle.session_laws.specs.SameSessionsLaws.{SessionsOverTheSameAgree};
 ghost use Rattle.session_laws.specs.SameSpecificationLaws.{SameSpecificationsDoTheSame};
 ghost use Rattle.session_laws.specs.SameTextsLaws.{TextsAgreeButForProcesses};
 
-use specification_laws::functionalities::no_disagreement_is_agreement;
+use flat_sentences::no_disagreement_is_agreement;
 
 /// Over data that are the same up to places, origins, spellings and names of variables, the
 /// behaviours of specifications that are the same up to names of processes have the same moves,
@@ -34,9 +33,4 @@ pub fn texts_agree_but_for_processes()
 /// steps are lawful in sessions.
 pub fn sessions_over_the_same_agree()
     ensures { SessionsOverTheSameAgree }
-{}
-
-/// Over such data a text stands for the same specification, or breaks the same rule first.
-pub fn texts_are_resolved_alike()
-    ensures { TextsAreResolvedAlike }
 {}

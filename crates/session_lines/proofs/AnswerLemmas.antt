@@ -1,8 +1,8 @@
 -- A question comes to one answer at most.
 use Rattle.std.proofs.Common.{◌≡◌, ◌≢◌, ◌⊎◌, ◌↔◌, inl, inr, ℕ, Bool, true, false, IsTrue, List, [], ◌∷◌, length, None, refl, sym, ap, subst, ◌∙◌}
 use Rattle.lotos_base.specs.WrittenTerm.{WrittenTerm}
-use Rattle.sentence_trees.specs.declared.fault.ReadFault.TheVariants.{NoMemory}
-use Rattle.sentence_trees.proofs.Outcomes.{all_have_one_outcome}
+use Rattle.lotos_grammar.specs.HandedOn.{NoMemory}
+use Rattle.lotos_grammar.proofs.HandedOn.{all_have_one_outcome}
 use Rattle.sort_terms.specs.ReadingOutcome as reading
 use Rattle.sort_terms.specs.ReadingOutcome.{SortedTerm, SortedPair, ReadingIs, PairReadingIs, answered}
 use Rattle.sort_terms.proofs.ReadsLemmas.{comes_once}

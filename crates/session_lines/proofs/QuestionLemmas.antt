@@ -6,9 +6,8 @@ use Rattle.lotos_base.specs.Equation.{Data, Variable}
 use Rattle.lotos_base.specs.Signature.{Signature}
 use Rattle.lotos_base.specs.Sorting.{IsGround}
 use Rattle.lotos_base.specs.Term.{Term}
-use Rattle.sentence_trees.specs.Reading.{IsTermsFault}
-use Rattle.sentence_trees.specs.declared.fault.ReadFault.{ReadFault}
-use Rattle.sentence_trees.specs.declared.fault.ReadFault.TheVariants as fault
+use Rattle.lotos_grammar.specs.HandedOn.{IsTermsFault, ReadFault}
+use Rattle.lotos_grammar.specs.HandedOn.read_faults as fault
 use Rattle.sort_terms.specs.ReadingOutcome as reading
 use Rattle.sort_terms.specs.ReadingOutcome.{SortedTerm, SortedPair, ReadingIs, PairReadingIs, answered, IsPairReading}
 use Rattle.sort_terms.specs.RefusalView.{UnlessNoMemory}

@@ -1,9 +1,7 @@
 -- Why a line of a session is refused, and the line that is printed for it.
 use Rattle.std.specs.Prelude.{◌≡◌, ◌≢◌, ℕ, List, ◌++◌, codes, decimal}
 use Rattle.lotos_base.specs.WrittenTerm.{WrittenTerm}
-use Rattle.sentence_trees.specs.Reading.{IsTermsReading, IsTermsFault}
-use Rattle.sentence_trees.specs.declared.fault.ReadFault.{ReadFault}
-use Rattle.sentence_trees.specs.declared.fault.ReadFault.TheVariants.{TooLong, BadByte, OpenComment, Syntax, TooDeep, NoMemory}
+use Rattle.lotos_grammar.specs.HandedOn.{IsTermsReading, IsTermsFault, ReadFault, TooLong, BadByte, OpenComment, Syntax, TooDeep, NoMemory}
 use Rattle.sort_terms.specs.ReadingOutcome as reading
 
 -- it has no form, or not the number of terms that its word wants; or its terms are refused, with the number of their fault

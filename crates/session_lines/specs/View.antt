@@ -1,7 +1,7 @@
 -- The refusals that those of the code stand for.
 use Rattle.std.specs.Prelude.{◌≡◌, ℕ, List, ◌++◌, Option, None, Some}
-use Rattle.sentence_trees.specs.declared.fault.ReadFault.{ReadFault}
-use Rattle.sentence_trees.specs.declared.fault.ReadFault.TheVariants as fault
+use Rattle.lotos_grammar.specs.HandedOn.{ReadFault}
+use Rattle.lotos_grammar.specs.HandedOn.read_faults as fault
 use Rattle.sort_terms.specs.declared.sort_faults.SortFault.{SortFault}
 use Rattle.sort_terms.specs.declared.sort_faults.SortFault.TheVariants as sort_fault
 use Rattle.session_lines.specs.Refusal as plain_refusal

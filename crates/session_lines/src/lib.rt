@@ -6,10 +6,9 @@ pub mod questions;
 pub mod refusals;
 
 pub use equation_book::Book;
-pub use lotos_grammar::{ReadFault, read_terms};
+pub use lotos_grammar::{ReadFault, read_terms, texts_have_one_outcome};
 pub use printed_texts::brackets::{push_number, push_text};
 pub use printed_texts::labels::{push_label, push_value};
 pub use printed_texts::values::push_given;
 pub use printed_texts::{label_text, menu_text, term_text};
 pub use refusals::Refusal;
-pub use sentence_trees::reading_laws::texts_have_one_outcome;

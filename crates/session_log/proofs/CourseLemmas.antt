@@ -363,13 +363,3 @@ pub exact_over : (data_ other : Data) (canon also : Term → Term) (spec : Spec)
 exact_over data_ other canon also spec state menu same same_canon h =
     subst (λ (d : Data). Exact d canon (specification_of spec).processes (state_of state) (entries_in menu)) same
     (subst (λ (k : Term → Term). Exact other k (specification_of spec).processes (state_of state) (entries_in menu)) same_canon h)
-
-pub suited_again : {M : Type 0} (suits : M → Spec → Data → (Term → Term) → Type 0) (data_ other : Data) (canon also : Term → Term)
-    (spec : Spec) (ranks : Ranks) (maker next : M) → AreSuited suits data_ canon spec ranks maker → other ≡ data_ → also ≡ canon
-    → suits next spec other also → AreSuited suits data_ canon spec ranks next
-suited_again suits data_ other canon also spec ranks maker next h same same_canon fits = record {
-  signature = h.signature;
-  over = h.over;
-  ranked = h.ranked;
-  fitting = subst (λ (d : Data). suits next spec d canon) same (subst (suits next spec other) same_canon fits);
-}

@@ -1,6 +1,5 @@
 -- Entries of menus and values for them.
 use Rattle.std.proofs.Common.{◌≡◌, ◌≢◌, ◌<◌, ◌-◌, ◌+◌, ℕ, suc, List, [], ◌∷◌, drop, get_or, length, Option, Some, None, slice_get, nat_eq, if◌then◌else◌, Bool, true, false, refl, ap, ap₂, sym, ◌∙◌, subst, arith, add-one, eqb-true, eq-eqb, ne_eqb}
-use Rattle.std.specs.Option.{option_map}
 use Rattle.std.proofs.lemmas.List.{length-map}
 use Rattle.std.proofs.lemmas.Option.{slice_get_past}
 use Rattle.lotos_base.proofs.Members.{past_map, at_map}
@@ -9,8 +8,6 @@ use Rattle.lotos_base.specs.Signature.{Signature}
 use Rattle.lotos_base.specs.Term.{Term}
 use Rattle.lotos_base.specs.Sorting.{IsGround, IsGroundOf, sort_of}
 use Rattle.lotos_base.proofs.SortLemmas.{sort_of_sorted}
-use Rattle.behaviour_semantics.specs.Behaviour.{Test}
-use Rattle.behaviour_semantics.specs.Derives.{leaves_in}
 use Rattle.behaviour_semantics.specs.Fault.{first_of_two}
 use Rattle.behaviour_semantics.specs.Rule.{AreValues, is_same_sort}
 use Rattle.behaviour_semantics.specs.Solving.{Entry as PlainEntry}
@@ -19,14 +16,14 @@ use Rattle.behaviour_semantics.proofs.InstanceLemmas.{every_at}
 use Rattle.behaviour_tree.specs.BehaviourTerms.{profiles_of}
 use Rattle.behaviour_tree.specs.BehaviourView.{terms_of}
 use Rattle.behaviour_tree.specs.Over.{AreTermsOf}
-use Rattle.menu_builder.specs.HandedOn.{unmet_among, plain_entry, IsEntryOf, IsEntryOver, Entry, Menu}
+use Rattle.menu_builder.specs.HandedOn.{plain_entry, IsEntryOf, IsEntryOver, Entry, Menu}
 use Rattle.menu_builder.specs.Menus.{entries_in}
 use Rattle.sort_terms.specs.ProfiledTerm.{head_sort, IsOf}
 use Rattle.sort_terms.specs.SortedView.{profiled_in, term_in}
 use Rattle.sort_terms.specs.declared.sorted.Sorted.{Sorted}
 use Rattle.sort_terms.proofs.ProfiledTermLemmas.{fitting_has_sort}
 use Rattle.session_histories.specs.Refusal as plain
-use Rattle.session_histories.specs.Refusal.{no_entry, value_count, value_sort, unmet, entry_numbered, count_refusal, number_refusal, sort_refusal, condition_refusal, value_refusal, step_refusal}
+use Rattle.session_histories.specs.Refusal.{no_entry, value_count, value_sort, unmet, entry_numbered, count_refusal, number_refusal, sort_refusal, value_refusal, step_refusal}
 use Rattle.session_histories.specs.Session.{SessionBasis}
 use Rattle.session_log.specs.Entries.{AreGiven, IsEntryAt}
 use Rattle.session_log.specs.Kept.{IsKeptMenu}
@@ -124,19 +121,6 @@ values_told basis menu number values entry listed free refusal h =
     (λ why e. ap (λ (it : Option plain.StepRefusal). first_of_two it (value_refusal basis.data_.signature basis.canon
     (entry_numbered menu number) values)) free
     ∙ (ap (λ (it : Option PlainEntry). value_refusal basis.data_.signature basis.canon it values) listed ∙ e)) refusal h
-
-pub sort_is_told : (signature : Signature) (canon : Term → Term) (entry : PlainEntry) (values : List Term) (variable : ℕ)
-    → sort_refusal signature 0 entry.variables values ≡ Some (value_sort variable)
-    → value_refusal signature canon (Some entry) values ≡ Some (value_sort variable)
-sort_is_told signature canon entry values variable e =
-    ap (λ (it : Option plain.StepRefusal). first_of_two it (condition_refusal canon entry values)) e
-
-pub condition_is_told : (signature : Signature) (canon : Term → Term) (entry : PlainEntry) (values : List Term) (test : Test)
-    → sort_refusal signature 0 entry.variables values ≡ None → Some test ≡ unmet_among canon (leaves_in values) entry.conditions
-    → value_refusal signature canon (Some entry) values ≡ Some (unmet test.left test.right)
-condition_is_told signature canon entry values test free e =
-    ap (λ (it : Option plain.StepRefusal). first_of_two it (condition_refusal canon entry values)) free
-    ∙ ap (option_map (λ (it : Test). unmet it.left it.right)) (sym e)
 
 -- ---- Values that are given
 

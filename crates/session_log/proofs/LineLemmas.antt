@@ -1,12 +1,13 @@
 -- How the lines of a trace are read.
-use Rattle.std.proofs.Common.{◌≡◌, ◌<◌, ◌≤◌, ◌+◌, ◌*◌, ◌-◌, ℕ, suc, zero, List, [], ◌∷◌, ◌++◌, take, drop, length, get_or, Bool, true, false, ◌&&◌, nat_eq, if◌then◌else◌, Option, Some, None, option_map, refl, ap, ap₂, sym, ◌∙◌, subst, arith, add-one, length-drop, take_all, append_assoc, append-nil, drop-drop}
+use Rattle.std.proofs.Common.{◌≡◌, ◌<◌, ◌+◌, ◌-◌, ℕ, suc, zero, List, [], ◌∷◌, ◌++◌, take, drop, length, Bool, true, false, ◌&&◌, ◌||◌, nat_eq, if◌then◌else◌, Option, Some, None, option_map, refl, ap, ap₂, sym, ◌∙◌, arith, add-one, length-drop, take_all, append_assoc, append-nil, drop-drop}
 use Rattle.std.specs.List.{list_all, starts_with}
 use Rattle.std.specs.Char.{is_ascii_digit}
-use Rattle.std.specs.Str.Parse.{digits_value_after}
-use Rattle.std.proofs.lemmas.Bool.{and_parts}
-use Rattle.lotos_base.proofs.Digits.{digit_is, digit_value_is}
-use Rattle.lotos_base.proofs.Pieces.{next_member}
-use Rattle.session_histories.specs.TraceLine.{AroundArrow, with_byte, around_arrow, first_digits, behind_digits, with_first, lines_of}
+use Rattle.std.specs.Str.Parse.{digits_value}
+use Rattle.std.specs.Prelude.{nat_lt, not}
+use Rattle.behaviour_semantics.proofs.OptionLemmas.{some_value}
+use Rattle.line_server.specs.Request as request
+use Rattle.session_histories.specs.TraceLine as plain
+use Rattle.session_histories.specs.TraceLine.{AroundArrow, StepLine, with_byte, around_arrow, first_digits, behind_digits, with_first, lines_of}
 use Rattle.session_histories.specs.TraceText.{arrow}
 use Rattle.session_log.specs.Lines.{line_length, digit_count, around_at, with_bytes}
 
@@ -131,27 +132,41 @@ no_arrow position line (byte ∷ rest) none whole = absurd (omega (arith, none))
 
 -- ---- Numbers
 
-pub record IsDigitRead (digits : List ℕ) (index value digit : ℕ) : Type 0 where
-  pub value_ : digits_value_after 10 value (drop index digits) ≡ digits_value_after 10 (value * 10 + (digit - 48)) (drop (index + 1) digits)
-  pub low : 48 ≤ digit
-  pub high : digit ≤ 57
-  pub rest : list_all is_ascii_digit (drop (index + 1) digits) ≡ true
+number_form : (digits : List ℕ) → request.has_number_form digits ≡ plain.is_number digits
+number_form digits =
+    ap (λ (zero_first : Bool).
+    (nat_lt 0 (length digits) && nat_lt (length digits) 11) && (nat_eq (length digits) 1 || not zero_first)) (by digits)
+  where
+    by : (digits : List ℕ) → request.leads_with_zero digits ≡ plain.leads_with_zero digits
+    by [] = refl
+    by (digit ∷ digits) = refl
 
-pub digit_read : (digits : List ℕ) (index value digit : ℕ) → index < length digits → digit ≡ get_or digits index digit
-    → list_all is_ascii_digit (drop index digits) ≡ true → IsDigitRead digits index value digit
-digit_read digits index value digit below is all =
-    let cut : drop index digits ≡ digit ∷ drop (index + 1) digits = next_member digits index digit below is in
-    let parts : (is_ascii_digit digit ≡ true) × (list_all is_ascii_digit (drop (index + 1) digits) ≡ true) =
-    and_parts (is_ascii_digit digit) (list_all is_ascii_digit (drop (index + 1) digits))
-    (subst (λ (it : List ℕ). list_all is_ascii_digit it ≡ true) cut all) in
-    let range : (48 ≤ digit) × (digit ≤ 57) = digit_is digit parts.0 in
-    record {
-      value_ = ap (digits_value_after 10 value) cut
-          ∙ ap (λ (d : ℕ). digits_value_after 10 (value * 10 + d) (drop (index + 1) digits)) (digit_value_is digit range.0 range.1);
-      low = range.0;
-      high = range.1;
-      rest = parts.1;
-    }
+-- a number in a line of a session is one in a line of a trace
+number_as : (digits : List ℕ) → list_all is_ascii_digit digits ≡ true
+    → request.number_in digits ≡ (if plain.is_number digits then Some (digits_value 10 digits) else None)
+number_as digits all =
+    ap₂ (λ (are_digits has_form : Bool). if are_digits && has_form then Some (digits_value 10 digits) else None) all
+    (number_form digits)
+
+pub no_number : (digits rest label : List ℕ) (found : Option ℕ) → list_all is_ascii_digit digits ≡ true
+    → found ≡ request.number_in digits → found ≡ None → None ≡ plain.with_number digits rest label
+no_number digits rest label found all is none = by (plain.is_number digits) (sym none ∙ (is ∙ number_as digits all))
+  where
+    by : (b : Bool) → None ≡ (if b then Some (digits_value 10 digits) else None)
+        → None ≡ (if b then plain.with_terms (digits_value 10 digits) rest label else None)
+    by true e = absurd (cc e)
+    by false e = refl
+
+pub number_there : (digits rest label : List ℕ) (found : Option ℕ) (number : ℕ) (said : Option StepLine)
+    → list_all is_ascii_digit digits ≡ true → found ≡ request.number_in digits → found ≡ Some number
+    → said ≡ plain.with_terms number rest label → said ≡ plain.with_number digits rest label
+number_there digits rest label found number said all is some says =
+    says ∙ by (plain.is_number digits) (sym some ∙ (is ∙ number_as digits all))
+  where
+    by : (b : Bool) → Some number ≡ (if b then Some (digits_value 10 digits) else None)
+        → plain.with_terms number rest label ≡ (if b then plain.with_terms (digits_value 10 digits) rest label else None)
+    by true e = ap (λ (n : ℕ). plain.with_terms n rest label) (some_value e)
+    by false e = absurd (cc e)
 
 -- the rest behind so many members, and that behind the first one, as slices have them
 pub whole_rest : (count : ℕ) (xs : List ℕ) → take (length xs - count) (drop count xs) ≡ drop count xs

@@ -1,38 +1,31 @@
 -- What comes of the lines of a trace.
-use Rattle.std.proofs.Common.{◌≡◌, ◌≢◌, inl, inr, ◌<◌, ◌≤◌, ◌+◌, ℕ, List, [], ◌∷◌, ◌++◌, map, drop, length, get_or, Bool, true, false, nat_eq, Option, Some, None, refl, ap, sym, ◌∙◌, subst, arith, append-nil, append_assoc, eqb-true}
-use Rattle.std.proofs.lemmas.List.{map-append, drop_all, length-map}
+use Rattle.std.proofs.Common.{◌≡◌, ◌≢◌, ◌<◌, ◌≤◌, ◌+◌, ℕ, List, [], ◌∷◌, map, length, Bool, true, false, nat_eq, Option, Some, None, refl, ap, sym, ◌∙◌, subst, arith, eqb-true}
+use Rattle.std.proofs.lemmas.List.{length-map}
 use Rattle.std.proofs.lemmas.Option.{none-some}
 use Rattle.lotos_base.specs.Signature.{Signature}
-use Rattle.lotos_base.specs.Term.{Term, Terms, variable, node, no_terms, term_then}
-use Rattle.lotos_base.specs.Sorting.{IsGround, AreGround}
-use Rattle.lotos_base.specs.Equation.{Data, Variable}
-use Rattle.lotos_base.specs.WrittenTerm.{WrittenTerm, WrittenTerms, written, no_written, written_then}
-use Rattle.lotos_base.specs.WrittenView.{text_place_of, written_term_of}
+use Rattle.lotos_base.specs.Term.{Term}
+use Rattle.lotos_base.specs.Equation.{Data}
+use Rattle.lotos_base.specs.WrittenTerm.{WrittenTerm}
+use Rattle.lotos_base.specs.WrittenView.{written_term_of}
 use Rattle.lotos_base.specs.Name.{spelling}
 use Rattle.lotos_base.specs.declared.written_terms.Written.{Written}
 use Rattle.session_lines.specs.HandedOn.{IsTermsReading, IsTermsFault, ReadFault, NoMemory, label_text, written_label, state_text}
 use Rattle.session_lines.specs.HandedOn.read_faults as text_fault
-use Rattle.sort_terms.specs.Reading.{Reads, AllRead, IsScopeOver}
+use Rattle.sort_terms.specs.Reading.{IsScopeOver}
 use Rattle.sort_terms.proofs.ReadsLemmas.{reads_sorted}
-use Rattle.sort_terms.specs.RefusalView.{UnlessNoMemory}
 use Rattle.sort_terms.specs.SignatureView.{signature_of}
 use Rattle.sort_terms.specs.declared.signatures.Signature.{Signature as CodeSignature}
-use Rattle.sort_terms.specs.declared.sort_faults.SortFault.{SortFault}
-use Rattle.sort_terms.specs.declared.sort_faults.SortFault.TheVariants as term_fault
-use Rattle.sort_terms.specs.ReadingOutcome as reading
-use Rattle.sort_terms.specs.ReadingOutcome.{ReadingIs, SortedTerm, answered, IsReading, one_name}
-use Rattle.sort_terms.specs.SortedView.{profiled_in, term_in}
+use Rattle.session_lines.specs.declared.refusals.Refusal.{Refusal}
+use Rattle.session_lines.specs.declared.refusals.Refusal.TheVariants as values_refusal
+use Rattle.sort_terms.specs.ReadingOutcome.{IsReading, one_name}
+use Rattle.sort_terms.specs.SortedView.{term_in}
 use Rattle.sort_terms.specs.declared.sorted.Sorted.{Sorted}
 use Rattle.behaviour_semantics.specs.Fault.{first_of_two}
 use Rattle.behaviour_semantics.specs.Rule.{AreValues}
 use Rattle.behaviour_semantics.specs.Label as plain_label
 use Rattle.behaviour_semantics.specs.Solving.{Entry as PlainEntry}
-use Rattle.behaviour_semantics.proofs.ListLemmas.{Every-append}
-use Rattle.behaviour_tree.specs.BehaviourTerms.{profiles_of}
 use Rattle.behaviour_tree.specs.BehaviourView.{terms_of}
-use Rattle.behaviour_tree.specs.Over.{AreTermsOf}
-use Rattle.sort_terms.specs.ProfiledTerm.{IsOf}
-use Rattle.session_histories.specs.Session.{SessionBasis, Situation, Progress, first_situation, opened}
+use Rattle.session_histories.specs.Session.{SessionBasis, Situation, Progress, first_situation}
 use Rattle.session_histories.specs.Lawful.{HasStepped}
 use Rattle.menu_builder.specs.HandedOn.{plain_entry, Entry, Menu}
 use Rattle.behaviour_tree.specs.MoveView.{label_of}
@@ -40,26 +33,26 @@ use Rattle.behaviour_tree.specs.declared.definitions.Spec.{Spec}
 use Rattle.behaviour_tree.specs.declared.moves.Label.{Label}
 use Rattle.std.specs.Prelude.{Result, MatchResult}
 use Rattle.std.proofs.lemmas.Result.{MatchResult-weaker}
-use Rattle.sort_terms.proofs.OutcomeLemmas.{read_ground, all_ground, is_reading}
+use Rattle.sort_terms.proofs.OutcomeLemmas.{read_ground, is_reading}
 use Rattle.behaviour_semantics.proofs.SupplyLemmas.{length-values}
-use Rattle.lotos_base.proofs.Members.{read_map}
-use Rattle.lotos_base.proofs.Pieces.{next_member}
 use Rattle.menu_builder.specs.Menus.{entries_in}
 use Rattle.session_histories.specs.Refusal as plain
 use Rattle.session_histories.specs.Refusal.{StepRefusal, entry_numbered, count_refusal, number_refusal, condition_refusal, value_refusal, step_refusal}
-use Rattle.session_histories.specs.Replay.{has_no_form, LineRefusal, bad_line, step_refused, label_differs, state_differs, LinesOutcome, goes_on, stops, ReplayRefusal, in_line, other_specification, AreRead, IsOneMisread, IsReadStep, shown_label, LineComesTo, is_not_read, is_miscounted, is_misread, is_unmet, is_mislabelled, is_replayed, LinesComeTo, all_done, one_stops, one_goes_on, StateComesTo, is_missing, has_no_state, is_elsewhere, is_there, first_line, shown_state, StatedLinesComeTo, all_stated, step_stops, state_stops, both_go_on, refuses_heading, ComeBehindName, ComeBehind, TraceComesTo, ReplayIs}
+use Rattle.session_histories.specs.Replay.{has_no_form, LineRefusal, bad_line, step_refused, label_differs, state_differs, LinesOutcome, goes_on, stops, ReplayRefusal, in_line, other_specification, AreRead, IsReadStep, shown_label, LineComesTo, is_not_read, is_miscounted, is_misread, is_unmet, is_mislabelled, is_replayed, LinesComeTo, all_done, one_stops, one_goes_on, StateComesTo, is_missing, has_no_state, is_elsewhere, is_there, first_line, shown_state, StatedLinesComeTo, all_stated, step_stops, state_stops, both_go_on, refuses_heading, ComeBehindName, ComeBehind, TraceComesTo, ReplayIs}
 use Rattle.behaviour_tree.specs.DefinitionView.{specification_of}
 use Rattle.behaviour_tree.specs.StateView.{state_of}
 use Rattle.session_histories.specs.TraceLine.{StepLine, step_line, lines_of, kept_state, Heading, no_heading, of_steps, of_states, heading_of}
 use Rattle.session_histories.proofs.RefusalLemmas.{free_of_count, fit_sorts}
 use Rattle.session_log.proofs.EntryLemmas.{entry_there}
-use Rattle.session_log.specs.Entries.{AreGiven, IsEntryAt}
-use Rattle.session_log.specs.RefusalView.{TellsStep, TellsLine, TellsReplay, fault_at, IsInLine, line_fault_of, line_fault_of_text, line_fault_of_term}
+use Rattle.session_log.specs.Entries.{IsEntryAt}
+use Rattle.session_log.specs.RefusalView.{TellsStep, TellsLine, TellsReplay, fault_at, IsInLine, line_fault_of, line_fault_of_text, line_fault_of_values}
 use Rattle.session_log.specs.CourseView.{basis_over, pasts_of, progress_of, situation_of}
 use Rattle.session_log.specs.declared.courses.Course.{Course}
 use Rattle.session_log.specs.declared.courses.Past.{Past}
 use Rattle.session_log.specs.Lines.{said_by}
-use Rattle.session_log.specs.Replayed.{written_state, IsStateRefusal, keeps_none, keeps_other, IsStatedBehind, AreReadAt, IsMisreadAt, IsReadAt, IsReadRefusal, are_miscounted, are_misread}
+use Rattle.session_log.specs.Values.{IsFirstMisread, TellsMisread}
+use Rattle.session_log.proofs.ValueLemmas.{one_is_misread}
+use Rattle.session_log.specs.Replayed.{written_state, IsStateRefusal, keeps_none, keeps_other, IsStatedBehind, AreReadAt, IsReadRefusal, are_miscounted, are_misread}
 use Rattle.session_log.specs.declared.lines.StepLine.{StepLine as CodeLine}
 use Rattle.session_log.specs.declared.refusals.LineFault.{LineFault}
 use Rattle.session_log.specs.declared.refusals.LineFault.TheVariants as line_fault
@@ -90,23 +83,6 @@ tells_line Is Other so (line_fault.StateDiffers kept found) h = so (state_differ
 tells_line Is Other so (line_fault.Step refusal) h = (h.0, h.1, so (step_refused h.0) h.2)
 tells_line Is Other so line_fault.NoMemory h = tt
 
--- ---- Terms that are read without variables are ground
-
-pub reading_ground : (signature : Signature) (scope : List Variable) (term : WrittenTerm) (expected : Option ℕ) (one : SortedTerm)
-    → scope ≡ [] → ReadingIs signature scope term expected (answered one) → IsGround one.term
-reading_ground signature scope term expected one none h =
-    let is : IsReading signature [] term expected one =
-    is_reading _ _ (IsReading signature [] term expected) one
-    (subst (λ (it : List Variable). ReadingIs signature it term expected (answered one)) none h) in
-    read_ground signature term one.term one.sort is.0
-
-pub value_ground : (signature : Signature) (term : WrittenTerm) (sort : ℕ) (value : Sorted) → IsReadAt signature term sort value
-    → IsGround (term_in value)
-value_ground signature term sort value h =
-    let is : IsReading signature [] term (Some sort) (record { term = term_in value; sort = sort }) =
-    is_reading _ _ (IsReading signature [] term (Some sort)) (record { term = term_in value; sort = sort }) h.read in
-    read_ground signature term (term_in value) sort is.0
-
 -- ---- Terms of a line that are read or not
 
 pub terms_told : (text : List ℕ) (fault : ReadFault) → IsTermsFault 0 text fault
@@ -118,146 +94,6 @@ terms_told text (text_fault.OpenComment place) h = (refl, text_fault.OpenComment
 terms_told text (text_fault.Syntax place) h = (refl, text_fault.Syntax place, h, λ e. absurd (cc e))
 terms_told text (text_fault.TooDeep place) h = (refl, text_fault.TooDeep place, h, λ e. absurd (cc e))
 terms_told text text_fault.NoMemory h = tt
-
-pub scope_of_none : (signature : Signature) (scope : List Variable) → scope ≡ [] → IsScopeOver signature scope
-scope_of_none signature scope none = subst (IsScopeOver signature) (sym none) (λ i v found. absurd (none-some _ found))
-
-pub term_read : (signature other : Signature) (scope : List Variable) (term : WrittenTerm) (sort : ℕ) (value : Sorted) → scope ≡ []
-    → other ≡ signature → IsOf other (profiled_in value)
-    → ReadingIs other scope term (Some sort) (answered (record { term = term_in value; sort = value.sort }))
-    → IsReadAt signature term sort value
-term_read signature other scope term sort value none same is_of read =
-    let answer : SortedTerm = record { term = term_in value; sort = value.sort } in
-    let here : ReadingIs signature [] term (Some sort) (answered answer) =
-    subst (λ (it : Signature). ReadingIs it [] term (Some sort) (answered answer)) same
-    (subst (λ (it : List Variable). ReadingIs other it term (Some sort) (answered answer)) none read) in
-    let is : IsReading signature [] term (Some sort) answer =
-    is_reading _ _ (IsReading signature [] term (Some sort)) answer here in
-    record {
-      is_of = subst (λ (it : Signature). IsOf it (profiled_in value)) same is_of;
-      read = subst (λ (it : ℕ). ReadingIs signature [] term (Some sort) (answered (record { term = term_in value; sort = it }))) is.1 here;
-    }
-
-misread : (signature other : Signature) (scope : List Variable) (term : WrittenTerm) (sort : ℕ) (refusal : reading.ReadingRefusal)
-    → scope ≡ []
-    → other ≡ signature → ReadingIs other scope term (Some sort) (reading.refused refusal) → IsMisreadAt signature term sort
-misread signature other scope term sort refusal none same h = (
-  refusal,
-  subst (λ (it : Signature). ReadingIs it [] term (Some sort) (reading.refused refusal)) same
-      (subst (λ (it : List Variable). ReadingIs other it term (Some sort) (reading.refused refusal)) none h),
-)
-
-pub term_told : (signature other : Signature) (scope : List Variable) (term : WrittenTerm) (sort : ℕ) (fault : SortFault) → scope ≡ []
-    → other ≡ signature
-    → UnlessNoMemory fault (λ (refusal : reading.ReadingRefusal). ReadingIs other scope term (Some sort) (reading.refused refusal))
-    → TellsLine (λ (why : LineRefusal). (why ≡ bad_line) × IsMisreadAt signature term sort) (line_fault_of_term fault)
-term_told signature other scope term sort (term_fault.UnknownName place) none same h =
-    (refl, misread signature other scope term sort (reading.unknown_name (text_place_of place)) none same h)
-term_told signature other scope term sort (term_fault.UnknownSort place) none same h =
-    (refl, misread signature other scope term sort (reading.unknown_sort (text_place_of place)) none same h)
-term_told signature other scope term sort (term_fault.NoReading place) none same h =
-    (refl, misread signature other scope term sort (reading.no_reading (text_place_of place)) none same h)
-term_told signature other scope term sort (term_fault.TwoReadings place) none same h =
-    (refl, misread signature other scope term sort (reading.two_readings (text_place_of place)) none same h)
-term_told signature other scope term sort term_fault.NoMemory none same h = tt
-
--- ---- Values read one after another
-
-pub record AreHalfRead (signature : Signature) (sorts : List ℕ) (terms : List WrittenTerm) (index : ℕ) (values : List Sorted) : Type 0 where
-  pub read : (more : List Term) → AreRead signature (drop index sorts) (drop index terms) more
-      → AreRead signature sorts terms (terms_of values ++ more)
-  pub misread : IsOneMisread signature (drop index sorts) (drop index terms) → IsOneMisread signature sorts terms
-  pub given : AreGiven signature values
-
-pub none_read : (signature : Signature) (sorts : List ℕ) (terms : List WrittenTerm) (values : List Sorted) → values ≡ []
-    → AreHalfRead signature sorts terms 0 values
-none_read signature sorts terms values e =
-    subst (AreHalfRead signature sorts terms 0) (sym e)
-    (record { read = λ more h. h; misread = λ h. h; given = record { terms = tt; ground = tt } })
-
-pub one_read : (signature : Signature) (sorts : List ℕ) (terms : List WrittenTerm) (index : ℕ) (values : List Sorted)
-    (term : WrittenTerm) (sort : ℕ) (value : Sorted) → index < length terms → term ≡ get_or terms index term → index < length sorts
-    → sort ≡ get_or sorts index sort → AreHalfRead signature sorts terms index values → IsReadAt signature term sort value
-    → AreHalfRead signature sorts terms (index + 1) (values ++ (value ∷ []))
-one_read signature sorts terms index values term sort value below is below_sorts is_sort half h =
-    let rest : drop index sorts ≡ sort ∷ drop (index + 1) sorts = next_member sorts index sort below_sorts is_sort in
-    let left : drop index terms ≡ term ∷ drop (index + 1) terms = next_member terms index term below is in
-    record {
-      read = λ more k.
-          subst (λ (it : List Term). AreRead signature sorts terms it)
-          (sym (append_assoc (terms_of values) (term_in value ∷ []) more)
-          ∙ ap (λ (it : List Term). it ++ more) (sym (map-append term_in values (value ∷ []))))
-          (half.read (term_in value ∷ more)
-          (subst (λ (it : List ℕ). AreRead signature it (drop index terms) (term_in value ∷ more)) (sym rest)
-          (subst (λ (it : List WrittenTerm). AreRead signature (sort ∷ drop (index + 1) sorts) it (term_in value ∷ more)) (sym left)
-          (h.read, k))));
-      misread = λ k. half.misread
-          (subst (λ (it : List ℕ). IsOneMisread signature it (drop index terms)) (sym rest)
-          (subst (λ (it : List WrittenTerm). IsOneMisread signature (sort ∷ drop (index + 1) sorts) it) (sym left) (inr k)));
-      given = record {
-        terms = subst (AreTermsOf signature) (sym (map-append profiled_in values (value ∷ [])))
-            (Every-append (IsOf signature) (profiles_of values) (profiled_in value ∷ []) half.given.terms (h.is_of, tt));
-        ground = Every-append (λ (it : Sorted). IsGround (term_in it)) values (value ∷ []) half.given.ground
-            (value_ground signature term sort value h, tt);
-      };
-    }
-
-pub one_misread : (signature : Signature) (sorts : List ℕ) (terms : List WrittenTerm) (index : ℕ) (values : List Sorted)
-    (term : WrittenTerm) (sort : ℕ) → index < length terms → term ≡ get_or terms index term → index < length sorts
-    → sort ≡ get_or sorts index sort → AreHalfRead signature sorts terms index values → IsMisreadAt signature term sort
-    → IsOneMisread signature sorts terms
-one_misread signature sorts terms index values term sort below is below_sorts is_sort half h =
-    half.misread
-    (subst (λ (it : List ℕ). IsOneMisread signature it (drop index terms)) (sym (next_member sorts index sort below_sorts is_sort))
-    (subst (λ (it : List WrittenTerm). IsOneMisread signature (sort ∷ drop (index + 1) sorts) it)
-    (sym (next_member terms index term below is)) (inl h)))
-
-pub all_read : (signature : Signature) (sorts : List ℕ) (terms : List WrittenTerm) (index : ℕ) (values : List Sorted)
-    → length terms ≤ index → length sorts ≤ index → AreHalfRead signature sorts terms index values
-    → AreRead signature sorts terms (terms_of values)
-all_read signature sorts terms index values past past_sorts half =
-    subst (AreRead signature sorts terms) (append-nil (terms_of values))
-    (half.read []
-    (subst (λ (it : List ℕ). AreRead signature it (drop index terms) []) (sym (drop_all index sorts past_sorts))
-    (subst (λ (it : List WrittenTerm). AreRead signature [] it []) (sym (drop_all index terms past)) tt)))
-
-pub next_read : (signature : Signature) (sorts : List ℕ) (terms : List Written) (index : ℕ) (values : List Sorted) (term : Written)
-    (sort : ℕ) (value : Sorted) → index < length terms → length terms ≡ length sorts → term ≡ get_or terms index term
-    → sort ≡ get_or sorts index sort → AreHalfRead signature sorts (map written_term_of terms) index values
-    → IsReadAt signature (written_term_of term) sort value
-    → AreHalfRead signature sorts (map written_term_of terms) (index + 1) (values ++ (value ∷ []))
-next_read signature sorts terms index values term sort value below counted is is_sort half h =
-    one_read signature sorts (map written_term_of terms) index values (written_term_of term) sort value
-    (omega (arith, below, length-map terms written_term_of))
-    (ap written_term_of is ∙ sym (read_map written_term_of terms index term)) (omega (arith, below, counted)) is_sort half h
-
-pub next_misread : (signature : Signature) (sorts : List ℕ) (terms : List Written) (index : ℕ) (values : List Sorted) (term : Written)
-    (sort : ℕ) → index < length terms → length terms ≡ length sorts → term ≡ get_or terms index term → sort ≡ get_or sorts index sort
-    → AreHalfRead signature sorts (map written_term_of terms) index values → IsMisreadAt signature (written_term_of term) sort
-    → IsOneMisread signature sorts (map written_term_of terms)
-next_misread signature sorts terms index values term sort below counted is is_sort half h =
-    one_misread signature sorts (map written_term_of terms) index values (written_term_of term) sort
-    (omega (arith, below, length-map terms written_term_of))
-    (ap written_term_of is ∙ sym (read_map written_term_of terms index term)) (omega (arith, below, counted)) is_sort half h
-
-pub next_told : (signature : Signature) (sorts : List ℕ) (terms : List Written) (index : ℕ) (values : List Sorted) (term : Written)
-    (sort : ℕ) → index < length terms → length terms ≡ length sorts → term ≡ get_or terms index term → sort ≡ get_or sorts index sort
-    → AreHalfRead signature sorts (map written_term_of terms) index values → (fault : LineFault)
-    → TellsLine (λ (why : LineRefusal). (why ≡ bad_line) × IsMisreadAt signature (written_term_of term) sort) fault
-    → TellsLine (λ (why : LineRefusal). (why ≡ bad_line) × IsOneMisread signature sorts (map written_term_of terms)) fault
-next_told signature sorts terms index values term sort below counted is is_sort half fault h =
-    tells_line (λ (why : LineRefusal). (why ≡ bad_line) × IsMisreadAt signature (written_term_of term) sort)
-    (λ (why : LineRefusal). (why ≡ bad_line) × IsOneMisread signature sorts (map written_term_of terms))
-    (λ why m. (m.0, next_misread signature sorts terms index values term sort below counted is is_sort half m.1)) fault h
-
-pub values_read : (signature : Signature) (sorts : List ℕ) (terms : List Written) (index : ℕ) (values : List Sorted)
-    → length terms ≤ index → length terms ≡ length sorts → AreHalfRead signature sorts (map written_term_of terms) index values
-    → AreRead signature sorts (map written_term_of terms) (terms_of values) × AreGiven signature values
-values_read signature sorts terms index values past counted half = (
-  all_read signature sorts (map written_term_of terms) index values (omega (arith, past, length-map terms written_term_of))
-      (omega (arith, past, counted)) half,
-  half.given,
-)
 
 -- ---- Why values are not read
 
@@ -282,14 +118,14 @@ count_told signature menu number terms refusal h =
     (subst (λ (n : ℕ). TellsStep (number_refusal (entries_in menu) number n) refusal) (sym (length-map terms written_term_of)) h)
 
 pub entry_misread : (signature : Signature) (menu : Menu) (number : ℕ) (entry : Entry) (terms : List Written) → IsEntryAt menu number entry
-    → length terms ≡ length entry.vars.items → (fault : LineFault)
-    → TellsLine (λ (why : LineRefusal). (why ≡ bad_line) × IsOneMisread signature entry.vars.items (map written_term_of terms)) fault
-    → TellsLine (IsReadRefusal signature menu number (map written_term_of terms)) fault
-entry_misread signature menu number entry terms listed counted fault h =
-    tells_line (λ (why : LineRefusal). (why ≡ bad_line) × IsOneMisread signature entry.vars.items (map written_term_of terms))
-    (IsReadRefusal signature menu number (map written_term_of terms))
-    (λ why m. subst (IsReadRefusal signature menu number (map written_term_of terms)) (sym m.0)
-    (are_misread (plain_entry entry) (entry_there menu number entry listed) (length-map terms written_term_of ∙ counted) m.1)) fault h
+    → length terms ≡ length entry.vars.items → (refusal : Refusal)
+    → TellsMisread (IsFirstMisread signature entry.vars.items (map written_term_of terms)) refusal
+    → TellsLine (IsReadRefusal signature menu number (map written_term_of terms)) (line_fault_of_values refusal)
+entry_misread signature menu number entry terms listed counted values_refusal.BadCommand h = absurd h
+entry_misread signature menu number entry terms listed counted (values_refusal.BadTerm code) h =
+    are_misread (plain_entry entry) (entry_there menu number entry listed) (length-map terms written_term_of ∙ counted)
+    (one_is_misread signature entry.vars.items (map written_term_of terms) h.0 h.1)
+entry_misread signature menu number entry terms listed counted values_refusal.NoMemory h = tt
 
 -- ---- What a line comes to
 

@@ -31,6 +31,7 @@ pub use Rattle.session_lines.specs.AnswerLaws.{QuestionsHaveOneAnswer}
 pub use Rattle.session_lines.specs.HandedOn.{IsTermsFault, TextsHaveOneOutcome, ReadFault, BadByte, OpenComment, NoMemory, state_text, Book}
 pub use Rattle.session_lines.specs.HandedOn.{label_text, menu_text, entry_term_text, head_text, usage_text, unread_text, written_menu}
 pub use Rattle.session_lines.specs.HandedOn.{written_value, written_label, book_canon, book_normalises, plain_rules_in, book_sided}
+pub use Rattle.session_lines.specs.HandedOn.{left_out}
 pub use Rattle.session_lines.specs.HandedOn.read_faults
 pub use Rattle.session_lines.specs.Refusal.{AreTerms, AreUnread, bad_term, term_number, fault_number, bad_command, QuestionRefusal}
 pub use Rattle.session_lines.specs.Refusal.{refusal_text}

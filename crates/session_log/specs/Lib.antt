@@ -4,5 +4,6 @@ pub mod Kept
 pub mod RefusalView
 pub mod Lines
 pub mod Entries
+pub mod Values
 pub mod Replayed
 pub mod HandedOn

@@ -3,8 +3,8 @@ use Rattle.std.specs.Prelude.{◌≡◌, ◌<◌, ℕ, Option, None, Some}
 use Rattle.session_lines.specs.HandedOn.{ReadFault}
 use Rattle.session_lines.specs.HandedOn.read_faults as text_fault
 use Rattle.sort_terms.specs.SortedView.{term_in}
-use Rattle.sort_terms.specs.declared.sort_faults.SortFault.{SortFault}
-use Rattle.sort_terms.specs.declared.sort_faults.SortFault.TheVariants as term_fault
+use Rattle.session_lines.specs.declared.refusals.Refusal.{Refusal}
+use Rattle.session_lines.specs.declared.refusals.Refusal.TheVariants as values_refusal
 use Rattle.session_histories.specs.Refusal as plain
 use Rattle.session_histories.specs.Replay.{LineRefusal, bad_line, step_refused, label_differs, state_differs, ReplayRefusal, in_line, other_specification}
 use Rattle.session_log.specs.declared.refusals.StepRefusal.{StepRefusal}
@@ -40,7 +40,7 @@ line_fault_of (step.ValueSort variable) = line_fault.Step (step.ValueSort variab
 line_fault_of (step.Unmet left right) = line_fault.Step (step.Unmet left right)
 line_fault_of step.NoMemory = line_fault.NoMemory
 
--- so is a fault of the text of its terms, and one of the reading of a term
+-- so is a fault of the text of its terms, and one of the readings of its terms
 abbrev pub line_fault_of_text : ReadFault → LineFault
 line_fault_of_text text_fault.TooLong = line_fault.BadLine
 line_fault_of_text (text_fault.BadByte place) = line_fault.BadLine
@@ -49,12 +49,10 @@ line_fault_of_text (text_fault.Syntax place) = line_fault.BadLine
 line_fault_of_text (text_fault.TooDeep place) = line_fault.BadLine
 line_fault_of_text text_fault.NoMemory = line_fault.NoMemory
 
-abbrev pub line_fault_of_term : SortFault → LineFault
-line_fault_of_term (term_fault.UnknownName place) = line_fault.BadLine
-line_fault_of_term (term_fault.UnknownSort place) = line_fault.BadLine
-line_fault_of_term (term_fault.NoReading place) = line_fault.BadLine
-line_fault_of_term (term_fault.TwoReadings place) = line_fault.BadLine
-line_fault_of_term term_fault.NoMemory = line_fault.NoMemory
+abbrev pub line_fault_of_values : Refusal → LineFault
+line_fault_of_values values_refusal.BadCommand = line_fault.BadLine
+line_fault_of_values (values_refusal.BadTerm number) = line_fault.BadLine
+line_fault_of_values values_refusal.NoMemory = line_fault.NoMemory
 
 -- the step of a line is refused for a reason that the relation has
 abbrev pub TellsStepOf : (LineRefusal → Type 0) → StepRefusal → Type 0

@@ -1,13 +1,9 @@
 -- What the code replays lines of traces over, and what comes of them.
-use Rattle.std.specs.Prelude.{◌≡◌, ◌≢◌, ℕ, List, [], ◌∷◌, length, None, Some}
+use Rattle.std.specs.Prelude.{◌≡◌, ◌≢◌, ℕ, List, ◌∷◌, length, None, Some}
 use Rattle.lotos_base.specs.WrittenTerm.{WrittenTerm}
 use Rattle.lotos_base.specs.Signature.{Signature}
 use Rattle.sort_terms.specs.ReaderView.{signature_read}
-use Rattle.sort_terms.specs.ReadingOutcome as reading
-use Rattle.sort_terms.specs.ReadingOutcome.{ReadingIs, answered}
 use Rattle.sort_terms.specs.SignatureView.{signature_of}
-use Rattle.sort_terms.specs.SortedView.{profiled_in, term_in}
-use Rattle.sort_terms.specs.ProfiledTerm.{IsOf}
 use Rattle.sort_terms.specs.declared.sorted.Sorted.{Sorted}
 use Rattle.behaviour_tree.specs.BehaviourView.{terms_of}
 use Rattle.behaviour_semantics.specs.Solving.{Entry as PlainEntry}
@@ -32,15 +28,6 @@ use Rattle.session_log.specs.declared.replaying.TraceGround.{TraceGround}
 pub record IsGroundOver (signature : Signature) (base : TraceGround) : Type 0 where
   pub printed : signature_of base.signature.now ≡ signature
   pub read : signature_read base.reader ≡ signature
-
--- The reading of a term at a sort.
-pub record IsReadAt (signature : Signature) (term : WrittenTerm) (sort : ℕ) (value : Sorted) : Type 0 where
-  pub is_of : IsOf signature (profiled_in value)
-  pub read : ReadingIs signature [] term (Some sort) (answered (record { term = term_in value; sort = sort }))
-
--- The term has not one reading at the sort.
-abbrev pub IsMisreadAt : Signature → WrittenTerm → ℕ → Type 0
-IsMisreadAt signature term sort = (refusal : reading.ReadingRefusal) × ReadingIs signature [] term (Some sort) (reading.refused refusal)
 
 -- The values are the readings of the terms at the sorts of the variables of the entry with this number.
 pub record AreReadAt (signature : Signature) (menu : Menu) (number : ℕ) (terms : List WrittenTerm) (values : List Sorted) : Type 0 where

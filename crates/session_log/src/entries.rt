@@ -14,7 +14,7 @@ ghost use Rattle.session_histories.specs.Refusal.{
 };
 ghost use Rattle.session_log.specs.Entries.{AreGiven, IsEntryAt, sort_told};
 ghost use Rattle.session_log.specs.RefusalView.{TellsStep};
-ghost use Rattle.std.specs.Prelude.{◌≡◌, MatchResult, Some, length};
+ghost use Rattle.std.specs.Prelude.{◌≡◌, ℕ, MatchResult, Some, length};
 
 use crate::refusals::StepRefusal;
 use menu_builder::{Entry, Menu};
@@ -27,7 +27,7 @@ pub fn counted_entry(menu: &Menu, number: u64, given: usize) -> Result<&Entry, S
         (λ entry. IsEntryAt menu.now number entry.now × (given ≡ length entry.now.vars.items))
         (TellsStep (number_refusal (entries_in menu.now) number given)) }
 {
-    let entry = numbered_entry(menu, number, given)?;
+    let entry = numbered_entry(menu, number)?;
     let wanted = entry.vars.len();
     if given == wanted {
         Ok(entry)
@@ -36,14 +36,14 @@ pub fn counted_entry(menu: &Menu, number: u64, given: usize) -> Result<&Entry, S
     }
 }
 
-// The entry with this number from 1.
+// The entry with this number from 1. Where there is none, so it is for any number of values.
 #[tactic(auto, using(crate::proofs::EntryLemmas::refused_at_zero, crate::proofs::EntryLemmas::refused_past, crate::proofs::EntryLemmas::refused_without, crate::proofs::EntryLemmas::found_at))]
-fn numbered_entry(menu: &Menu, number: u64, given: usize) -> Result<&Entry, StepRefusal>
+fn numbered_entry(menu: &Menu, number: u64) -> Result<&Entry, StepRefusal>
     ensures { MatchResult result
         (λ entry. IsEntryAt menu.now number entry.now)
-        (TellsStep (number_refusal (entries_in menu.now) number given)) }
+        (λ refusal. (given : ℕ) → TellsStep (number_refusal (entries_in menu.now) number given)
+        refusal) }
 {
-    let _ = given;
     let length = menu.len();
     if number == 0 {
         return Err(StepRefusal::NoEntry { number, length });

@@ -9,6 +9,7 @@ pub mod refusals;
 pub mod replaying;
 pub mod sessions;
 pub mod traces;
+pub mod values;
 
 pub use behaviour_tree::{Label, Spec};
 pub use menu_builder::{Entry, FreshMenus, Menu, MenuMaker, Ranks};

@@ -34,7 +34,8 @@ ghost use Rattle.std.specs.Prelude.{
   option_map,
   true,
 };
-ghost use Rattle.std.specs.Str.Parse.{digits_value};
+
+use line_server::numbers::number_in;
 
 /// What a line of a step says: the number of the entry, and the texts of its terms and its label.
 #[derive(Clone, Copy, Debug)]
@@ -214,15 +215,16 @@ fn with_number<'a>(before: &'a [u8], label: &'a [u8]) -> Option<StepLine<'a>>
 }
 
 // The line with the number that the digits write, if they have the form, and what stands behind it.
+#[tactic(auto, using(crate::proofs::LineLemmas::no_number, crate::proofs::LineLemmas::number_there))]
 fn with_digits<'a>(digits: &'a [u8], rest: &'a [u8], label: &'a [u8]) -> Option<StepLine<'a>>
     requires { list_all is_ascii_digit digits.now ≡ true }
     ensures says { option_map said_by result ≡ plain.with_number digits.now rest.now label.now }
     ensures within { IfSome result (λ said. length said.terms.now ≤ length rest.now) }
 {
-    if !is_number(digits) {
-        return None;
+    match number_in(digits) {
+        None => None,
+        Some(number) => with_terms(number, rest, label),
     }
-    with_terms(number(digits), rest, label)
 }
 
 // How many digits the bytes begin with.
@@ -239,31 +241,6 @@ fn leading_digits(bytes: &[u8]) -> usize
         rest = more;
     }
     count
-}
-
-// Whether the digits are at least one and at most ten, without a leading zero, or `0`.
-fn is_number(digits: &[u8]) -> bool
-    ensures { result ≡ plain.is_number digits.now }
-{
-    match digits {
-        [] => false,
-        [_] => true,
-        [first, ..] => *first != b'0' && digits.len() < 11,
-    }
-}
-
-// The number that the digits write.
-#[tactic(auto, using(crate::proofs::LineLemmas::digit_read, lotos_base::proofs::Digits::fits_ten, lotos_base::proofs::Digits::one_digit_more))]
-fn number(digits: &[u8]) -> u64
-    requires digits { list_all is_ascii_digit digits.now ≡ true }
-    requires short { length digits.now < 11 }
-    ensures { result ≡ digits_value 10 digits.now }
-{
-    let mut value = 0u64;
-    for digit in digits {
-        value = value * 10 + (*digit - b'0') as u64;
-    }
-    value
 }
 
 // The line with what stands behind the number: nothing, or a space and the terms.

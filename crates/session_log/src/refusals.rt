@@ -4,8 +4,8 @@ ghost use Rattle.session_log.specs.RefusalView.{fault_at};
 ghost use Rattle.std.specs.Prelude.{◌≡◌};
 
 use lotos_base::NoMemory;
-use session_lines::ReadFault;
-use sort_terms::{SortFault, Sorted};
+use session_lines::{ReadFault, Refusal};
+use sort_terms::Sorted;
 
 /// Why a step is refused.
 #[derive(Debug, Drop)]
@@ -197,18 +197,16 @@ impl From<ReadFault> for LineFault {
     }
 }
 
-impl From<SortFault> for LineFault {
-    ghost use Rattle.session_log.specs.RefusalView.{line_fault_of_term};
+impl From<Refusal> for LineFault {
+    ghost use Rattle.session_log.specs.RefusalView.{line_fault_of_values};
 
-    ghost from_gives = { λ fault of_line. of_line ≡ line_fault_of_term fault };
+    ghost from_gives = { λ refusal fault. fault ≡ line_fault_of_values refusal };
 
-    fn from(fault: SortFault) -> LineFault {
-        match fault {
-            SortFault::UnknownName { .. } => LineFault::BadLine,
-            SortFault::UnknownSort { .. } => LineFault::BadLine,
-            SortFault::NoReading { .. } => LineFault::BadLine,
-            SortFault::TwoReadings { .. } => LineFault::BadLine,
-            SortFault::NoMemory => LineFault::NoMemory,
+    fn from(refusal: Refusal) -> LineFault {
+        match refusal {
+            Refusal::BadCommand => LineFault::BadLine,
+            Refusal::BadTerm { .. } => LineFault::BadLine,
+            Refusal::NoMemory => LineFault::NoMemory,
         }
     }
 }

@@ -1,6 +1,5 @@
 //! The replay of a trace.
 
-ghost use Rattle.behaviour_tree.specs.BehaviourView.{terms_of};
 ghost use Rattle.behaviour_tree.specs.Closed.{IsClosedNode};
 ghost use Rattle.lotos_base.specs.Equation.{Data};
 ghost use Rattle.lotos_base.specs.Name.{spelling};
@@ -13,9 +12,7 @@ ghost use Rattle.session_histories.specs.Replay.{
   goes_on,
   label_differs,
   state_differs,
-  AreRead,
   ComeBehindName,
-  IsOneMisread,
   LineComesTo,
   LinesComeTo,
   ReplayIs,
@@ -30,29 +27,23 @@ ghost use Rattle.session_lines.specs.HandedOn.{IsTermsFault, IsTermsReading, wri
 ghost use Rattle.session_lines.specs.HandedOn.read_fault;
 ghost use Rattle.session_lines.specs.HandedOn.read_faults as read_cause;
 ghost use Rattle.session_log.specs.CourseView.{basis_over, progress_of, situation_of};
-ghost use Rattle.session_log.specs.Entries.{AreGiven};
 ghost use Rattle.session_log.specs.Kept.{AreSuited, IsKeptCourse};
 ghost use Rattle.session_log.specs.Lines.{said_by};
 ghost use Rattle.session_log.specs.RefusalView.{IsInLine, TellsLine, TellsReplay};
 ghost use Rattle.session_log.specs.Replayed.{
   AreReadAt,
   IsGroundOver,
-  IsMisreadAt,
   IsOfOther,
-  IsReadAt,
   IsReadRefusal,
   IsStateRefusal,
   IsStatedBehind,
   written_state,
 };
 ghost use Rattle.sort_terms.specs.ReadingOutcome.{one_name};
-ghost use Rattle.sort_terms.specs.ScopeView.{variables_in};
 ghost use Rattle.std.specs.Prelude.{
   ◌≡◌,
   ◌≢◌,
   ◌+◌,
-  ◌++◌,
-  ◌∷◌,
   ◌<◌,
   ◌≤◌,
   ◌^◌,
@@ -70,12 +61,13 @@ use crate::courses::Course;
 use crate::entries::counted_entry;
 use crate::lines::{Heading, StepLine, first_line, kept_state, read_heading, step_line};
 use crate::refusals::{LineFault, ReplayFault};
+use crate::values::values_at;
 use behaviour_tree::{Label, Spec, State};
 use lotos_base::{NoMemory, Written};
 use menu_builder::{Menu, MenuMaker, Ranks};
 use report_text::calls::push_state;
 use session_lines::{label_text, read_terms};
-use sort_terms::{Deciding, Reader, Scope, Signature, Sorted};
+use sort_terms::{Deciding, Reader, Signature, Sorted};
 use std::alloc::Global;
 
 /// What a trace is replayed over.
@@ -452,53 +444,7 @@ fn values_of_line(
         (map written_term_of terms.now))) }
 {
     let entry = counted_entry(menu, number, terms.len())?;
-    values_at(alloc, base, &entry.vars, terms)
-}
-
-// The readings of the terms at the sorts, of which there are as many.
-fn values_at(
-    alloc: Global,
-    base: &TraceGround<'_>,
-    sorts: &Vec<u32>,
-    terms: &[Written],
-) -> Result<Vec<Sorted>, LineFault>
-    requires { length terms.now ≡ length sorts.now.items }
-    ensures { (signature : PlainSignature) → IsGroundOver signature base.now → MatchResult result
-        (λ values. AreRead signature sorts.now.items (map written_term_of terms.now)
-        (terms_of values.items) × AreGiven signature values.items)
-        (TellsLine (λ why. (why ≡ bad_line) × IsOneMisread signature sorts.now.items
-        (map written_term_of terms.now))) }
-{
-    let scope = Scope::new(alloc);
-    let mut values = Vec::new(alloc);
-    for (index, term) in terms.iter().enumerate() {
-        let value = value_at(base, &scope, term, sorts[index])?;
-        push_value(&mut values, value)?;
-    }
-    Ok(values)
-}
-
-// Puts the value behind the others.
-fn push_value(values: &mut Vec<Sorted>, value: Sorted) -> Result<(), NoMemory>
-    ensures { OnOk result (values.new.items ≡ values.old.items ++ value ∷ []) }
-{
-    Ok(values.push(value)?)
-}
-
-// The reading of a term at a sort.
-fn value_at(
-    base: &TraceGround<'_>,
-    scope: &Scope,
-    term: &Written,
-    sort: u32,
-) -> Result<Sorted, LineFault>
-    requires { variables_in scope.now ≡ [] }
-    ensures { (signature : PlainSignature) → IsGroundOver signature base.now → MatchResult result
-        (IsReadAt signature (written_term_of term.now) sort)
-        (TellsLine (λ why. (why ≡ bad_line)
-        × IsMisreadAt signature (written_term_of term.now) sort)) }
-{
-    Ok(base.reader.read_in(scope, term, Some(sort))?)
+    Ok(values_at(alloc, &base.reader, &entry.vars, terms)?)
 }
 
 // Compares the label of a line with that of its step.

@@ -11,13 +11,12 @@ use Rattle.behaviour_tree.specs.DefinitionView.{specification_of}
 use Rattle.behaviour_tree.specs.StateView.{state_of}
 use Rattle.behaviour_tree.specs.Over.{IsSpecOver, IsStateOf}
 use Rattle.behaviour_tree.specs.declared.definitions.Spec.{Spec as CodeSpec}
-use Rattle.process_checks.specs.Ranks.{AreRanksOf}
-use Rattle.process_checks.specs.declared.rank_table.Ranks.{Ranks}
-use Rattle.refusal_lines.specs.HandedOn.{book_canon, Gathered, ShelfState, Refused}
+use Rattle.refusal_lines.specs.HandedOn.{book_canon, Gathered, ShelfState, AreRanksOf, Ranks}
+use Rattle.refusal_lines.specs.Refusal.{Refused}
 use Rattle.refusal_lines.proofs.HandedOn.{canon_stays, opened_stays}
 use Rattle.sort_terms.specs.declared.equations.Flat.{Flat}
 use Rattle.lotos_base.specs.Term.{Term}
-use Rattle.type_definitions.specs.DeclaredTypes.{types_of}
+use Rattle.type_definitions.specs.DeclaredTypes.{DeclaredType, types_of}
 use Rattle.spec_acceptance.specs.Ending.{with_spec}
 use Rattle.spec_acceptance.specs.Part.{Comes, goes_on, Part, Then, Has}
 use Rattle.spec_acceptance.specs.Texts.{Gathers, Orders}
@@ -187,17 +186,18 @@ module _ (a : ShelfState) (order : Option (List ℕ)) (tree : WrittenSpecificati
 
 -- ---- What is held in the end
 
-pub holds : (whole : Resolved) (items : List ListedOperation) (words : List (List ℕ)) (known : WithValues) (accepted : Accepted)
-    → KnowsValues whole items words known → Starts known accepted
+pub holds : (whole : Resolved) (types : List DeclaredType) (items : List ListedOperation) (words : List (List ℕ)) (known : WithValues)
+    (accepted : Accepted) → KnowsValues whole items words known → Starts known accepted
     → HoldsAccepted (record {
       libraries = whole.read;
+      types = types;
       data_ = whole.data_;
       spec = whole.spec;
       items = items;
       values = terms_of known.values.items;
     })
     accepted
-holds whole items words known accepted knows starts = record {
+holds whole types items words known accepted knows starts = record {
   spec_is = ap specification_of starts.same_spec ∙ knows.book_known.keeps.same;
   data_is = same_data;
   well_formed = subst (λ (d : Data). IsWellFormedData d) (sym same_data) knows.book_known.well_formed;

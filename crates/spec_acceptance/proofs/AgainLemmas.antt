@@ -21,11 +21,10 @@ use Rattle.behaviour_tree.specs.DefinitionView.{specification_of}
 use Rattle.behaviour_tree.specs.Over.{AreTermsOf, IsSpecOver, IsStart}
 use Rattle.behaviour_tree.specs.StateView.{node_profiles, state_of}
 use Rattle.behaviour_tree.specs.declared.definitions.Spec.{Spec as CodeSpec}
-use Rattle.scope_parts.specs.Definitions.{SpecificationIs}
-use Rattle.scope_parts.specs.Resolution.{resolved}
 use Rattle.declaration_laws.proofs.SameResolutions.{same_data_resolve_alike}
-use Rattle.refusal_lines.specs.HandedOn.{IsSpecificationReading, ShelfState, GivesFile, GotFile, HaveValues, WordTerm}
-use Rattle.refusal_lines.proofs.HandedOn.{all_have_one_outcome}
+use Rattle.refusal_lines.specs.HandedOn.{IsSpecificationReading, ShelfState, GivesFile, GotFile, SpecificationIs, resolved}
+use Rattle.refusal_lines.specs.StartValues.{HaveValues, WordTerm}
+use Rattle.refusal_lines.proofs.HandedOn.{all_have_one_outcome, every_both}
 use Rattle.spec_acceptance.specs.Acceptance.{Founded, FoundedBy, Founds, StartsWithValues, Acceptance, accepted_with, AcceptsText, IsAccepted}
 use Rattle.spec_acceptance.specs.AcceptedView.{AcceptsWith, asked_for}
 use Rattle.spec_acceptance.specs.Again.{IsTextOf, KeepsAccepted, IsOverSame, StandsOver, BeginsOver}
@@ -45,7 +44,6 @@ use Rattle.spec_acceptance.proofs.DoingLemmas.{did_then, failed_then, file_did}
 use Rattle.spec_acceptance.proofs.OneFault.{data_are_well_formed}
 use Rattle.spec_acceptance.proofs.WholeLemmas.{scopes_are_decided}
 use Rattle.type_definitions.specs.DeclaredTypes.{types_of}
-use Rattle.scope_parts.proofs.FormedDefinitions.{every_both}
 
 -- ---- The text of what was accepted
 

@@ -187,14 +187,19 @@ books_are_decided items data_ well = decided items data_ well
 
 -- ---- Normal forms
 
+-- the rules that the items of an order make of well-formed data are one list
+pub opened_rules_once : (items : List ListedOperation) (data_ : Data) → IsWellFormedData data_ → (p q : Precedence)
+    (rules others : List NumberedRule) → IsOpenedBy items data_ p rules → IsOpenedBy items data_ q others → rules ≡ others
+opened_rules_once items data_ well p q rules others is also =
+    rules_once (count_of data_) p q (alike items data_ p q is.ordered also.ordered) data_ rules others (data_within data_ well) is.joined.0
+    also.joined.0
+
 -- the normal forms by the rules of well-formed data are one function
 pub normal_forms_once : (items : List ListedOperation) (data_ : Data) → IsWellFormedData data_ → (p q : Precedence)
     (rules others : List NumberedRule) → IsOpenedBy items data_ p rules → IsOpenedBy items data_ q others → (canon other : Term → Term)
     → Chooses (rules_of rules) canon → Chooses (rules_of others) other → canon ≡ other
 normal_forms_once items data_ well p q rules others is also canon other chooses chooses_too =
-    let same : rules ≡ others =
-    rules_once (count_of data_) p q (alike items data_ p q is.ordered also.ordered) data_ rules others (data_within data_ well) is.joined.0
-    also.joined.0 in
+    let same : rules ≡ others = opened_rules_once items data_ well p q rules others is also in
     let each : (t : Term) → canon t ≡ other t = λ t.
     chosen_one (well_formed p data_ rules is.joined.0) (chooses t)
     (subst (λ (rs : List NumberedRule). Chosen (rules_of rs) t (other t)) (sym same) (chooses_too t))

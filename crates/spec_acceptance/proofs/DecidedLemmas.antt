@@ -13,14 +13,9 @@ use Rattle.behaviour_tree.specs.declared.definitions.Process.{Process}
 use Rattle.behaviour_tree.specs.declared.definitions.Spec.{Spec}
 use Rattle.static_scope.specs.KeptPlaces.{places_of}
 use Rattle.static_scope.specs.TextPlaces.{text_places}
-use Rattle.process_checks.specs.Calls.{calls_of, process_at, called_by, graph_of}
-use Rattle.process_checks.specs.Functionality.{Functionality, Disagreement, all_disagreements}
-use Rattle.process_checks.specs.Graph.{IsFirstOnCycle, IsKeptCycle, LiesOnCycle}
-use Rattle.process_checks.specs.Ways.{CallsHaveCycle}
-use Rattle.process_checks.specs.Ranks.{IsSiteAt, IsUnguarded}
-use Rattle.process_checks.specs.declared.calls.CallSite.{CallSite}
-use Rattle.process_checks.proofs.CallLemmas.{not_guarded}
-use Rattle.process_checks.proofs.WayLemmas.{way_of_leads}
+use Rattle.refusal_lines.specs.HandedOn.{calls_of, process_at, called_by, graph_of, Functionality, Disagreement, all_disagreements}
+use Rattle.refusal_lines.specs.HandedOn.{IsFirstOnCycle, IsKeptCycle, LiesOnCycle, CallsHaveCycle, IsSiteAt, IsUnguarded, CallSite}
+use Rattle.refusal_lines.proofs.HandedOn.{not_guarded, way_of_leads}
 use Rattle.spec_acceptance.specs.PartLaws.{IsDecided}
 use Rattle.spec_acceptance.specs.Checks.{KeepsSpecification, FunctionalitiesAgree, FunctionalityFault, differ_at, IsFirstDisagreement, Disagree, Guarded, RecursionFault, unguarded_at, Cyclic}
 use Rattle.spec_acceptance.specs.AcceptanceLaws.{ExitsAreDecided, RanksAreDecided}

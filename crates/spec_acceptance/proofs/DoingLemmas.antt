@@ -3,7 +3,7 @@ use Rattle.std.proofs.Common.{◌≡◌, refl, sym, inl, inr, subst, ℕ, List, 
 use Rattle.std.specs.Prelude.{Result, Ok, Err, MatchResult, IsErrAnd}
 use Rattle.refusal_lines.specs.HandedOn.{ShelfState, GivesFile}
 use Rattle.refusal_lines.proofs.HandedOn.{gives_nothing, gives_then, gives_then_lacks, gives_then_some, gives_some, some_within}
-use Rattle.refusal_lines.specs.HandedOn.refusal as plain
+use Rattle.refusal_lines.specs.Refusal as plain
 use Rattle.spec_acceptance.specs.Texts.{GetsFile, is_got, is_lacking, is_wanting}
 use Rattle.spec_acceptance.specs.Part.{Comes, goes_on, unread, stops, wants_memory, Part, Then, Has, Looks}
 use Rattle.spec_acceptance.specs.Doing.{AsksBehind, Did, Failed, FileIsNotGot, Faulty}

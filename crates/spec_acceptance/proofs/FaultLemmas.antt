@@ -19,27 +19,22 @@ use Rattle.type_definitions.specs.MentionFaults.{double_type, unknown_type, type
 use Rattle.type_definitions.specs.TypeFault as plain_type
 use Rattle.type_definitions.specs.declared.type_faults.TypeFault.{TypeFault}
 use Rattle.type_definitions.specs.declared.type_faults.TypeFault.TheVariants as type
-use Rattle.type_laws.specs.HandedOn.{IsRefused}
-use Rattle.scope_parts.specs.Definitions.{SpecificationIs}
-use Rattle.scope_parts.specs.FaultView.{Told, nothing_told, never_told, told, told_by, OfTold}
-use Rattle.scope_parts.specs.Resolution.{faulty}
-use Rattle.scope_parts.specs.ScopeFault as scope
-use Rattle.scope_parts.specs.declared.scope_faults.ScopeFault.{ScopeFault}
-use Rattle.scope_parts.specs.declared.scope_faults.ScopeFault.TheVariants as scoped
+use Rattle.type_flatten.specs.FlatView.{IsRefused}
+use Rattle.refusal_lines.specs.HandedOn.scope_fault as scope
+use Rattle.refusal_lines.specs.HandedOn.scope_faults as scoped
 use Rattle.behaviour_semantics.specs.Behaviour.{Specification}
 use Rattle.behaviour_tree.specs.DefinitionView.{functionality_of, specification_of}
-use Rattle.process_checks.specs.Exits.{Blames}
-use Rattle.process_checks.specs.Functionality.{Disagreement, all_disagreements}
-use Rattle.process_checks.specs.Ranks.{RefusesRanks}
-use Rattle.process_checks.specs.declared.mismatches.ExitFault.{ExitFault}
-use Rattle.process_checks.specs.declared.mismatches.ExitFault.TheVariants as exit
-use Rattle.process_checks.specs.declared.rank_table.RankFault.{RankFault}
-use Rattle.process_checks.specs.declared.rank_table.RankFault.TheVariants as rank
-use Rattle.refusal_lines.specs.HandedOn.{IsBookFault, BookFault, TextFault, text_fault_of, TextIsMisread, ReadFault, Refusal, wrong_scopes}
-use Rattle.refusal_lines.specs.HandedOn.{told_of_text, told_of_scopes, refused_of, CodeRefused as Refused}
+use Rattle.refusal_lines.specs.HandedOn.exit_faults as exit
+use Rattle.refusal_lines.specs.HandedOn.rank_faults as rank
+use Rattle.refusal_lines.specs.HandedOn.{IsBookFault, BookFault, TextFault, text_fault_of, TextIsMisread, ReadFault, SpecificationIs, Told}
+use Rattle.refusal_lines.specs.HandedOn.{nothing_told, never_told, told, told_by, OfTold, resolution_faulty as faulty, ScopeFault, Blames}
+use Rattle.refusal_lines.specs.HandedOn.{Disagreement, all_disagreements, RefusesRanks, ExitFault, RankFault}
+use Rattle.refusal_lines.specs.Refusal.{Refusal, wrong_scopes}
+use Rattle.refusal_lines.specs.RefusalView.{told_of_text, told_of_scopes, refused_of}
+use Rattle.refusal_lines.specs.declared.refused.Refused.{Refused}
 use Rattle.refusal_lines.specs.HandedOn.book_faults as book
-use Rattle.refusal_lines.specs.HandedOn.refusal as plain
-use Rattle.refusal_lines.specs.HandedOn.spec_faults as fault
+use Rattle.refusal_lines.specs.Refusal as plain
+use Rattle.refusal_lines.specs.declared.spec_fault.SpecFault.TheVariants as fault
 use Rattle.refusal_lines.proofs.HandedOn.{fault_told}
 use Rattle.spec_acceptance.specs.Ending.{with_libraries, with_data, with_spec}
 use Rattle.spec_acceptance.specs.Texts.{text_refusal, text_told}

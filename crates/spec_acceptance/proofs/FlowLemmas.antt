@@ -8,14 +8,16 @@ use Rattle.sort_terms.specs.EquationView.{IsSortedFlat, data_of}
 use Rattle.syntax_trees.specs.WrittenDefinition.{WrittenSpecification}
 use Rattle.syntax_trees.specs.WrittenItem.{WrittenItem}
 use Rattle.syntax_trees.specs.TakenItems.{items_of_specification, without_items}
-use Rattle.scope_parts.specs.GateLists.{TextHasGateLists}
-use Rattle.place_laws.proofs.GateListLemmas.{read_texts_have_gate_lists, gate_lists_stay}
+use Rattle.declaration_laws.proofs.GateListLemmas.{read_texts_have_gate_lists, gate_lists_stay}
 use Rattle.behaviour_semantics.specs.Behaviour.{Specification}
 use Rattle.behaviour_tree.specs.DefinitionView.{specification_of}
 use Rattle.refusal_lines.specs.HandedOn.{Gathered, nothing_yet, item, memory_wanted, memory_ends, ShelfState, IsSpecificationReading}
-use Rattle.refusal_lines.specs.HandedOn.{Refused}
+use Rattle.refusal_lines.specs.HandedOn.{TextHasGateLists}
+use Rattle.refusal_lines.specs.Refusal.{Refused}
 use Rattle.type_definitions.specs.DeclaredTypes.{types_of}
 use Rattle.spec_acceptance.specs.Ending.{with_spec}
+use Rattle.spec_acceptance.specs.Required.{HoldsRequired, RequiresWith}
+use Rattle.spec_acceptance.specs.declared.required.Required.{Required}
 use Rattle.spec_acceptance.specs.Part.{goes_on}
 use Rattle.spec_acceptance.specs.Texts.{GathersTypes, Gathers, Orders}
 use Rattle.spec_acceptance.specs.Types.{HaveData, HaveFault, types_told}
@@ -143,6 +145,11 @@ module _ (a b : ShelfState) (order : Option (List ℕ)) (tree : WrittenSpecifica
             pub sorted_there : IsSortedFlat made.known.known.flat
             sorted_there = orders_there.0.ranks_known.spec_known.sorted
 
+            came_there : Opens os d os → Did a c (FoundedBy order tree) (goes_on (founded_with g d s os))
+            came_there opened =
+                (reached_book a order tree c g d s os leads opened).did c (goes_on (founded_with g d s os))
+                (has_done Refused c (founded_with g d s os))
+
             pub finished : (answer : Result WithBook NotAccepted)
                 → ((w : Resolved) (is : List ListedOperation) → KnowsOrder w is made
                 → MatchResult answer (λ booked. KnowsBook w is booked × Opens is w.data_ is)
@@ -150,12 +157,21 @@ module _ (a b : ShelfState) (order : Option (List ℕ)) (tree : WrittenSpecifica
                 → MatchResult answer (FoundsWith a c (FoundedBy order tree)) (Failed a c (FoundedBy order tree))
             finished (Ok booked) opens =
                 let there = opens whole os orders_there.0 in
-                record {
-                  founded = founded_with g d s os;
-                  came =
-                      (reached_book a order tree c g d s os leads there.1).did c (goes_on (founded_with g d s os))
-                      (has_done Refused c (founded_with g d s os));
-                  tree = tree;
-                  known = there.0;
-                }
+                record { founded = founded_with g d s os; came = came_there there.1; tree = tree; known = there.0 }
             finished (Err fault) opens = book_failed a order tree c g d s os fault leads (opens whole os orders_there.0)
+
+            -- and with the requirements of the types
+            pub finished_requiring : (answer : Result WithBook NotAccepted) (required : Required)
+                → HoldsRequired (types_of g.types) g.read required
+                → ((w : Resolved) (is : List ListedOperation) → KnowsOrder w is made
+                → MatchResult answer (λ booked. KnowsBook w is booked × Opens is w.data_ is)
+                (Faulty (DoesNotOpen is w.data_) (opening_told w.read w.data_ w.spec)))
+                → MatchResult answer (λ booked. RequiresWith a c (FoundedBy order tree) booked required)
+                (Failed a c (FoundedBy order tree))
+            finished_requiring (Ok booked) required kept opens =
+                let there = opens whole os orders_there.0 in
+                record {
+                  founds = record { founded = founded_with g d s os; came = came_there there.1; tree = tree; known = there.0 };
+                  holds = kept;
+                }
+            finished_requiring (Err fault) required kept opens = finished (Err fault) opens

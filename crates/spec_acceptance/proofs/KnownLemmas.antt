@@ -16,7 +16,7 @@ use Rattle.syntax_trees.specs.declared.items.ItemText.{ItemText}
 use Rattle.type_definitions.specs.DeclaredTypes.{types_of}
 use Rattle.type_definitions.specs.declared.type_faults.TypeFault.{TypeFault}
 use Rattle.type_definitions.specs.declared.type_faults.TypeFault.TheVariants as type
-use Rattle.type_laws.specs.HandedOn.{IsFlat, IsRefused}
+use Rattle.type_flatten.specs.FlatView.{IsFlat, IsRefused}
 use Rattle.behaviour_semantics.specs.Behaviour.{Specification}
 use Rattle.behaviour_semantics.specs.Guardedness.{IsGuarded}
 use Rattle.behaviour_tree.specs.DefinitionView.{specification_of}
@@ -25,28 +25,21 @@ use Rattle.behaviour_tree.specs.declared.definitions.Spec.{Spec as CodeSpec}
 use Rattle.lotos_base.specs.declared.names.Name.{Name}
 use Rattle.lotos_base.specs.declared.written_terms.OrderItem.{OrderItem}
 use Rattle.refusal_lines.specs.HandedOn.read_faults as read
-use Rattle.process_checks.specs.Exits.{Blames}
-use Rattle.process_checks.specs.Functionality.{all_disagreements}
-use Rattle.process_checks.specs.Ranks.{AreRanksOf, RefusesRanks}
-use Rattle.process_checks.specs.declared.mismatches.ExitFault.{ExitFault}
-use Rattle.process_checks.specs.declared.mismatches.ExitFault.TheVariants as exit
-use Rattle.process_checks.specs.declared.rank_table.RankFault.{RankFault}
-use Rattle.process_checks.specs.declared.rank_table.RankFault.TheVariants as rank
-use Rattle.process_checks.specs.declared.rank_table.Ranks.{Ranks}
-use Rattle.scope_parts.specs.Definitions.{SpecificationIs}
-use Rattle.scope_parts.specs.FaultView.{FaultIs}
-use Rattle.scope_parts.specs.Resolution.{resolved, faulty}
-use Rattle.scope_parts.specs.ScopeFault as scope
-use Rattle.scope_parts.specs.declared.scope_faults.ScopeFault.{ScopeFault}
-use Rattle.scope_parts.specs.declared.scope_faults.ScopeFault.TheVariants as scoped
+use Rattle.refusal_lines.specs.HandedOn.exit_faults as exit
+use Rattle.refusal_lines.specs.HandedOn.rank_faults as rank
+use Rattle.refusal_lines.specs.HandedOn.scope_fault as scope
+use Rattle.refusal_lines.specs.HandedOn.scope_faults as scoped
 use Rattle.path_order.specs.RulesView.{precedence_in, rules_in}
 use Rattle.refusal_lines.specs.HandedOn.{IsBookFault, IsOpenedBy, Book, BookFault, LibraryFault, CodeGathered as Gathered, TextIsMisread}
-use Rattle.refusal_lines.specs.HandedOn.{IsOrderReadFault, IsOrderReading, IsSpecificationFault, ReadFault, CodeRefused as Refused}
+use Rattle.refusal_lines.specs.HandedOn.{IsOrderReadFault, IsOrderReading, IsSpecificationFault, ReadFault, SpecificationIs, FaultIs}
+use Rattle.refusal_lines.specs.HandedOn.{resolved, resolution_faulty as faulty, ScopeFault, Blames, all_disagreements, AreRanksOf}
+use Rattle.refusal_lines.specs.HandedOn.{RefusesRanks, ExitFault, RankFault, Ranks}
+use Rattle.refusal_lines.specs.declared.refused.Refused.{Refused}
 use Rattle.refusal_lines.specs.HandedOn.book_faults as book
 use Rattle.static_scope.specs.KeptPlaces.{places_of}
 use Rattle.static_scope.specs.TextPlaces.{text_places}
-use Rattle.refusal_lines.specs.HandedOn.refusal as plain
-use Rattle.refusal_lines.specs.HandedOn.spec_faults as fault
+use Rattle.refusal_lines.specs.Refusal as plain
+use Rattle.refusal_lines.specs.declared.spec_fault.SpecFault.TheVariants as fault
 use Rattle.spec_acceptance.specs.Ending.{at_first, with_libraries, with_spec}
 use Rattle.spec_acceptance.specs.Texts.{text_told}
 use Rattle.spec_acceptance.specs.Types.{HaveData, HaveFault, types_told}

@@ -21,3 +21,5 @@ pub mod DecidedRules
 pub mod DecidedPairs
 pub mod DecidedBooks
 pub mod AgainLemmas
+pub mod RequiredLemmas
+pub mod OneRequired

@@ -4,13 +4,14 @@ use Rattle.std.specs.String.{string_bytes}
 use Rattle.lotos_base.specs.Name.{spelling}
 use Rattle.lotos_base.specs.WrittenView.{text_place_of}
 use Rattle.syntax_trees.specs.WrittenItem.{WrittenItem}
-use Rattle.refusal_lines.specs.HandedOn.{Gathered, item, too_many, misread, all_gathered, faulty, without_file}
-use Rattle.refusal_lines.specs.HandedOn.{memory_wanted, gathered_of, IsGathered, AsksInAll, FailsBy, ShelfState, LibraryFault}
-use Rattle.refusal_lines.specs.HandedOn.{too_many_libraries, with_known}
+use Rattle.refusal_lines.specs.HandedOn.{Gathered, item, too_many, misread, all_gathered, faulty, without_file, memory_wanted, gathered_of}
+use Rattle.refusal_lines.specs.HandedOn.{IsGathered, AsksInAll, FailsBy, ShelfState, LibraryFault}
+use Rattle.refusal_lines.specs.Refusal.{too_many_libraries}
+use Rattle.refusal_lines.specs.RefusalView.{with_known}
 use Rattle.refusal_lines.specs.HandedOn.library_faults as library
 use Rattle.refusal_lines.specs.HandedOn.gathered as code
 use Rattle.refusal_lines.proofs.HandedOn.{some_within}
-use Rattle.refusal_lines.specs.HandedOn.spec_faults as fault
+use Rattle.refusal_lines.specs.declared.spec_fault.SpecFault.TheVariants as fault
 use Rattle.spec_acceptance.specs.Ending.{with_libraries}
 use Rattle.spec_acceptance.specs.Part.{goes_on, unread}
 use Rattle.spec_acceptance.specs.Texts.{text_refusal, GathersTypes}

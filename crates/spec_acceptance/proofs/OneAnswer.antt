@@ -4,7 +4,8 @@ use Rattle.std.specs.Option.{option_map}
 use Rattle.lotos_base.specs.Counts.{Rises}
 use Rattle.lotos_base.specs.Limits.{text_limit}
 use Rattle.lotos_base.specs.Outside.{Texts}
-use Rattle.refusal_lines.specs.HandedOn.{GotFile, AreGotFrom, ShelfState, IsFileOf, Refused}
+use Rattle.refusal_lines.specs.HandedOn.{GotFile, AreGotFrom, ShelfState, IsFileOf}
+use Rattle.refusal_lines.specs.Refusal.{Refused}
 use Rattle.spec_acceptance.specs.Acceptance.{Asked, Acceptance, IsAccepted, IsFounded}
 use Rattle.spec_acceptance.specs.Part.{Comes, goes_on, unread, stops, wants_memory, Part}
 use Rattle.spec_acceptance.specs.PartLaws.{IsDetermined}

@@ -2,7 +2,7 @@
 use Rattle.std.proofs.Common.{arith, refl, ap, sym, ◌∙◌, ◌≡◌, ◌<◌, ◌≤◌, ◌⊎◌, inl, inr, subst, ℕ, List, [], ◌∷◌, length}
 use Rattle.std.proofs.lemmas.Option.{same_Some}
 use Rattle.std.proofs.lemmas.Bool.{cases_lt}
-use Rattle.process_checks.specs.Graph.{IsCallAt, CallsLead, CallStandsBefore, IsFirstOnCycle, ComeNoLater, IsKeptWay, IsKeptCycle}
+use Rattle.refusal_lines.specs.HandedOn.{IsCallAt, CallsLead, CallStandsBefore, IsFirstOnCycle, ComeNoLater, IsKeptWay, IsKeptCycle}
 
 -- ---- The first call
 

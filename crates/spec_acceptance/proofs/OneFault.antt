@@ -8,8 +8,8 @@ use Rattle.type_definitions.specs.TypeGraph.{mentioned_by}
 use Rattle.type_definitions.proofs.MentionLemmas.{faults_unique}
 use Rattle.type_definitions.proofs.NumberLists.{among_at}
 use Rattle.type_definitions.specs.TypeFault.{TypeFault}
-use Rattle.type_laws.proofs.OneOutcome.{flattening_is_decided}
-use Rattle.type_laws.proofs.TypesFine.{flattened_data}
+use Rattle.type_flatten.proofs.OneOutcome.{flattening_is_decided}
+use Rattle.type_flatten.proofs.TypesFine.{flattened_data}
 use Rattle.refusal_lines.specs.HandedOn.{Files}
 use Rattle.spec_acceptance.specs.Acceptance.{IsFounded}
 use Rattle.spec_acceptance.specs.AcceptanceLaws.{TypesAreDecided, DataAreWellFormed}

@@ -4,7 +4,8 @@ use Rattle.std.specs.Prelude.{Vec, Result, Ok, Err, MatchResult}
 use Rattle.std.specs.declared.alloc.Global.{Global}
 use Rattle.lotos_base.specs.WrittenView.{listed_operation_of}
 use Rattle.lotos_base.specs.declared.written_terms.OrderItem.{OrderItem}
-use Rattle.refusal_lines.specs.HandedOn.{ShelfState, GivesFile, TextIsMisread, IsOrderReadFault, IsOrderReading, Refused}
+use Rattle.refusal_lines.specs.HandedOn.{ShelfState, GivesFile, TextIsMisread, IsOrderReadFault, IsOrderReading}
+use Rattle.refusal_lines.specs.Refusal.{Refused}
 use Rattle.spec_acceptance.specs.Ending.{with_spec}
 use Rattle.spec_acceptance.specs.Part.{goes_on}
 use Rattle.spec_acceptance.specs.Texts.{GetsFile, text_told, Orders, ReadsOrder}

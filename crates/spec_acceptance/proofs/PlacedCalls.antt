@@ -12,8 +12,7 @@ use Rattle.behaviour_tree.specs.declared.definitions.Process.{Process}
 use Rattle.behaviour_tree.specs.declared.definitions.Spec.{Spec}
 use Rattle.static_scope.specs.HandedOn.{places_in}
 use Rattle.static_scope.specs.KeptPlaces.{places_of_processes, places_of}
-use Rattle.process_checks.specs.Calls.{calls_of}
-use Rattle.process_checks.specs.declared.calls.CallSite.{CallSite}
+use Rattle.refusal_lines.specs.HandedOn.{calls_of, CallSite}
 
 -- what is told by the first places, with the places behind them
 abbrev pub Taken : Type 0 → Type 0

@@ -26,7 +26,9 @@ use Rattle.behaviour_tree.specs.declared.definitions.Process.{Process}
 use Rattle.behaviour_tree.specs.declared.definitions.Spec.{Spec}
 use Rattle.static_scope.specs.HandedOn.{places_in}
 use Rattle.static_scope.specs.KeptPlaces.{places_of_processes, places_of}
-use Rattle.process_checks.specs.Functionality.{Functionality, value_sort, variable_sort, declared_by, of_either, of_both, functionality, are_same, Disagreement, at_sign, disagreements, at_definition, of_definition, of_processes, all_disagreements}
+use Rattle.refusal_lines.specs.HandedOn.{Functionality, value_sort, variable_sort, declared_by, of_either, of_both, functionality, are_same}
+use Rattle.refusal_lines.specs.HandedOn.{Disagreement, at_sign, disagreements, at_definition, of_definition, of_processes}
+use Rattle.refusal_lines.specs.HandedOn.{all_disagreements}
 use Rattle.spec_acceptance.proofs.PlacedCalls.{Taken, behind_one, first_of, taken, Tells}
 
 -- ---- Sorts and functionalities

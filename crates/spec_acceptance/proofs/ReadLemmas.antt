@@ -4,16 +4,19 @@ use Rattle.std.specs.Prelude.{Result, Ok, Err, MatchResult}
 use Rattle.lotos_base.specs.WrittenTerm.{ListedOperation}
 use Rattle.lotos_base.specs.Term.{Term}
 use Rattle.behaviour_tree.specs.BehaviourView.{terms_of}
-use Rattle.refusal_lines.specs.HandedOn.{TextIsMisread, ShelfState, GivesFile, IsSpecificationReading, IsSpecificationFault, Refused}
-use Rattle.refusal_lines.specs.HandedOn.{AreStartValues, IsStartFault}
+use Rattle.refusal_lines.specs.HandedOn.{TextIsMisread, ShelfState, GivesFile, IsSpecificationReading, IsSpecificationFault}
+use Rattle.refusal_lines.specs.Refusal.{Refused}
+use Rattle.refusal_lines.specs.StartValues.{AreStartValues, IsStartFault}
 use Rattle.syntax_trees.specs.WrittenDefinition.{WrittenSpecification}
 use Rattle.spec_acceptance.specs.Ending.{at_first, with_spec}
 use Rattle.spec_acceptance.specs.Part.{goes_on, Part, Then, Has}
 use Rattle.spec_acceptance.specs.Texts.{GetsFile, text_told, ReadsSpecification}
 use Rattle.spec_acceptance.specs.Acceptance.{Founded, FoundedBy, Founds, start_of, StartsWithValues, Acceptance, accepted_with, AcceptsText, IsAccepted, IsFounded}
-use Rattle.spec_acceptance.specs.AcceptedView.{AcceptsWith, asked_for}
-use Rattle.spec_acceptance.specs.Doing.{Failed, Faulty, FileIsNotGot}
-use Rattle.spec_acceptance.specs.Known.{Resolved, resolved_in, KnowsBook, FoundsWith, KnowsValues, MayStart, StartsWith}
+use Rattle.spec_acceptance.specs.AcceptedView.{HoldsAccepted, AcceptsWith, asked_for}
+use Rattle.spec_acceptance.specs.Doing.{Did, Failed, Faulty, FileIsNotGot}
+use Rattle.spec_acceptance.specs.Required.{HoldsRequired, AcceptsRequiring}
+use Rattle.spec_acceptance.specs.declared.required.Required.{Required}
+use Rattle.spec_acceptance.specs.Known.{Resolved, resolved_in, KnowsBook, FoundsWith, KnowsValues, MayStart, Starts, StartsWith}
 use Rattle.spec_acceptance.specs.declared.accepted.Accepted.{Accepted}
 use Rattle.spec_acceptance.specs.declared.books.WithBook.{WithBook}
 use Rattle.spec_acceptance.specs.declared.not_accepted.NotAccepted.{NotAccepted}
@@ -118,19 +121,22 @@ module _ (a b : ShelfState) (text : List ℕ) (order : Option (List ℕ)) (words
       abbrev values : List Term
       values = terms_of last.values.items
 
+      came_there : Did a b (AcceptsText text order words) (goes_on (accepted_with founds.founded values))
+      came_there =
+          did_then a b b (Founds text order) (λ founded. AfterBook words founded) founds.founded
+          (goes_on (accepted_with founds.founded values)) founds.came
+          (did_then b b b (StartsWithValues founds.founded words) (λ vs. Begun founds.founded vs) values
+          (goes_on (accepted_with founds.founded values))
+          (looked b (AreStartValues (start_of whole.data_ whole.spec words)) (IsStartFault (start_of whole.data_ whole.spec words))
+          (with_spec whole.read whole.data_ whole.spec) values begins_there.valued)
+          (has_done Refused b (accepted_with founds.founded values)))
+
+      held_there : (accepted : Accepted) → Starts last accepted → HoldsAccepted (accepted_with founds.founded values) accepted
+      held_there accepted starts = holds whole founds.founded.types items words last accepted begins_there starts
+
       pub finished : (answer : Result Accepted NotAccepted) → StartsWith last answer
           → MatchResult answer (AcceptsWith a b (AcceptsText text order words)) (Failed a b (AcceptsText text order words))
-      finished (Ok accepted) starts = (
-        accepted_with founds.founded values,
-        did_then a b b (Founds text order) (λ founded. AfterBook words founded) founds.founded
-            (goes_on (accepted_with founds.founded values)) founds.came
-            (did_then b b b (StartsWithValues founds.founded words) (λ vs. Begun founds.founded vs) values
-            (goes_on (accepted_with founds.founded values))
-            (looked b (AreStartValues (start_of whole.data_ whole.spec words)) (IsStartFault (start_of whole.data_ whole.spec words))
-            (with_spec whole.read whole.data_ whole.spec) values begins_there.valued)
-            (has_done Refused b (accepted_with founds.founded values))),
-        holds whole items words last accepted begins_there starts,
-      )
+      finished (Ok accepted) starts = (accepted_with founds.founded values, came_there, held_there accepted starts)
       finished (Err fault) starts =
           subst (λ (x : NotAccepted). Failed a b (AcceptsText text order words) x) (sym starts)
           (failed_then a b b (Founds text order) (λ founded. AfterBook words founded) founds.founded NoMemory founds.came
@@ -138,6 +144,19 @@ module _ (a b : ShelfState) (text : List ℕ) (order : Option (List ℕ)) (words
           (looked b (AreStartValues (start_of whole.data_ whole.spec words)) (IsStartFault (start_of whole.data_ whole.spec words))
           (with_spec whole.read whole.data_ whole.spec) values begins_there.valued)
           (wants_nothing b (Begun founds.founded values) refl)))
+
+      -- and with the requirements of the types
+      pub finished_requiring : (answer : Result Accepted NotAccepted) (required : Required)
+          → HoldsRequired founds.founded.types founds.founded.libraries required → StartsWith last answer
+          → MatchResult answer (λ accepted. AcceptsRequiring a b (AcceptsText text order words) accepted required)
+          (Failed a b (AcceptsText text order words))
+      finished_requiring (Ok accepted) required kept starts = record {
+        acceptance = accepted_with founds.founded values;
+        came = came_there;
+        holds = held_there accepted starts;
+        requires_so = kept;
+      }
+      finished_requiring (Err fault) required kept starts = finished (Err fault) starts
 
 -- ---- A file
 

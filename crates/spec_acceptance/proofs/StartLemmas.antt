@@ -1,7 +1,7 @@
 -- Start values, and the state in which the specification begins with them.
 use Rattle.std.proofs.Common.{refl, ap, sym, ◌∙◌, ◌≡◌, subst, ℕ, List, [], ◌∷◌, ◌++◌, map, length, Option, option_map}
 use Rattle.std.specs.Prelude.{Result, Ok, Err, IsErrAnd}
-use Rattle.scope_parts.proofs.FormedDefinitions.{every_both}
+use Rattle.refusal_lines.proofs.HandedOn.{every_both}
 use Rattle.lotos_base.specs.Name.{spelling}
 use Rattle.lotos_base.specs.WrittenTerm.{ListedOperation}
 use Rattle.lotos_base.proofs.CanonLemmas.{canon_ground}
@@ -27,11 +27,16 @@ use Rattle.behaviour_tree.specs.DefinitionView.{specification_of}
 use Rattle.behaviour_tree.specs.Over.{AreTermsOf, IsSpecOver, IsStateOf, IsStart}
 use Rattle.behaviour_tree.specs.StateView.{node_profiles, state_of}
 use Rattle.behaviour_tree.specs.declared.states.State.{State}
-use Rattle.refusal_lines.specs.HandedOn.{book_canon, book_is_canon, Book, Refusal, with_known, SpecFault, Start, AreStartValues}
-use Rattle.refusal_lines.specs.HandedOn.{IsStartFault, FailsAs, parameter_sorts, StartFault}
-use Rattle.refusal_lines.specs.HandedOn.start_view as code
-use Rattle.refusal_lines.specs.HandedOn.start_faults as start_fault
-use Rattle.refusal_lines.proofs.HandedOn.{start_values_are_ground}
+use Rattle.refusal_lines.specs.HandedOn.{book_canon, book_is_canon, Book}
+use Rattle.refusal_lines.specs.Refusal.{Refusal}
+use Rattle.refusal_lines.specs.RefusalView.{with_known}
+use Rattle.refusal_lines.specs.declared.spec_fault.SpecFault.{SpecFault}
+use Rattle.refusal_lines.specs.StartValues.{Start, AreStartValues, IsStartFault}
+use Rattle.refusal_lines.specs.StartView.{FailsAs, parameter_sorts}
+use Rattle.refusal_lines.specs.declared.faults.StartFault.{StartFault}
+use Rattle.refusal_lines.specs.StartView as code
+use Rattle.refusal_lines.specs.declared.faults.StartFault.TheVariants as start_fault
+use Rattle.refusal_lines.proofs.OutcomeLemmas.{start_values_are_ground}
 use Rattle.spec_acceptance.specs.Acceptance.{start_of}
 use Rattle.spec_acceptance.specs.Ending.{with_spec}
 use Rattle.spec_acceptance.specs.Doing.{Faulty, with_spec_refused}

@@ -3,10 +3,11 @@ use Rattle.std.proofs.Common.{refl, ap, sym, ◌∙◌, ◌≡◌, subst, ℕ, L
 use Rattle.std.proofs.lemmas.Option.{none-some, same_Some}
 use Rattle.syntax_trees.specs.WrittenDefinition.{WrittenSpecification}
 use Rattle.syntax_trees.specs.TakenItems.{items_of_specification}
-use Rattle.refusal_lines.specs.HandedOn.{TextIsMisread, GotFile, Gathered, nothing_yet, item, Becomes, GatheringOutcome}
-use Rattle.refusal_lines.specs.HandedOn.{all_gathered, faulty, without_file, memory_wanted, Files, AreGotFrom, LacksFrom, ComesFrom}
+use Rattle.refusal_lines.specs.HandedOn.{TextIsMisread, GotFile, Gathered, nothing_yet, item, Becomes, GatheringOutcome, all_gathered}
+use Rattle.refusal_lines.specs.HandedOn.{faulty, without_file, memory_wanted, Files, AreGotFrom, LacksFrom, ComesFrom}
 use Rattle.refusal_lines.specs.HandedOn.{IsSpecificationReading, IsSpecificationFault, IsOrderReading, IsOrderReadFault, HasOneOutcome}
-use Rattle.refusal_lines.specs.HandedOn.{ReadFault, Refusal, Refused}
+use Rattle.refusal_lines.specs.HandedOn.{ReadFault}
+use Rattle.refusal_lines.specs.Refusal.{Refusal, Refused}
 use Rattle.refusal_lines.proofs.HandedOn.{never_misread, misread_once, outcomes_are_one, wanted_files_come_first, all_have_one_outcome}
 use Rattle.spec_acceptance.specs.Ending.{at_first}
 use Rattle.spec_acceptance.specs.Part.{Comes, goes_on, unread, stops, wants_memory}

@@ -5,11 +5,10 @@ use Rattle.syntax_trees.specs.WrittenDefinition.{WrittenSpecification}
 use Rattle.syntax_trees.specs.TakenItems.{without_items}
 use Rattle.behaviour_semantics.specs.Behaviour.{Specification}
 use Rattle.type_definitions.specs.DeclaredTypes.{types_of}
-use Rattle.scope_parts.specs.ScopeFault.{ScopeFault}
-use Rattle.scope_parts.specs.Resolution.{Resolution, resolved, faulty}
-use Rattle.scope_parts.proofs.BehavioursOnce.{specification_once}
+use Rattle.refusal_lines.proofs.HandedOn.{specification_once}
 use Rattle.lotos_base.specs.WrittenTerm.{ListedOperation}
-use Rattle.refusal_lines.specs.HandedOn.{Gathered, Files, Start, AreStartValues, IsStartFault}
+use Rattle.refusal_lines.specs.HandedOn.{Gathered, Files, PlainScopeFault as ScopeFault, Resolution, resolved, resolution_faulty as faulty}
+use Rattle.refusal_lines.specs.StartValues.{Start, AreStartValues, IsStartFault}
 use Rattle.spec_acceptance.specs.Ending.{with_spec}
 use Rattle.spec_acceptance.specs.PartLaws.{IsDetermined, WantsBehindFirst, IsDecided}
 use Rattle.spec_acceptance.specs.Texts.{GetsFile, ReadsSpecification, Gathers, Orders}
@@ -17,7 +16,7 @@ use Rattle.spec_acceptance.specs.Types.{HaveData, HaveFault, types_told, Flatten
 use Rattle.spec_acceptance.specs.Scopes.{StandsFor, Breaks, scopes_told, Resolves}
 use Rattle.spec_acceptance.specs.Checks.{FunctionalitiesAgree, Disagree, functionality_told, ComesToAgreement, Guarded, Cyclic, recursion_told, IsGuardedIn}
 use Rattle.spec_acceptance.specs.Book.{Opens, DoesNotOpen, opening_told, OpensBook}
-use Rattle.refusal_lines.proofs.HandedOn.{starts_have_one_outcome}
+use Rattle.refusal_lines.proofs.OutcomeLemmas.{starts_have_one_outcome}
 use Rattle.spec_acceptance.specs.Acceptance.{Asked, Founded, founded_with, FoundedBy, Founds, start_of, StartsWithValues, accepted_with, AcceptsText, IsAccepted, IsFounded}
 use Rattle.spec_acceptance.specs.AcceptanceLaws.{TypesAreDecided, DataAreWellFormed, ExitsAreDecided, RanksAreDecided, BooksAreDecided, ScopesAreDecided, AcceptanceIsDetermined}
 use Rattle.spec_acceptance.proofs.PartLemmas.{has_determined, looks_determined, then_determined, has_wants, looks_wants, then_wants}

@@ -2,13 +2,16 @@
 -- specification is got and read; its libraries are read, in the order of mention; the types are flattened; the scopes are
 -- resolved; functionalities agree; recursion is guarded; the order file is got and read; its items are fine, the equations are
 -- oriented and the critical pairs join; and the start values are read.
+use Rattle.type_definitions.specs.DeclaredTypes.{DeclaredType, types_of}
 use Rattle.std.specs.Prelude.{ℕ, List, Option}
 use Rattle.lotos_base.specs.WrittenTerm.{ListedOperation}
 use Rattle.lotos_base.specs.Equation.{Data}
 use Rattle.lotos_base.specs.Term.{Term}
 use Rattle.syntax_trees.specs.WrittenDefinition.{WrittenSpecification}
 use Rattle.behaviour_semantics.specs.Behaviour.{Specification, sorts_of}
-use Rattle.refusal_lines.specs.HandedOn.{Gathered, Refused, Start, AreStartValues, IsStartFault}
+use Rattle.refusal_lines.specs.HandedOn.{Gathered}
+use Rattle.refusal_lines.specs.Refusal.{Refused}
+use Rattle.refusal_lines.specs.StartValues.{Start, AreStartValues, IsStartFault}
 use Rattle.spec_acceptance.specs.Ending.{with_spec}
 use Rattle.spec_acceptance.specs.Part.{Part, Then, Has, Looks}
 use Rattle.spec_acceptance.specs.Texts.{GetsFile, ReadsSpecification, Gathers, Orders}
@@ -25,15 +28,23 @@ pub record Asked : Type 0 where
 
 -- ---- Up to the book
 
--- what is known then: the libraries that were read, the data, the specification, and the items of the order
+-- what is known then: the libraries that were read, the types with those of the libraries, the data, the specification, and the
+-- items of the order
 pub record Founded : Type 0 where
   pub libraries : List (List ℕ)
+  pub types : List DeclaredType
   pub data_ : Data
   pub spec : Specification
   pub items : List ListedOperation
 
 abbrev pub founded_with : Gathered → Data → Specification → List ListedOperation → Founded
-founded_with gathered data_ spec items = record { libraries = gathered.read; data_ = data_; spec = spec; items = items }
+founded_with gathered data_ spec items = record {
+  libraries = gathered.read;
+  types = types_of gathered.types;
+  data_ = data_;
+  spec = spec;
+  items = items;
+}
 
 -- what comes behind the text of the specification, in this order
 abbrev pub FoundedBy : Option (List ℕ) → WrittenSpecification → Part Refused Founded
@@ -62,9 +73,11 @@ StartsWithValues founded words =
     Looks (AreStartValues (start_of founded.data_ founded.spec words)) (IsStartFault (start_of founded.data_ founded.spec words))
     (with_spec founded.libraries founded.data_ founded.spec)
 
--- what is accepted: the libraries that were read, the data, the specification, the items of the order, and the start values
+-- what is accepted: the libraries that were read, the types, the data, the specification, the items of the order, and the start
+-- values
 pub record Acceptance : Type 0 where
   pub libraries : List (List ℕ)
+  pub types : List DeclaredType
   pub data_ : Data
   pub spec : Specification
   pub items : List ListedOperation
@@ -73,6 +86,7 @@ pub record Acceptance : Type 0 where
 abbrev pub accepted_with : Founded → List Term → Acceptance
 accepted_with founded values = record {
   libraries = founded.libraries;
+  types = founded.types;
   data_ = founded.data_;
   spec = founded.spec;
   items = founded.items;

@@ -4,7 +4,9 @@ use Rattle.std.specs.Option.{option_map}
 use Rattle.lotos_base.specs.Counts.{Rises}
 use Rattle.lotos_base.specs.Limits.{text_limit}
 use Rattle.lotos_base.specs.Outside.{Texts}
-use Rattle.refusal_lines.specs.HandedOn.{GotFile, Files, AreGotFrom, ShelfState, Refused, refused_of}
+use Rattle.refusal_lines.specs.HandedOn.{GotFile, Files, AreGotFrom, ShelfState}
+use Rattle.refusal_lines.specs.Refusal.{Refused}
+use Rattle.refusal_lines.specs.RefusalView.{refused_of}
 use Rattle.spec_acceptance.specs.Acceptance.{Asked, Acceptance, IsAccepted, Founded, IsFounded}
 use Rattle.spec_acceptance.specs.Part.{Comes, goes_on, unread, stops, Part}
 use Rattle.spec_acceptance.specs.PartLaws.{Lacks, IsDetermined, WantsBehindFirst}

@@ -7,9 +7,9 @@ use Rattle.behaviour_tree.specs.DefinitionView.{specification_of}
 use Rattle.behaviour_tree.specs.Closed.{IsClosedNode}
 use Rattle.behaviour_tree.specs.Over.{IsSpecOver, IsStateOf}
 use Rattle.behaviour_tree.specs.StateView.{state_of}
-use Rattle.refusal_lines.specs.HandedOn.{book_canon, IsOpenedBy, ShelfState, Refused}
+use Rattle.refusal_lines.specs.HandedOn.{book_canon, IsOpenedBy, ShelfState, AreRanksOf}
+use Rattle.refusal_lines.specs.Refusal.{Refused}
 use Rattle.path_order.specs.RulesView.{precedence_in, rules_in}
-use Rattle.process_checks.specs.Ranks.{AreRanksOf}
 use Rattle.sort_terms.specs.EquationView.{data_of}
 use Rattle.sort_terms.specs.SignatureView.{signature_of}
 use Rattle.spec_acceptance.specs.Acceptance.{Asked, Acceptance}

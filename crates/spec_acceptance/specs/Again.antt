@@ -9,7 +9,7 @@ use Rattle.behaviour_tree.specs.DefinitionView.{specification_of}
 use Rattle.behaviour_tree.specs.Over.{IsSpecOver, IsStateOf}
 use Rattle.behaviour_tree.specs.StateView.{state_of}
 use Rattle.behaviour_tree.specs.declared.definitions.Spec.{Spec}
-use Rattle.bisimulation_theory.specs.SameData.{AreSameData}
+use Rattle.declaration_laws.specs.HandedOn.{AreSameData}
 use Rattle.refusal_lines.specs.HandedOn.{IsSpecificationReading, ShelfState}
 use Rattle.spec_acceptance.specs.Acceptance.{Asked, Acceptance, IsAccepted}
 use Rattle.spec_acceptance.specs.AcceptedView.{HoldsAccepted}

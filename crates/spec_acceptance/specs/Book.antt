@@ -9,8 +9,8 @@ use Rattle.termination_theory.specs.Precedence.{Precedence}
 use Rattle.termination_theory.specs.Orientation.{NumberedRule, IsOrientation, IsFirstUnorientable}
 use Rattle.path_order.specs.Listing.{IsUnknown, IsTwice, IsBadAlone, IsFirstWrong, listed_name, listed_status}
 use Rattle.path_order.specs.OrderedBy.{IsPrecedenceBy}
-use Rattle.refusal_lines.specs.HandedOn.{AreUnjoinedBy, IsOpenedBy, Gathered, Refusal, Refused, unknown_operation, twice_listed, bad_status}
-use Rattle.refusal_lines.specs.HandedOn.{unorientable, unjoined}
+use Rattle.refusal_lines.specs.HandedOn.{AreUnjoinedBy, IsOpenedBy, Gathered}
+use Rattle.refusal_lines.specs.Refusal.{Refusal, Refused, unknown_operation, twice_listed, bad_status, unorientable, unjoined}
 use Rattle.spec_acceptance.specs.Ending.{with_spec}
 use Rattle.spec_acceptance.specs.Part.{Part, Looks}
 

@@ -11,11 +11,10 @@ use Rattle.behaviour_semantics.specs.Guardedness.{IsGuarded}
 use Rattle.behaviour_tree.specs.DefinitionView.{specification_of}
 use Rattle.behaviour_tree.specs.Over.{IsSpecOver}
 use Rattle.behaviour_tree.specs.declared.definitions.Spec.{Spec}
-use Rattle.process_checks.specs.Functionality.{Functionality, Disagreement, all_disagreements}
-use Rattle.process_checks.specs.Ranks.{IsUnguarded}
 use Rattle.static_scope.specs.TextPlaces.{text_places}
 use Rattle.static_scope.specs.KeptPlaces.{places_of}
-use Rattle.refusal_lines.specs.HandedOn.{Gathered, Refusal, Refused, mismatch, unguarded}
+use Rattle.refusal_lines.specs.HandedOn.{Gathered, Functionality, Disagreement, all_disagreements, IsUnguarded}
+use Rattle.refusal_lines.specs.Refusal.{Refusal, Refused, mismatch, unguarded}
 use Rattle.spec_acceptance.specs.Ending.{with_spec}
 use Rattle.spec_acceptance.specs.Part.{Part, Looks}
 

@@ -4,10 +4,12 @@ use Rattle.std.specs.String.{string_bytes}
 use Rattle.std.specs.declared.alloc.Global.{Global}
 use Rattle.lotos_base.specs.declared.names.Name.{Name}
 use Rattle.refusal_lines.specs.HandedOn.{GotFile, ShelfState, Gives, GivesAndLacks, GivesSome, LibraryFault, CodeGathered as Gathered}
-use Rattle.refusal_lines.specs.HandedOn.{refused_of, CodeRefused as Refused, SpecFault}
+use Rattle.refusal_lines.specs.RefusalView.{refused_of}
+use Rattle.refusal_lines.specs.declared.refused.Refused.{Refused}
+use Rattle.refusal_lines.specs.declared.spec_fault.SpecFault.{SpecFault}
 use Rattle.refusal_lines.specs.HandedOn.library_faults as library
-use Rattle.refusal_lines.specs.HandedOn.refusal as plain
-use Rattle.refusal_lines.specs.HandedOn.spec_faults as fault
+use Rattle.refusal_lines.specs.Refusal as plain
+use Rattle.refusal_lines.specs.declared.spec_fault.SpecFault.TheVariants as fault
 use Rattle.spec_acceptance.specs.Part.{Comes, goes_on, unread, stops, wants_memory, Part}
 use Rattle.spec_acceptance.specs.declared.not_accepted.NotAccepted.{NotAccepted}
 use Rattle.spec_acceptance.specs.declared.not_accepted.NotAccepted.TheVariants.{File, Spec, NoMemory}

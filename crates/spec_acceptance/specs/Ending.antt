@@ -3,7 +3,7 @@
 use Rattle.std.specs.Prelude.{ℕ, List, [], None, Some}
 use Rattle.lotos_base.specs.Equation.{Data}
 use Rattle.behaviour_semantics.specs.Behaviour.{Specification}
-use Rattle.refusal_lines.specs.HandedOn.{Refusal, Refused}
+use Rattle.refusal_lines.specs.Refusal.{Refusal, Refused}
 
 abbrev pub at_first : Refusal → Refused
 at_first refusal = record { refusal = refusal; libraries = []; data_ = None; spec = None }

@@ -16,10 +16,12 @@ use Rattle.behaviour_tree.specs.BehaviourView.{behaviour_of, terms_of, variables
 use Rattle.behaviour_tree.specs.Closed.{IsClosedNode}
 use Rattle.behaviour_tree.specs.Over.{AreTermsOf, IsSpecOver, IsStateOf}
 use Rattle.behaviour_tree.specs.StateView.{state_of}
-use Rattle.process_checks.specs.Ranks.{AreRanksOf}
 use Rattle.path_order.specs.RulesView.{precedence_in, rules_in}
-use Rattle.refusal_lines.specs.HandedOn.{book_canon, IsOpenedBy, ShelfState, IsOrderReading, Refused, SpecFault, AreStartValues}
-use Rattle.refusal_lines.specs.HandedOn.{parameter_sorts}
+use Rattle.refusal_lines.specs.HandedOn.{book_canon, IsOpenedBy, ShelfState, IsOrderReading, AreRanksOf}
+use Rattle.refusal_lines.specs.Refusal.{Refused}
+use Rattle.refusal_lines.specs.declared.spec_fault.SpecFault.{SpecFault}
+use Rattle.refusal_lines.specs.StartValues.{AreStartValues}
+use Rattle.refusal_lines.specs.StartView.{parameter_sorts}
 use Rattle.spec_acceptance.specs.Acceptance.{Founded, start_of}
 use Rattle.spec_acceptance.specs.Checks.{KeepsSpecification}
 use Rattle.spec_acceptance.specs.Ending.{with_spec}

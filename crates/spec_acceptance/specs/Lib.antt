@@ -14,3 +14,4 @@ pub mod AcceptanceLaws
 pub mod AcceptanceOutcomes
 pub mod HandedOn
 pub mod Again
+pub mod Required

@@ -4,10 +4,8 @@ use Rattle.lotos_base.specs.Equation.{Data}
 use Rattle.syntax_trees.specs.WrittenDefinition.{WrittenSpecification}
 use Rattle.syntax_trees.specs.TakenItems.{without_items}
 use Rattle.behaviour_semantics.specs.Behaviour.{Specification}
-use Rattle.scope_parts.specs.Resolution.{resolved, faulty}
-use Rattle.scope_parts.specs.ScopeFault.{ScopeFault}
-use Rattle.scope_parts.specs.Definitions.{SpecificationIs}
-use Rattle.refusal_lines.specs.HandedOn.{Gathered, Refused, wrong_scopes}
+use Rattle.refusal_lines.specs.HandedOn.{Gathered, resolved, resolution_faulty as faulty, PlainScopeFault as ScopeFault, SpecificationIs}
+use Rattle.refusal_lines.specs.Refusal.{Refused, wrong_scopes}
 use Rattle.spec_acceptance.specs.Ending.{with_data}
 use Rattle.spec_acceptance.specs.Part.{Part, Looks}
 

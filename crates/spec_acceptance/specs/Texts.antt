@@ -7,8 +7,8 @@ use Rattle.syntax_trees.specs.WrittenItem.{WrittenItem}
 use Rattle.syntax_trees.specs.TakenItems.{items_of_specification}
 use Rattle.refusal_lines.specs.HandedOn.{GotFile, Gathered, nothing_yet, item, Problem, too_many, misread, GatheringOutcome, all_gathered}
 use Rattle.refusal_lines.specs.HandedOn.{faulty, without_file, memory_wanted, Becomes, TextFault, TextIsMisread, IsSpecificationReading}
-use Rattle.refusal_lines.specs.HandedOn.{IsSpecificationFault, IsOrderReading, IsOrderReadFault, Refusal, Refused, too_long, bad_byte}
-use Rattle.refusal_lines.specs.HandedOn.{open_comment, wrong_syntax, too_deep, too_many_libraries}
+use Rattle.refusal_lines.specs.HandedOn.{IsSpecificationFault, IsOrderReading, IsOrderReadFault}
+use Rattle.refusal_lines.specs.Refusal.{Refusal, Refused, too_long, bad_byte, open_comment, wrong_syntax, too_deep, too_many_libraries}
 use Rattle.refusal_lines.specs.HandedOn.text_fault as text
 use Rattle.spec_acceptance.specs.Ending.{at_first, with_libraries}
 use Rattle.spec_acceptance.specs.Part.{Comes, goes_on, unread, stops, wants_memory, Part, Then, Has, Looks}

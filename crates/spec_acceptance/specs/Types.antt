@@ -5,8 +5,9 @@ use Rattle.type_definitions.specs.DeclaredTypes.{DeclaredType, types_of}
 use Rattle.type_definitions.specs.MentionFaults.{MentionFault, IsMentionFault}
 use Rattle.type_definitions.specs.TypeFault.{TypeFault}
 use Rattle.type_definitions.specs.Flattened.{IsFlattening, IsFlatteningFault}
-pub use Rattle.type_laws.specs.HandedOn.{AreNamesFine}
-use Rattle.refusal_lines.specs.HandedOn.{Gathered, Refusal, Refused, wrong_names, wrong_types}
+pub use Rattle.type_flatten.specs.FlatView.{AreNamesFine}
+use Rattle.refusal_lines.specs.HandedOn.{Gathered}
+use Rattle.refusal_lines.specs.Refusal.{Refusal, Refused, wrong_names, wrong_types}
 use Rattle.spec_acceptance.specs.Ending.{with_libraries}
 use Rattle.spec_acceptance.specs.Part.{Part, Looks}
 

@@ -1,6 +1,7 @@
 //! The acceptance of a specification.
 
-ghost use Rattle.refusal_lines.specs.HandedOn.{are_within, shelf_state, words_of};
+ghost use Rattle.refusal_lines.specs.WordLimits.{are_within, words_of};
+ghost use Rattle.refusal_lines.specs.HandedOn.{shelf_state};
 ghost use Rattle.spec_acceptance.specs.Acceptance.{AcceptsText, IsAccepted};
 ghost use Rattle.spec_acceptance.specs.AcceptedView.{AcceptsWith, asked_for};
 ghost use Rattle.spec_acceptance.specs.Doing.{Failed};
@@ -12,8 +13,7 @@ use crate::not_accepted::NotAccepted;
 use crate::starts::{started, valued};
 use behaviour_tree::{Spec, State};
 use lotos_base::Shelf;
-use process_checks::Ranks;
-use refusal_lines::Book;
+use refusal_lines::{Book, Ranks};
 use std::alloc::Global;
 
 /// A specification that is accepted.

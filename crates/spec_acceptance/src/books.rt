@@ -12,8 +12,7 @@ use crate::refusals::book_refusal;
 use crate::stages::{WithOrder, WithRanks, WithSpec};
 use behaviour_tree::Spec;
 use lotos_base::Name;
-use process_checks::Ranks;
-use refusal_lines::{Book, NotOpened};
+use refusal_lines::{Book, NotOpened, Ranks};
 
 /// The libraries that were read, the specification with its ranks, and the book of the data.
 #[derive(Drop)]

@@ -1,5 +1,8 @@
 //! Resolving the scopes of the text, and checking its definitions.
 
+ghost use Rattle.behaviour_tree.specs.DefinitionView.{specification_of};
+ghost use Rattle.lotos_base.specs.Equation.{Data};
+ghost use Rattle.refusal_lines.specs.HandedOn.{TextHasGateLists};
 ghost use Rattle.spec_acceptance.specs.Checks.{
   FunctionalitiesAgree,
   Cyclic,
@@ -8,22 +11,18 @@ ghost use Rattle.spec_acceptance.specs.Checks.{
   functionality_told,
   recursion_told,
 };
-ghost use Rattle.spec_acceptance.specs.Scopes.{Breaks, StandsFor, scopes_told};
-ghost use Rattle.behaviour_tree.specs.DefinitionView.{specification_of};
 ghost use Rattle.spec_acceptance.specs.Doing.{Faulty};
 ghost use Rattle.spec_acceptance.specs.Known.{KnowsData, KnowsRanks, KnowsSpec, Resolved};
-ghost use Rattle.scope_parts.specs.GateLists.{TextHasGateLists};
+ghost use Rattle.spec_acceptance.specs.Scopes.{Breaks, StandsFor, scopes_told};
 ghost use Rattle.std.specs.Prelude.{◌≡◌, ℕ, List, MatchResult};
 ghost use Rattle.syntax_trees.specs.TakenItems.{without_items};
 ghost use Rattle.syntax_trees.specs.TreeViews.{specification_of as written_specification};
 ghost use Rattle.syntax_trees.specs.WrittenDefinition.{WrittenSpecification};
-ghost use Rattle.lotos_base.specs.Equation.{Data};
 
 use crate::not_accepted::NotAccepted;
 use crate::refusals::{exit_refusal, rank_refusal, scope_refusal};
 use crate::stages::{WithData, WithRanks, WithSpec};
-use process_checks::exits;
-use process_checks::ranking::ranks;
+use refusal_lines::{exits, ranks};
 use static_scope::resolve;
 use std::alloc::Global;
 use syntax_trees::SpecText;

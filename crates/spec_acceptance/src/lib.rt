@@ -15,6 +15,7 @@ pub mod laws;
 pub mod not_accepted;
 pub mod outcome_laws;
 pub mod refusals;
+pub mod required;
 pub mod stages;
 pub mod starts;
 pub mod texts;
@@ -24,7 +25,8 @@ pub use accepted::Accepted;
 pub use books::WithBook;
 pub use founded::founded_under;
 pub use not_accepted::NotAccepted;
+pub use refusal_lines::text_names::{TextNames, push_place};
 pub use refusal_lines::{
-    Book, Refused, SpecFault, WORD_BYTES_LIMIT, WORDS_LIMIT, are_within_limits, refusal_line,
-    start_values_are_ground,
+    Book, Refused, SpecFault, WORD_BYTES_LIMIT, WORDS_LIMIT, are_within_limits, read_terms,
+    refusal_line, start_values_are_ground,
 };

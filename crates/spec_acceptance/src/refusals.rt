@@ -2,25 +2,23 @@
 
 ghost use Rattle.refusal_lines.specs.HandedOn.book_faults as book;
 ghost use Rattle.refusal_lines.specs.HandedOn.read_faults as read;
-ghost use Rattle.process_checks.specs.declared.mismatches.ExitFault.TheVariants as exit;
-ghost use Rattle.process_checks.specs.declared.rank_table.RankFault.TheVariants as rank;
+ghost use Rattle.refusal_lines.specs.HandedOn.exit_faults as exit;
+ghost use Rattle.refusal_lines.specs.HandedOn.rank_faults as rank;
 ghost use Rattle.spec_acceptance.specs.Doing.{
   RefusesAs,
   with_data_refused,
   with_libraries_refused,
   with_spec_refused,
 };
-ghost use Rattle.refusal_lines.specs.HandedOn.spec_faults as fault_of;
-ghost use Rattle.scope_parts.specs.declared.scope_faults.ScopeFault.TheVariants as scope;
+ghost use Rattle.refusal_lines.specs.declared.spec_fault.SpecFault.TheVariants as fault_of;
+ghost use Rattle.refusal_lines.specs.HandedOn.scope_faults as scope;
 ghost use Rattle.std.specs.Prelude.{◌≡◌};
 ghost use Rattle.type_definitions.specs.declared.type_faults.TypeFault.TheVariants as type;
 
 use crate::not_accepted::NotAccepted;
 use crate::stages::{WithData, WithSpec, refused_early};
 use lotos_base::Name;
-use process_checks::{ExitFault, RankFault};
-use refusal_lines::{BookFault, ReadFault, SpecFault};
-use scope_parts::ScopeFault;
+use refusal_lines::{BookFault, ExitFault, RankFault, ReadFault, ScopeFault, SpecFault};
 use type_definitions::TypeFault;
 
 /// A text that is not read, where these libraries were read.

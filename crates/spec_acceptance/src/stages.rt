@@ -9,8 +9,7 @@ ghost use Rattle.std.specs.Prelude.{◌≡◌};
 
 use behaviour_tree::Spec;
 use lotos_base::{Name, OrderItem};
-use process_checks::Ranks;
-use refusal_lines::{Refused, SpecFault};
+use refusal_lines::{Ranks, Refused, SpecFault};
 use sort_terms::Flat;
 
 /// The libraries that were read, and the data.

@@ -1,7 +1,8 @@
 //! The start values, and the state in which the specification begins with them.
 
 ghost use Rattle.lotos_base.specs.WrittenTerm.{ListedOperation};
-ghost use Rattle.refusal_lines.specs.HandedOn.{IsStartFault, are_within, words_of};
+ghost use Rattle.refusal_lines.specs.StartValues.{IsStartFault};
+ghost use Rattle.refusal_lines.specs.WordLimits.{are_within, words_of};
 ghost use Rattle.spec_acceptance.specs.Acceptance.{start_of};
 ghost use Rattle.spec_acceptance.specs.Doing.{Faulty};
 ghost use Rattle.spec_acceptance.specs.Ending.{with_spec};

@@ -13,7 +13,7 @@ use crate::refusals::types_refusal;
 use crate::stages::WithData;
 use refusal_lines::Gathered;
 use std::alloc::Global;
-use type_laws::flatten;
+use type_flatten::flatten;
 
 /// The data of the types.
 pub fn data(alloc: Global, gathered: Gathered) -> Result<WithData, NotAccepted>

@@ -238,11 +238,6 @@ texts_have_one_cutting text =
 abbrev position_behind : List ℕ → Position
 position_behind bytes = record { offset = length bytes; line = suc (line_feeds bytes); column = suc (on_line bytes) }
 
-behind_more : (bytes more : List ℕ) (position : Position)
-    → behind_all (bytes ++ more) position ≡ behind_all more (behind_all bytes position)
-behind_more [] more position = refl
-behind_more (byte ∷ bytes) more position = behind_more bytes more (behind byte position)
-
 feeds_more : (bytes : List ℕ) (byte : ℕ)
     → line_feeds (bytes ++ byte ∷ []) ≡ (if byte == 10 then suc (line_feeds bytes) else line_feeds bytes)
 feeds_more [] byte = by (byte == 10)

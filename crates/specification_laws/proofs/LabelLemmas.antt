@@ -19,13 +19,13 @@ use Rattle.lotos_rows.specs.Terms.{IsTerm, AreTerms, AreArguments, no_arguments,
 use Rattle.behaviour_semantics.specs.Behaviour.{Specification}
 use Rattle.behaviour_semantics.specs.Label.{Label, inner_event, gate_event, exit_event}
 use Rattle.behaviour_semantics.specs.WellFormed.{Every}
-use Rattle.texts_read_back.specs.HandedOn.{round, commas, term_texts, name_text, values_text, label_text}
-use Rattle.texts_read_back.specs.TextNames.{IsWordSpelling}
-use Rattle.texts_read_back.specs.WrittenAs.{AreWrittenAs}
-use Rattle.texts_read_back.proofs.NameTokens.{word_piece}
-use Rattle.texts_read_back.proofs.CutPieces.{behind_bytes, IsCut, cut_joined, cut_one, spelled_there}
-use Rattle.texts_read_back.proofs.PartsOfText.{Stands, nothing_apart}
-use Rattle.texts_read_back.proofs.WrittenLemmas.{ground_terms_have_one_reading}
+use Rattle.session_histories.specs.HandedOn.{round, commas, term_texts, name_text, values_text, label_text}
+use Rattle.specification_laws.specs.TextNames.{IsWordSpelling}
+use Rattle.specification_laws.specs.WrittenAs.{AreWrittenAs}
+use Rattle.specification_laws.proofs.NameTokens.{word_piece}
+use Rattle.specification_laws.proofs.CutPieces.{behind_bytes, IsCut, cut_joined, cut_one, spelled_there}
+use Rattle.specification_laws.proofs.PartsOfText.{Stands, nothing_apart}
+use Rattle.specification_laws.proofs.WrittenLemmas.{ground_terms_have_one_reading}
 use Rattle.specification_laws.specs.LabelReading.{written_inner, written_event, written_exit, an_inner, an_event, an_exit, AreReadAs, IsLabelReading}
 use Rattle.specification_laws.specs.LabelLaws.{HasReadableNames, IsPlainLabel, LabelTextsAreReadOnce, LabelTextsAreReadBack}
 use Rattle.specification_laws.proofs.LabelStands.{IsValue, values_apart, values_stand, listed_stand}

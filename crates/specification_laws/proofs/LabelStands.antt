@@ -11,14 +11,14 @@ use Rattle.lotos_lexer.specs.Tokens.{token_at, cut}
 use Rattle.lotos_rows.specs.Words.{Many, no_more, and_then, behind, Behind, Between}
 use Rattle.lotos_rows.specs.Terms.{IsTerm, AreTerms}
 use Rattle.behaviour_semantics.specs.WellFormed.{Every}
-use Rattle.texts_read_back.specs.HandedOn.{round, commas, phrase_text, phrase_of, phrases_of, entry_term_text, term_texts, values_text}
-use Rattle.texts_read_back.specs.TextNames.{HasTextNames}
-use Rattle.texts_read_back.specs.WrittenAs.{IsWrittenAs, AreWrittenAs}
-use Rattle.texts_read_back.proofs.NameTokens.{IsApart}
-use Rattle.texts_read_back.proofs.CutPieces.{behind_bytes, IsCut, cut_joined, cut_one, cut_blank}
-use Rattle.texts_read_back.proofs.PartsOfText.{Stands, StandsAnywhere, first_part, second_part, apart, round_stands}
-use Rattle.texts_read_back.proofs.PrintedTerms.{phrase_term}
-use Rattle.texts_read_back.proofs.TermPhrases.{AllStand, list_stands, term_stands}
+use Rattle.session_histories.specs.HandedOn.{round, commas, phrase_text, phrase_of, phrases_of, entry_term_text, term_texts, values_text}
+use Rattle.specification_laws.specs.TextNames.{HasTextNames}
+use Rattle.specification_laws.specs.WrittenAs.{IsWrittenAs, AreWrittenAs}
+use Rattle.specification_laws.proofs.NameTokens.{IsApart}
+use Rattle.specification_laws.proofs.CutPieces.{behind_bytes, IsCut, cut_joined, cut_one, cut_blank}
+use Rattle.specification_laws.proofs.PartsOfText.{Stands, StandsAnywhere, first_part, second_part, apart, round_stands}
+use Rattle.specification_laws.proofs.PrintedTerms.{phrase_term}
+use Rattle.specification_laws.proofs.TermPhrases.{AllStand, list_stands, term_stands}
 
 -- the value is a ground term of some sort
 abbrev pub IsValue : Signature → Term → Type 0

@@ -12,7 +12,7 @@ use Rattle.lotos_lexer.specs.Tokens.{Lexed, tokens_of}
 use Rattle.lotos_rows.specs.Words.{IsOf, there, Many, no_more, and_then, Behind, behind}
 use Rattle.lotos_rows.specs.Names.{named, IsOperationName, word_name, digit_name, sign_name}
 use Rattle.lotos_rows.specs.Terms.{IsTerm, grouped_factors, AreFactors, one_factor, more_factors, IsFactor, without_sort, with_sort, IsBase, without_arguments, with_arguments, bracketed, AreTerms, one_term, more_terms, AreArguments, no_arguments, some_arguments}
-use Rattle.texts_read_back.specs.HandedOn.{TextsAreUnambiguous}
+use Rattle.session_histories.specs.HandedOn.{TextsAreUnambiguous}
 use Rattle.sort_terms.specs.ReadingLaws.{ReadingComesToOneThing}
 use Rattle.sort_terms.specs.ReadingOutcome.{ReadingOutcome, SortedTerm, answered}
 use Rattle.behaviour_semantics.specs.Behaviour.{Specification}

@@ -1,3 +1,16 @@
+pub mod NameTokens
+pub mod CutPieces
+pub mod PartsOfText
+pub mod PrintedTerms
+pub mod TermPhrases
+pub mod DepthLemmas
+pub mod ReadDepths
+pub mod ReadBackLemmas
+pub mod PlainNames
+pub mod SampleLemmas
+pub mod WrittenLemmas
+pub mod TermMeanings
+pub mod TraceLemmas
 pub mod WordLemmas
 pub mod LongestLemmas
 mod BracketLemmas

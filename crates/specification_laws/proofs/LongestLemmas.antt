@@ -1,11 +1,10 @@
 -- The longest token is taken.
 use Rattle.std.proofs.Common.{◌≡◌, ◌⊎◌, inl, inr, ℕ, zero, suc, ◌+◌, ◌≤◌, ◌<◌, Bool, true, false, ◌&&◌, ◌||◌, not, cond, nat_eq, if◌then◌else◌, List, [], ◌∷◌, ◌++◌, take, length, codes, Option, None, Some, slice_get, unwrap_or, refl, ap, sym, ◌∙◌, subst, arith}
-use Rattle.std.specs.Prelude.{◌==◌, nat_le, nat_lt}
-use Rattle.std.specs.Int.{is_in_range}
+use Rattle.std.specs.Prelude.{◌==◌, nat_lt}
 use Rattle.std.specs.List.{prefix_len, list_all, list_any}
 use Rattle.std.specs.Option.{option_or}
 use Rattle.std.specs.Char.{is_ascii_alphabetic, is_ascii_digit, is_ascii_alphanumeric}
-use Rattle.std.proofs.lemmas.Bool.{and_parts, leb-true, ltb-true, ltb-false, not-true}
+use Rattle.std.proofs.lemmas.Bool.{and_parts, ltb-true, ltb-false, not-true}
 use Rattle.std.proofs.lemmas.Slice.Eq.{bytes_eq-Decides}
 use Rattle.std.proofs.lemmas.Option.{same_Some}
 use Rattle.std.proofs.lemmas.Bool.Decides.{Decides-eqb}
@@ -15,6 +14,7 @@ use Rattle.lotos_lexer.specs.declared.lexemes.Lexeme.{Lexeme}
 use Rattle.lotos_lexer.specs.Bytes.{first_is, begins_with, is_sign}
 use Rattle.lotos_lexer.specs.Spellings.{Spelling, reserved_words, operators, reserved_runs, single_signs}
 use Rattle.lotos_lexer.specs.Lexemes.{underscore_before, word_length, kind_in, word_kind_in, lexeme_of, spelling_at, closing}
+use Rattle.specification_laws.proofs.NameTokens.{digit_no_letter}
 use Rattle.specification_laws.proofs.WordLemmas.{word_within, word_again, run_within, run_again, taken_long, first_stays, word_some, run_some, first_alphanumeric}
 use Rattle.specification_laws.specs.LongestTokens.{IsToken, a_word, a_digit_name, a_run, a_fixed, closing_gates, IsLongest, IsTokenTaken, TokensAreLongest}
 
@@ -115,23 +115,6 @@ each_in (x ∷ xs) test all b is = by (x == b) refl (test x) refl all is (λ res
 pub sign_fails : (test : ℕ → Bool) → list_all (λ x. not (test x)) (codes "#%&*+-./<=>@\\^~{}") ≡ true → (b : ℕ) → is_sign b ≡ true
     → test b ≡ false
 sign_fails test none b is = not-true (test b) (each_in (codes "#%&*+-./<=>@\\^~{}") (λ x. not (test x)) none b is)
-
-below_letters : (b lower upper : ℕ) → nat_le b 57 ≡ true → 57 < lower → is_in_range lower upper b ≡ false
-below_letters b lower upper digit past = by (nat_le lower b) refl
-  where
-    by : (above : Bool) → nat_le lower b ≡ above → (above && nat_le b upper) ≡ false
-    by true above = absurd (omega (arith, leb-true lower b above, leb-true b 57 digit, past))
-    by false above = refl
-
-digit_no_letter : (b : ℕ) → is_ascii_digit b ≡ true → is_ascii_alphabetic b ≡ false
-digit_no_letter b is =
-    let small : nat_le b 57 ≡ true = (and_parts (nat_le 48 b) (nat_le b 57) is).1 in
-    neither (is_in_range 65 90 b) (is_in_range 97 122 b) (below_letters b 65 90 small (omega arith))
-    (below_letters b 97 122 small (omega arith))
-  where
-    neither : (upper lower : Bool) → upper ≡ false → lower ≡ false → (upper || lower) ≡ false
-    neither true lower h k = h
-    neither false lower h k = k
 
 pub letter_no_digit : Apart is_ascii_alphabetic is_ascii_digit
 letter_no_digit byte is = by (is_ascii_digit byte) refl

@@ -4,8 +4,8 @@ use Rattle.lotos_base.specs.Signature.{Signature, IsWellFormedSignature}
 use Rattle.behaviour_semantics.specs.Behaviour.{Specification}
 use Rattle.behaviour_semantics.specs.Label.{Label}
 use Rattle.behaviour_semantics.specs.WellFormed.{Every, IsClosedLabel}
-use Rattle.texts_read_back.specs.HandedOn.{label_text}
-use Rattle.texts_read_back.specs.TextNames.{IsWordSpelling, HasTextNames}
+use Rattle.session_histories.specs.HandedOn.{label_text}
+use Rattle.specification_laws.specs.TextNames.{IsWordSpelling, HasTextNames}
 use Rattle.declaration_laws.specs.VisibleGates.{IsOneOf, IsAt}
 use Rattle.declaration_laws.specs.DeclaredGates.{HasDistinctGates}
 use Rattle.specification_laws.specs.LabelReading.{IsLabelReading}

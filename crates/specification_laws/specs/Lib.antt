@@ -1,3 +1,12 @@
+pub mod TextNames
+pub mod TermDepth
+pub mod ReadBack
+pub mod ReadBackLaws
+pub mod SampleTexts
+pub mod WrittenAs
+pub mod TermMeanings
+pub mod WrittenLaws
+pub mod TraceReadings
 pub mod Cuttings
 pub mod LongestTokens
 pub mod HasFunctionality

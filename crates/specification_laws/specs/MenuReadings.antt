@@ -10,7 +10,7 @@ use Rattle.behaviour_semantics.specs.Rule.{label_values}
 use Rattle.behaviour_semantics.specs.Solving.{Entry}
 use Rattle.behaviour_semantics.specs.Transition.{Transition}
 use Rattle.behaviour_semantics.specs.WellFormed.{Every, AreOver}
-use Rattle.texts_read_back.specs.HandedOn.{label_text}
+use Rattle.session_histories.specs.HandedOn.{label_text}
 use Rattle.declaration_laws.specs.VisibleGates.{IsOneOf, UsesOnly, UsesFormals}
 use Rattle.specification_laws.specs.LabelReading.{IsLabelReading}
 use Rattle.specification_laws.specs.LabelLaws.{HasReadableNames}

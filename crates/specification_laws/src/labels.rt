@@ -7,8 +7,8 @@ use behaviour_semantics::solving::{entries_are_solved, solving_names_no_behaviou
 use behaviour_semantics::targets::targets_are_well_formed;
 use behaviour_semantics::transition::transitions_are_derived;
 use declaration_laws::gates::{entries_stay_at_gates, moves_stay_at_gates};
+use session_histories::texts_are_unambiguous;
 use sort_terms::laws::reading_comes_to_one_thing;
-use texts_read_back::texts_are_unambiguous;
 
 /// A text is read as one label at most, where no two gates of the specification have one name.
 pub fn label_texts_are_read_once()

@@ -57,8 +57,8 @@ fn flatten_in_order(alloc: Global, order: &TypeOrder<'_>) -> Result<Flat, TypeFa
     data_of_types(alloc, listed)
 }
 
-// The types of these numbers, in this order.
-fn in_order<'a>(
+/// The types of these numbers, in this order.
+pub fn in_order<'a>(
     alloc: Global,
     names: &TypeNames<'a>,
     order: &[usize],
@@ -99,8 +99,8 @@ fn data_of_types(alloc: Global, texts: &[TypeText<'_>]) -> Result<Flat, TypeFaul
     united(alloc, &types)
 }
 
-// The union of the types in which nothing is formal.
-fn united(alloc: Global, types: &PresentedTypes<'_>) -> Result<Flat, TypeFault>
+/// The union of the types in which nothing is formal.
+pub fn united(alloc: Global, types: &PresentedTypes<'_>) -> Result<Flat, TypeFault>
     requires { AreSoundTypes types.now }
     ensures { MatchResult result (λ flat. AreUnited (presented_in types.now) flat)
         (λ fault. AreNotUnited (presented_in types.now) fault) }

@@ -17,3 +17,7 @@ pub mod InstanceLemmas
 pub mod FoundLemmas
 pub mod ChoiceLemmas
 pub mod LabelLemmas
+pub mod OutcomeLemmas
+pub mod TextLemmas
+pub mod SettledLemmas
+pub mod AnswerLemmas

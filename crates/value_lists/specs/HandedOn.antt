@@ -5,3 +5,4 @@ pub use Rattle.event_offers.specs.Keeping.{KeepsData}
 pub use Rattle.event_offers.specs.OfferView.{plain_entry}
 pub use Rattle.event_offers.specs.Offers.{IsEntryOf}
 pub use Rattle.event_offers.specs.declared.drafts.Entry.{Entry}
+pub use Rattle.path_order.specs.RulesView.{plain_rules_in}

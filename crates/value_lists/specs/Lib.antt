@@ -10,4 +10,9 @@ pub mod Tuples
 pub mod TupleNumbers
 pub mod InstanceList
 pub mod Tried
+pub mod ListOutcome
+pub mod ListText
+pub mod ListView
+pub mod ListCases
+pub mod ListLineLaws
 pub mod HandedOn

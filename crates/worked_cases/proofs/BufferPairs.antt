@@ -3,11 +3,11 @@ use Rattle.std.proofs.Common.{◌≡◌, ℕ, List, [], ◌∷◌, Some, slice_g
 use Rattle.behaviour_semantics.specs.Behaviour.{Behaviour}
 use Rattle.behaviour_semantics.specs.Label.{gate_event}
 use Rattle.behaviour_semantics.specs.Shape.{act, left_side, right_side, called, relabelled}
-use Rattle.bisimulation_theory.specs.Agreement.{AreOneGate}
-use Rattle.bisimulation_theory.specs.Bisimulation.{turned_round}
-use Rattle.bisimulation_theory.specs.Certificate.{Reading, ListedPair, first_reading, AreListed, side_of}
-use Rattle.bisimulation_theory.specs.NamedStates.{LinesAreRead, all_read, one_read, ListsStates, HasClosedMenu}
-use Rattle.bisimulation_theory.specs.MatchedPairs.{PairIsMatched, AllPairsAreMatched}
+use Rattle.certificate_theory.specs.Agreement.{AreOneGate}
+use Rattle.certificate_theory.specs.Bisimulation.{turned_round}
+use Rattle.certificate_theory.specs.Certificate.{Reading, ListedPair, first_reading, AreListed, side_of}
+use Rattle.certificate_theory.specs.NamedStates.{LinesAreRead, all_read, one_read, ListsStates, HasClosedMenu}
+use Rattle.certificate_theory.specs.MatchedPairs.{PairIsMatched, AllPairsAreMatched}
 use Rattle.worked_cases.specs.BehaviourSamples.{sample_data, sample_canon}
 use Rattle.worked_cases.specs.BisimulationCases.{empty_buffer, full_buffer, side_by_side_with, two_buffers, place_of_places, two_place_buffer, buffers, buffer_lines}
 use Rattle.worked_cases.proofs.CertificateTests.{names, closed_menu, matches, all_match, all_pairs, listed_at}

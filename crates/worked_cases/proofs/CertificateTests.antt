@@ -10,11 +10,11 @@ use Rattle.behaviour_semantics.specs.Menu.{Exact}
 use Rattle.behaviour_semantics.specs.TransitionLaws.{MovesAreDetermined}
 use Rattle.behaviour_semantics.specs.WellFormed.{Every}
 use Rattle.behaviour_semantics.proofs.InstanceLemmas.{every_at}
-use Rattle.bisimulation_theory.specs.Agreement.{AgreeingLabels}
-use Rattle.bisimulation_theory.specs.Certificate.{Comparison, ListedPair, AreListed, side_of}
-use Rattle.bisimulation_theory.specs.NamedStates.{EntryLeads, NamesState, HasClosedMenu, IsClosedEntry, numbered_entry}
-use Rattle.bisimulation_theory.specs.MatchedPairs.{IsMatched, AreMatched, AllPairsAreMatched, PairIsMatched}
-use Rattle.bisimulation_theory.proofs.ClosedEntries.{leads_once}
+use Rattle.certificate_theory.specs.Agreement.{AgreeingLabels}
+use Rattle.certificate_theory.specs.Certificate.{Comparison, ListedPair, AreListed, side_of}
+use Rattle.certificate_theory.specs.NamedStates.{EntryLeads, NamesState, HasClosedMenu, IsClosedEntry, numbered_entry}
+use Rattle.certificate_theory.specs.MatchedPairs.{IsMatched, AreMatched, AllPairsAreMatched, PairIsMatched}
+use Rattle.certificate_theory.proofs.ClosedEntries.{leads_once}
 use Rattle.worked_cases.specs.BehaviourSamples.{sample_signature, sample_data, sample_canon}
 use Rattle.worked_cases.specs.Showing.{entry, move}
 

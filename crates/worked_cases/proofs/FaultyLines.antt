@@ -3,8 +3,8 @@ use Rattle.std.proofs.Common.{List, [], ◌∷◌, refl}
 use Rattle.behaviour_semantics.specs.Behaviour.{Behaviour, stop}
 use Rattle.behaviour_semantics.specs.Label.{gate_event}
 use Rattle.behaviour_semantics.specs.Shape.{act, left_side, right_side, called}
-use Rattle.bisimulation_theory.specs.Certificate.{names_left, names_right, lists_pair, no_state, no_entry, open_menu, first_reading, side_of}
-use Rattle.bisimulation_theory.specs.NamedStates.{NamesState, HasOpenMenu, ListsStates, right_is_missing, left_is_open, entry_is_missing, entry_is_open, LinesAreRead, all_read, one_read, LinesFail, fails_here, fails_later}
+use Rattle.certificate_theory.specs.Certificate.{names_left, names_right, lists_pair, no_state, no_entry, open_menu, first_reading, side_of}
+use Rattle.certificate_theory.specs.NamedStates.{NamesState, HasOpenMenu, ListsStates, right_is_missing, left_is_open, entry_is_missing, entry_is_open, LinesAreRead, all_read, one_read, LinesFail, fails_here, fails_later}
 use Rattle.worked_cases.specs.BehaviourSamples.{sample_data, sample_canon}
 use Rattle.worked_cases.specs.BisimulationCases.{empty_buffer, place_of_places, two_place_buffer, buffers}
 use Rattle.worked_cases.specs.CertificateCases.{asking_both, one_and_two}

@@ -5,10 +5,10 @@ use Rattle.behaviour_semantics.specs.Label.{gate_event}
 use Rattle.behaviour_semantics.specs.Shape.{act, left_side, right_side}
 use Rattle.behaviour_semantics.specs.Solving.{Entry, settled}
 use Rattle.behaviour_semantics.specs.Menu.{Exact}
-use Rattle.bisimulation_theory.specs.Certificate.{side_of}
-use Rattle.bisimulation_theory.specs.Agreement.{AreOneGate}
-use Rattle.bisimulation_theory.specs.NamedStates.{HasClosedMenu}
-use Rattle.bisimulation_theory.specs.MatchedPairs.{AreMatched}
+use Rattle.certificate_theory.specs.Certificate.{side_of}
+use Rattle.certificate_theory.specs.Agreement.{AreOneGate}
+use Rattle.certificate_theory.specs.NamedStates.{HasClosedMenu}
+use Rattle.certificate_theory.specs.MatchedPairs.{AreMatched}
 use Rattle.worked_cases.specs.BehaviourSamples.{sample_data, sample_canon, nat_sort, one, nat, nat_variable, offering, event}
 use Rattle.worked_cases.specs.ValueCases.{sum}
 use Rattle.worked_cases.specs.BisimulationCases.{offering_specification}

@@ -9,11 +9,11 @@ use Rattle.behaviour_semantics.specs.TransitionLaws.{MovesAreDetermined}
 use Rattle.behaviour_semantics.specs.WellFormed.{Every}
 use Rattle.behaviour_semantics.proofs.InstanceLemmas.{every_at}
 use Rattle.behaviour_semantics.proofs.OptionLemmas.{some_value}
-use Rattle.bisimulation_theory.specs.Agreement.{AreOneGate, AgreeingLabels}
-use Rattle.bisimulation_theory.specs.Bisimulation.{turned_round}
-use Rattle.bisimulation_theory.specs.Certificate.{CertificateLine, names_left, names_right, lists_pair, unmatched_left, unmatched_right, ListedPair, AreListed, ListsTheStarts, side_of}
-use Rattle.bisimulation_theory.specs.NamedStates.{numbered_entry, EntryLeads}
-use Rattle.bisimulation_theory.specs.MatchedPairs.{IsMatched, PairsFail, left_fails, right_fails}
+use Rattle.certificate_theory.specs.Agreement.{AreOneGate, AgreeingLabels}
+use Rattle.certificate_theory.specs.Bisimulation.{turned_round}
+use Rattle.certificate_theory.specs.Certificate.{CertificateLine, names_left, names_right, lists_pair, unmatched_left, unmatched_right, ListedPair, AreListed, ListsTheStarts, side_of}
+use Rattle.certificate_theory.specs.NamedStates.{numbered_entry, EntryLeads}
+use Rattle.certificate_theory.specs.MatchedPairs.{IsMatched, PairsFail, left_fails, right_fails}
 use Rattle.worked_cases.specs.BehaviourSamples.{sample_data, sample_canon}
 use Rattle.worked_cases.specs.BisimulationCases.{empty_buffer, full_buffer, place_of_places, two_buffers, two_place_buffer, buffers}
 use Rattle.worked_cases.specs.CertificateCases.{one_and_two}

@@ -4,11 +4,11 @@ use Rattle.std.specs.Prelude.{ℕ, List, [], ◌∷◌, codes, None}
 use Rattle.lotos_base.specs.Term.{Term, variable}
 use Rattle.behaviour_semantics.specs.Behaviour.{Behaviour, stop, choice, choose_value, parallel, call, relabel, no_gates, give, Process, Specification}
 use Rattle.behaviour_semantics.specs.Alike.{Alike}
-use Rattle.bisimulation_theory.specs.SameSorts.{SameSorts}
-use Rattle.bisimulation_theory.specs.BisimulationLaws.{IsComparable}
-use Rattle.bisimulation_theory.specs.Certificate.{CertificateLine, names_left, names_right, lists_pair, accepted, Comparison}
-use Rattle.bisimulation_theory.specs.Checking.{CertificateComesTo}
-use Rattle.bisimulation_theory.specs.CertificateLaws.{AreShownBisimilar}
+use Rattle.certificate_theory.specs.SameSorts.{SameSorts}
+use Rattle.certificate_theory.specs.BisimulationLaws.{IsComparable}
+use Rattle.certificate_theory.specs.Certificate.{CertificateLine, names_left, names_right, lists_pair, accepted, Comparison}
+use Rattle.certificate_theory.specs.Checking.{CertificateComesTo}
+use Rattle.certificate_theory.specs.CertificateLaws.{AreShownBisimilar}
 use Rattle.worked_cases.specs.BehaviourSamples.{sample_signature, sample_data, sample_canon, empty_sort, nought, one, gate_g, offering, event}
 use Rattle.worked_cases.specs.ValueCases.{sum}
 

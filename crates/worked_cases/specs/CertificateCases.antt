@@ -1,8 +1,8 @@
 -- Worked cases on certificates that are refused, one for each fault, and on the order of the faults.
 use Rattle.std.specs.Prelude.{[], ◌∷◌}
 use Rattle.behaviour_semantics.specs.Behaviour.{Behaviour, stop, choice, ask}
-use Rattle.bisimulation_theory.specs.Certificate.{names_left, names_right, lists_pair, no_state, no_entry, open_menu, no_start_pair, unmatched_left, unmatched_right, refused, Comparison}
-use Rattle.bisimulation_theory.specs.Checking.{CertificateComesTo}
+use Rattle.certificate_theory.specs.Certificate.{names_left, names_right, lists_pair, no_state, no_entry, open_menu, no_start_pair, unmatched_left, unmatched_right, refused, Comparison}
+use Rattle.certificate_theory.specs.Checking.{CertificateComesTo}
 use Rattle.worked_cases.specs.BehaviourSamples.{sample_data, sample_canon, nat_variable, offering, event}
 use Rattle.worked_cases.specs.BisimulationCases.{buffers, offering_specification}
 

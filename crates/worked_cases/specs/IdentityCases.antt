@@ -4,8 +4,8 @@ use Rattle.lotos_base.specs.Signature.{prefix_form}
 use Rattle.lotos_base.specs.Substitution.{binding}
 use Rattle.lotos_base.specs.Equation.{Data, Variable}
 use Rattle.behaviour_semantics.specs.Behaviour.{Behaviour, stop, hide, give, ask}
-use Rattle.bisimulation_theory.specs.Identity.{same_with, same_behaviour}
-use Rattle.bisimulation_theory.specs.SameData.{AreSameData}
+use Rattle.certificate_theory.specs.Identity.{same_with, same_behaviour}
+use Rattle.certificate_theory.specs.SameData.{AreSameData}
 use Rattle.worked_cases.specs.BehaviourSamples.{one, two, nat, nat_variable, gate_a, gate_b, offering, event}
 use Rattle.worked_cases.specs.MenuCases.{two_constants}
 use Rattle.worked_cases.specs.ValueCases.{sum}

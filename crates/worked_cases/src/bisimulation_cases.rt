@@ -9,7 +9,7 @@ ghost use Rattle.worked_cases.specs.CertificateCases.{FaultsAreNamed, FaultsCome
 ghost use Rattle.worked_cases.specs.IdentityCases.{DataAreCompared, IdentityIsTested};
 
 use behaviour_semantics::transition::moves_are_determined;
-use bisimulation_theory::certificates::accepted_certificates_show_bisimilarity;
+use certificate_theory::certificates::accepted_certificates_show_bisimilarity;
 
 /// Two one-place buffers side by side are strongly bisimilar with a two-place buffer.
 pub fn two_buffers_are_a_two_place_buffer()

@@ -4,7 +4,7 @@ use Rattle.lotos_base.proofs.Members.{at_map}
 use Rattle.lotos_base.specs.Equation.{Data, HasSortedSides}
 use Rattle.lotos_base.specs.Term.{Term}
 use Rattle.behaviour_semantics.proofs.InstanceLemmas.{every_at}
-use Rattle.bisimulation_theory.specs.MatchedPairs.{PairFails, PairIsMatched, PairsFail}
+use Rattle.certificate_theory.specs.MatchedPairs.{PairFails, PairIsMatched, PairsFail}
 use Rattle.menu_builder.proofs.HandedOn.{held_before, holds_after, keeps_both, keeps_itself}
 use Rattle.bisim_check.specs.Faults.{TellsFault}
 use Rattle.bisim_check.specs.Readings.{comparison_of, pair_among, pairs_in, IsKept, IsListed}

@@ -1,7 +1,7 @@
 use Rattle.std.proofs.Common.{◌≡◌, ◌<◌, ℕ, Some, slice_get}
 use Rattle.behaviour_semantics.specs.Behaviour.{Behaviour}
-use Rattle.bisimulation_theory.specs.Certificate.{ListedPair}
-use Rattle.bisimulation_theory.specs.MatchedPairs.{PairIsMatched}
+use Rattle.certificate_theory.specs.Certificate.{ListedPair}
+use Rattle.certificate_theory.specs.MatchedPairs.{PairIsMatched}
 use Rattle.menu_builder.specs.HandedOn.{KeepsData}
 use Rattle.bisim_check.specs.Readings.{comparison_of, pairs_in}
 use Rattle.bisim_check.proofs.checking.check_listed.Given as goal

@@ -3,7 +3,7 @@ use Rattle.std.proofs.lemmas.Result.{MatchResult-weaker}
 use Rattle.lotos_base.specs.Equation.{Data}
 use Rattle.lotos_base.specs.Term.{Term}
 use Rattle.behaviour_tree.specs.DefinitionView.{specification_of}
-use Rattle.bisimulation_theory.specs.MatchedPairs.{PairFails}
+use Rattle.certificate_theory.specs.MatchedPairs.{PairFails}
 use Rattle.menu_builder.proofs.HandedOn.{held_before, holds_after}
 use Rattle.menu_builder.specs.Menus.{entries_in}
 use Rattle.bisim_check.specs.Events.{event_of, IsUnanswered}

@@ -2,8 +2,8 @@ use Rattle.std.proofs.Common.{MatchResult, map}
 use Rattle.lotos_base.specs.Equation.{Data, HasSortedSides}
 use Rattle.lotos_base.specs.Term.{Term}
 use Rattle.behaviour_tree.specs.StateView.{state_of}
-use Rattle.bisimulation_theory.specs.Certificate.{CertificateFault, accepted, refused}
-use Rattle.bisimulation_theory.specs.Checking.{CertificateComesTo}
+use Rattle.certificate_theory.specs.Certificate.{CertificateFault, accepted, refused}
+use Rattle.certificate_theory.specs.Checking.{CertificateComesTo}
 use Rattle.menu_builder.proofs.HandedOn.{held_before, holds_after}
 use Rattle.std.specs.Prelude.{ℕ}
 use Rattle.bisim_check.specs.Faults.{TellsFault}

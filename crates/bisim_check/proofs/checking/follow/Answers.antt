@@ -3,10 +3,10 @@ use Rattle.std.proofs.lemmas.List.{length-map}
 use Rattle.lotos_base.specs.Equation.{Data, HasSortedSides}
 use Rattle.lotos_base.specs.Term.{Term}
 use Rattle.behaviour_semantics.specs.Behaviour.{stop}
-use Rattle.bisimulation_theory.specs.Certificate.{CertificateFault, refused}
-use Rattle.bisimulation_theory.specs.Checking.{CertificateComesTo}
-use Rattle.bisimulation_theory.specs.MatchedPairs.{AllPairsAreMatched, PairsFail}
-use Rattle.bisimulation_theory.specs.NamedStates.{LinesFail}
+use Rattle.certificate_theory.specs.Certificate.{CertificateFault, refused}
+use Rattle.certificate_theory.specs.Checking.{CertificateComesTo}
+use Rattle.certificate_theory.specs.MatchedPairs.{AllPairsAreMatched, PairsFail}
+use Rattle.certificate_theory.specs.NamedStates.{LinesFail}
 use Rattle.menu_builder.proofs.HandedOn.{held_before, holds_after}
 use Rattle.bisim_check.specs.Faults.{TellsFault}
 use Rattle.bisim_check.specs.LineView.{line_of}

@@ -1,7 +1,7 @@
 use Rattle.std.proofs.Common.{◌≡◌, map, get_or, Some, refl, ap, sym, ◌∙◌, arith}
 use Rattle.std.proofs.lemmas.List.{length-map}
 use Rattle.lotos_base.proofs.Members.{at_map}
-use Rattle.bisimulation_theory.specs.Certificate.{CertificateLine, lists_pair}
+use Rattle.certificate_theory.specs.Certificate.{CertificateLine, lists_pair}
 use Rattle.bisim_check.specs.LineView.{line_of}
 use Rattle.bisim_check.specs.declared.lines.PairLine.TheVariants.{Left}
 use Rattle.bisim_check.proofs.AnswerLemmas.{place_given, place_within, none_below_next}

@@ -1,5 +1,5 @@
 use Rattle.std.proofs.Common.{◌≡◌, ◌<◌, ℕ, map, Some, slice_get}
-use Rattle.bisimulation_theory.specs.Certificate.{CertificateLine, lists_pair}
+use Rattle.certificate_theory.specs.Certificate.{CertificateLine, lists_pair}
 use Rattle.bisim_check.specs.LineView.{line_of}
 use Rattle.bisim_check.proofs.checking.lists_the_starts.Given as goal
 

@@ -3,8 +3,8 @@ use Rattle.std.proofs.lemmas.List.{drop_all, length-map}
 use Rattle.lotos_base.proofs.Members.{at_map}
 use Rattle.lotos_base.specs.Equation.{Data}
 use Rattle.lotos_base.specs.Term.{Term}
-use Rattle.bisimulation_theory.specs.Certificate.{CertificateLine}
-use Rattle.bisimulation_theory.specs.NamedStates.{LineIsRead, LineFails, LinesAreRead, all_read, LinesFail}
+use Rattle.certificate_theory.specs.Certificate.{CertificateLine}
+use Rattle.certificate_theory.specs.NamedStates.{LineIsRead, LineFails, LinesAreRead, all_read, LinesFail}
 use Rattle.menu_builder.proofs.HandedOn.{held_before, holds_after, keeps_both, keeps_itself}
 use Rattle.bisim_check.specs.Faults.{TellsFault}
 use Rattle.bisim_check.specs.LineView.{line_of}

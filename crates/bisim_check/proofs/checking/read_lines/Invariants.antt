@@ -1,7 +1,7 @@
 use Rattle.std.proofs.Common.{◌≡◌, suc, drop, map}
 use Rattle.behaviour_semantics.specs.Behaviour.{Behaviour}
-use Rattle.bisimulation_theory.specs.Certificate.{CertificateFault, Reading as PlainReading}
-use Rattle.bisimulation_theory.specs.NamedStates.{LinesAreRead, LinesFail}
+use Rattle.certificate_theory.specs.Certificate.{CertificateFault, Reading as PlainReading}
+use Rattle.certificate_theory.specs.NamedStates.{LinesAreRead, LinesFail}
 use Rattle.menu_builder.specs.HandedOn.{KeepsData}
 use Rattle.bisim_check.specs.LineView.{line_of}
 use Rattle.bisim_check.specs.Readings.{comparison_of, reading_of, IsKept}

@@ -4,7 +4,7 @@ use Rattle.lotos_base.proofs.Members.{at_map}
 use Rattle.behaviour_semantics.proofs.InstanceLemmas.{every_at}
 use Rattle.behaviour_semantics.proofs.OptionLemmas.{some_value}
 use Rattle.behaviour_tree.specs.StateView.{state_of}
-use Rattle.bisimulation_theory.specs.Certificate.{ListedPair}
+use Rattle.certificate_theory.specs.Certificate.{ListedPair}
 use Rattle.bisim_check.specs.Readings.{pair_among, pairs_in, IsPlaced}
 use Rattle.bisim_check.proofs.AnswerLemmas.{place_within, read_there}
 use Rattle.bisim_check.proofs.DataLemmas.{never}

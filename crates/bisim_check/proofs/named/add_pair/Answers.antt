@@ -1,6 +1,6 @@
 use Rattle.std.proofs.Common.{◌≡◌, None, slice_get}
-use Rattle.bisimulation_theory.specs.Certificate.{CertificateFault, lists_pair, no_state}
-use Rattle.bisimulation_theory.specs.NamedStates.{LineFails}
+use Rattle.certificate_theory.specs.Certificate.{CertificateFault, lists_pair, no_state}
+use Rattle.certificate_theory.specs.NamedStates.{LineFails}
 use Rattle.bisim_check.specs.Faults.{TellsFault}
 use Rattle.bisim_check.specs.Readings.{comparison_of, reading_of, IsOpenFault}
 use Rattle.bisim_check.specs.Surveys.{behaviours_in}

@@ -3,7 +3,7 @@ use Rattle.lotos_base.specs.Equation.{Data}
 use Rattle.lotos_base.specs.Term.{Term}
 use Rattle.behaviour_semantics.specs.Behaviour.{Behaviour}
 use Rattle.behaviour_tree.specs.StateView.{state_of}
-use Rattle.bisimulation_theory.specs.NamedStates.{NamesNoState, NamesState}
+use Rattle.certificate_theory.specs.NamedStates.{NamesNoState, NamesState}
 use Rattle.menu_builder.proofs.HandedOn.{held_before, holds_after}
 use Rattle.bisim_check.specs.Faults.{TellsFault}
 use Rattle.bisim_check.specs.Surveys.{IsSideOf, IsStateIn, IsSurveyed, behaviours_in, side_over}

@@ -1,8 +1,8 @@
 use Rattle.std.proofs.Common.{◌≡◌, None, slice_get, arith}
 use Rattle.std.proofs.lemmas.Bool.Decides.{nat_tests}
 use Rattle.std.proofs.lemmas.List.{nil_from_length}
-use Rattle.bisimulation_theory.specs.Certificate.{CertificateFault, no_state, no_entry}
-use Rattle.bisimulation_theory.specs.NamedStates.{NamesNoState, numbered_entry}
+use Rattle.certificate_theory.specs.Certificate.{CertificateFault, no_state, no_entry}
+use Rattle.certificate_theory.specs.NamedStates.{NamesNoState, numbered_entry}
 use Rattle.behaviour_tree.specs.StateView.{state_of}
 use Rattle.menu_builder.specs.Menus.{entries_in}
 use Rattle.bisim_check.specs.Faults.{TellsFault}

@@ -1,7 +1,7 @@
 use Rattle.std.proofs.Common.{MatchResult, sym, subst}
 use Rattle.std.proofs.lemmas.Result.{MatchResult-weaker}
 use Rattle.behaviour_semantics.specs.Behaviour.{stop}
-use Rattle.bisimulation_theory.specs.NamedStates.{NamesNoState, LineIsRead, LineFails}
+use Rattle.certificate_theory.specs.NamedStates.{NamesNoState, LineIsRead, LineFails}
 use Rattle.bisim_check.specs.Faults.{TellsFault}
 use Rattle.bisim_check.specs.LineView.{line_of}
 use Rattle.bisim_check.specs.Readings.{comparison_of, reading_of}

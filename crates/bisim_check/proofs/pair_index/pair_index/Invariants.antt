@@ -1,5 +1,5 @@
 use Rattle.std.proofs.Common.{◌≡◌, ◌<◌, ℕ, length, Some, slice_get}
-use Rattle.bisimulation_theory.specs.Certificate.{ListedPair}
+use Rattle.certificate_theory.specs.Certificate.{ListedPair}
 use Rattle.path_order.specs.HeadIndexView.{numbers_at}
 use Rattle.bisim_check.specs.PairIndex.{bucket_of, IsFiled}
 use Rattle.bisim_check.specs.Readings.{pairs_in}

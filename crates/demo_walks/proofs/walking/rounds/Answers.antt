@@ -10,28 +10,28 @@ use Rattle.demo_walks.proofs.walking.rounds.Goals as goal
 
 pub round-requires-clause-on_walk : goal.round-requires-clause-on_walk
 round-requires-clause-on_walk g c =
-    holds_after (λ (d : Data) (k : Term → Term). IsOnWalk g.M.MenuMaker.suits d k c.loop-turn.session c.loop-turn.tally)
-    c.loop-turn.invariant.same_known c.loop-turn.invariant.on_walk
+    holds_after (λ (d : Data) (k : Term → Term). IsOnWalk g.M.MenuMaker.suits d k c.loop.session c.loop.tally)
+    c.loop.invariant.same_known c.loop.invariant.on_walk
 
 pub round-requires-clause-given : goal.round-requires-clause-given
 round-requires-clause-given g c =
-    holds_after (λ (d : Data) (k : Term → Term). AreGivenValues d.signature c.args.values.now) c.loop-turn.invariant.same_known
+    holds_after (λ (d : Data) (k : Term → Term). AreGivenValues d.signature c.args.values.now) c.loop.invariant.same_known
     c.requires.given
 
-pub loop-turn-preserved : goal.loop-turn-preserved
-loop-turn-preserved g c =
+pub loop-preserved : goal.loop-preserved
+loop-preserved g c =
     let known = g.D.Deciding.known_data c.args.data.now in
     let canon = g.D.Deciding.canon c.args.data.now in
     let spec = c.args.session.now.spec in
     let values = values_of c.args.values.now in
-    let same = c.loop-turn.invariant.same_known in
+    let same = c.loop.invariant.same_known in
     record {
-      leads = one_round (basis_over known canon spec) values c.args.cells c.loop-turn.turn (reached c.args.session.now)
-          (reached c.loop-turn.session) (reached c.round.new.session) c.loop-turn.invariant.leads
-          (over_same_spec known _ canon _ spec _ (λ basis. GoesThrough basis (round_steps values c.args.cells) (reached c.loop-turn.session)
-          (reached c.round.new.session)) same.same_data same.same_canon c.loop-turn.invariant.same_spec c.in_ok-round.ensures.leads);
+      leads = one_round (basis_over known canon spec) values c.args.cells c.loop.counter (reached c.args.session.now)
+          (reached c.loop.session) (reached c.round.new.session) c.loop.invariant.leads
+          (over_same_spec known _ canon _ spec _ (λ basis. GoesThrough basis (round_steps values c.args.cells) (reached c.loop.session)
+          (reached c.round.new.session)) same.same_data same.same_canon c.loop.invariant.same_spec c.in_ok-round.ensures.leads);
       on_walk = held_before (λ (d : Data) (k : Term → Term). IsOnWalk g.M.MenuMaker.suits d k c.round.new.session c.round.new.tally) same
           c.in_ok-round.ensures.on_walk_after;
-      same_spec = c.in_ok-round.ensures.same_spec ∙ c.loop-turn.invariant.same_spec;
+      same_spec = c.in_ok-round.ensures.same_spec ∙ c.loop.invariant.same_spec;
       same_known = keeps_both same c.in_ok-round.ensures.same_known;
     }

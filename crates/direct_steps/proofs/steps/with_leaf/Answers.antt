@@ -1,5 +1,5 @@
 use Rattle.sort_terms.specs.SignatureView.{signature_of}
-use Rattle.menu_parts.proofs.HandedOn.{more_of}
+use Rattle.step_taker.proofs.HandedOn.{more_of}
 use Rattle.direct_steps.proofs.steps.with_leaf.Goals as goal
 
 pub returns : goal.returns

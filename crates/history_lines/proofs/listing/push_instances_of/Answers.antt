@@ -6,9 +6,9 @@ use Rattle.session_log.specs.CourseView.{basis_over}
 use Rattle.sort_terms.specs.EquationView.{data_of}
 use Rattle.sort_terms.specs.SignatureView.{signature_of}
 use Rattle.sort_terms.specs.declared.sorted.Sorted.{Sorted}
-use Rattle.list_lines.specs.HandedOn.{lists_of}
-use Rattle.list_lines.specs.ListView.{HasChoices, HasRules}
-use Rattle.list_lines.proofs.AnswerLemmas.{has_choices, more_there}
+use Rattle.value_lists.specs.InstanceList.{lists_of}
+use Rattle.value_lists.specs.ListView.{HasChoices, HasRules}
+use Rattle.value_lists.proofs.AnswerLemmas.{has_choices, more_there}
 use Rattle.history_lines.proofs.ListingLemmas.{book_rules, too_many_added}
 use Rattle.history_lines.proofs.listing.push_instances_of.Goals as goal
 

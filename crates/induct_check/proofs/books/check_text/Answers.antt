@@ -1,8 +1,12 @@
 use Rattle.std.proofs.Common.{ap, ◌∙◌, subst}
+use Rattle.lotos_base.proofs.ExampleHelpers.{Each}
+use Rattle.lotos_base.specs.Signature.{Signature}
 use Rattle.std.proofs.lemmas.Result.{IfOk-weaker, IfErr-weaker}
 use Rattle.path_order.specs.RulesView.{rules_in}
+use Rattle.sort_terms.specs.EquationView.{data_of}
 use Rattle.induct_parts.specs.CertificateView.{lemmas_in}
 use Rattle.induct_parts.specs.FaultView.{HoldsAtLine}
+use Rattle.induct_parts.specs.SettingView.{IsKnownLemma}
 use Rattle.induct_check.specs.CheckView.{IsCertifiedText}
 use Rattle.induct_check.specs.TextFaults.{IsTextFault}
 use Rattle.induct_check.proofs.BookLemmas.{rules_of_book, theory_of_book}
@@ -25,3 +29,10 @@ returns-clause-refused c =
     (λ at h. subst (λ theory. HoldsAtLine (IsTextFault theory c.args.text.now) at)
     (theory_of_book c.args.book.now c.in_ok-rules.rules (c.in_ok-rules.ensures.rules ∙ ap rules_in c.rules.ensures)) h)
     c.check_lemmas.ensures.refused
+
+pub returns-clause-known : goal.returns-clause-known
+returns-clause-known c =
+    IfOk-weaker c.check_lemmas.result _ _
+    (λ lemmas h. subst (λ (signature : Signature). Each (IsKnownLemma signature) lemmas.items)
+    (c.in_ok-signature.ensures ∙ ap (λ flat. (data_of flat).signature) c.flat.ensures) h)
+    c.check_lemmas.ensures.known

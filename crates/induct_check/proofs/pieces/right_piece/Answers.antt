@@ -1,7 +1,7 @@
 use Rattle.std.proofs.Common.{map, sym, subst}
 use Rattle.lotos_base.specs.WrittenView.{written_term_of}
 use Rattle.sort_terms.specs.EquationView.{variable_of}
-use Rattle.induction_theory.specs.Certified.{IsStated}
+use Rattle.induct_parts.specs.HandedOn.{IsStated}
 use Rattle.induct_parts.specs.StatementView.{statement_of}
 use Rattle.induct_parts.proofs.Outcomes.{match_none_at, match_some_at}
 use Rattle.induct_check.specs.CertificateReading.{stated}

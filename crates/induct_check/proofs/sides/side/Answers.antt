@@ -1,8 +1,7 @@
 use Rattle.std.proofs.Common.{◌≡◌, [], ◌∷◌, map, subst}
 use Rattle.std.proofs.lemmas.Result.{IfOk-weaker}
 use Rattle.lotos_base.specs.WrittenView.{written_term_of}
-use Rattle.sentence_trees.specs.Reading.{IsTermsReading}
-use Rattle.sentence_trees.specs.declared.fault.ReadFault.TheVariants.{NoMemory}
+use Rattle.lotos_grammar.specs.HandedOn.{IsTermsReading, NoMemory}
 use Rattle.induct_check.proofs.OutcomeLemmas.{match_more}
 use Rattle.induct_check.proofs.sides.side.Goals as goal
 

@@ -1,6 +1,6 @@
 use Rattle.std.proofs.Common.{get_or, refl}
 use Rattle.lotos_base.proofs.Members.{read_at}
-use Rattle.induction_theory.specs.Splits.{absent_from}
+use Rattle.certificate_theory.specs.Splits.{absent_from}
 use Rattle.induct_parts.specs.StatementView.{statement_of}
 use Rattle.induct_parts.proofs.StepLemmas.{absent_first, all_made, if_absent, one_more}
 use Rattle.induct_parts.proofs.cases.absent.Goals as goal

@@ -1,4 +1,4 @@
-use Rattle.induction_theory.specs.Splits.{absent_from}
+use Rattle.certificate_theory.specs.Splits.{absent_from}
 use Rattle.induct_parts.specs.StatementView.{statement_of}
 use Rattle.induct_parts.proofs.StepLemmas.{IsMadeSoFar}
 use Rattle.induct_parts.proofs.cases.absent.Given as goal

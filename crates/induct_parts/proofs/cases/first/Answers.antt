@@ -1,5 +1,5 @@
 use Rattle.std.proofs.Common.{map, ap, ◌∙◌}
-use Rattle.induction_theory.specs.Splits.{first_case, absent_from}
+use Rattle.certificate_theory.specs.Splits.{first_case, absent_from}
 use Rattle.induct_parts.specs.CaseView.{case_in}
 use Rattle.induct_parts.specs.CertificateView.{lemma_in}
 use Rattle.induct_parts.specs.SettingView.{theory_in}

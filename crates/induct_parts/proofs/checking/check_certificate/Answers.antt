@@ -2,8 +2,8 @@ use Rattle.std.proofs.Common.{ℕ, [], sym, subst}
 use Rattle.std.proofs.lemmas.Result.{IfOk-weaker, IfErr-weaker}
 use Rattle.lotos_base.proofs.ExampleHelpers.{Each}
 use Rattle.lotos_base.specs.Signature.{Operation, IsOperation, IsWellFormedSignature}
-use Rattle.induction_theory.specs.Certified.{IsInductionFault, IsRightLemma, IsWrongLemma, lines_of_lemma}
-use Rattle.induction_theory.specs.Lines.{FirstIsWrong}
+use Rattle.certificate_theory.specs.Certified.{IsInductionFault, IsRightLemma, IsWrongLemma, lines_of_lemma}
+use Rattle.certificate_theory.specs.Lines.{FirstIsWrong}
 use Rattle.induct_parts.specs.FaultView.{HoldsAtLine}
 use Rattle.induct_parts.specs.SettingView.{setting_signature, setting_covers, theory_in, known_theory, IsKnownLemma}
 use Rattle.induct_parts.specs.CertificateView.{certificate_in, lemmas_in}

@@ -1,8 +1,8 @@
 use Rattle.std.proofs.Common.{◌≡◌, ◌+◌, refl, arith}
 use Rattle.std.specs.Prelude.{IsTrue}
 use Rattle.sort_terms.specs.SignatureView.{signature_of}
-use Rattle.induction_theory.specs.Certified.{IsWrongCover, lines_of_cover}
-use Rattle.induction_theory.specs.Covers.{IsRightCover}
+use Rattle.certificate_theory.specs.Certified.{IsWrongCover, lines_of_cover}
+use Rattle.certificate_theory.specs.Covers.{IsRightCover}
 use Rattle.induct_parts.specs.CertificateView.{cover_in}
 use Rattle.induct_parts.specs.declared.line_fault.LineFault.TheVariants.{BadLine}
 use Rattle.induct_parts.proofs.LineSteps.{things_go_on, things_end, thing_wrong}

@@ -1,5 +1,5 @@
-use Rattle.induction_theory.specs.Certified.{IsWrongCover, lines_of_cover}
-use Rattle.induction_theory.specs.Covers.{IsRightCover}
+use Rattle.certificate_theory.specs.Certified.{IsWrongCover, lines_of_cover}
+use Rattle.certificate_theory.specs.Covers.{IsRightCover}
 use Rattle.std.proofs.Common.{◌+◌}
 use Rattle.sort_terms.specs.SignatureView.{signature_of}
 use Rattle.induct_parts.specs.CertificateView.{cover_in}

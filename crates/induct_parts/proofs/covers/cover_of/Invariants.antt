@@ -1,5 +1,5 @@
 use Rattle.std.proofs.Common.{◌≡◌, drop}
-use Rattle.induction_theory.specs.Covers.{cover_of}
+use Rattle.certificate_theory.specs.Covers.{cover_of}
 use Rattle.induct_parts.specs.CertificateView.{covers_in}
 use Rattle.induct_parts.proofs.covers.cover_of.Given as goal
 

@@ -1,5 +1,5 @@
 use Rattle.std.proofs.Common.{take}
-use Rattle.induction_theory.proofs.TestedCertificates.{AllOnce}
+use Rattle.certificate_theory.proofs.TestedCertificates.{AllOnce}
 use Rattle.induct_parts.proofs.covers.differ.Given as goal
 
 abbrev pub invariant-loop-i : goal.invariant-loop-i

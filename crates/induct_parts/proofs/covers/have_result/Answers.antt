@@ -1,6 +1,6 @@
 use Rattle.std.specs.Prelude.{IsTrue}
 use Rattle.sort_terms.specs.SignatureView.{signature_of}
-use Rattle.induction_theory.specs.Covers.{HasResult}
+use Rattle.certificate_theory.specs.Covers.{HasResult}
 use Rattle.induct_parts.proofs.CoverFacts.{says_no, says_yes, members_more, members_all, member_fails}
 use Rattle.induct_parts.proofs.covers.have_result.Goals as goal
 

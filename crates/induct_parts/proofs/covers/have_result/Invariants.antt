@@ -1,7 +1,7 @@
 use Rattle.std.proofs.Common.{◌≡◌, ◌<◌, ℕ}
 use Rattle.std.specs.Prelude.{Some, slice_get}
 use Rattle.sort_terms.specs.SignatureView.{signature_of}
-use Rattle.induction_theory.specs.Covers.{HasResult}
+use Rattle.certificate_theory.specs.Covers.{HasResult}
 use Rattle.induct_parts.proofs.covers.have_result.Given as goal
 
 abbrev pub invariant-loop-operation : goal.invariant-loop-operation

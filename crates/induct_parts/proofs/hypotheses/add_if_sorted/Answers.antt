@@ -1,9 +1,9 @@
 use Rattle.std.proofs.Common.{◌+◌, ◌++◌, ◌∷◌, [], ℕ, map, nat_eq, ap, ◌∙◌, arith}
 use Rattle.lotos_base.specs.Substitution.{substituted}
 use Rattle.lotos_base.specs.Term.{variable}
-use Rattle.induction_theory.specs.Certificate.{Statement as PlainStatement}
-use Rattle.induction_theory.specs.Patterns.{put_for}
-use Rattle.induction_theory.specs.Splits.{in_both}
+use Rattle.certificate_theory.specs.InductionCertificate.{Statement as PlainStatement}
+use Rattle.certificate_theory.specs.Patterns.{put_for}
+use Rattle.certificate_theory.specs.Splits.{in_both}
 use Rattle.induct_parts.specs.SettingView.{setting_signature}
 use Rattle.induct_parts.specs.StatementView.{statement_of, IsStatementOf}
 use Rattle.induct_parts.proofs.HypothesisSteps.{other_sort, one_sort, put_result_sort, put_in_goal}

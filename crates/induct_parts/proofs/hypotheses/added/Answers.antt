@@ -2,7 +2,7 @@ use Rattle.std.proofs.Common.{◌<◌, ◌++◌, length, map, get_or, ap, ◌∙
 use Rattle.lotos_base.proofs.Members.{read_at}
 use Rattle.induct_parts.specs.SettingView.{setting_signature}
 use Rattle.induct_parts.specs.StatementView.{statement_of}
-use Rattle.induction_theory.specs.Splits.{hypotheses_for}
+use Rattle.certificate_theory.specs.Splits.{hypotheses_for}
 use Rattle.induct_parts.proofs.CaseSteps.{copies_over}
 use Rattle.induct_parts.proofs.HypothesisSteps.{hypotheses_begin, hypotheses_go_on, hypotheses_end}
 use Rattle.induct_parts.proofs.hypotheses.added.Goals as goal

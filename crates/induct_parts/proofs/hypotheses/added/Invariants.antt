@@ -1,6 +1,6 @@
 use Rattle.std.proofs.Common.{◌++◌, map, length}
 use Rattle.lotos_base.proofs.ExampleHelpers.{Each}
-use Rattle.induction_theory.specs.Splits.{hypotheses_for}
+use Rattle.certificate_theory.specs.Splits.{hypotheses_for}
 use Rattle.induct_parts.specs.StatementView.{IsStatementOf, statement_of}
 use Rattle.induct_parts.specs.SettingView.{setting_signature}
 use Rattle.induct_parts.proofs.StepLemmas.{IsMadeSoFar, hypotheses_make}

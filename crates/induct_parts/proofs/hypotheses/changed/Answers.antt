@@ -3,9 +3,9 @@ use Rattle.std.proofs.lemmas.Option.{slice_get_read}
 use Rattle.lotos_base.proofs.ExampleHelpers.{Each, each_member}
 use Rattle.lotos_base.specs.Substitution.{substituted}
 use Rattle.sort_terms.specs.SortedView.{term_in}
-use Rattle.induction_theory.specs.Certificate.{Statement as PlainStatement}
-use Rattle.induction_theory.specs.Patterns.{put_for}
-use Rattle.induction_theory.specs.Splits.{in_both}
+use Rattle.certificate_theory.specs.InductionCertificate.{Statement as PlainStatement}
+use Rattle.certificate_theory.specs.Patterns.{put_for}
+use Rattle.certificate_theory.specs.Splits.{in_both}
 use Rattle.induct_parts.specs.SettingView.{setting_signature}
 use Rattle.induct_parts.specs.StatementView.{statement_of, IsStatementOf}
 use Rattle.induct_parts.specs.declared.statements.Statement.{Statement}

@@ -2,8 +2,8 @@ use Rattle.std.proofs.Common.{◌≡◌, ◌++◌, map, drop}
 use Rattle.lotos_base.proofs.ExampleHelpers.{Each}
 use Rattle.lotos_base.specs.Substitution.{substituted}
 use Rattle.sort_terms.specs.SortedView.{term_in}
-use Rattle.induction_theory.specs.Patterns.{put_for}
-use Rattle.induction_theory.specs.Splits.{in_both}
+use Rattle.certificate_theory.specs.Patterns.{put_for}
+use Rattle.certificate_theory.specs.Splits.{in_both}
 use Rattle.induct_parts.specs.StatementView.{IsStatementOf, statement_of}
 use Rattle.induct_parts.specs.SettingView.{setting_signature}
 use Rattle.induct_parts.proofs.hypotheses.changed.Given as goal

@@ -1,8 +1,8 @@
 use Rattle.std.proofs.Common.{◌≡◌, ◌<◌, ℕ}
 use Rattle.std.specs.Prelude.{Some, slice_get}
 use Rattle.sort_terms.specs.SignatureView.{signature_of}
-use Rattle.induction_theory.specs.Certificate.{Cover}
-use Rattle.induction_theory.specs.Certified.{LacksTree}
+use Rattle.certificate_theory.specs.InductionCertificate.{Cover}
+use Rattle.certificate_theory.specs.Certified.{LacksTree}
 use Rattle.induct_parts.specs.CertificateView.{covers_in, trees_in}
 use Rattle.induct_parts.proofs.lacks.first_lack.Given as goal
 

@@ -1,6 +1,6 @@
 use Rattle.std.specs.Prelude.{IsTrue}
 use Rattle.sort_terms.specs.SignatureView.{signature_of}
-use Rattle.induction_theory.specs.Certified.{LacksTree}
+use Rattle.certificate_theory.specs.Certified.{LacksTree}
 use Rattle.induct_parts.specs.CertificateView.{cover_in, trees_in}
 use Rattle.induct_parts.proofs.LackLemmas.{lacks_none_more, lacks_none}
 use Rattle.induct_parts.proofs.ListedParts.{past_operations}

@@ -1,6 +1,6 @@
 use Rattle.std.proofs.Common.{◌<◌, ℕ}
 use Rattle.sort_terms.specs.SignatureView.{signature_of}
-use Rattle.induction_theory.specs.Certified.{LacksTree}
+use Rattle.certificate_theory.specs.Certified.{LacksTree}
 use Rattle.induct_parts.specs.CertificateView.{cover_in, trees_in}
 use Rattle.induct_parts.proofs.lacks.first_lacking.Given as goal
 

@@ -2,10 +2,10 @@ use Rattle.std.proofs.Common.{◌+◌, ◌≤◌, ◌^◌, ◌∷◌, [], ℕ, l
 use Rattle.std.proofs.lemmas.Result.{IfOk-weaker, IfErr-weaker}
 use Rattle.lotos_base.specs.Equation.{Data}
 use Rattle.lotos_base.specs.Term.{Term}
-use Rattle.induction_theory.specs.Certified.{statements_of}
-use Rattle.induction_theory.specs.Faults.{bad_line}
-use Rattle.induction_theory.specs.Lines.{DealsWith, FailsToDeal}
-use Rattle.induction_theory.specs.Proofs.{CaseComesTo, IsWrongAtCase}
+use Rattle.certificate_theory.specs.Certified.{statements_of}
+use Rattle.certificate_theory.specs.Faults.{bad_line}
+use Rattle.certificate_theory.specs.Lines.{DealsWith, FailsToDeal}
+use Rattle.certificate_theory.specs.Proofs.{CaseComesTo, IsWrongAtCase}
 use Rattle.induct_parts.specs.FaultView.{HoldsOfFault, FromLine}
 use Rattle.induct_parts.specs.CaseView.{case_in, IsKnownCase}
 use Rattle.induct_parts.specs.CertificateView.{lemma_in, lemmas_in, proof_line_of}

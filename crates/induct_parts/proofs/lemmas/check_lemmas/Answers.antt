@@ -3,12 +3,12 @@ use Rattle.std.proofs.lemmas.Option.{slice_get_read}
 use Rattle.lotos_base.proofs.ExampleHelpers.{each_member}
 use Rattle.lotos_base.specs.Equation.{Data}
 use Rattle.lotos_base.specs.Term.{Term}
-use Rattle.induction_theory.specs.Certified.{IsRightLemma, IsWrongLemma, lines_of_lemma}
+use Rattle.certificate_theory.specs.Certified.{IsRightLemma, IsWrongLemma, lines_of_lemma}
 use Rattle.induct_parts.specs.CertificateView.{lemma_in, lemmas_in}
 use Rattle.induct_parts.specs.FaultView.{HoldsOfFault, HoldsAtLine, FromLine}
 use Rattle.induct_parts.specs.SettingView.{setting_signature, setting_covers, theory_in, IsSet, IsKnownLemma}
 use Rattle.induct_parts.proofs.DataLemmas.{held_then, held_before}
-use Rattle.induction_theory.specs.Lines.{FirstIsWrong}
+use Rattle.certificate_theory.specs.Lines.{FirstIsWrong}
 use Rattle.induct_parts.proofs.Outcomes.{handed_on}
 use Rattle.induct_parts.proofs.LineSteps.{things_begin, things_go_on, things_end, thing_wrong}
 use Rattle.induct_parts.proofs.LineCounts.{lemma_length, lemmas_go_on, lemma_within}

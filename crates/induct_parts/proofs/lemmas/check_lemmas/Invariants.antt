@@ -1,5 +1,5 @@
 use Rattle.std.proofs.Common.{◌≡◌, ◌+◌, drop}
-use Rattle.induction_theory.specs.Certified.{IsRightLemma, IsWrongLemma, lines_of_lemma}
+use Rattle.certificate_theory.specs.Certified.{IsRightLemma, IsWrongLemma, lines_of_lemma}
 use Rattle.induct_parts.specs.CertificateView.{lemma_in, lemmas_in, lines_of_lemmas}
 use Rattle.induct_parts.specs.SettingView.{setting_covers, theory_in}
 use Rattle.induct_parts.proofs.LineSteps.{RightSoFar}

@@ -6,10 +6,10 @@ use Rattle.induct_parts.specs.CaseView.{case_in, cases_in, IsKnownCase}
 use Rattle.induct_parts.specs.CertificateView.{proof_line_of}
 use Rattle.induct_parts.specs.FaultView.{HoldsOfFault}
 use Rattle.induct_parts.specs.SettingView.{setting_signature, setting_covers, theory_in, proving_in, IsSet}
-use Rattle.induction_theory.specs.Certificate.{ProofLine as PlainLine}
-use Rattle.induction_theory.specs.Faults.{bad_line}
-use Rattle.induction_theory.specs.Lines.{LinesReach, FailsToDeal}
-use Rattle.induction_theory.specs.Proofs.{CaseComesTo, IsWrongAtCase}
+use Rattle.certificate_theory.specs.InductionCertificate.{ProofLine as PlainLine}
+use Rattle.certificate_theory.specs.Faults.{bad_line}
+use Rattle.certificate_theory.specs.Lines.{LinesReach, FailsToDeal}
+use Rattle.certificate_theory.specs.Proofs.{CaseComesTo, IsWrongAtCase}
 use Rattle.induct_parts.proofs.DataLemmas.{held_then, held_before}
 use Rattle.induct_parts.proofs.LineSteps.{deal_begins, deal_goes_on, deal_ends, deal_wrong, deal_missing, pushed_alone, some_left, stack_none, stack_some}
 use Rattle.induct_parts.proofs.lemmas.deal.Goals as goal

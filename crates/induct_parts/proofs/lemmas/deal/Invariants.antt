@@ -1,6 +1,6 @@
 use Rattle.std.proofs.Common.{◌≡◌, [], ◌∷◌, reverse}
 use Rattle.lotos_base.proofs.ExampleHelpers.{Each}
-use Rattle.induction_theory.specs.Proofs.{CaseComesTo, IsWrongAtCase}
+use Rattle.certificate_theory.specs.Proofs.{CaseComesTo, IsWrongAtCase}
 use Rattle.induct_parts.specs.CaseView.{IsKnownCase, case_in, cases_in}
 use Rattle.induct_parts.specs.CertificateView.{proof_line_of}
 use Rattle.induct_parts.specs.SettingView.{proving_in, setting_covers, setting_signature, theory_in}

@@ -1,6 +1,6 @@
 use Rattle.std.proofs.Common.{ap}
 use Rattle.std.specs.Prelude.{IsTrue}
-use Rattle.induction_theory.specs.Faults.{not_same}
+use Rattle.certificate_theory.specs.Faults.{not_same}
 use Rattle.induct_parts.proofs.CaseSteps.{copy_same}
 use Rattle.induct_parts.proofs.lemmas.end.Goals as goal
 

@@ -3,10 +3,10 @@ use Rattle.std.proofs.lemmas.List.{nil_from_length}
 use Rattle.induct_parts.specs.CaseView.{case_in, IsKnownCase}
 use Rattle.induct_parts.specs.CertificateView.{proof_line_of}
 use Rattle.induct_parts.specs.SettingView.{setting_signature, setting_covers, theory_in, proving_in}
-use Rattle.induction_theory.specs.Proofs.{CaseComesTo, IsWrongAtCase}
-use Rattle.induction_theory.specs.Certificate.{ProofLine}
-use Rattle.induction_theory.specs.Faults.{bad_line}
-use Rattle.induction_theory.specs.Lines.{FailsToDeal}
+use Rattle.certificate_theory.specs.Proofs.{CaseComesTo, IsWrongAtCase}
+use Rattle.certificate_theory.specs.InductionCertificate.{ProofLine}
+use Rattle.certificate_theory.specs.Faults.{bad_line}
+use Rattle.certificate_theory.specs.Lines.{FailsToDeal}
 use Rattle.induct_parts.specs.FaultView.{HoldsOfFault}
 use Rattle.induct_parts.specs.declared.line_fault.LineFault.{LineFault}
 use Rattle.induct_parts.proofs.Outcomes.{handed_on}

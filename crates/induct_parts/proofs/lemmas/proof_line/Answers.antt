@@ -1,7 +1,7 @@
 use Rattle.std.proofs.Common.{ap, sym, subst, IfOk, IfErr}
 use Rattle.std.proofs.lemmas.Result.{IfOk-weaker}
-use Rattle.induction_theory.specs.Certificate.{ProofLine as PlainLine}
-use Rattle.induction_theory.specs.Proofs.{CaseComesTo, IsWrongAtCase}
+use Rattle.certificate_theory.specs.InductionCertificate.{ProofLine as PlainLine}
+use Rattle.certificate_theory.specs.Proofs.{CaseComesTo, IsWrongAtCase}
 use Rattle.induct_parts.specs.CaseView.{case_in, cases_in}
 use Rattle.induct_parts.specs.CertificateView.{proof_line_of}
 use Rattle.induct_parts.specs.FaultView.{HoldsOfFault}

@@ -2,8 +2,8 @@ use Rattle.std.proofs.Common.{◌++◌, ◌∷◌, [], List, refl, ap, sym, ◌�
 use Rattle.lotos_base.proofs.ExampleHelpers.{Each}
 use Rattle.lotos_base.specs.Equation.{Data}
 use Rattle.lotos_base.specs.Term.{Term}
-use Rattle.induction_theory.specs.Certificate.{Statement as PlainStatement}
-use Rattle.induction_theory.specs.Uses.{IsUsed}
+use Rattle.certificate_theory.specs.InductionCertificate.{Statement as PlainStatement}
+use Rattle.certificate_theory.specs.Uses.{IsUsed}
 use Rattle.induct_parts.specs.CaseView.{case_in, cases_in, IsKnownCase}
 use Rattle.induct_parts.specs.CertificateView.{use_of}
 use Rattle.induct_parts.specs.SettingView.{setting_signature, theory_in, proving_in}

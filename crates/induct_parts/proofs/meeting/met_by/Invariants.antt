@@ -1,8 +1,8 @@
 use Rattle.std.proofs.Common.{◌≡◌, ◌<◌, ℕ, Some}
 use Rattle.std.specs.Prelude.{slice_get}
 use Rattle.sort_terms.specs.EquationView.{equation_of}
-use Rattle.induction_theory.specs.Certificate.{Lemma}
-use Rattle.induction_theory.specs.Requirements.{IsRenamedStatement, stated}
+use Rattle.certificate_theory.specs.InductionCertificate.{Lemma}
+use Rattle.certificate_theory.specs.Requirements.{IsRenamedStatement, stated}
 use Rattle.induct_parts.specs.CertificateView.{lemmas_in}
 use Rattle.induct_parts.proofs.meeting.met_by.Given as goal
 

@@ -4,7 +4,7 @@ use Rattle.lotos_base.specs.Sorting.{Occurs}
 use Rattle.lotos_base.specs.Substitution.{is_listed}
 use Rattle.sort_terms.specs.Operations.{operation_of}
 use Rattle.sort_terms.specs.SortedView.{term_in}
-use Rattle.induction_theory.specs.Patterns.{Pattern as PlainPattern, split_with}
+use Rattle.certificate_theory.specs.Patterns.{Pattern as PlainPattern, split_with}
 use Rattle.induct_parts.specs.SettingView.{setting_signature}
 use Rattle.induct_parts.specs.CaseView.{pattern_in, patterns_in, IsKnownPattern}
 use Rattle.induct_parts.proofs.OperationFacts.{for_operation, operation_within, operation_read}

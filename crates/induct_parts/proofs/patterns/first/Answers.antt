@@ -1,6 +1,6 @@
 use Rattle.std.proofs.Common.{◌≡◌, sym, ◌∙◌, subst}
 use Rattle.sort_terms.specs.Operations.{operation_of}
-use Rattle.induction_theory.specs.Patterns.{first_pattern}
+use Rattle.certificate_theory.specs.Patterns.{first_pattern}
 use Rattle.induct_parts.specs.SettingView.{setting_signature}
 use Rattle.induct_parts.specs.CaseView.{IsKnownPattern}
 use Rattle.induct_parts.proofs.OperationFacts.{for_operation, operation_within, operation_read}

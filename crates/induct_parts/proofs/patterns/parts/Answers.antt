@@ -1,6 +1,6 @@
 use Rattle.lotos_base.specs.Sorting.{Occurs}
 use Rattle.sort_terms.specs.SortedView.{term_in}
-use Rattle.induction_theory.specs.Patterns.{split_with, split_patterns}
+use Rattle.certificate_theory.specs.Patterns.{split_with, split_patterns}
 use Rattle.std.proofs.Common.{refl}
 use Rattle.induct_parts.specs.CaseView.{pattern_in, patterns_in}
 use Rattle.induct_parts.specs.SettingView.{setting_signature}

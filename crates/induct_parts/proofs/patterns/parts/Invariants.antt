@@ -1,5 +1,5 @@
 use Rattle.lotos_base.proofs.ExampleHelpers.{Each}
-use Rattle.induction_theory.specs.Patterns.{split_with, split_patterns}
+use Rattle.certificate_theory.specs.Patterns.{split_with, split_patterns}
 use Rattle.induct_parts.specs.CaseView.{IsKnownPattern, pattern_in, patterns_in}
 use Rattle.induct_parts.specs.SettingView.{setting_signature}
 use Rattle.induct_parts.proofs.StepLemmas.{IsMadeSoFar, listed_makes}

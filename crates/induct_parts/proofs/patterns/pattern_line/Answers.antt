@@ -1,6 +1,6 @@
 use Rattle.std.proofs.Common.{ap, sym, ◌∙◌, subst, IfOk, IfErr}
-use Rattle.induction_theory.specs.Certificate.{TreeLine as PlainLine, split_pattern}
-use Rattle.induction_theory.specs.Patterns.{PatternComesTo, IsWrongAtPattern}
+use Rattle.certificate_theory.specs.InductionCertificate.{TreeLine as PlainLine, split_pattern}
+use Rattle.certificate_theory.specs.Patterns.{PatternComesTo, IsWrongAtPattern}
 use Rattle.induct_parts.specs.CaseView.{pattern_in, patterns_in}
 use Rattle.induct_parts.specs.CertificateView.{tree_line_of}
 use Rattle.induct_parts.specs.FaultView.{HoldsOfFault}

@@ -3,11 +3,11 @@ use Rattle.std.specs.Prelude.{None}
 use Rattle.std.proofs.lemmas.Result.{IfOk-weaker, IfErr-weaker}
 use Rattle.lotos_base.specs.Term.{variable}
 use Rattle.sort_terms.specs.SortedView.{term_in}
-use Rattle.induction_theory.proofs.ArgumentLemmas.{part_occurs}
-use Rattle.induction_theory.specs.Certificate.{split_pattern}
-use Rattle.induction_theory.specs.Covers.{cover_of}
-use Rattle.induction_theory.specs.Faults.{no_cover}
-use Rattle.induction_theory.specs.Patterns.{IsWrongAtPattern}
+use Rattle.certificate_theory.proofs.ArgumentLemmas.{part_occurs}
+use Rattle.certificate_theory.specs.InductionCertificate.{split_pattern}
+use Rattle.certificate_theory.specs.Covers.{cover_of}
+use Rattle.certificate_theory.specs.Faults.{no_cover}
+use Rattle.certificate_theory.specs.Patterns.{IsWrongAtPattern}
 use Rattle.induct_parts.specs.CaseView.{pattern_in}
 use Rattle.induct_parts.specs.SettingView.{setting_rules, setting_covers}
 use Rattle.induct_parts.proofs.LineSteps.{fault_more}

@@ -1,6 +1,6 @@
 use Rattle.std.proofs.Common.{◌++◌, ◌∷◌, [], ap, sym, ◌∙◌}
 use Rattle.lotos_base.specs.Substitution.{is_listed}
-use Rattle.induction_theory.specs.Splits.{Case as PlainCase}
+use Rattle.certificate_theory.specs.Splits.{Case as PlainCase}
 use Rattle.induct_parts.specs.CaseView.{case_in, cases_in, IsKnownCase}
 use Rattle.induct_parts.specs.SettingView.{setting_signature}
 use Rattle.induct_parts.proofs.StepLemmas.{kept_unless, added_where, pushed, each_pushed}

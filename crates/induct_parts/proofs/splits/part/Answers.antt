@@ -1,7 +1,7 @@
 use Rattle.std.proofs.Common.{◌∷◌, ◌++◌, ℕ, List, ap, ◌∙◌, arith}
 use Rattle.lotos_base.specs.Signature.{Operation}
 use Rattle.sort_terms.specs.Operations.{operation_of}
-use Rattle.induction_theory.specs.Splits.{IsInScope}
+use Rattle.certificate_theory.specs.Splits.{IsInScope}
 use Rattle.induct_parts.specs.CaseView.{case_in}
 use Rattle.induct_parts.specs.SettingView.{setting_signature}
 use Rattle.induct_parts.specs.declared.cases.Case.{Case}

@@ -4,7 +4,7 @@ use Rattle.lotos_base.specs.Signature.{Operation, IsOperation}
 use Rattle.lotos_base.specs.Substitution.{is_listed}
 use Rattle.lotos_base.specs.Equation.{Data}
 use Rattle.lotos_base.specs.Term.{Term}
-use Rattle.induction_theory.specs.Splits.{IsInScope, case_with, cases_of_split}
+use Rattle.certificate_theory.specs.Splits.{IsInScope, case_with, cases_of_split}
 use Rattle.induct_parts.specs.CaseView.{case_in, cases_in}
 use Rattle.induct_parts.specs.SettingView.{IsSet, proving_in, setting_signature, theory_in}
 use Rattle.induct_parts.proofs.DataLemmas.{held_before, held_then}

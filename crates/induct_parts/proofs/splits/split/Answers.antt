@@ -1,10 +1,10 @@
 use Rattle.std.proofs.Common.{◌≡◌, refl, inl, inr}
 use Rattle.std.specs.Prelude.{None}
 use Rattle.std.proofs.lemmas.Result.{IfOk-weaker, IfErr-weaker}
-use Rattle.induction_theory.specs.Certificate.{split_variable}
-use Rattle.induction_theory.specs.Covers.{cover_of}
-use Rattle.induction_theory.specs.Faults.{no_cover}
-use Rattle.induction_theory.specs.Proofs.{IsWrongAtCase}
+use Rattle.certificate_theory.specs.InductionCertificate.{split_variable}
+use Rattle.certificate_theory.specs.Covers.{cover_of}
+use Rattle.certificate_theory.specs.Faults.{no_cover}
+use Rattle.certificate_theory.specs.Proofs.{IsWrongAtCase}
 use Rattle.induct_parts.specs.CaseView.{case_in}
 use Rattle.induct_parts.specs.SettingView.{setting_covers, theory_in, proving_in}
 use Rattle.induct_parts.proofs.LineSteps.{fault_more}

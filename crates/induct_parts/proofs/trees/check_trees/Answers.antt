@@ -3,13 +3,13 @@ use Rattle.std.proofs.lemmas.List.{length-map}
 use Rattle.std.proofs.lemmas.Option.{slice_get_read}
 use Rattle.lotos_base.proofs.ExampleHelpers.{each_member}
 use Rattle.lotos_base.specs.Signature.{Operation, IsOperation}
-use Rattle.induction_theory.specs.Certified.{IsRightTree, IsWrongTree, lines_of_tree}
+use Rattle.certificate_theory.specs.Certified.{IsRightTree, IsWrongTree, lines_of_tree}
 use Rattle.induct_parts.specs.CertificateView.{cover_in, tree_in, trees_in}
 use Rattle.induct_parts.specs.SettingView.{setting_signature, setting_covers, theory_in}
 use Rattle.induct_parts.specs.declared.certificates.PatternTree.{PatternTree as CodeTree}
 use Rattle.lotos_base.specs.Equation.{Data}
 use Rattle.lotos_base.specs.Term.{Term}
-use Rattle.induction_theory.specs.Lines.{FirstIsWrong}
+use Rattle.certificate_theory.specs.Lines.{FirstIsWrong}
 use Rattle.induct_parts.specs.FaultView.{HoldsAtLine}
 use Rattle.induct_parts.specs.declared.at_line.AtLine.{AtLine}
 use Rattle.induct_parts.proofs.Outcomes.{handed_on}

@@ -1,7 +1,7 @@
 use Rattle.std.proofs.Common.{◌≡◌, ◌+◌, drop, length}
 use Rattle.lotos_base.specs.Equation.{Data}
 use Rattle.lotos_base.specs.Term.{Term}
-use Rattle.induction_theory.specs.Certified.{IsRightTree, IsWrongTree, lines_of_tree, lines_of_trees}
+use Rattle.certificate_theory.specs.Certified.{IsRightTree, IsWrongTree, lines_of_tree, lines_of_trees}
 use Rattle.induct_parts.specs.CertificateView.{tree_in, trees_in}
 use Rattle.induct_parts.specs.SettingView.{setting_covers, theory_in}
 use Rattle.induct_parts.proofs.LineSteps.{RightSoFar}

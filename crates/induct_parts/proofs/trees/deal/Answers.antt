@@ -3,7 +3,7 @@ use Rattle.lotos_base.proofs.ExampleHelpers.{Each}
 use Rattle.induct_parts.specs.CaseView.{pattern_in, patterns_in, IsKnownPattern}
 use Rattle.induct_parts.specs.CertificateView.{tree_line_of}
 use Rattle.induct_parts.specs.SettingView.{setting_signature, setting_rules, setting_covers}
-use Rattle.induction_theory.specs.Patterns.{PatternComesTo, IsWrongAtPattern}
+use Rattle.certificate_theory.specs.Patterns.{PatternComesTo, IsWrongAtPattern}
 use Rattle.induct_parts.proofs.LineSteps.{deal_begins, deal_goes_on, deal_ends, deal_wrong, deal_missing, pushed_alone, some_left, stack_none, stack_some}
 use Rattle.induct_parts.proofs.trees.deal.Goals as goal
 

@@ -1,6 +1,6 @@
 use Rattle.std.proofs.Common.{[], ◌∷◌, reverse}
 use Rattle.lotos_base.proofs.ExampleHelpers.{Each}
-use Rattle.induction_theory.specs.Patterns.{PatternComesTo, IsWrongAtPattern}
+use Rattle.certificate_theory.specs.Patterns.{PatternComesTo, IsWrongAtPattern}
 use Rattle.induct_parts.specs.CaseView.{IsKnownPattern, pattern_in, patterns_in}
 use Rattle.induct_parts.specs.CertificateView.{tree_line_of}
 use Rattle.induct_parts.specs.SettingView.{setting_signature, setting_rules, setting_covers}

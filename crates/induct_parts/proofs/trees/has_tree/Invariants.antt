@@ -1,6 +1,6 @@
 use Rattle.std.proofs.Common.{◌≡◌, drop}
 use Rattle.lotos_base.specs.Substitution.{is_listed}
-use Rattle.induction_theory.specs.Certified.{with_trees}
+use Rattle.certificate_theory.specs.Certified.{with_trees}
 use Rattle.induct_parts.specs.CertificateView.{trees_in}
 use Rattle.induct_parts.proofs.trees.has_tree.Given as goal
 

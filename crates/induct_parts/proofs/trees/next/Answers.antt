@@ -3,10 +3,10 @@ use Rattle.std.proofs.lemmas.List.{nil_from_length}
 use Rattle.induct_parts.specs.CaseView.{pattern_in, IsKnownPattern}
 use Rattle.induct_parts.specs.CertificateView.{tree_line_of}
 use Rattle.induct_parts.specs.SettingView.{setting_signature, setting_rules, setting_covers}
-use Rattle.induction_theory.specs.Patterns.{PatternComesTo, IsWrongAtPattern}
-use Rattle.induction_theory.specs.Certificate.{TreeLine}
-use Rattle.induction_theory.specs.Faults.{bad_line}
-use Rattle.induction_theory.specs.Lines.{FailsToDeal}
+use Rattle.certificate_theory.specs.Patterns.{PatternComesTo, IsWrongAtPattern}
+use Rattle.certificate_theory.specs.InductionCertificate.{TreeLine}
+use Rattle.certificate_theory.specs.Faults.{bad_line}
+use Rattle.certificate_theory.specs.Lines.{FailsToDeal}
 use Rattle.induct_parts.specs.FaultView.{HoldsOfFault}
 use Rattle.induct_parts.specs.declared.line_fault.LineFault.{LineFault}
 use Rattle.induct_parts.proofs.Outcomes.{handed_on}

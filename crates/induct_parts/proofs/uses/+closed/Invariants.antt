@@ -1,6 +1,6 @@
 use Rattle.std.proofs.Common.{◌≡◌, drop}
 use Rattle.sort_terms.specs.TermView.{term_of, terms_of}
-use Rattle.induction_theory.proofs.CertificateTests.{each_variable_among}
+use Rattle.certificate_theory.proofs.CertificateTests.{each_variable_among}
 use Rattle.induct_parts.specs.CertificateView.{source_of}
 use Rattle.induct_parts.specs.SettingView.{proving_in}
 use Rattle.induct_parts.specs.UseView.{closes}

@@ -8,7 +8,7 @@ use Rattle.sort_terms.specs.declared.sorted.Sorted.{Sorted}
 use Rattle.term_match.specs.Matched.{TermHasOneSortPerNumber, IsMatchedBy}
 use Rattle.term_match.specs.SubstView.{profiled_pairs}
 use Rattle.term_match.specs.declared.substitutions.Subst.{Subst}
-use Rattle.induction_theory.proofs.CertificateTests.{each_variable}
+use Rattle.certificate_theory.proofs.CertificateTests.{each_variable}
 use Rattle.induct_parts.specs.CertificateView.{source_of}
 use Rattle.induct_parts.specs.SettingView.{proving_in}
 use Rattle.induct_parts.specs.StatementView.{taken_in}

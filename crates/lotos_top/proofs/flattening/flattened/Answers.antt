@@ -1,13 +1,11 @@
 use Rattle.std.proofs.Common.{ℕ, List, Bor, option_map}
 use Rattle.std.proofs.lemmas.Result.{err_from_is_err_and}
-use Rattle.spec_acceptance.specs.Acceptance.{Founded, IsFounded}
-use Rattle.spec_acceptance.specs.HandedOn.{shelf_state}
-use Rattle.spec_acceptance.specs.Part.{Has, goes_on}
-use Rattle.lotos_top.specs.Finishing.{prints}
+use Rattle.certificate_verbs.specs.HandedOn.{Founded, IsFounded, shelf_state, Has, goes_on}
+use Rattle.certificate_verbs.specs.Finishing.{prints}
+use Rattle.certificate_verbs.specs.Printed.{print_in}
+use Rattle.certificate_verbs.proofs.PrintedLemmas.{fault_ready, fault_came}
 use Rattle.lotos_top.specs.Flattening.{flat_printed}
-use Rattle.lotos_top.specs.Prepared.{print_in}
 use Rattle.lotos_top.proofs.FlatteningLemmas.{flattened_ready, flattened_came}
-use Rattle.lotos_top.proofs.OpeningLemmas.{fault_ready, fault_came}
 use Rattle.lotos_top.proofs.flattening.flattened.Goals as goal
 
 pub returns-in_ok-flat_alone-in-Ok : goal.returns-in_ok-flat_alone-in-Ok

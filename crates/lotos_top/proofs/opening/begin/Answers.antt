@@ -1,5 +1,5 @@
 use Rattle.sort_terms.specs.EquationView.{data_of}
-use Rattle.spec_acceptance.specs.HandedOn.{book_canon}
+use Rattle.certificate_verbs.specs.HandedOn.{book_canon}
 use Rattle.lotos_top.proofs.BeginLemmas.{suited, kept, begins_so}
 use Rattle.lotos_top.proofs.opening.begin.Goals as goal
 

@@ -1,16 +1,14 @@
 use Rattle.std.proofs.Common.{ℕ, List, Bor, option_map}
 use Rattle.std.proofs.lemmas.Result.{err_from_is_err_and}
-use Rattle.spec_acceptance.specs.Acceptance.{IsAccepted}
-use Rattle.spec_acceptance.specs.AcceptedView.{asked_for}
-use Rattle.spec_acceptance.specs.HandedOn.{shelf_state, words_of}
-use Rattle.spec_acceptance.specs.Part.{Has, goes_on}
-use Rattle.demo_walks.specs.HandedOn.{Beginning}
+use Rattle.certificate_verbs.specs.HandedOn.{IsAccepted, asked_for, shelf_state, words_of, Has, goes_on, Beginning}
+use Rattle.certificate_verbs.specs.Printed.{print_in}
+use Rattle.certificate_verbs.specs.Finishing.{print, prints}
+use Rattle.certificate_verbs.specs.declared.ended.Ended.TheVariants.{Done}
+use Rattle.certificate_verbs.proofs.PrintedLemmas.{fault_ready, fault_came}
 use Rattle.lotos_top.specs.Opening.{opening_text}
 use Rattle.lotos_top.specs.Parts.{Opens}
-use Rattle.lotos_top.specs.Prepared.{begun, print_in}
-use Rattle.lotos_top.specs.Finishing.{print, prints}
-use Rattle.lotos_top.specs.declared.ended.Ended.TheVariants.{Done}
-use Rattle.lotos_top.proofs.OpeningLemmas.{checked_ready, checked_came, fault_ready, fault_came}
+use Rattle.lotos_top.specs.Prepared.{begun}
+use Rattle.lotos_top.proofs.OpeningLemmas.{checked_ready, checked_came}
 use Rattle.lotos_top.proofs.opening.checked.Goals as goal
 
 pub open-requires : goal.open-requires

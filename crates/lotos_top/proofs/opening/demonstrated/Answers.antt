@@ -1,7 +1,6 @@
 use Rattle.std.proofs.Common.{List, ℕ, [], None, subst, ◌∙◌}
 use Rattle.std.proofs.lemmas.Result.{err_from_is_err_and}
-use Rattle.spec_acceptance.specs.Acceptance.{AcceptsText}
-use Rattle.spec_acceptance.specs.Part.{goes_on}
+use Rattle.certificate_verbs.specs.HandedOn.{AcceptsText, goes_on}
 use Rattle.lotos_top.specs.Prepared.{begun, FailsAlone}
 use Rattle.lotos_top.specs.Parts.{Opens}
 use Rattle.lotos_top.proofs.OpeningLemmas.{opened_at_start, demo_ready, demo_fault, demo_came}

@@ -1,9 +1,6 @@
 use Rattle.std.proofs.Common.{ℕ, List, Bor, option_map}
-use Rattle.spec_acceptance.specs.AcceptedView.{asked_for}
-use Rattle.spec_acceptance.specs.HandedOn.{shelf_state, words_of}
-use Rattle.spec_acceptance.specs.Acceptance.{IsAccepted}
-use Rattle.spec_acceptance.specs.declared.not_accepted.NotAccepted.TheVariants.{NoMemory}
-use Rattle.spec_acceptance.proofs.DoingLemmas.{err_out}
+use Rattle.certificate_verbs.specs.HandedOn.{asked_for, shelf_state, words_of, IsAccepted, NoMemory}
+use Rattle.certificate_verbs.proofs.HandedOn.{err_out}
 use Rattle.lotos_top.specs.Prepared.{begun}
 use Rattle.lotos_top.proofs.OpeningLemmas.{did_open, open_failed, want_to_open}
 use Rattle.lotos_top.proofs.opening.open.Goals as goal

@@ -1,9 +1,7 @@
 use Rattle.std.proofs.Common.{[], None, Some, refl}
 use Rattle.lotos_base.specs.MemShelf.{texts_of, faults_of, calls_of}
-use Rattle.spec_acceptance.specs.HandedOn.{shelf_state}
-use Rattle.spec_acceptance.specs.Acceptance.{AcceptsText}
-use Rattle.spec_acceptance.specs.declared.not_accepted.NotAccepted.TheVariants.{NoMemory}
-use Rattle.spec_acceptance.proofs.DoingLemmas.{err_out}
+use Rattle.certificate_verbs.specs.HandedOn.{shelf_state, AcceptsText, NoMemory}
+use Rattle.certificate_verbs.proofs.HandedOn.{err_out}
 use Rattle.lotos_top.specs.Prepared.{begun}
 use Rattle.lotos_top.specs.Parts.{Opens}
 use Rattle.lotos_top.proofs.OpeningLemmas.{no_files, did_open, open_failed, alone_on, alone_failed}

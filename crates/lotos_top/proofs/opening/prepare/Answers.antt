@@ -1,9 +1,7 @@
 use Rattle.std.proofs.Common.{Option, Some, MatchResult, sym, ap, subst, ◌∙◌}
-use Rattle.spec_acceptance.specs.HandedOn.{shelf_state, words_of}
+use Rattle.certificate_verbs.specs.HandedOn.{shelf_state, words_of, CommandLine, command_line, line_of, Command}
+use Rattle.certificate_verbs.proofs.HandedOn.{values_within}
 use Rattle.lotos_top.specs.Prepared.{CameTo, IsReady}
-use Rattle.lotos_top.specs.Words.{CommandLine, command_line, line_of}
-use Rattle.lotos_top.specs.declared.commands.Command.{Command}
-use Rattle.lotos_top.proofs.WordsLemmas.{values_within}
 use Rattle.lotos_top.proofs.opening.prepare.Goals as goal
 
 pub checked-requires : goal.checked-requires
@@ -71,6 +69,17 @@ returns-in-Some-Bisim g c =
     (shelf_state (g.F.Shelf.texts c.compared.new.shelf) (g.F.Shelf.faults c.compared.new.shelf) (g.F.Shelf.calls c.compared.new.shelf))))
     (sym (c.in-Some-Bisim.ensures ∙ ap (λ (command : Command). Some (line_of command)) c.in-Some-Bisim.field-0-is))
     c.compared.ensures
+
+pub returns-in-Some-Induct : goal.returns-in-Some-Induct
+returns-in-Some-Induct g c =
+    subst (λ (line : Option CommandLine). MatchResult c.induced.result
+    (IsReady line (shelf_state (g.F.Shelf.texts c.args.shelf.now) (g.F.Shelf.faults c.args.shelf.now) (g.F.Shelf.calls c.args.shelf.now))
+    (shelf_state (g.F.Shelf.texts c.induced.new.shelf) (g.F.Shelf.faults c.induced.new.shelf) (g.F.Shelf.calls c.induced.new.shelf)))
+    (λ _. CameTo line (shelf_state (g.F.Shelf.texts c.args.shelf.now) (g.F.Shelf.faults c.args.shelf.now)
+    (g.F.Shelf.calls c.args.shelf.now))
+    (shelf_state (g.F.Shelf.texts c.induced.new.shelf) (g.F.Shelf.faults c.induced.new.shelf) (g.F.Shelf.calls c.induced.new.shelf))))
+    (sym (c.in-Some-Induct.ensures ∙ ap (λ (command : Command). Some (line_of command)) c.in-Some-Induct.field-0-is))
+    c.induced.ensures
 
 pub returns-in-None : goal.returns-in-None
 returns-in-None g c = c.usage_ready.ensures (command_line (words_of c.args.words.now))

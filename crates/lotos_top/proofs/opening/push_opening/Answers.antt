@@ -1,6 +1,6 @@
 use Rattle.std.proofs.Common.{ap}
 use Rattle.lotos_base.specs.Name.{spelling}
-use Rattle.demo_walks.specs.HandedOn.{head_text, written_menu, Menu, Spec}
+use Rattle.certificate_verbs.specs.HandedOn.{head_text, written_menu, Menu, CodeSpec as Spec}
 use Rattle.sort_terms.specs.EquationView.{data_of}
 use Rattle.sort_terms.specs.declared.equations.Flat.{Flat}
 use Rattle.lotos_top.proofs.HeadLemmas.{named, opening_joined, shown_same}

@@ -1,14 +1,12 @@
 use Rattle.std.proofs.Common.{ℕ, List, Bor, option_map}
 use Rattle.std.proofs.lemmas.Result.{err_from_is_err_and}
-use Rattle.spec_acceptance.specs.Acceptance.{IsAccepted}
-use Rattle.spec_acceptance.specs.AcceptedView.{asked_for}
-use Rattle.spec_acceptance.specs.HandedOn.{shelf_state, words_of}
-use Rattle.spec_acceptance.specs.Part.{Has}
-use Rattle.demo_walks.specs.HandedOn.{Beginning}
+use Rattle.certificate_verbs.specs.HandedOn.{IsAccepted, asked_for, shelf_state, words_of, Has, Beginning}
+use Rattle.certificate_verbs.specs.Printed.{print_in}
+use Rattle.certificate_verbs.specs.Finishing.{serves}
+use Rattle.certificate_verbs.proofs.PrintedLemmas.{fault_ready, fault_came}
 use Rattle.lotos_top.specs.Parts.{Opens}
-use Rattle.lotos_top.specs.Prepared.{begun, print_in}
-use Rattle.lotos_top.specs.Finishing.{serves}
-use Rattle.lotos_top.proofs.OpeningLemmas.{session_came, fault_ready, fault_came}
+use Rattle.lotos_top.specs.Prepared.{begun}
+use Rattle.lotos_top.proofs.OpeningLemmas.{session_came}
 use Rattle.lotos_top.proofs.opening.served.Goals as goal
 
 pub open-requires : goal.open-requires

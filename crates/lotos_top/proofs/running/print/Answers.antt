@@ -1,5 +1,5 @@
 use Rattle.line_server.specs.Writing.{stream}
-use Rattle.lotos_top.specs.Prepared.{print_in}
+use Rattle.certificate_verbs.specs.Printed.{print_in}
 use Rattle.lotos_top.proofs.RunLemmas.{wrote_whole, wrote_part}
 use Rattle.lotos_top.proofs.running.print.Goals as goal
 

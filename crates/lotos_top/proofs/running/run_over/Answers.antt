@@ -1,9 +1,8 @@
 use Rattle.std.proofs.Common.{refl, subst}
-use Rattle.spec_acceptance.specs.HandedOn.{shelf_state, words_of}
+use Rattle.certificate_verbs.specs.HandedOn.{shelf_state, words_of, command_line}
 use Rattle.line_server.specs.Writing.{stream}
 use Rattle.lotos_top.specs.Run.{streams}
 use Rattle.lotos_top.specs.Prepared.{IsReady}
-use Rattle.lotos_top.specs.Words.{command_line}
 use Rattle.lotos_top.specs.declared.opening.Ready.{Ready}
 use Rattle.lotos_top.proofs.RunLemmas.{ran_alone, ran_served, ran_wanted, ran_nothing}
 use Rattle.lotos_top.proofs.running.run_over.Goals as goal

@@ -1,6 +1,5 @@
 use Rattle.std.proofs.Common.{refl}
-use Rattle.demo_walks.specs.HandedOn.{standing_of}
-use Rattle.spec_acceptance.specs.HandedOn.{shelf_state}
+use Rattle.certificate_verbs.specs.HandedOn.{shelf_state, standing_of}
 use Rattle.line_server.specs.Writing.{stream}
 use Rattle.lotos_top.specs.Run.{streams}
 use Rattle.lotos_top.specs.Prepared.{beginning_of}

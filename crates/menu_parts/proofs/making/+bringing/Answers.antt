@@ -10,9 +10,9 @@ use Rattle.behaviour_semantics.specs.WellFormed.{Every}
 use Rattle.behaviour_tree.specs.BehaviourView.{meet_of}
 use Rattle.behaviour_tree.specs.StateView.{stands_for}
 use Rattle.behaviour_tree.specs.declared.states.Node.{Node}
-use Rattle.shared_entries.proofs.HandedOn.{held_before, holds_after}
-use Rattle.shared_entries.specs.Items.{IsItemOver}
-use Rattle.shared_entries.specs.Joined.{AreBeside}
+use Rattle.event_offers.proofs.KeepingLemmas.{held_before, holds_after}
+use Rattle.menu_parts.specs.Items.{IsItemOver}
+use Rattle.menu_parts.specs.Joined.{AreBeside}
 use Rattle.step_taker.specs.Taken.{ground_of}
 use Rattle.step_taker.specs.Walked.{IsPassableNode}
 use Rattle.menu_parts.specs.Forms.{IsForm, IsMadeBeside, IsMadeOf, IsMadeOfEither}

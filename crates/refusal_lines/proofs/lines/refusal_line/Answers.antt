@@ -1,4 +1,4 @@
-use Rattle.start_values.specs.RefusalView.{refusal_of}
+use Rattle.refusal_lines.specs.RefusalView.{refusal_of}
 use Rattle.refusal_lines.proofs.LineLemmas.{told_line}
 use Rattle.refusal_lines.proofs.lines.refusal_line.Goals as goal
 

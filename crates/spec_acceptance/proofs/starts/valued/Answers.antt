@@ -1,5 +1,5 @@
 use Rattle.std.proofs.Common.{refl}
-use Rattle.refusal_lines.specs.HandedOn.{words_of}
+use Rattle.refusal_lines.specs.WordLimits.{words_of}
 use Rattle.spec_acceptance.proofs.StartLemmas.{valued_fine, valued_faulty}
 use Rattle.spec_acceptance.proofs.starts.valued.Goals as goal
 

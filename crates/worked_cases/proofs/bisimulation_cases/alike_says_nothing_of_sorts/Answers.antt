@@ -5,7 +5,7 @@ use Rattle.lotos_base.specs.Substitution.{Substitution, IsGrounding}
 use Rattle.lotos_base.proofs.SubstitutionLemmas.{ground_no_variable}
 use Rattle.behaviour_semantics.specs.Alike.{AlikeTerms}
 use Rattle.behaviour_semantics.proofs.OptionLemmas.{some_value}
-use Rattle.bisimulation_theory.specs.SameSorts.{AreOfOneSort}
+use Rattle.certificate_theory.specs.SameSorts.{AreOfOneSort}
 use Rattle.worked_cases.specs.BehaviourSamples.{sample_signature, sample_data, empty_sort, nat_sort, nought, one}
 use Rattle.worked_cases.proofs.TermTests.{term_passes, ground_in}
 use Rattle.worked_cases.proofs.CaseLemmas.{no_value, nought_not_one}

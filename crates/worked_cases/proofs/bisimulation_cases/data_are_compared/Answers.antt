@@ -1,6 +1,6 @@
 use Rattle.std.proofs.Common.{◌≡◌, ℕ, List, [], ◌∷◌, codes, refl, ap, arith}
 use Rattle.lotos_base.specs.Names.{folded}
-use Rattle.bisimulation_theory.specs.SameData.{AreSameData}
+use Rattle.certificate_theory.specs.SameData.{AreSameData}
 use Rattle.worked_cases.specs.MenuCases.{two_constants}
 use Rattle.worked_cases.specs.IdentityCases.{in_another_order}
 use Rattle.worked_cases.proofs.bisimulation_cases.data_are_compared.Goals as goal

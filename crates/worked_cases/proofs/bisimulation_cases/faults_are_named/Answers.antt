@@ -1,6 +1,6 @@
 use Rattle.std.proofs.Common.{[], ◌∷◌, refl, arith}
-use Rattle.bisimulation_theory.specs.Certificate.{names_right, lists_pair, no_state, no_entry, open_menu, unmatched_left, unmatched_right}
-use Rattle.bisimulation_theory.specs.Checking.{has_faulty_line, lacks_starts, has_faulty_pair}
+use Rattle.certificate_theory.specs.Certificate.{names_right, lists_pair, no_state, no_entry, open_menu, unmatched_left, unmatched_right}
+use Rattle.certificate_theory.specs.Checking.{has_faulty_line, lacks_starts, has_faulty_pair}
 use Rattle.worked_cases.proofs.FaultyLines.{state_fails, entry_fails, nought_fails, open_entry_fails, open_pair_fails, starts_read, start_again_read, events_read}
 use Rattle.worked_cases.proofs.UnmatchedPairs.{lists_no_starts, not_zero, starts_alone_fail, events_fail}
 use Rattle.worked_cases.proofs.bisimulation_cases.faults_are_named.Goals as goal

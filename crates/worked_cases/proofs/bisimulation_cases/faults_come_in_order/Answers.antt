@@ -1,6 +1,6 @@
 use Rattle.std.proofs.Common.{[], ◌∷◌, arith}
-use Rattle.bisimulation_theory.specs.Certificate.{names_right, lists_pair, no_entry}
-use Rattle.bisimulation_theory.specs.Checking.{has_faulty_line, lacks_starts}
+use Rattle.certificate_theory.specs.Certificate.{names_right, lists_pair, no_entry}
+use Rattle.certificate_theory.specs.Checking.{has_faulty_line, lacks_starts}
 use Rattle.worked_cases.proofs.FaultyLines.{later_fails, other_pair_read}
 use Rattle.worked_cases.proofs.UnmatchedPairs.{lists_no_starts, not_zero}
 use Rattle.worked_cases.proofs.bisimulation_cases.faults_come_in_order.Goals as goal

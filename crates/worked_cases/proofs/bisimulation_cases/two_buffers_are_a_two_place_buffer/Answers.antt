@@ -1,7 +1,7 @@
 use Rattle.std.proofs.Common.{refl}
-use Rattle.bisimulation_theory.specs.Certificate.{accepted}
-use Rattle.bisimulation_theory.specs.BisimulationLaws.{IsComparable}
-use Rattle.bisimulation_theory.specs.Checking.{CertificateComesTo, is_accepted}
+use Rattle.certificate_theory.specs.Certificate.{accepted}
+use Rattle.certificate_theory.specs.BisimulationLaws.{IsComparable}
+use Rattle.certificate_theory.specs.Checking.{CertificateComesTo, is_accepted}
 use Rattle.worked_cases.specs.BehaviourSamples.{sample_signature}
 use Rattle.worked_cases.specs.BisimulationCases.{two_buffers, two_place_buffer, buffers, buffer_lines}
 use Rattle.worked_cases.proofs.SampleCanon.{sample_is_canon}

@@ -3,10 +3,10 @@ use Rattle.lotos_base.specs.Equality.{same_term}
 use Rattle.behaviour_semantics.specs.Behaviour.{stop}
 use Rattle.behaviour_semantics.specs.Label.{gate_event}
 use Rattle.behaviour_semantics.specs.Shape.{act}
-use Rattle.bisimulation_theory.specs.Bisimulation.{turned_round}
-use Rattle.bisimulation_theory.specs.Certificate.{Reading, ListedPair, AreListed}
-use Rattle.bisimulation_theory.specs.Checking.{is_accepted}
-use Rattle.bisimulation_theory.specs.NamedStates.{all_read, one_read}
+use Rattle.certificate_theory.specs.Bisimulation.{turned_round}
+use Rattle.certificate_theory.specs.Certificate.{Reading, ListedPair, AreListed}
+use Rattle.certificate_theory.specs.Checking.{is_accepted}
+use Rattle.certificate_theory.specs.NamedStates.{all_read, one_read}
 use Rattle.worked_cases.specs.BehaviourSamples.{one}
 use Rattle.worked_cases.specs.BisimulationCases.{sums}
 use Rattle.worked_cases.proofs.CertificateTests.{names, closed_menu, matches, all_match, all_pairs, listed_at}

@@ -3,9 +3,9 @@ use Rattle.session_log.specs.HandedOn.{entries_in, Menu, specification_of, Spec,
 use Rattle.sort_terms.specs.EquationView.{data_of}
 use Rattle.session_log.proofs.ResultLemmas.{gave_up}
 use Rattle.session_log.specs.Kept.{IsKeptMenu}
-use Rattle.list_lines.specs.ListOutcome.{InstancesComeTo}
-use Rattle.list_lines.specs.ListText.{instances_text}
-use Rattle.list_lines.specs.ListView.{AddsList}
+use Rattle.value_lists.specs.ListOutcome.{InstancesComeTo}
+use Rattle.value_lists.specs.ListText.{instances_text}
+use Rattle.value_lists.specs.ListView.{AddsList}
 use Rattle.session_log.specs.CourseView.{basis_over}
 use Rattle.history_lines.specs.LinesView.{standing_of}
 use Rattle.history_lines.proofs.ServingLemmas.{same_standing, is_as_before, said_instances}

@@ -1,4 +1,4 @@
-use Rattle.std.proofs.Common.{◌≡◌, map, length, Some, subst, arith}
+use Rattle.std.proofs.Common.{◌≡◌, map, length, Some, sym, ◌∙◌, subst}
 use Rattle.std.proofs.lemmas.List.{length-map}
 use Rattle.session_log.proofs.EntryLemmas.{entry_there}
 use Rattle.lotos_base.specs.WrittenView.{written_term_of}
@@ -6,31 +6,28 @@ use Rattle.lotos_base.specs.Signature.{Signature}
 use Rattle.session_log.specs.HandedOn.{entries_in, plain_entry, Menu, terms_of, entry_numbered, number_refusal, AreRead}
 use Rattle.session_log.specs.Entries.{AreGiven}
 use Rattle.session_log.specs.RefusalView.{TellsStep}
+use Rattle.session_log.specs.Values.{IsFirstMisread, TellsMisread}
 use Rattle.session_log.proofs.ResultLemmas.{gave_up}
-use Rattle.history_lines.specs.StepAnswer.{IsFirstMisread}
 use Rattle.history_lines.specs.LinesView.{basis_of, reached}
-use Rattle.history_lines.specs.Values.{TellsMisread}
 use Rattle.history_lines.specs.declared.refusals.Decline.TheVariants.{Terms, Step}
 use Rattle.history_lines.proofs.StepLemmas.{miscounted, misread, valued}
 use Rattle.history_lines.proofs.lines.HistoryLines.values_for.Goals as goal
 
 pub returns-in_err-entry : goal.returns-in_err-entry
 returns-in_err-entry g c = λ text there.
-    let terms = c.args.terms.now.items in
-    let counted : c.len.result ≡ length (map written_term_of terms) =
-    omega (arith, c.len.ensures, c.args.terms.now.ok.0, length-map terms written_term_of) in
+    let terms = c.args.terms.now in
     gave_up _ _ c.from_residual.result (Step c.in_err-entry.field-0.0) c.from_residual.ensures.1
     (miscounted (basis_of c.args.self.now) (reached c.args.self.now) c.args.number text (map written_term_of terms)
-    there c.len.result counted c.in_err-entry.field-0.0
-    (subst (λ (it : Menu). TellsStep (number_refusal (entries_in it) c.args.number c.len.result) c.in_err-entry.field-0.0) c.menu.ensures
-    c.in_err-entry.ensures))
+    there (length terms) (sym (length-map terms written_term_of)) c.in_err-entry.field-0.0
+    (subst (λ (it : Menu). TellsStep (number_refusal (entries_in it) c.args.number (length terms)) c.in_err-entry.field-0.0)
+    c.menu.ensures c.in_err-entry.ensures))
 
 pub returns-in_err-values_at : goal.returns-in_err-values_at
 returns-in_err-values_at g c = λ text there.
-    let terms = map written_term_of c.args.terms.now.items in
+    let terms = map written_term_of c.args.terms.now in
     let entry = c.in_ok-entry.entry.now in
     let counted : length terms ≡ length entry.vars.items =
-    omega (arith, c.len.ensures, c.args.terms.now.ok.0, length-map c.args.terms.now.items written_term_of, c.in_ok-entry.ensures.1) in
+    length-map c.args.terms.now written_term_of ∙ c.in_ok-entry.ensures.1 in
     let listed : entry_numbered (entries_in c.args.self.now.session.course.menu) c.args.number ≡ Some (plain_entry entry) =
     subst (λ (it : Menu). entry_numbered (entries_in it) c.args.number ≡ Some (plain_entry entry)) c.menu.ensures
     (entry_there c.menu.result.now c.args.number entry c.in_ok-entry.ensures.0) in
@@ -42,11 +39,11 @@ returns-in_err-values_at g c = λ text there.
 
 pub returns : goal.returns
 returns g c = λ text there.
-    let terms = map written_term_of c.args.terms.now.items in
+    let terms = map written_term_of c.args.terms.now in
     let entry = c.in_ok-entry.entry.now in
     let values = c.in_ok-values_at.field-0.items in
     let counted : length terms ≡ length entry.vars.items =
-    omega (arith, c.len.ensures, c.args.terms.now.ok.0, length-map c.args.terms.now.items written_term_of, c.in_ok-entry.ensures.1) in
+    length-map c.args.terms.now written_term_of ∙ c.in_ok-entry.ensures.1 in
     let listed : entry_numbered (entries_in c.args.self.now.session.course.menu) c.args.number ≡ Some (plain_entry entry) =
     subst (λ (it : Menu). entry_numbered (entries_in it) c.args.number ≡ Some (plain_entry entry)) c.menu.ensures
     (entry_there c.menu.result.now c.args.number entry c.in_ok-entry.ensures.0) in

@@ -1,9 +1,9 @@
 use Rattle.std.proofs.Common.{List, ℕ, subst, sym}
 use Rattle.session_log.specs.HandedOn.{plain_rules_in}
 use Rattle.sort_terms.specs.SignatureView.{signature_of}
-use Rattle.list_lines.specs.ListOutcome.{ValuesComeTo}
-use Rattle.list_lines.specs.ListText.{values_text}
-use Rattle.list_lines.specs.ListView.{AddsList, HasRules}
+use Rattle.value_lists.specs.ListOutcome.{ValuesComeTo}
+use Rattle.value_lists.specs.ListText.{values_text}
+use Rattle.value_lists.specs.ListView.{AddsList, HasRules}
 use Rattle.history_lines.specs.LinesView.{basis_of}
 use Rattle.history_lines.proofs.ListingLemmas.{book_rules}
 use Rattle.history_lines.proofs.lines.HistoryLines.values_line.Goals as goal

@@ -1,5 +1,0 @@
-use Rattle.bisimulation_theory.proofs.EqualValues.{agree_back}
-use Rattle.bisimulation_theory.proofs.agreement.agreement_is_mutual.Goals as goal
-
-pub returns : goal.returns
-returns c = agree_back

@@ -1,5 +1,0 @@
-use Rattle.bisimulation_theory.proofs.InterchangeableData.{interchangeable}
-use Rattle.bisimulation_theory.proofs.same_data.same_data_are_interchangeable.Goals as goal
-
-pub returns : goal.returns
-returns c = interchangeable

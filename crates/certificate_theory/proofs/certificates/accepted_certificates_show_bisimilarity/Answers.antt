@@ -1,0 +1,12 @@
+use Rattle.certificate_theory.proofs.AcceptedPairs.{shown}
+use Rattle.certificate_theory.proofs.certificates.accepted_certificates_show_bisimilarity.Goals as goal
+
+pub returns : goal.returns
+returns c = shown (record {
+  derived = c.transitions_are_derived.ensures;
+  determined = c.moves_are_determined.ensures;
+  drafts = c.drafts_are_derivations.ensures;
+  solved = c.entries_are_solved.ensures;
+  targets = c.targets_are_well_formed.ensures;
+  one_menu = c.at_most_one_menu_is_exact.ensures;
+})

@@ -1,0 +1,3 @@
+pub mod WordsLemmas
+mod CutLemmas
+pub mod HandedOn

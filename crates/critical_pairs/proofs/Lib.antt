@@ -1,9 +1,0 @@
-pub mod NodePlaceLemmas
-pub mod CandidateLemmas
-pub mod ExtendLemmas
-pub mod SkipLemmas
-pub mod RuleLemmas
-pub mod JoinedLemmas
-pub mod JoiningLemmas
-pub mod PlaceLemmas
-pub mod PairLemmas

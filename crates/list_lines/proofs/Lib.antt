@@ -1,4 +1,0 @@
-pub mod OutcomeLemmas
-pub mod TextLemmas
-pub mod SettledLemmas
-pub mod AnswerLemmas

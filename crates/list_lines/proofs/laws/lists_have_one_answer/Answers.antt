@@ -1,9 +1,0 @@
--- The lists in order are one, and so are their counts.
-use Rattle.list_lines.proofs.OutcomeLemmas.{values_once, instances_once}
-use Rattle.list_lines.proofs.laws.lists_have_one_answer.Goals as goal
-
-pub returns-clause-values : goal.returns-clause-values
-returns-clause-values c = values_once
-
-pub returns-clause-instances : goal.returns-clause-instances
-returns-clause-instances c = instances_once

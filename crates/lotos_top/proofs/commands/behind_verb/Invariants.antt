@@ -1,6 +1,0 @@
-use Rattle.lotos_top.proofs.CutLemmas.{CutBehind}
-use Rattle.lotos_top.proofs.commands.behind_verb.Given as goal
-
--- none of the words before this one is `with`
-abbrev pub invariant-loop-index : goal.invariant-loop-index
-invariant-loop-index l = CutBehind l.index l.words

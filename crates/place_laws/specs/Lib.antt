@@ -1,2 +1,0 @@
-pub mod ReadPlaces
-pub mod ReadGateLists

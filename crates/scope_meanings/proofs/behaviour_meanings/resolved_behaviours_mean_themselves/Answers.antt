@@ -1,5 +1,0 @@
-use Rattle.scope_meanings.proofs.BehavioursMeant.{behaviours_mean_themselves}
-use Rattle.scope_meanings.proofs.behaviour_meanings.resolved_behaviours_mean_themselves.Goals as goal
-
-pub returns : goal.returns
-returns c = behaviours_mean_themselves

@@ -1,5 +1,0 @@
-use Rattle.scope_meanings.proofs.BehavioursResolved.{behaviours_are_resolved}
-use Rattle.scope_meanings.proofs.behaviour_meanings.written_behaviours_are_resolved.Goals as goal
-
-pub returns : goal.returns
-returns c = behaviours_are_resolved

@@ -1,6 +1,0 @@
--- What crates above this one need of the crates below it.
-pub use Rattle.draft_parts.specs.Rows.{call_pairs}
-pub use Rattle.event_offers.specs.OfferView.{plain_entry}
-pub use Rattle.event_offers.specs.Offers.{IsEntryOver, IsOrderedEntry}
-pub use Rattle.event_offers.specs.declared.drafts.Entry.{Entry}
-pub use Rattle.event_offers.specs.declared.menus.Menu.{Menu}

@@ -1,4 +1,0 @@
-pub mod Items
-pub mod Rules
-pub mod Joined
-pub mod HandedOn

@@ -1,5 +1,0 @@
-pub mod ListLemmas
-pub mod OutcomeLemmas
-pub mod WordLemmas
-pub mod ValueLemmas
-pub mod HandedOn

@@ -1,5 +1,0 @@
-use Rattle.texts_read_back.proofs.WrittenLemmas.{ground_lists_have_one_reading}
-use Rattle.texts_read_back.proofs.written_laws.written_lists_have_one_reading.Goals as goal
-
-pub returns : goal.returns
-returns c = ground_lists_have_one_reading

@@ -1,5 +1,0 @@
-use Rattle.type_laws.proofs.TypesFine.{flattened_data}
-use Rattle.type_laws.proofs.flattened_data_laws.flattened_data_are_well_formed.Goals as goal
-
-pub returns : goal.returns
-returns c = flattened_data
