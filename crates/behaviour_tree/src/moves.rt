@@ -14,8 +14,8 @@ pub enum Label {
     Exit(Vec<Sorted>),
 }
 
-/// The shape of a derivation: which rules it uses and where, without the values that are chosen. Its
-/// parts have several owners.
+/// The shape of a derivation: which rules it uses and where, without the values that are chosen.
+/// Its parts have several owners.
 #[derive(Debug, Drop)]
 pub enum Shape {
     /// An action.

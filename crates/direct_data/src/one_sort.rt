@@ -33,7 +33,7 @@ fn agree(term: &Term, left: &Term, right: &Term) -> bool
             }
             keeps(right, *number, *sort)
         }
-        Term::Node { arguments, .. } => agree_among(arguments, left, right),
+        Term::Node { arguments, .. } => agree_among(arguments.items(), left, right),
     }
 }
 
@@ -63,7 +63,7 @@ fn keeps(term: &Term, number: u64, sort: u32) -> bool
             }
             *s == sort
         }
-        Term::Node { arguments, .. } => all_keep(arguments, number, sort),
+        Term::Node { arguments, .. } => all_keep(arguments.items(), number, sort),
     }
 }
 

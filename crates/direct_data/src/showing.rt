@@ -29,7 +29,7 @@ fn show(alloc: Global, term: &Term, out: &mut Vec<u8>) -> Result<(), AllocError>
             if !infix {
                 out.extend_from_slice(profile.name.spelled())?;
             }
-            show_all(alloc, infix, profile.name.spelled(), arguments, out)
+            show_all(alloc, infix, profile.name.spelled(), arguments.items(), out)
         }
     }
 }
@@ -43,20 +43,32 @@ fn show_all(
     arguments: &Vec<Term>,
     out: &mut Vec<u8>,
 ) -> Result<(), AllocError> {
-    for i in 0..arguments.len() {
-        if i == 0 {
-            out.extend_from_slice(b"(")?;
-        } else if infix {
-            out.extend_from_slice(b" ")?;
-            out.extend_from_slice(name)?;
-            out.extend_from_slice(b" ")?;
-        } else {
-            out.extend_from_slice(b", ")?;
-        }
-        show(alloc, &arguments[i], out)?;
+    let mut is_first = true;
+    for term in arguments {
+        push_before(infix, name, is_first, out)?;
+        show(alloc, term, out)?;
+        is_first = false;
     }
-    if !arguments.is_empty() {
+    if !is_first {
         out.extend_from_slice(b")")?;
     }
     Ok(())
+}
+
+// Appends what stands before an argument.
+fn push_before(
+    infix: bool,
+    name: &[u8],
+    is_first: bool,
+    out: &mut Vec<u8>,
+) -> Result<(), AllocError> {
+    if is_first {
+        return out.extend_from_slice(b"(");
+    }
+    if !infix {
+        return out.extend_from_slice(b", ");
+    }
+    out.extend_from_slice(b" ")?;
+    out.extend_from_slice(name)?;
+    out.extend_from_slice(b" ")
 }

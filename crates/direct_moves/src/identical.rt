@@ -1,10 +1,10 @@
 //! Closed behaviours that are identical, and others that are not.
 //!
-//! A line of the table is two nodes with `==` or `!=` between them. The parts of a node stand before
-//! its sign. Behaviours are `stop`, `call:x` with values, `|||`, `?xn;` (an action that asks for `x`,
-//! a variable of the name `n`) and `let:xa` (`x` is `a`). Behind a behaviour, `with:xa` makes it a
-//! node with values for its variables. Other nodes are `Stop`, `Call:a` and `Beside`. The letters
-//! from `a` to `m` are constants, those from `n` on are variables.
+//! A line of the table is two nodes with `==` or `!=` between them. The parts of a node stand
+//! before its sign. Behaviours are `stop`, `call:x` with values, `|||`, `?xn;` (an action that asks
+//! for `x`, a variable of the name `n`) and `let:xa` (`x` is `a`). Behind a behaviour, `with:xa`
+//! makes it a node with values for its variables. Other nodes are `Stop`, `Call:a` and `Beside`.
+//! The letters from `a` to `m` are constants, those from `n` on are variables.
 
 use behaviour_tree::{Beh, Meet, Node, Offer};
 use lotos_base::{Form, Name, NoMemory, Place};
@@ -75,7 +75,7 @@ fn term(alloc: Global, letter: u8) -> Result<Sorted, NoMemory> {
         result: 0,
         origin: Name::of(Vec::new(alloc)),
     };
-    Ok(constant(alloc, u32::from(letter), Rc::new(alloc, profile)?))
+    constant(alloc, u32::from(letter), Rc::new(alloc, profile)?)
 }
 
 fn terms(alloc: Global, letters: &[u8]) -> Result<Vec<Sorted>, NoMemory> {

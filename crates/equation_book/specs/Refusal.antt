@@ -1,5 +1,5 @@
 -- What a refusal of data says of them.
-use Rattle.std.specs.Prelude.{◌≡◌, ℕ, List}
+use Rattle.std.specs.Prelude.{List}
 use Rattle.lotos_base.specs.Equation.{Data}
 use Rattle.lotos_base.specs.Signature.{Signature}
 use Rattle.rewriting_theory.specs.Rewriting.{AreConfluent}

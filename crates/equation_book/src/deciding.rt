@@ -41,9 +41,10 @@ impl Book {
         self.store.canonical_term(term)
     }
 
-    /// The normal form of a value that a menu or a state is to have. Where more than 10,000
-    /// operations stand one in another, this is want of memory. The data and the rules stay as
-    /// they are.
+    /// The normal form of a value that a menu or a state is to have. Where it has more than
+    /// 10,000,000 operations and variables, or more than 10,000 operations stand one in another,
+    /// this is want of memory. In a value without variables a last argument counts as no deeper
+    /// than its operation. The data and the rules stay as they are.
     pub fn value_form(&mut self, term: &Sorted) -> Result<Sorted, NoMemory>
         requires { IsOf (signature_of self.old.flat.signature) (profiled_in term.now) }
         ensures canonical { IfOk result

@@ -52,7 +52,8 @@ impl Finder {
         ensures number { IfOk result
             (λ n. IsCanonical rules.now self.new.forms (term_in term.now) n) }
     {
-        canonical(alloc, rules, &self.index, &mut self.forms, term)
+        let found = canonical(alloc, rules, &self.index, &mut self.forms, term)?;
+        Ok(found.number)
     }
 
     /// The chosen form of the term, which has this number.

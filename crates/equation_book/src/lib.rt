@@ -1,6 +1,6 @@
-//! Data whose equality is decided: the critical pairs of their rules, whether all of these join, and
-//! the book that says which terms are equal (ISO 8807:1989, data part: equality; Baader and Nipkow,
-//! "Term Rewriting and All That", chapters 4 and 6).
+//! Data whose equality is decided: the critical pairs of their rules, whether all of these join,
+//! and the book that says which terms are equal (ISO 8807:1989, data part: equality; Baader and
+//! Nipkow, "Term Rewriting and All That", chapters 4 and 6).
 #![tactic(auto)]
 
 pub mod book;

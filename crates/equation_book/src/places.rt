@@ -47,9 +47,9 @@ fn places_below(
             found.push(NodePlace {
                 path: Vec::from_slice(alloc, path)?,
                 head: *op,
-                first: first_operation(arguments),
+                first: first_operation(arguments.items()),
             })?;
-            places_among(alloc, arguments, path, found)
+            places_among(alloc, arguments.items(), path, found)
         }
     }
 }

@@ -14,11 +14,12 @@ use Rattle.event_offers.proofs.RenamingLemmas.{renamed_bare}
 
 mutual
   -- a ground term is its own instance
-  instance_of_ground : (values : ProfiledSubstitution) (t : ProfiledTerm) → IsGround (bare t) → profiled_instance values t ≡ t
+  pub instance_of_ground : (values : ProfiledSubstitution) (t : ProfiledTerm) → IsGround (bare t) → profiled_instance values t ≡ t
   instance_of_ground values (profiled_variable n s) h = absurd h
   instance_of_ground values (profiled_node f operation ts) h = ap (λ us. profiled_node f operation us) (instances_of_ground values ts h)
 
-  instances_of_ground : (values : ProfiledSubstitution) (ts : ProfiledTerms) → AreGround (all_bare ts) → profiled_instances values ts ≡ ts
+  pub instances_of_ground : (values : ProfiledSubstitution) (ts : ProfiledTerms) → AreGround (all_bare ts)
+      → profiled_instances values ts ≡ ts
   instances_of_ground values no_profiled_terms h = refl
   instances_of_ground values (profiled_term_then t ts) h =
       λ i. profiled_term_then (instance_of_ground values t h.0 i) (instances_of_ground values ts h.1 i)

@@ -36,7 +36,8 @@ pub enum Rebuilding<'a> {
     Head(u32, &'a Rc<Op>, usize),
 }
 
-/// The term with what is put for its variables, however deep it is.
+/// The term with what is put for its variables, however deep it is. A part that is known to have no
+/// variable is shared.
 pub fn rebuilt<R: Replacing>(term: &Term, values: &R) -> Result<Term, NoMemory>
     ensures { IfOk result (λ t. profiled_of t
         ≡ profiled_instance (R.put_for values.now) (profiled_of term.now)) }
@@ -47,11 +48,13 @@ pub fn rebuilt<R: Replacing>(term: &Term, values: &R) -> Result<Term, NoMemory>
             op,
             profile,
             arguments,
-        } => Ok(Term::Node {
-            op: *op,
-            profile: profile.clone()?,
-            arguments: all_rebuilt(arguments, values)?,
-        }),
+        } => {
+            if arguments.facts().is_ground {
+                return term.copy();
+            }
+            let made = all_rebuilt(arguments.items(), values)?;
+            Term::node(*op, profile.clone()?, made)
+        }
     }
 }
 
@@ -88,11 +91,8 @@ fn rebuild<'a, R: Replacing>(
     match next {
         Rebuilding::First(terms, count) => begin_last(values, terms, count, left, made),
         Rebuilding::Head(op, profile, count) => {
-            let term = Term::Node {
-                op,
-                profile: profile.clone()?,
-                arguments: taken(alloc, count, made)?,
-            };
+            let parts = taken(alloc, count, made)?;
+            let term = Term::node(op, profile.clone()?, parts)?;
             Ok(made.push(term)?)
         }
     }
@@ -150,6 +150,10 @@ fn begin<'a, R: Replacing>(
             profile,
             arguments,
         } => {
+            if arguments.facts().is_ground {
+                return Ok(made.push(term.copy()?)?);
+            }
+            let arguments = arguments.items();
             let count = arguments.len();
             left.push(Rebuilding::Head(*op, profile, count))?;
             Ok(left.push(Rebuilding::First(arguments, count))?)

@@ -1,5 +1,5 @@
 -- Variables that stand for themselves, as the tests of the code tell them, and loops over pairs.
-use Rattle.std.proofs.Common.{◌≡◌, ◌<◌, ◌≤◌, ◌+◌, ℕ, zero, suc, List, [], ◌∷◌, ◌++◌, true, false, nat_eq, length, take, take_all, get_or, refl, ap, sym, ◌∙◌, subst, Vec, Global}
+use Rattle.std.proofs.Common.{◌≡◌, ◌<◌, ◌≤◌, ◌+◌, ℕ, zero, suc, List, [], ◌∷◌, ◌++◌, true, false, nat_eq, length, take, take_all, get_or, refl, ap, sym, ◌∙◌, subst, Global}
 use Rattle.std.specs.Prelude.{◌↔◌, IsTrue}
 use Rattle.std.specs.declared.rc.Rc.{Rc}
 use Rattle.std.proofs.lemmas.Bool.Decides.{Decides-eqb}
@@ -7,8 +7,8 @@ use Rattle.std.proofs.lemmas.List.{take_more}
 use Rattle.std.proofs.lemmas.Option.{slice_get_read}
 use Rattle.lotos_base.proofs.ExampleHelpers.{Each, each_member}
 use Rattle.sort_terms.specs.Operations.{operation_of}
-use Rattle.sort_terms.specs.ProfiledTerm.{profiled_variable, profiled_node}
-use Rattle.sort_terms.specs.TermView.{profiled_of, all_profiled}
+use Rattle.sort_terms.specs.ProfiledTerm.{ProfiledTerms, profiled_variable, profiled_node}
+use Rattle.sort_terms.specs.TermView.{profiled_of}
 use Rattle.sort_terms.specs.declared.operations.Op.{Op}
 use Rattle.sort_terms.specs.declared.terms.Term.{Term}
 use Rattle.sort_terms.specs.declared.terms.Term.TheVariants.{Var, Node}
@@ -72,11 +72,11 @@ variable_stands_right proving source number term other s stands_ is = (
 )
 
 pub node_stands_wrong : (proving : Proving) (source : Source) (number : ℕ) (term : Term) (f : ℕ) (profile : Rc Op Global)
-    (arguments : Vec Term Global) → stands proving source number ≡ true → term ≡ Node f profile arguments
+    (arguments : ProfiledTerms) → stands proving source number ≡ true → term ≡ Node f profile arguments
     → IsTrue false ↔ IsItself proving source number term
 node_stands_wrong proving source number term f profile arguments stands_ is =
     says_no (λ h.
     let has = h ((stands_decided proving source number).0 stands_) in
-    let clash : profiled_node f (operation_of profile.value) (all_profiled arguments.items) ≡ profiled_variable number has.0 =
+    let clash : profiled_node f (operation_of profile.value) arguments ≡ profiled_variable number has.0 =
     sym (ap (λ (t : Term). profiled_of t) is ∙ profiled_Node f profile arguments) ∙ has.1 in
     cc clash)

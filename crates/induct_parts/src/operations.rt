@@ -19,11 +19,8 @@ pub fn operation_on(alloc: Global, op: &Op, number: u32, next: u64) -> Result<So
         (profiled_variables next op.now.arguments.items)) }
 {
     let arguments = variables(alloc, op.arguments.as_slice(), next)?;
-    Ok(Sorted::of(Term::Node {
-        op: number,
-        profile: Rc::new(alloc, op.copy()?)?,
-        arguments,
-    }))
+    let profile = Rc::new(alloc, op.copy()?)?;
+    Ok(Sorted::of(Term::node(number, profile, arguments)?))
 }
 
 // Variables of these sorts, of which the first one has the number that is next.

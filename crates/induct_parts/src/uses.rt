@@ -263,7 +263,7 @@ fn is_closed(proving: &Proving, source: Source, term: &Term, taken: &Term) -> bo
             }
             has_variable(taken, *number, *sort)
         }
-        Term::Node { arguments, .. } => are_closed(proving, source, arguments, taken),
+        Term::Node { arguments, .. } => are_closed(proving, source, arguments.items(), taken),
     }
 }
 

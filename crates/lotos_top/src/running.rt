@@ -34,10 +34,10 @@ use std::alloc::Global;
 /// on with the session of the input: it answers each line and prints the answer before it reads on.
 /// `demo` makes a specification of so many cells, walks through its session and prints the summary;
 /// it asks nothing of the shelf and reads no input. `flatten` gets the files that `check` gets and
-/// prints the flat text of the specification, whatever start values its parameters get. `bisim` gets
-/// the files of two specifications and a certificate of bisimulation, and says how many pairs it
-/// lists. `induct` gets those of one specification and a certificate of induction, and says how many
-/// lemmas it has and which of them meet the requirements of the specification's types.
+/// prints the flat text of the specification, whatever start values its parameters get. `bisim`
+/// gets the files of two specifications and a certificate of bisimulation, and says how many pairs
+/// it lists. `induct` gets those of one specification and a certificate of induction, and says how
+/// many lemmas it has and which of them meet the requirements of the specification's types.
 ///
 /// The answer is `WordsRefused` exactly where the words are no line of the usage, `FileFault` where
 /// a file could not be got, `SpecRefused` where the specification is refused, whose first fault is

@@ -1,8 +1,8 @@
 //! A maker of menus that keeps the menus of components between steps: where a part of the state is
 //! the same as before, its menu is used again (ISO 8807:1989, dynamic semantics of behaviour
 //! expressions). Its entries share their shapes, labels and terms, so that the menu of a behaviour
-//! is made from the menus of its parts without copying these. Laws say what a user reads off a menu,
-//! and that the exact menu of a behaviour is made from the exact menus of its parts.
+//! is made from the menus of its parts without copying these. Laws say what a user reads off a
+//! menu, and that the exact menu of a behaviour is made from the exact menus of its parts.
 #![tactic(auto)]
 
 pub mod forms;

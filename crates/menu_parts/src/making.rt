@@ -27,7 +27,8 @@ use std::rc::Rc;
 use step_taker::moved::Walk;
 
 /// Parts of a state are looked at one by one down to so many levels; what stands deeper is one
-/// component, since the menu of each part above it is kept, and is as long as all that stands below.
+/// component, since the menu of each part above it is kept, and is as long as all that stands
+/// below.
 pub const LEVELS: u32 = 128;
 
 /// What menus are made over: the specification with the ranks of its processes, and a number above

@@ -1,5 +1,5 @@
-//! Whether a specification has a gate `par` of very many gates. The shapes of its events are as deep
-//! as it has gates, and what is kept of them would be copied by recursion.
+//! Whether a specification has a gate `par` of very many gates. The shapes of its events are as
+//! deep as it has gates, and what is kept of them would be copied by recursion.
 
 use behaviour_tree::{Beh, Spec};
 

@@ -11,12 +11,13 @@ use Rattle.lotos_base.specs.Tests.{term_eq}
 use Rattle.lotos_base.specs.Path.{argument_at}
 use Rattle.termination_theory.specs.Precedence.{Status, Precedence}
 use Rattle.termination_theory.specs.OrderTest.{same_length, is_greater}
-use Rattle.sort_terms.specs.ProfiledTerm.{bare}
-use Rattle.sort_terms.specs.TermView.{term_of, terms_of}
+use Rattle.sort_terms.specs.ProfiledTerm.{ProfiledTerms, bare, all_bare}
+use Rattle.sort_terms.specs.TermView.{all_profiled, term_of, terms_of}
 use Rattle.sort_terms.specs.declared.operations.Op.{Op}
-use Rattle.sort_terms.specs.declared.terms.Term.{Term, Var, Node as TermNode}
+use Rattle.sort_terms.specs.declared.terms.Term.{Term}
+use Rattle.sort_terms.specs.declared.terms.Term.TheVariants.{Var, Node as TermNode}
 use Rattle.sort_terms.proofs.TermListLemmas.{with_last, terms_of-append}
-use Rattle.sort_terms.proofs.BuiltLists.{profiled_Node, profiled_Var}
+use Rattle.sort_terms.proofs.BuiltLists.{node_with_items, profiled_Node, profiled_Var}
 use Rattle.path_order.specs.Comparison.{Table, Tables, table_leaf, table_node, no_tables, table_then, compared, all_compared, each_compared, table_at, part_in, equals_in, exceeds_from, exceeds_all_in, some_reaches_in}
 use Rattle.path_order.specs.ComparedView.{table_of, all_tables}
 use Rattle.path_order.proofs.TableLemmas.{equal_whole, greater_whole, some_over_variable}
@@ -105,8 +106,13 @@ alike f g xs ys same =
 pub term_of-Var : (n s : ℕ) → term_of (Var n s) ≡ variable n s
 term_of-Var n s = ap bare (profiled_Var n s)
 
-pub term_of-Node : (f : ℕ) (profile : Rc Op Global) (ts : Vec Term Global) → term_of (TermNode f profile ts) ≡ node f (terms_of ts.items)
+pub term_of-Node : (f : ℕ) (profile : Rc Op Global) (ts : ProfiledTerms) → term_of (TermNode f profile ts) ≡ node f (all_bare ts)
 term_of-Node f profile ts = ap bare (profiled_Node f profile ts)
+
+-- an operation whose arguments are these
+pub term_of_items : (t : Term) (f : ℕ) (profile : Rc Op Global) (arguments : ProfiledTerms) (items : List Term)
+    → t ≡ TermNode f profile arguments → all_profiled items ≡ arguments → term_of t ≡ node f (terms_of items)
+term_of_items t f profile arguments items is same = ap bare (node_with_items t f profile arguments items is same)
 
 -- ---- Whole tables
 

@@ -79,9 +79,16 @@ fn compare(
     match term {
         Term::Var { number, sort } => over_variable(alloc, precedence, *number, *sort, other),
         Term::Node { op, arguments, .. } => {
-            let tables = compare_each(alloc, precedence, arguments, other)?;
+            let tables = compare_each(alloc, precedence, arguments.items(), other)?;
             let rows = references(alloc, &tables)?;
-            over(alloc, precedence, *op, arguments, rows.as_slice(), other)
+            over(
+                alloc,
+                precedence,
+                *op,
+                arguments.items(),
+                rows.as_slice(),
+                other,
+            )
         }
     }
 }
@@ -142,6 +149,7 @@ fn over(
             greater: some_reaches(rows),
         });
     };
+    let others = others.items();
     let mut below = Vec::with_capacity(alloc, others.len())?;
     for position in 0..others.len() {
         let row = parts(alloc, rows, position)?;
@@ -182,6 +190,7 @@ fn over_variable(
             greater: false,
         });
     };
+    let arguments = arguments.items();
     let mut below = Vec::with_capacity(alloc, arguments.len())?;
     for argument in arguments {
         below.push(over_variable(alloc, precedence, number, sort, argument)?)?;

@@ -39,7 +39,7 @@ fn is_below(precedence: &Precedence, op: u32, term: &Term, whole: &Term) -> bool
             if !is_over(precedence, op, *g) {
                 return false;
             }
-            are_below(precedence, op, arguments, whole)
+            are_below(precedence, op, arguments.items(), whole)
         }
     }
 }

@@ -3,14 +3,16 @@ use Rattle.std.proofs.Common.{◌≡◌, ◌<◌, ◌≤◌, ℕ, suc, ◌+◌, 
 use Rattle.std.proofs.Math.Seq.{drop-cons}
 use Rattle.std.proofs.Math.ListN.{drop_of_length-le}
 use Rattle.std.proofs.lemmas.List.{append-nil}
-use Rattle.std.specs.Prelude.{Vec}
 use Rattle.std.specs.declared.rc.Rc.{Rc}
 use Rattle.std.specs.declared.alloc.Global.{Global}
 use Rattle.sort_terms.specs.declared.equations.Variable.{Variable}
 use Rattle.sort_terms.specs.declared.operations.Op.{Op}
 use Rattle.sort_terms.specs.declared.signatures.Signature.{Signature}
-use Rattle.sort_terms.specs.declared.terms.Term.{Term, Node, Var}
-use Rattle.sort_terms.proofs.BuiltLists.{profiled_Node, profiled_Var}
+use Rattle.sort_terms.specs.ProfiledTerm.{ProfiledTerms}
+use Rattle.sort_terms.specs.TermView.{all_profiled}
+use Rattle.sort_terms.specs.declared.terms.Term.{Term}
+use Rattle.sort_terms.specs.declared.terms.Term.TheVariants.{Node, Var}
+use Rattle.sort_terms.proofs.BuiltLists.{node_with_items, profiled_Var}
 use Rattle.printed_texts.specs.Brackets.{listed}
 use Rattle.printed_texts.specs.TextView.{argument_text}
 use Rattle.printed_texts.proofs.BracketLemmas.{listed_nothing}
@@ -36,9 +38,9 @@ pub weights_more : (more parts : List Part) (part : Part) → more ≡ parts ++ 
 weights_more more parts part is = ap weights is ∙ weights_last parts part
 
 -- an operation on arguments, and a variable
-pub weight_node : (t : Term) (op : ℕ) (profile : Rc Op Global) (arguments : Vec Term Global) → t ≡ Node op profile arguments
-    → weight_of t ≡ 5 + weights_of arguments.items
-weight_node t op profile arguments is = ap weight_of is ∙ ap profiled_weight (profiled_Node op profile arguments)
+pub weight_node : (t : Term) (op : ℕ) (profile : Rc Op Global) (arguments : ProfiledTerms) (items : List Term)
+    → t ≡ Node op profile arguments → all_profiled items ≡ arguments → weight_of t ≡ 5 + weights_of items
+weight_node t op profile arguments items is same = ap profiled_weight (node_with_items t op profile arguments items is same)
 
 pub weight_variable : (t : Term) (n s : ℕ) → t ≡ Var n s → weight_of t ≡ 1
 weight_variable t n s is = ap weight_of is ∙ ap profiled_weight (profiled_Var n s)

@@ -1,6 +1,5 @@
 use Rattle.std.proofs.Common.{◌≡◌, ℕ, suc, List, [], ◌∷◌, ◌++◌, ◌||◌, Bool, true, false, not, nat_eq, codes, map, length, get_or, slice_get, Some, refl, sym, ◌∙◌, ap, append_assoc, arith}
 use Rattle.std.proofs.lemmas.List.{append-nil}
-use Rattle.std.specs.Prelude.{Vec}
 use Rattle.std.specs.declared.rc.Rc.{Rc}
 use Rattle.std.specs.declared.alloc.Global.{Global}
 use Rattle.lotos_base.specs.Signature.{Signature, Operation, Form, prefix_form, infix_form}
@@ -8,13 +7,14 @@ use Rattle.lotos_base.specs.Twins.{has_twin}
 use Rattle.sort_terms.specs.Operations.{operation_of}
 use Rattle.sort_terms.specs.SignatureView.{signature_of}
 use Rattle.sort_terms.specs.EquationView.{variable_of}
-use Rattle.sort_terms.specs.TermView.{term_of, terms_of}
-use Rattle.sort_terms.specs.ProfiledTerm.{bare}
+use Rattle.sort_terms.specs.TermView.{all_profiled, term_of, terms_of}
+use Rattle.sort_terms.specs.ProfiledTerm.{ProfiledTerms, bare}
 use Rattle.sort_terms.specs.declared.equations.Variable.{Variable}
 use Rattle.sort_terms.specs.declared.operations.Op.{Op}
 use Rattle.sort_terms.specs.declared.signatures.Signature.{Signature as KeptSignature}
-use Rattle.sort_terms.specs.declared.terms.Term.{Term, Node as TermNode}
-use Rattle.sort_terms.proofs.BuiltLists.{profiled_Node}
+use Rattle.sort_terms.specs.declared.terms.Term.{Term}
+use Rattle.sort_terms.specs.declared.terms.Term.TheVariants.{Node as TermNode}
+use Rattle.sort_terms.proofs.BuiltLists.{node_with_items}
 use Rattle.printed_texts.proofs.BracketLemmas.{closed_text}
 use Rattle.printed_texts.specs.Brackets.{bracketed, round, opening, closed, commas}
 use Rattle.printed_texts.specs.TermText.{Phrase, phrase_text, phrase_of, phrases_of, operand_text, operator_text, arguments_text, prefix_phrase, infix_phrase, application_phrase, node_phrase, between_text, of_text, shown}
@@ -163,10 +163,13 @@ node_between s names number op ts operand found between =
     ∙ ap (shown operand) (between_is (signature_of s) (operation_of op) (operation_of op).form (phrases_in s names ts) same)
 
 pub node_is :
-    (s : KeptSignature) (names : List Variable) (f : ℕ) (profile : Rc Op Global) (ts : Vec Term Global) →
-    phrase_in s names (TermNode f profile ts)
-    ≡ node_phrase (signature_of s) (slice_get (signature_of s).operations f) (phrases_in s names ts.items)
-node_is s names f profile ts = ap (λ t. phrase_of (signature_of s) (map variable_of names) (bare t)) (profiled_Node f profile ts)
+    (s : KeptSignature) (names : List Variable) (f : ℕ) (profile : Rc Op Global) (arguments : ProfiledTerms) (ts : List Term) →
+    all_profiled ts ≡ arguments →
+    phrase_in s names (TermNode f profile arguments)
+    ≡ node_phrase (signature_of s) (slice_get (signature_of s).operations f) (phrases_in s names ts)
+node_is s names f profile arguments ts same =
+    ap (λ t. phrase_of (signature_of s) (map variable_of names) (bare t))
+    (node_with_items (TermNode f profile arguments) f profile arguments ts refl same)
 
 -- whether a list has members, by its length
 pub empty_list : {X : Type 0} (xs : List X) (number : ℕ) → number ≡ length xs → not (nat_eq number 0) ≡ false → xs ≡ []

@@ -149,6 +149,7 @@ fn push_head<'a>(
         Term::Node { op, arguments, .. } => match operation_at(signature, *op) {
             None => Ok(()),
             Some(operation) => {
+                let arguments = arguments.items();
                 let with_sort = twins.has_twin(signature, *op, operation)?;
                 if stands_between(operation.form, arguments.len()) {
                     push_infix(operation, with_sort, arguments, is_operand, left, into)

@@ -1,5 +1,5 @@
 -- Reading the terms one after another at the sorts of the parameters.
-use Rattle.std.proofs.Common.{arith, refl, ap, sym, ◌∙◌, ◌≡◌, ◌≢◌, inl, inr, subst, ℕ, ◌+◌, ◌<◌, ◌≤◌, List, [], ◌∷◌, ◌++◌, map, length, drop, get_or, append_assoc, append-nil, Option, None, Some}
+use Rattle.std.proofs.Common.{arith, refl, ap, sym, ◌∙◌, ◌≡◌, ◌≢◌, inl, inr, subst, ℕ, ◌+◌, ◌<◌, ◌≤◌, List, [], ◌∷◌, ◌++◌, map, length, drop, get_or, append_assoc, append-nil, Some}
 use Rattle.std.specs.Prelude.{Vec, Result, Ok, Err, MatchResult}
 use Rattle.std.specs.declared.alloc.Global.{Global}
 use Rattle.std.proofs.Math.ListN.{drop_of_length-le}
@@ -16,12 +16,16 @@ use Rattle.sort_terms.specs.declared.signatures.Signature as code_signature
 use Rattle.sort_terms.specs.declared.sorted.Sorted.{Sorted}
 use Rattle.sort_terms.specs.declared.sort_faults.SortFault.{SortFault}
 use Rattle.sort_terms.specs.declared.sort_faults.SortFault.TheVariants as cause
+use Rattle.behaviour_tree.specs.BehaviourTerms.{profiles_of}
 use Rattle.behaviour_tree.specs.BehaviourView.{terms_of}
+use Rattle.behaviour_tree.specs.Over.{AreTermsOf}
+use Rattle.sort_terms.specs.ProfiledTerm.{IsOf}
+use Rattle.sort_terms.specs.SortedView.{profiled_in}
 use Rattle.refusal_lines.specs.Refusal.{Refusal, start_values}
 use Rattle.refusal_lines.specs.declared.faults.StartFault.{StartFault}
 use Rattle.refusal_lines.specs.declared.faults.StartFault.TheVariants.{Refused, NoMemory}
 use Rattle.refusal_lines.specs.declared.start_words.WordTerm as code
-use Rattle.refusal_lines.specs.StartValues.{WordTerm, HaveTerms, HaveWordFault, HasStartValue, HaveValues, told_of_term, IsTermFault, HaveTermFault, Start, AreStartValues, IsStartFault, misread, miscounted, misfitting}
+use Rattle.refusal_lines.specs.StartValues.{WordTerm, HaveTerms, HaveWordFault, HasStartValue, HaveValues, IsTermFault, HaveTermFault, Start, AreStartValues, IsStartFault, misread, miscounted, misfitting}
 use Rattle.refusal_lines.specs.StartView.{word_term_of, parameter_sorts, start_of, FailsAs, TellsTerm, TellsRefusal}
 
 -- ---- One after another
@@ -82,6 +86,12 @@ no_sorts parameters index past = ap (λ (xs : List Variable). parameter_sorts xs
 
 pub no_terms : (terms : List code.WordTerm) (index : ℕ) → length terms ≤ index → terms_at index terms ≡ []
 no_terms terms index past = ap (λ (xs : List code.WordTerm). map word_term_of xs) (drop_of_length-le terms past)
+
+-- one term of the signature more
+pub one_of_more : (signature : Signature) (values : List Sorted) (value : Sorted) → AreTermsOf signature (profiles_of values)
+    → IsOf signature (profiled_in value) → AreTermsOf signature (profiles_of (values ++ value ∷ []))
+one_of_more signature [] value all one = (one, tt)
+one_of_more signature (v ∷ values) value all one = (all.0, one_of_more signature values value all.1 one)
 
 pub valued_whole : (signature : Signature) (parameters : List Variable) (terms : List code.WordTerm) (index : ℕ) (values : List Term)
     → length terms ≤ index → length terms ≡ length parameters

@@ -1,5 +1,6 @@
 //! Why a specification is refused, with the printed line of each refusal; and start values, of
-//! which a refusal may speak: what the words behind `with` are for the parameters of a specification.
+//! which a refusal may speak: what the words behind `with` are for the parameters of a
+//! specification.
 #![tactic(auto)]
 
 pub mod details;

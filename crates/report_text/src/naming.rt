@@ -13,7 +13,8 @@ pub enum ProcessNames<'a> {
     Given(&'a Vec<Name>),
 }
 
-/// The signature, the names of gates and of processes, and the constant `true` where it is left out.
+/// The signature, the names of gates and of processes, and the constant `true` where it is left
+/// out.
 #[derive(Drop)]
 pub struct Naming<'a> {
     /// The signature.

@@ -46,7 +46,7 @@ fn is_constant(truth: Option<u32>, term: &Term) -> bool
     };
     match term {
         Term::Var { .. } => false,
-        Term::Node { op, arguments, .. } => arguments.is_empty() && *op == constant,
+        Term::Node { op, arguments, .. } => arguments.items().is_empty() && *op == constant,
     }
 }
 

@@ -1,7 +1,6 @@
 -- Closed values have nothing put into them.
 use Rattle.std.proofs.Common.{◌≡◌, ℕ, List, map, ap, ◌∙◌, []}
 use Rattle.lotos_base.specs.Substitution.{substituted, binding}
-use Rattle.lotos_base.specs.Term as plain
 use Rattle.behaviour_tree.specs.BehaviourView.{terms_of}
 use Rattle.same_behaviours.proofs.NodeLemmas.{nothing_put}
 use Rattle.sort_terms.specs.declared.sorted.Sorted.{Sorted}

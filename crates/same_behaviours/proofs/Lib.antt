@@ -1,3 +1,4 @@
+pub mod TermDigestLemmas
 pub mod ListLemmas
 pub mod TermLists
 pub mod BinderLemmas

@@ -2,65 +2,84 @@
 
 ghost use Rattle.same_behaviours.specs.TermDigests.{
   arguments_digest,
+  digest_behind as behind,
   list_digest,
-  term_digest as digest_of,
 };
 ghost use Rattle.behaviour_tree.specs.BehaviourView.{terms_of as terms_in};
 ghost use Rattle.lotos_base.specs.Substitution.{all_substituted, substituted};
 ghost use Rattle.same_behaviours.specs.Placings.{values_of};
 ghost use Rattle.sort_terms.specs.TermView.{term_of, terms_of};
-ghost use Rattle.std.specs.Prelude.{◌≡◌, map};
+ghost use Rattle.std.specs.Prelude.{◌≡◌, ◌≤◌, length, map, take};
 
 use crate::mixing::mix;
 use crate::placing::Placing;
 use sort_terms::{Sorted, Term};
 
-/// The digest of the term as it is.
+// The digest of the term as it is, behind a number for what stands before it. The last arguments
+// are gone through by a loop.
 #[cycle(plain)]
-pub fn plain_digest(term: &Term) -> u64
-    ensures { result ≡ digest_of (term_of term.now) }
+fn digest_behind(before: u64, term: &Term) -> u64
+    ensures { result ≡ behind before (term_of term.now) }
 {
-    match term {
-        Term::Var { number, sort } => mix(*number, *sort as u64),
-        Term::Node { op, arguments, .. } => mix(*op as u64, plain_digests(arguments)),
+    let mut digest = before;
+    let mut left = term;
+    loop {
+        match left {
+            Term::Var { number, sort } => return mix(mix(digest, *number), *sort as u64),
+            Term::Node { op, arguments, .. } => {
+                let terms = arguments.items();
+                digest = mix(digest, *op as u64);
+                let Some(last) = terms.len().checked_sub(1) else {
+                    return digest;
+                };
+                digest = first_digests(digest, terms, last);
+                left = &terms[last];
+            }
+        }
     }
 }
 
-// The digest of the terms.
+// The digest of so many of the terms, behind a number for what stands before them.
 #[cycle(plain)]
-fn plain_digests(terms: &Vec<Term>) -> u64
-    ensures { result ≡ arguments_digest 0 (terms_of terms.now.items) }
+fn first_digests(before: u64, terms: &Vec<Term>, count: usize) -> u64
+    requires { count ≤ length terms.now.items }
+    ensures { result ≡ arguments_digest before (terms_of (take count terms.now.items)) }
 {
-    let mut digest = 0;
-    for term in terms {
-        digest = mix(digest, plain_digest(term));
+    let mut digest = before;
+    for i in 0..count {
+        digest = digest_behind(digest, &terms[i]);
     }
     digest
 }
 
-/// The digest of the term with its values.
+// The digest of the term with its values, behind a number for what stands before it.
 #[cycle(placed)]
-pub fn placed_digest(term: &Term, here: &Placing) -> u64
-    ensures { result ≡ digest_of (substituted (values_of here.now) (term_of term.now)) }
+fn placed_behind(before: u64, term: &Term, here: &Placing) -> u64
+    ensures { result ≡ behind before (substituted (values_of here.now) (term_of term.now)) }
 {
     match term {
         Term::Var { number, .. } => match here.value(*number) {
-            None => plain_digest(term),
-            Some(value) => plain_digest(value.term()),
+            None => digest_behind(before, term),
+            Some(value) => digest_behind(before, value.term()),
         },
-        Term::Node { op, arguments, .. } => mix(*op as u64, placed_digests(arguments, here)),
+        Term::Node { op, arguments, .. } => {
+            if arguments.facts().is_ground {
+                return digest_behind(before, term);
+            }
+            placed_digests(mix(before, *op as u64), arguments.items(), here)
+        }
     }
 }
 
-// The digest of the terms with their values.
+// The digest of the terms with their values, behind a number for what stands before them.
 #[cycle(placed)]
-fn placed_digests(terms: &Vec<Term>, here: &Placing) -> u64
-    ensures { result
-        ≡ arguments_digest 0 (all_substituted (values_of here.now) (terms_of terms.now.items)) }
+fn placed_digests(before: u64, terms: &Vec<Term>, here: &Placing) -> u64
+    ensures { result ≡ arguments_digest before
+        (all_substituted (values_of here.now) (terms_of terms.now.items)) }
 {
-    let mut digest = 0;
+    let mut digest = before;
     for term in terms {
-        digest = mix(digest, placed_digest(term, here));
+        digest = placed_behind(digest, term, here);
     }
     digest
 }
@@ -72,7 +91,7 @@ pub fn values_digest(values: &Vec<Sorted>, here: &Placing) -> u64
 {
     let mut digest = 0;
     for value in values {
-        digest = mix(digest, placed_digest(value.term(), here));
+        digest = mix(digest, placed_behind(0, value.term(), here));
     }
     digest
 }

@@ -19,14 +19,19 @@ pub fn is_placed(term: &Term, other: &Term, placing: &Placing) -> bool
             None => term.same(other),
             Some(value) => term.same(value.term()),
         },
-        Term::Node { op, arguments, .. } => match term {
-            Term::Var { .. } => false,
-            Term::Node {
-                op: f,
-                arguments: own,
-                ..
-            } => *f == *op && are_placed(own, arguments, placing),
-        },
+        Term::Node { op, arguments, .. } => {
+            if arguments.facts().is_ground {
+                return term.same(other);
+            }
+            match term {
+                Term::Var { .. } => false,
+                Term::Node {
+                    op: f,
+                    arguments: own,
+                    ..
+                } => *f == *op && are_placed(own.items(), arguments.items(), placing),
+            }
+        }
     }
 }
 
@@ -58,17 +63,22 @@ pub fn same_terms(term: &Term, here: &Placing, other: &Term, there: &Placing) ->
             None => is_placed(term, other, there),
             Some(value) => is_placed(value.term(), other, there),
         },
-        Term::Node { op, arguments, .. } => match other {
-            Term::Var { number, .. } => match there.value(*number) {
-                None => is_placed(other, term, here),
-                Some(value) => is_placed(value.term(), term, here),
-            },
-            Term::Node {
-                op: f,
-                arguments: others,
-                ..
-            } => *op == *f && all_same_terms(arguments, here, others, there),
-        },
+        Term::Node { op, arguments, .. } => {
+            if arguments.facts().is_ground {
+                return is_placed(term, other, there);
+            }
+            match other {
+                Term::Var { number, .. } => match there.value(*number) {
+                    None => is_placed(other, term, here),
+                    Some(value) => is_placed(value.term(), term, here),
+                },
+                Term::Node {
+                    op: f,
+                    arguments: others,
+                    ..
+                } => *op == *f && all_same_terms(arguments.items(), here, others.items(), there),
+            }
+        }
     }
 }
 

@@ -97,9 +97,6 @@ fn constant_term(alloc: Global, truth: &Truth) -> Result<Sorted, NoMemory>
     ensures { IfOk result (λ t. profiled_in t ≡ profiled_node truth.now.constant
         (operation_of truth.now.profile.value) no_profiled_terms) }
 {
-    Ok(Sorted::of(Term::Node {
-        op: truth.constant,
-        profile: truth.profile.clone()?,
-        arguments: Vec::new(alloc),
-    }))
+    let made = Term::node(truth.constant, truth.profile.clone()?, Vec::new(alloc))?;
+    Ok(Sorted::of(made))
 }

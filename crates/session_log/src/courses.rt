@@ -136,8 +136,8 @@ impl Course {
         }
     }
 
-    /// Takes the step by the entry with this number and these values. A refusal leaves the course as it
-    /// was.
+    /// Takes the step by the entry with this number and these values. A refusal leaves the course
+    /// as it was.
     pub fn step<M: MenuMaker, D: Deciding>(
         &mut self,
         spec: &Spec,

@@ -1,5 +1,5 @@
 -- Arguments built one after the other.
-use Rattle.std.proofs.Common.{rules, Vec, Global, true, ltb, ltb-true, ◌≡◌, ℕ, suc, ◌+◌, ◌<◌, List, [], ◌∷◌, ◌++◌, length, get_or, drop, refl, ap, sym, ◌∙◌, arith}
+use Rattle.std.proofs.Common.{Vec, Global, true, ltb, ltb-true, ◌≡◌, ℕ, suc, ◌+◌, ◌<◌, List, [], ◌∷◌, ◌++◌, length, get_or, drop, refl, ap, sym, ◌∙◌, arith}
 use Rattle.std.specs.Prelude.{Option, Some, None, map, slice_get}
 use Rattle.std.specs.declared.rc.Rc.{Rc}
 use Rattle.std.proofs.lemmas.Option.{slice_get-get_or}
@@ -14,7 +14,8 @@ use Rattle.sort_terms.specs.TermView.{all_profiled, profiled_of}
 use Rattle.sort_terms.specs.ChoicesView.{choice_at}
 use Rattle.sort_terms.specs.declared.counted.Counted.{Counted, out-Counted}
 use Rattle.sort_terms.specs.declared.operations.Op.{Op}
-use Rattle.sort_terms.specs.declared.terms.Term.{Term, Node, the_lemmas, Var, the_lemmas as term_lemmas}
+use Rattle.sort_terms.specs.declared.terms.Term.{Term}
+use Rattle.sort_terms.specs.declared.terms.Term.TheVariants.{Node, Var}
 use Rattle.sort_terms.specs.Operations.{operation_of}
 use Rattle.sort_terms.proofs.CountedLemmas.{counted_opened}
 use Rattle.sort_terms.proofs.TermListLemmas.{with_last_profiled, all_profiled-append}
@@ -123,18 +124,26 @@ pub built_opened : (signature : Signature) (a : Counted) (s : ℕ)
     (choice_at (out-Counted a).choices s)
 built_opened signature a s = ap (λ t. built_from signature t s) (counted_opened a)
 
-pub profiled_Node : (number : ℕ) (made : Rc Op Global) (arguments : Vec Term Global)
-    → profiled_of (Node number made arguments) ≡ profiled_node number (operation_of made.value) (all_profiled arguments.items)
-profiled_Node number made arguments = search (rules, the_lemmas)
+pub profiled_Node : (number : ℕ) (made : Rc Op Global) (arguments : ProfiledTerms)
+    → profiled_of (Node number made arguments) ≡ profiled_node number (operation_of made.value) arguments
+profiled_Node number made arguments = refl
+
+-- an operation whose arguments are these
+pub node_with_items : (t : Term) (number : ℕ) (profile : Rc Op Global) (arguments : ProfiledTerms) (items : List Term)
+    → t ≡ Node number profile arguments → all_profiled items ≡ arguments
+    → profiled_of t ≡ profiled_node number (operation_of profile.value) (all_profiled items)
+node_with_items t number profile arguments items is same =
+    ap profiled_of is ∙ ap (profiled_node number (operation_of profile.value)) (sym same)
 
 -- an operation on arguments that are built
 pub built_operation : (ops : List Op) (profiles : List (Rc Op Global)) (number : ℕ) (known made : Rc Op Global)
-    (arguments : Vec Term Global)
+    (arguments : Vec Term Global) (whole : Term)
     (below : List ℕ → Option ProfiledTerms) → map (λ p. operation_of p.value) profiles ≡ map operation_of ops
     → true ≡ ltb number (length profiles) → known ≡ get_or profiles number known → made.value ≡ known.value
     → Some (all_profiled arguments.items) ≡ below known.value.arguments.items
-    → Some (profiled_of (Node number made arguments)) ≡ node_with number below (slice_get (map operation_of ops) number)
-built_operation ops profiles number known made arguments below same within is copy built =
+    → profiled_of whole ≡ profiled_node number (operation_of made.value) (all_profiled arguments.items)
+    → Some (profiled_of whole) ≡ node_with number below (slice_get (map operation_of ops) number)
+built_operation ops profiles number known made arguments whole below same within is copy built node =
     let here : slice_get profiles number ≡ Some known =
     slice_get-get_or profiles number known (ltb-true number (length profiles) (sym within)) ∙ ap (λ (rc : Rc Op Global). Some rc)
     (sym is) in
@@ -142,7 +151,7 @@ built_operation ops profiles number known made arguments below same within is co
     ap (λ os. slice_get os number) (sym same) ∙ at_map (λ (p : Rc Op Global). operation_of p.value) profiles number known here in
     sym (ap (λ o. node_with number below o) operation ∙ ap (λ o. option_map (profiled_node number (operation_of known.value)) o) (sym built)
     ∙ ap (λ (op : Op). Some (profiled_node number (operation_of op) (all_profiled arguments.items))) (sym copy)
-    ∙ ap (λ (t : ProfiledTerm). Some t) (sym (profiled_Node number made arguments)))
+    ∙ ap (λ (t : ProfiledTerm). Some t) (sym node))
 
 pub profiled_Var : (n s : ℕ) → profiled_of (Var n s) ≡ profiled_variable n s
-profiled_Var n s = search (rules, term_lemmas)
+profiled_Var n s = refl

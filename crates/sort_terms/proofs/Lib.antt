@@ -1,5 +1,6 @@
 pub mod ProfiledTermLemmas
 pub mod TermListLemmas
+pub mod FactLemmas
 pub mod SizeLemmas
 pub mod CopyLemmas
 pub mod NameIndexLemmas

@@ -1,6 +1,6 @@
 -- Lists of terms and what they stand for, member by member.
-use Rattle.std.proofs.Common.{◌≡◌, ℕ, zero, suc, ◌+◌, ◌<◌, List, [], ◌∷◌, ◌++◌, length, get_or, take, refl, ap, sym, ◌∙◌, subst, arith}
-use Rattle.std.proofs.lemmas.List.{take_more}
+use Rattle.std.proofs.Common.{◌≡◌, ◌↔◌, ℕ, zero, suc, ◌+◌, ◌<◌, List, [], ◌∷◌, ◌++◌, length, get_or, take, refl, ap, sym, ◌∙◌, subst, arith}
+use Rattle.std.proofs.lemmas.List.{take_all, take_more}
 use Rattle.lotos_base.specs.Term.{Term as PlainTerm, Terms, no_terms, term_then}
 use Rattle.lotos_base.specs.Sorting.{IsGround, AreGround}
 use Rattle.sort_terms.specs.ProfiledTerm.{ProfiledTerm, ProfiledTerms, no_profiled_terms, profiled_term_then}
@@ -8,7 +8,7 @@ use Rattle.sort_terms.specs.TermView.{profiled_of, all_profiled, term_of, terms_
 use Rattle.sort_terms.specs.declared.terms.Term.{Term}
 
 -- one member more
-take_item : (xs : List Term) (i : ℕ) (x : Term) → i < length xs → x ≡ get_or xs i x
+pub take_item : (xs : List Term) (i : ℕ) (x : Term) → i < length xs → x ≡ get_or xs i x
     → take (i + 1) xs ≡ take i xs ++ x ∷ []
 take_item xs i x h e = take_more xs i x h ∙ ap (λ (y : Term). take i xs ++ y ∷ []) (sym e)
 
@@ -73,3 +73,16 @@ pub all_profiled-append : (xs : List Term) (x : Term)
     → all_profiled (xs ++ x ∷ []) ≡ with_last_profiled (all_profiled xs) (profiled_of x)
 all_profiled-append [] x = refl
 all_profiled-append (y ∷ ys) x = ap (λ ts. profiled_term_then (profiled_of y) ts) (all_profiled-append ys x)
+
+-- all but the last ones are identical
+pub same_by_last : (xs ys : List Term) (last : ℕ) (x y : Term) → last + 1 ≡ length xs → last + 1 ≡ length ys
+    → x ≡ get_or xs last x → y ≡ get_or ys last y → terms_of (take last xs) ≡ terms_of (take last ys)
+    → (term_of x ≡ term_of y) ↔ (terms_of xs ≡ terms_of ys)
+same_by_last xs ys last x y one two ex ey before = (
+  (λ is. sym (ap terms_of (whole xs one)) ∙ same_more xs ys last x y (omega (arith, one)) (omega (arith, two)) ex ey before is
+      ∙ ap terms_of (whole ys two)),
+  (λ same. same_at xs ys last x y (omega (arith, one)) ex ey same),
+)
+  where
+    whole : (zs : List Term) → last + 1 ≡ length zs → take (last + 1) zs ≡ zs
+    whole zs e = take_all (last + 1) zs (omega (arith, e))

@@ -5,6 +5,11 @@ pub mod SignatureLemmas
 pub mod SignatureView
 pub mod TermView
 pub mod TermSize
+pub mod ProfiledSize
+pub mod Known
+pub mod Likenesses
+pub mod TermCode
+pub mod TermDeep
 pub mod SortedView
 pub mod EquationView
 pub mod NoEquations
@@ -27,4 +32,3 @@ pub mod FoundAt
 pub mod ReadingLaws
 pub mod WellFormedTest
 pub mod MadeTerms
-pub mod Copied

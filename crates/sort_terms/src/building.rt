@@ -60,11 +60,7 @@ impl Reader<'_> {
         let Some(arguments) = self.all_built(&counted.arguments, &profile.arguments)? else {
             return Ok(None);
         };
-        Ok(Some(Term::Node {
-            op: number,
-            profile: profile.clone()?,
-            arguments,
-        }))
+        Ok(Some(Term::node(number, profile.clone()?, arguments)?))
     }
 
     // The terms of these sorts that the nodes tell.

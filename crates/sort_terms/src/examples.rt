@@ -24,15 +24,12 @@ use std::alloc::Global;
 use std::rc::Rc;
 
 /// The constant with this number and profile.
-pub fn constant(alloc: Global, op: u32, profile: Rc<Op>) -> Sorted
+pub fn constant(alloc: Global, op: u32, profile: Rc<Op>) -> Result<Sorted, NoMemory>
     requires { profile.value.arguments.items ≡ [] }
-    ensures { profiled_in result ≡ profiled_node op (operation_of profile.value) no_profiled_terms }
+    ensures { IfOk result (λ t. profiled_in t
+        ≡ profiled_node op (operation_of profile.value) no_profiled_terms) }
 {
-    Sorted::of(Term::Node {
-        op,
-        profile,
-        arguments: Vec::new(alloc),
-    })
+    Ok(Sorted::of(Term::node(op, profile, Vec::new(alloc))?))
 }
 
 /// The operation with this number and profile on one argument.
@@ -48,11 +45,7 @@ pub fn applied(
 {
     let mut arguments = Vec::new(alloc);
     arguments.push(argument.into_term())?;
-    Ok(Sorted::of(Term::Node {
-        op,
-        profile,
-        arguments,
-    }))
+    Ok(Sorted::of(Term::node(op, profile, arguments)?))
 }
 
 // The canon of a term of the data of any object.

@@ -13,7 +13,12 @@ pub fn has_variable(term: &Term, number: u64, sort: u32) -> bool
 {
     match term {
         Term::Var { number: n, sort: s } => *n == number && *s == sort,
-        Term::Node { arguments, .. } => have_variable(arguments, number, sort),
+        Term::Node { arguments, .. } => {
+            if arguments.facts().is_ground {
+                return false;
+            }
+            have_variable(arguments.items(), number, sort)
+        }
     }
 }
 

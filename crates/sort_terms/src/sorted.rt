@@ -5,6 +5,7 @@ ghost use Rattle.sort_terms.specs.SignatureLemmas.{FitsProfiles-prop};
 ghost use Rattle.sort_terms.specs.TermView.{profiled_of};
 ghost use Rattle.std.specs.Prelude.{◌≡◌, ◌↔◌, IfOk, IsTrue};
 
+use crate::facts::Facts;
 use crate::terms::Term;
 use lotos_base::NoMemory;
 
@@ -20,6 +21,7 @@ pub struct Sorted {
 impl Sorted {
     ghost use Rattle.sort_terms.specs.SortedView.{profiled_in, term_in};
     ghost use Rattle.lotos_base.specs.Sorting.{IsGround};
+    ghost use Rattle.sort_terms.specs.Known.{HoldOf};
 
     /// The term with its sort.
     pub fn of(term: Term) -> Sorted
@@ -35,6 +37,13 @@ impl Sorted {
         ensures { result.now ≡ self.now.term }
     {
         &self.term
+    }
+
+    /// What is known of the term without a look at it.
+    pub fn facts(&self) -> Facts
+        ensures { HoldOf result (term_in self.now) }
+    {
+        self.term.facts()
     }
 
     /// The term taken out.

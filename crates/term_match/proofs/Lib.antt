@@ -3,6 +3,7 @@ pub mod PathLemmas
 pub mod DistinctLemmas
 pub mod SearchLemmas
 pub mod MatchLemmas
+pub mod OccurrenceLemmas
 pub mod NumberLemmas
 pub mod AppearanceLemmas
 pub mod AgreeLemmas

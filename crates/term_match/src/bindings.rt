@@ -31,7 +31,7 @@ pub fn search<'a>(
                 ..
             } => {
                 if *op == *f {
-                    search_all(arguments, parts, found)
+                    search_all(arguments.items(), parts.items(), found)
                 } else {
                     Ok(None)
                 }

@@ -43,7 +43,7 @@ pub fn differ<'a>(left: &'a Term, right: &'a Term) -> Difference<'a>
                 ..
             } => {
                 if *op == *f {
-                    differ_among(arguments, others)
+                    differ_among(arguments.items(), others.items())
                 } else {
                     Difference::Clash
                 }
@@ -123,7 +123,7 @@ pub fn clash(left: &Term, right: &Term) -> bool
     if *op != *f {
         return true;
     }
-    clash_in(arguments, others)
+    clash_in(arguments.items(), others.items())
 }
 
 // The same of the terms of two lists, which clash where their lengths differ, too.

@@ -48,11 +48,10 @@ fn instance(term: &Term, pairs: &[(u64, Sorted)]) -> Result<Term, NoMemory>
             op,
             profile,
             arguments,
-        } => Ok(Term::Node {
-            op: *op,
-            profile: profile.clone()?,
-            arguments: instances(arguments, pairs)?,
-        }),
+        } => {
+            let made = instances(arguments.items(), pairs)?;
+            Term::node(*op, profile.clone()?, made)
+        }
     }
 }
 

@@ -17,7 +17,7 @@ pub fn note(term: &Term, seen: Vec<u64>) -> Result<Vec<u64>, NoMemory>
 {
     match term {
         Term::Var { number, .. } => note_number(*number, seen),
-        Term::Node { arguments, .. } => note_all(arguments, seen),
+        Term::Node { arguments, .. } => note_all(arguments.items(), seen),
     }
 }
 

@@ -13,7 +13,12 @@ pub fn occurs(number: u64, term: &Term) -> bool
 {
     match term {
         Term::Var { number: other, .. } => *other == number,
-        Term::Node { arguments, .. } => occurs_among(number, arguments),
+        Term::Node { arguments, .. } => {
+            if arguments.facts().is_ground {
+                return false;
+            }
+            occurs_among(number, arguments.items())
+        }
     }
 }
 

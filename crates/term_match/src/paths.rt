@@ -93,7 +93,7 @@ fn argument(term: &Term, position: u32) -> Option<&Term>
 {
     match term {
         Term::Var { .. } => None,
-        Term::Node { arguments, .. } => arguments.get(position as usize),
+        Term::Node { arguments, .. } => arguments.items().get(position as usize),
     }
 }
 
@@ -114,17 +114,15 @@ fn with_part(term: &Term, path: &[u32], part: &Term) -> Result<Option<Term>, NoM
         return Ok(None);
     };
     let position = *position as usize;
+    let arguments = arguments.items();
     let Some(argument) = arguments.get(position) else {
         return Ok(None);
     };
     let Some(changed) = with_part(argument, rest, part)? else {
         return Ok(None);
     };
-    Ok(Some(Term::Node {
-        op: *op,
-        profile: profile.clone()?,
-        arguments: with_argument(arguments, position, changed)?,
-    }))
+    let made = with_argument(arguments, position, changed)?;
+    Ok(Some(Term::node(*op, profile.clone()?, made)?))
 }
 
 // The same terms with another one at the position.

@@ -34,11 +34,10 @@ fn renumbered_term(term: &Term, numbers: &[(u64, u64)]) -> Result<Term, NoMemory
             op,
             profile,
             arguments,
-        } => Ok(Term::Node {
-            op: *op,
-            profile: profile.clone()?,
-            arguments: renumbered_terms(arguments, numbers)?,
-        }),
+        } => {
+            let renumbered = renumbered_terms(arguments.items(), numbers)?;
+            Term::node(*op, profile.clone()?, renumbered)
+        }
     }
 }
 

@@ -45,11 +45,10 @@ fn filled(term: &Term, values: &mut IntoIter<Term>) -> Result<Term, NoMemory>
             op,
             profile,
             arguments,
-        } => Ok(Term::Node {
-            op: *op,
-            profile: profile.clone()?,
-            arguments: all_filled(arguments, values)?,
-        }),
+        } => {
+            let made = all_filled(arguments.items(), values)?;
+            Term::node(*op, profile.clone()?, made)
+        }
     }
 }
 

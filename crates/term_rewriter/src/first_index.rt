@@ -49,7 +49,7 @@ fn add(index: &mut FirstIndex, term: &Term, number: usize) -> Result<(), NoMemor
     let Term::Node { op, arguments, .. } = term else {
         return Ok(());
     };
-    match first_operation(arguments) {
+    match first_operation(arguments.items()) {
         None => index.open.add(*op as usize, number),
         Some(first) => index.firsts.add(first as usize, number),
     }

@@ -67,18 +67,15 @@ fn begun(alloc: Global, rules: &Rules, shape: &Term, instance: Term) -> Result<P
             profile,
             arguments,
         } => {
-            let mut forms = Vec::with_capacity(alloc, arguments.len())?;
-            let mut rest = arguments.into_iter();
-            for argument in shapes {
+            let parts = arguments.into_items()?;
+            let mut forms = Vec::with_capacity(alloc, parts.len())?;
+            let mut rest = parts.into_iter();
+            for argument in shapes.items() {
                 if let Some(part) = rest.next() {
                     forms.push(form(alloc, rules, argument, part)?)?;
                 }
             }
-            Ok(Progress::Whole(Term::Node {
-                op,
-                profile,
-                arguments: forms,
-            }))
+            Ok(Progress::Whole(Term::node(op, profile, forms)?))
         }
     }
 }

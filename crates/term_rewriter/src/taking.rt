@@ -26,7 +26,9 @@ pub fn taken(
             ..
         } => match term.into_parts() {
             Parts::Variable { .. } => Ok(values),
-            Parts::Operation { arguments, .. } => all_taken(patterns, arguments, values),
+            Parts::Operation { arguments, .. } => {
+                all_taken(patterns.items(), arguments.into_items()?, values)
+            }
         },
     }
 }

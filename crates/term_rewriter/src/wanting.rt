@@ -29,7 +29,7 @@ pub fn variables(term: &Term, seen: Vec<(u64, u32)>) -> Result<Vec<(u64, u32)>, 
 {
     match term {
         Term::Var { number, sort } => one_more(*number, *sort, seen),
-        Term::Node { arguments, .. } => all_variables(arguments, seen),
+        Term::Node { arguments, .. } => all_variables(arguments.items(), seen),
     }
 }
 

@@ -1,14 +1,17 @@
 -- Canonical terms by their numbers.
 use Rattle.std.proofs.Common.{ap, sym, ◌∙◌, ◌≡◌, subst, ℕ, Some}
-use Rattle.std.specs.Prelude.{◌↔◌}
+use Rattle.std.specs.Prelude.{◌↔◌, IsTrue, nat_eq}
+use Rattle.std.proofs.lemmas.Bool.Decides.{Decides-eqb}
 use Rattle.lotos_base.specs.Term.{Term}
 use Rattle.rewriting_theory.specs.ChosenForm.{Chosen}
+use Rattle.rewriting_theory.specs.Rewriting.{IsNormal}
+use Rattle.rewriting_theory.proofs.PublicLemmas.{chosen_normal}
 use Rattle.sort_terms.specs.ProfiledTerm.{ProfiledTerm, bare, IsOf, FitsProfiles}
 use Rattle.sort_terms.specs.SortedView.{profiled_in, term_in}
 use Rattle.sort_terms.specs.declared.sorted.Sorted.{Sorted}
 use Rattle.path_order.specs.RulesView.{signature_in, plain_rules_in}
 use Rattle.path_order.specs.declared.rules.Rules.{Rules}
-use Rattle.path_order.proofs.RulesLemmas.{rules_have_forms}
+use Rattle.path_order.proofs.RulesLemmas.{rules_have_forms, rules_well_formed}
 use Rattle.term_rewriter.specs.Form.{IsFormOf}
 use Rattle.term_rewriter.proofs.FormLemmas.{form_fits}
 use Rattle.term_store.specs.Canonical.{IsCanonical}
@@ -39,6 +42,19 @@ canonical_form rules before shared after t n form sound of numbered stay kept = 
       (grown_stays (signature_in rules) (keys_in shared) (keys_in after.shared) n stay.grows numbered.within
       ∙ numbered.term (signature_in rules) of sound.have);
 }
+
+-- a term whose number is kept as that of its form is irreducible
+pub own_form : (rules : Rules) (before : Forms) (shared : SharedTerms) (after : Forms) (t : ProfiledTerm) (n form : ℕ)
+    → AreSound rules before → IsOf (signature_in rules) t → IsNumberOf t (keys_in before.shared) (keys_in shared) n
+    → StaySound rules (with_shared before shared) after → kept_at after.kept.items n ≡ Some form → IsTrue (nat_eq form n)
+    → IsNormal (plain_rules_in rules) (bare t)
+own_form rules before shared after t n form sound of numbered stay kept own =
+    subst (IsNormal (plain_rules_in rules))
+    (sym (canonical_form rules before shared after t n form sound of numbered stay kept).is
+    ∙ ap (λ (k : ℕ). bare (term_at (signature_in rules) (keys_in after.shared) k)) ((Decides-eqb form n).0 own)
+    ∙ ap bare (grown_stays (signature_in rules) (keys_in shared) (keys_in after.shared) n stay.grows numbered.within
+    ∙ numbered.term (signature_in rules) of sound.have))
+    (chosen_normal (rules_well_formed rules) (rules_have_forms rules (bare t)).1)
 
 -- ---- Two canonical terms
 

@@ -3,10 +3,12 @@ pub mod CanonicalLemmas
 pub mod CellLemmas
 pub mod FirstRuleLemmas
 pub mod GrowthLemmas
+pub mod HeadLemmas
 pub mod KeptLemmas
 pub mod KeyLemmas
 pub mod MadeLemmas
 pub mod NumberingLemmas
+pub mod OnTheWayLemmas
 pub mod ReadLemmas
 pub mod ReadyLemmas
 pub mod SearchLemmas

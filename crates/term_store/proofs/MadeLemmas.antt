@@ -7,7 +7,7 @@ use Rattle.sort_terms.specs.Operations.{operation_of}
 use Rattle.sort_terms.specs.TermSize.{profiled_size, profiled_sizes}
 use Rattle.sort_terms.specs.TermView.{profiled_of, all_profiled, profiled_terms}
 use Rattle.sort_terms.specs.declared.operations.Op.{Op}
-use Rattle.sort_terms.specs.declared.terms.Term.{Term as CodeTerm, Node}
+use Rattle.sort_terms.specs.declared.terms.Term.{Term as CodeTerm}
 use Rattle.sort_terms.specs.MadeTerms.{made_of}
 use Rattle.sort_terms.proofs.CopyLemmas.{made_more}
 use Rattle.path_order.specs.RulesView.{signature_in}
@@ -19,7 +19,6 @@ use Rattle.term_store.specs.declared.reading.Making.{Making}
 use Rattle.term_store.specs.declared.reading.Making.TheVariants.{Term, Operation}
 use Rattle.term_store.proofs.FirstRuleLemmas.{operation_term}
 use Rattle.term_store.proofs.ReadLemmas.{members_list, profile_is}
-use Rattle.term_store.proofs.ValueLemmas.{profiled_of-Node}
 
 -- ---- Lists of what is to be done.
 
@@ -133,18 +132,18 @@ operation_less rules keys n f ns old one more have inside some is grown =
 
 -- it is made of the terms made last
 pub operation_made : (rules : Rules) (keys : List (List ℕ)) (n f : ℕ) (ns : List ℕ) (profiles : List (Rc Op Global))
-    (p profile : Rc Op Global) (arguments : Vec CodeTerm Global) (old rest new : List CodeTerm) (left : List Making)
+    (p profile : Rc Op Global) (arguments : Vec CodeTerm Global) (whole : CodeTerm) (old rest new : List CodeTerm) (left : List Making)
     → map (λ q. operation_of q.value) profiles ≡ (signature_in rules).operations → HaveTermsOf (signature_in rules) keys
     → n < length keys → Some (f, ns) ≡ operation_in (get_or keys n []) → p ≡ get_or profiles f p → profile.value ≡ p.value
     → length arguments.items ≡ length ns → made_of old ≡ map profiled_of arguments.items ++ made_of rest
-    → new ≡ rest ++ Node f profile arguments ∷ []
+    → profiled_of whole ≡ profiled_node f (operation_of profile.value) (all_profiled arguments.items) → new ≡ rest ++ whole ∷ []
     → all_made (signature_in rules) keys left (made_of new)
     ≡ all_made (signature_in rules) keys left (with_made (signature_in rules) keys (Operation n) (made_of old))
-operation_made rules keys n f ns profiles p profile arguments old rest new left profiled have inside some is same many was grown =
+operation_made rules keys n f ns profiles p profile arguments whole old rest new left profiled have inside some is same many was own grown =
     let s = signature_in rules in
     ap (all_made s keys left)
-    (made_more new rest (Node f profile arguments) grown
-    ∙ ap (λ t. t ∷ made_of rest) (profiled_of-Node f profile arguments)
+    (made_more new rest whole grown
+    ∙ ap (λ t. t ∷ made_of rest) own
     ∙ ap (λ o. profiled_node f o (all_profiled arguments.items) ∷ made_of rest)
     (profile_is rules keys n f ns profiles p profile profiled have inside some is same)
     ∙ ap (λ ts. profiled_node f (operation_at s f) (profiled_terms ts) ∷ made_of rest) (sym (taken arguments.items (length ns) many))

@@ -6,6 +6,7 @@ use Rattle.lotos_base.specs.Term.{Term}
 use Rattle.rewriting_theory.specs.Reduction.{Reaches}
 use Rattle.rewriting_theory.specs.Rewriting.{IsNormal, Rewrites}
 use Rattle.rewriting_theory.proofs.ChosenLemmas.{chosen_one}
+use Rattle.rewriting_theory.proofs.NewmanLemmas.{irreducible_stays}
 use Rattle.rewriting_theory.proofs.PublicLemmas.{chosen_rewritten, chosen_normal}
 use Rattle.sort_terms.specs.ProfiledTerm.{ProfiledTerm, bare, IsOf, FitsProfiles}
 use Rattle.sort_terms.specs.SortedView.{profiled_in, term_in}
@@ -17,7 +18,7 @@ use Rattle.term_store.specs.Canonical.{IsCanonical}
 use Rattle.term_store.specs.Kept.{kept_at, chosen_form, IsSound}
 use Rattle.term_store.specs.Numbered.{term_at}
 use Rattle.term_store.specs.SharedView.{keys_in}
-use Rattle.term_store.specs.StoreCanon.{store_canon}
+use Rattle.term_store.specs.StoreCanon.{store_canon, store_chooses}
 use Rattle.term_store.specs.Turns.{AreSound, StaySound}
 use Rattle.term_store.specs.declared.forms.Forms.{Forms}
 use Rattle.term_store.specs.declared.store.Store.{Store}
@@ -82,3 +83,7 @@ read_canonical rules others forms term made n same sound of is made_is =
       reached = chosen_rewritten form.chosen;
       is_of = form.is_of;
     }
+
+-- a term in which no rule can be used is its own canonical term
+pub normal_is_canon : (store : Store) (t : Term) → IsNormal (plain_rules_in store.rules) t → t ≡ store_canon store t
+normal_is_canon store t stuck = irreducible_stays stuck (chosen_rewritten (store_chooses store t))

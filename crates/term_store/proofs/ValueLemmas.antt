@@ -1,24 +1,25 @@
 -- What terms of the code stand for.
-use Rattle.std.proofs.Common.{◌≡◌, ◌<◌, ◌≤◌, ◌+◌, ℕ, List, [], ◌∷◌, Bool, true, false, nat_eq, refl, drop, get_or, length, Vec, Global, rules, ap, sym, ◌∙◌}
+use Rattle.std.proofs.Common.{◌≡◌, ◌<◌, ◌≤◌, ◌+◌, ℕ, List, [], ◌∷◌, Bool, true, false, nat_eq, refl, drop, get_or, length, Global, ap, sym, ◌∙◌}
 use Rattle.std.specs.Prelude.{Some, None, if◌then◌else◌}
 use Rattle.std.specs.declared.rc.Rc.{Rc}
 use Rattle.std.proofs.lemmas.Option.{same_Some}
 use Rattle.std.proofs.lemmas.List.{drop_more}
 use Rattle.std.proofs.Math.ListN.{drop_of_length-le}
 use Rattle.sort_terms.specs.Operations.{operation_of}
-use Rattle.sort_terms.specs.ProfiledTerm.{ProfiledTerm, profiled_variable, profiled_node, no_profiled_terms, profiled_term_then}
+use Rattle.sort_terms.specs.ProfiledTerm.{ProfiledTerm, ProfiledTerms, profiled_variable, profiled_node, no_profiled_terms, profiled_term_then}
 use Rattle.sort_terms.specs.TermView.{profiled_of, all_profiled}
 use Rattle.term_match.specs.ProfiledInstance.{profiled_binding}
 use Rattle.term_match.specs.Search.{looked_up}
 use Rattle.sort_terms.specs.declared.operations.Op.{Op}
-use Rattle.sort_terms.specs.declared.terms.Term.{Term, Var, Node, the_lemmas}
+use Rattle.sort_terms.specs.declared.terms.Term.{Term}
+use Rattle.sort_terms.specs.declared.terms.Term.TheVariants.{Var, Node}
 
 pub profiled_of-Var : (n s : ℕ) → profiled_of (Var n s) ≡ profiled_variable n s
-profiled_of-Var n s = search (rules, the_lemmas)
+profiled_of-Var n s = refl
 
-pub profiled_of-Node : (f : ℕ) (profile : Rc Op Global) (ts : Vec Term Global)
-    → profiled_of (Node f profile ts) ≡ profiled_node f (operation_of profile.value) (all_profiled ts.items)
-profiled_of-Node f profile ts = search (rules, the_lemmas)
+pub profiled_of-Node : (f : ℕ) (profile : Rc Op Global) (ts : ProfiledTerms)
+    → profiled_of (Node f profile ts) ≡ profiled_node f (operation_of profile.value) ts
+profiled_of-Node f profile ts = refl
 
 -- the terms from a position on begin with the one there
 pub profiled_rest : (terms : List Term) (i : ℕ) (t : Term) → i < length terms → t ≡ get_or terms i t

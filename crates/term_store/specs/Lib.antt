@@ -7,6 +7,7 @@ pub mod Kept
 pub mod Made
 pub mod NumberSearch
 pub mod Numbered
+pub mod OnTheWay
 pub mod SharedView
 pub mod SoundProps
 pub mod StoreCanon
@@ -14,3 +15,4 @@ pub mod Tasks
 pub mod Turns
 pub mod Weight
 pub mod HandedOn
+pub mod Heads

@@ -1,4 +1,4 @@
-//! The numbers of terms, and of terms with others put for their variables.
+//! The numbers of patterns with others put for their variables.
 
 ghost use Rattle.sort_terms.specs.TermView.{all_profiled, profiled_of};
 ghost use Rattle.std.specs.Prelude.{◌≡◌, ◌≤◌, ◌++◌, [], IfOk, OnOk, drop, length, take};
@@ -6,7 +6,6 @@ ghost use Rattle.term_store.specs.Cells.{AreBelow, HasOneMore, StandsAt, operati
 ghost use Rattle.term_store.specs.Numbered.{
   AreInstancesOf,
   IsInstanceOf,
-  IsNumberOf,
   TakeIn,
   TakesIn,
   numbers_in,
@@ -19,15 +18,6 @@ use crate::shared::SharedTerms;
 use lotos_base::NoMemory;
 use sort_terms::Term;
 use std::alloc::Global;
-
-/// The number of the term. The term and its parts are kept if they were not before.
-pub fn number_of(alloc: Global, shared: &mut SharedTerms, term: &Term) -> Result<usize, NoMemory>
-    ensures takes { TakesIn (profiled_of term.now) (keys_in shared.old) (keys_in shared.new) }
-    ensures number { IfOk result (λ n. IsNumberOf (profiled_of term.now) (keys_in shared.old)
-        (keys_in shared.new) n) }
-{
-    instance(alloc, shared, term, &[])
-}
 
 /// The number of the term with what the pairs have put for its variables. What was not kept before
 /// is kept.
@@ -68,8 +58,8 @@ fn instance_by(
         },
         Term::Node { op, arguments, .. } => {
             let start = key.len();
-            begin(key, *op as usize)?;
-            add_instances(alloc, shared, arguments, pairs, key)?;
+            begin_key(key, *op as usize)?;
+            add_instances(alloc, shared, arguments.items(), pairs, key)?;
             number_behind(alloc, shared, start, key)
         }
     }
@@ -98,8 +88,8 @@ fn add_instances(
     Ok(())
 }
 
-// Begins the key of an operation at the end.
-fn begin(key: &mut Vec<usize>, op: usize) -> Result<(), NoMemory>
+/// Begins the key of an operation at the end.
+pub(crate) fn begin_key(key: &mut Vec<usize>, op: usize) -> Result<(), NoMemory>
     ensures { OnOk result (key.new.items ≡ key.old.items ++ operation_key op []) }
 {
     key.push(1)?;
@@ -107,10 +97,10 @@ fn begin(key: &mut Vec<usize>, op: usize) -> Result<(), NoMemory>
     Ok(())
 }
 
-// The number of a variable. This is a call of its own, as the next function is, so that an operation
-// of a term takes little of the stack.
+/// The number of a variable. This is a call of its own, as the next function is, so that an
+/// operation of a pattern takes little of the stack.
 #[inline(never)]
-fn variable(
+pub(crate) fn variable(
     alloc: Global,
     shared: &mut SharedTerms,
     number: u64,

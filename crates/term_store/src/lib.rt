@@ -1,12 +1,15 @@
-//! Terms kept once, with their chosen forms (Baader and Nipkow, "Term Rewriting and All That", 4.2).
+//! Terms kept once, with their chosen forms (Baader and Nipkow, "Term Rewriting and All That",
+//! 4.2).
 #![tactic(auto)]
 
 pub mod canonical;
 pub mod deciding;
 pub mod first_rule;
 pub mod forms;
+pub mod heads;
 pub mod instances;
 pub mod matching;
+pub mod numbering;
 pub mod reading;
 pub mod shared;
 pub mod steps;

@@ -39,7 +39,7 @@ pub fn search(
         Term::Node { op, arguments, .. } => {
             match shared.operation(number) {
                 Some((head, numbers)) if head == *op as usize => {
-                    search_all(shared, arguments, numbers, found)
+                    search_all(shared, arguments.items(), numbers, found)
                 }
                 _ => Ok(None),
             }

@@ -105,11 +105,8 @@ fn make(
         Making::Operation(number) => match shared.operation(number) {
             None => Ok(()),
             Some((op, arguments)) => {
-                let term = Term::Node {
-                    op: op as u32,
-                    profile: profiles[op].clone()?,
-                    arguments: taken(alloc, arguments.len(), made)?,
-                };
+                let parts = taken(alloc, arguments.len(), made)?;
+                let term = Term::node(op as u32, profiles[op].clone()?, parts)?;
                 Ok(made.push(term)?)
             }
         },

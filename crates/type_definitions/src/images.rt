@@ -58,11 +58,8 @@ fn image_of(term: &Term, sorts: &[u32], ops: &[u32], profiles: &[Rc<Op>]) -> Res
         } => {
             let number = number_at(ops, *op);
             let profile = profile_at(profiles, number, profile)?;
-            Ok(Term::Node {
-                op: number,
-                profile,
-                arguments: images_of(arguments, sorts, ops, profiles)?,
-            })
+            let images = images_of(arguments.items(), sorts, ops, profiles)?;
+            Term::node(number, profile, images)
         }
     }
 }

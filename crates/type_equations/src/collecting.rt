@@ -20,7 +20,7 @@ pub fn collect(term: &Term, order: &mut IndexSet<u64>) -> Result<(), NoMemory>
             order.insert(*number)?;
             Ok(())
         }
-        Term::Node { arguments, .. } => collect_all(arguments, order),
+        Term::Node { arguments, .. } => collect_all(arguments.items(), order),
     }
 }
 

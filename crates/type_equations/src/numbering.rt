@@ -37,11 +37,10 @@ fn renumbered_term(term: &Term, order: &IndexSet<u64>) -> Result<Term, NoMemory>
             op,
             profile,
             arguments,
-        } => Ok(Term::Node {
-            op: *op,
-            profile: profile.clone()?,
-            arguments: renumbered_terms(arguments, order)?,
-        }),
+        } => {
+            let renumbered = renumbered_terms(arguments.items(), order)?;
+            Term::node(*op, profile.clone()?, renumbered)
+        }
     }
 }
 

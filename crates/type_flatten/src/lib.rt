@@ -1,9 +1,9 @@
 //! The flattening of the types of a text (ISO 8807:1989, data part): the presentation of each type,
-//! the data of those in which nothing is formal, and what actualisations require. Laws say of unions,
-//! renamings and actualisations what their definitions come to; flattened data are well formed, and
-//! flattening comes to one thing. Each fault of types comes where its cause stands and none stands
-//! before it; types are flattened in the order of the text as far as mentions allow; and the
-//! variables of an equation are renamed apart and numbered by first appearance.
+//! the data of those in which nothing is formal, and what actualisations require. Laws say of
+//! unions, renamings and actualisations what their definitions come to; flattened data are well
+//! formed, and flattening comes to one thing. Each fault of types comes where its cause stands and
+//! none stands before it; types are flattened in the order of the text as far as mentions allow;
+//! and the variables of an equation are renamed apart and numbered by first appearance.
 #![tactic(auto)]
 
 ghost use Rattle.type_flatten.specs.Contributions.{ContributionsAreExact};

@@ -41,7 +41,7 @@ fn push_term(key: &mut Vec<usize>, term: &Term) -> Result<(), NoMemory>
         Term::Node { op, arguments, .. } => {
             key.push(1)?;
             key.push(*op as usize)?;
-            push_terms(key, arguments)?;
+            push_terms(key, arguments.items())?;
             Ok(())
         }
     }

@@ -1,20 +1,14 @@
 -- The steps of a trial of the code.
-use Rattle.std.proofs.Common.{◌≡◌, ℕ, zero, suc, ◌+◌, ◌-◌, ◌*◌, ◌<◌, ◌≤◌, List, [], ◌∷◌, ◌++◌, length, get_or, map, drop, Bool, true, false, nat_eq, Vec, refl, ap, sym, ◌∙◌, subst, arith}
-use Rattle.std.specs.declared.alloc.Global.{Global}
-use Rattle.std.specs.declared.rc.Rc.{Rc}
+use Rattle.std.proofs.Common.{◌≡◌, ℕ, zero, suc, ◌+◌, ◌-◌, ◌*◌, ◌<◌, ◌≤◌, List, [], ◌∷◌, ◌++◌, length, get_or, map, drop, Bool, true, false, nat_eq, refl, ap, sym, ◌∙◌, subst, arith}
 use Rattle.std.specs.Prelude.{if◌then◌else◌, not, ◌&&◌, MatchOption, IfErr, IsErrAnd, Result, Ok, Err, Option, None, Some}
 use Rattle.std.proofs.lemmas.Bool.{eq-eqb, eqb-true, ne_eqb, and_parts}
 use Rattle.std.proofs.lemmas.List.{append-nil, drop_all, drop-map, length-drop, length-map, length_push, map_push}
 use Rattle.lotos_base.proofs.Members.{read_map}
 use Rattle.rewriting_theory.specs.Matching.{Matches, NoMatch}
 use Rattle.rewriting_theory.specs.Rule.{Rule as PlainRule}
-use Rattle.sort_terms.specs.ProfiledTerm.{ProfiledTerm, bare}
-use Rattle.sort_terms.specs.TermView.{profiled_of, term_of, terms_of}
-use Rattle.sort_terms.specs.declared.operations.Op.{Op}
-use Rattle.sort_terms.specs.declared.terms.Term.{Term, Var, Node}
-use Rattle.sort_terms.specs.declared.terms.Term.TheOpen.{Term-F}
-use Rattle.sort_terms.specs.declared.terms.Term.TheVariants.{rolls-Node, rolls-Var}
-use Rattle.sort_terms.specs.declared.terms.Term.TheViews.{out-roll-Term}
+use Rattle.sort_terms.specs.ProfiledTerm.{ProfiledTerm, bare, profiled_node}
+use Rattle.sort_terms.specs.TermView.{all_profiled, profiled_of, term_of, terms_of}
+use Rattle.sort_terms.specs.declared.terms.Term.{Term}
 use Rattle.term_match.proofs.MatchLemmas.{search_is_match}
 use Rattle.term_match.proofs.SearchLemmas.{Pairs}
 use Rattle.path_order.specs.RuleView.{rule_of}
@@ -27,7 +21,7 @@ use Rattle.value_lists.specs.RootTest.{no_rule_matches}
 use Rattle.value_lists.specs.Search as plain
 use Rattle.value_lists.specs.Search.{kept, found_behind, found_by}
 use Rattle.value_lists.specs.TermOrder.{term_size, term_sizes}
-use Rattle.value_lists.specs.TrialView.{applied_in, arguments_at, arguments_in, found_here, found_next, found_through, HasPlace, IsPart, leaves_over_at, profiled_value, sorts_behind, sorts_of, suits_at, trial_of, values_in}
+use Rattle.value_lists.specs.TrialView.{applied_in, found_here, found_next, found_through, HasPlace, IsPart, leaves_over_at, profiled_value, sorts_behind, sorts_of, suits_at, trial_of, values_in}
 use Rattle.value_lists.specs.declared.list_fault.ListFault.{ListFault}
 use Rattle.value_lists.specs.declared.list_fault.ListFault.TheVariants.{TooManyValues, TooManyInstances, NoMemory}
 use Rattle.value_lists.specs.declared.trials.Trial.{Trial}
@@ -78,16 +72,11 @@ fault_handed (Err e) fault P Q is onward means =
     go TooManyInstances h = h
     go NoMemory h = tt
 
--- ---- The arguments of a term
-
-pub node_arguments : (f : ℕ) (profile : Rc Op Global) (ts : Vec Term Global) → arguments_in (Node f profile ts) ≡ ts.items
-node_arguments f profile ts =
-    ap arguments_in (sym (rolls-Node f profile ts)) ∙ ap arguments_at (out-roll-Term (Term-F.Node f profile ts))
-
-pub variable_arguments : (n s : ℕ) → arguments_in (Var n s) ≡ []
-variable_arguments n s = ap arguments_in (sym (rolls-Var n s)) ∙ ap arguments_at (out-roll-Term (Term-F.Var n s))
-
 -- ---- What is kept
+
+-- copies of the chosen arguments
+pub applied_same : (self : Trial) (xs ys : List Term) → all_profiled xs ≡ all_profiled ys → applied_in self xs ≡ applied_in self ys
+applied_same self xs ys same = ap (profiled_node (trial_of self).number (trial_of self).operation) same
 
 kept_not : (trial : plain.Trial) (chosen : List ProfiledTerm) (left : ℕ) → left ≡ 0
     → trial.keeps (plain.applied trial chosen) ≡ false → kept trial chosen left ≡ []

@@ -4,8 +4,7 @@ use Rattle.path_order.specs.RulesView.{plain_rules_in}
 use Rattle.sort_terms.specs.Operations.{operation_of}
 use Rattle.sort_terms.specs.ProfiledTerm.{ProfiledTerm, bare}
 use Rattle.sort_terms.specs.TermView.{profiled_of, terms_of}
-use Rattle.sort_terms.specs.declared.terms.Term.{Term, out-Term}
-use Rattle.sort_terms.specs.declared.terms.Term.TheOpen.{Term-F}
+use Rattle.sort_terms.specs.declared.terms.Term.{Term}
 use Rattle.value_lists.specs.RootTest.{no_rule_matches}
 use Rattle.value_lists.specs.Search as plain
 use Rattle.value_lists.specs.Search.{found_behind, found_by, applied, kept, suits}
@@ -28,14 +27,6 @@ trial_of trial = record {
   number = trial.op;
   operation = operation_of trial.profile.now.value;
 }
-
--- the arguments of a term
-abbrev pub arguments_at : Term-F Term → List Term
-arguments_at (Term-F.Var number sort) = []
-arguments_at (Term-F.Node operation profile arguments) = arguments.items
-
-abbrev pub arguments_in : Term → List Term
-arguments_in t = arguments_at (out-Term t)
 
 -- the sorts of its arguments, and of those behind the chosen ones
 abbrev pub sorts_of : Trial → List ℕ

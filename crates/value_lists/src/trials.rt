@@ -23,7 +23,6 @@ ghost use Rattle.value_lists.specs.RootTest.{no_rule_matches};
 ghost use Rattle.value_lists.specs.Search.{found_for, suits};
 ghost use Rattle.value_lists.specs.TrialView.{
   applied_in,
-  arguments_in,
   found_here,
   found_next,
   found_through,
@@ -40,9 +39,9 @@ use crate::list_fault::ListFault;
 use crate::value::Value;
 use lotos_base::NoMemory;
 use path_order::Rules;
-use sort_terms::{Op, Parts, Term};
+use sort_terms::copying::copies;
+use sort_terms::{Op, Term};
 use std::alloc::Global;
-use std::mem;
 use std::rc::Rc;
 use term_rewriter::first_match::first_match;
 
@@ -143,8 +142,8 @@ impl Trial<'_> {
         Ok(())
     }
 
-    // Adds the operation on the chosen arguments, if nothing is left and no rule matches it. It is
-    // tried on the arguments themselves, which are given back, and copied only if it is added.
+    // Adds the operation on copies of the chosen arguments, if nothing is left and no rule matches
+    // it.
     fn keep(
         &self,
         chosen: &mut Vec<Term>,
@@ -164,21 +163,16 @@ impl Trial<'_> {
             return Ok(());
         }
         let alloc = *chosen.allocator();
-        let term = self.applied(mem::replace(chosen, Vec::new(alloc)))?;
+        let term = self.applied(copies(chosen)?)?;
         let kept = is_kept(alloc, self.rules, &term)?;
         if !kept {
-            *chosen = arguments_of(alloc, term);
             return Ok(());
         }
         if found.len() == self.room {
             return Err(ListFault::TooManyValues);
         }
         let size = self.size;
-        found.push(Value {
-            term: term.copy()?,
-            size,
-        })?;
-        *chosen = arguments_of(alloc, term);
+        found.push(Value { term, size })?;
         Ok(())
     }
 
@@ -209,25 +203,9 @@ impl Trial<'_> {
 
     // The operation on these arguments.
     fn applied(&self, arguments: Vec<Term>) -> Result<Term, NoMemory>
-        ensures applied { IfOk result
-            (λ t. profiled_of t ≡ applied_in self.now arguments.items) }
-        ensures same { IfOk result (λ t. arguments_in t ≡ arguments.items) }
+        ensures { IfOk result (λ t. profiled_of t ≡ applied_in self.now arguments.items) }
     {
-        Ok(Term::Node {
-            op: self.op,
-            profile: self.profile.clone()?,
-            arguments,
-        })
-    }
-}
-
-// The arguments of the term.
-fn arguments_of(alloc: Global, term: Term) -> Vec<Term>
-    ensures { result.items ≡ arguments_in term }
-{
-    match term.into_parts() {
-        Parts::Variable { .. } => Vec::new(alloc),
-        Parts::Operation { arguments, .. } => arguments,
+        Term::node(self.op, self.profile.clone()?, arguments)
     }
 }
 

@@ -33,11 +33,11 @@ use std::rc::Rc;
 /// `TooManyValues` comes exactly where there are more than 2,000 values of that size, over all
 /// sorts; it comes as soon as the next one is found. Until then each operation is tried once on
 /// each list of values that it can have for its arguments and whose sizes are together less than
-/// `size`: where there are `v` values, one with `n` arguments at most `v` to the power `n` times. At
-/// size 64 the operations of the shipped numbers are tried 18,000 times, and one with three numbers
-/// as its arguments 40,000 times besides, which takes a third of a second. Tries do not count as
-/// values: 2,000 constants and such an operation, which rules always reduce, are 8,000,000,000
-/// tries, and so hours.
+/// `size`: where there are `v` values, one with `n` arguments at most `v` to the power `n` times.
+/// At size 64 the operations of the shipped numbers are tried 18,000 times, and one with three
+/// numbers as its arguments 40,000 times besides, which takes a third of a second. Tries do not
+/// count as values: 2,000 constants and such an operation, which rules always reduce, are
+/// 8,000,000,000 tries, and so hours.
 pub fn values_of(
     alloc: Global,
     signature: &Signature,

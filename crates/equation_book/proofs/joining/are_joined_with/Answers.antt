@@ -1,4 +1,4 @@
-use Rattle.std.proofs.Common.{List, [], ap, sym, ◌∙◌, subst}
+use Rattle.std.proofs.Common.{List, ap, sym, ◌∙◌, subst}
 use Rattle.std.specs.Prelude.{Option, IfNone, slice_get}
 use Rattle.rewriting_theory.specs.Places.{places_with}
 use Rattle.path_order.specs.RulesView.{plain_rules_in, signature_in}

@@ -1,8 +1,15 @@
-use Rattle.std.proofs.Common.{◌≡◌, ◌++◌, drop, map}
+use Rattle.std.proofs.Common.{◌≡◌, ◌+◌, ◌*◌, ◌++◌, drop, map}
+use Rattle.sort_terms.specs.TermSize.{size_of, sizes_of}
 use Rattle.sort_terms.specs.TermView.{terms_of}
 use Rattle.equation_book.specs.NodePlaces.{argument_places}
 use Rattle.equation_book.specs.PairView.{node_place_of}
 use Rattle.equation_book.proofs.places.+places.Given as goal
+
+abbrev pub decreases-places_below : goal.decreases-places_below
+decreases-places_below l = 2 * size_of l.term.now
+
+abbrev pub decreases-places_among : goal.decreases-places_among
+decreases-places_among l = 2 * sizes_of l.terms.now.items + 1
 
 abbrev pub invariant-places_among-loop-i : goal.invariant-places_among-loop-i
 invariant-places_among-loop-i l =

@@ -3,9 +3,7 @@ use Rattle.std.proofs.lemmas.Result.{on_ok_weaker}
 use Rattle.sort_terms.specs.MadeTerms.{made_of}
 use Rattle.sort_terms.specs.Operations.{operation_of}
 use Rattle.sort_terms.specs.ProfiledTerm.{profiled_node}
-use Rattle.sort_terms.specs.TermView.{all_profiled}
-use Rattle.sort_terms.specs.declared.terms.Term.{Node}
-use Rattle.sort_terms.proofs.BuiltLists.{profiled_Node}
+use Rattle.sort_terms.specs.TermView.{all_profiled, profiled_of}
 use Rattle.sort_terms.proofs.CopyLemmas.{head_copied, made_more}
 use Rattle.event_offers.specs.Rebuilt.{rebuilt_by, turns, turns_of, with_rebuilt}
 use Rattle.event_offers.specs.declared.rebuilding.Rebuilding.{Rebuilding}
@@ -31,16 +29,15 @@ pub returns-in_ok-push-in-Head-clause-same : goal.returns-in_ok-push-in-Head-cla
 returns-in_ok-push-in-Head-clause-same g c =
     let values = g.R.Replacing.put_for c.args.values.now in
     let rest = c.taken.new.made.items in
-    let arguments = c.in_ok-taken-in-Head.field-0 in
-    let profile = c.in_ok-clone-in-Head.field-0 in
+    let arguments = c.in_ok-parts-in-Head.parts in
     ap (rebuilt_by values c.args.left.now.items)
-    (made_more c.push.new.self.items rest (Node c.in-Head.op profile arguments) c.in_ok-push-in-Head.ensures.items
-    ∙ ap (λ t. t ∷ made_of rest) (profiled_Node c.in-Head.op profile arguments)
+    (made_more c.push.new.self.items rest c.in_ok-term-in-Head.term c.in_ok-push-in-Head.ensures.items
+    ∙ ap (λ t. t ∷ made_of rest) (ap profiled_of c.in_ok-term-in-Head.ensures)
     ∙ ap (λ value. profiled_node c.in-Head.op (operation_of value) (all_profiled arguments.items) ∷ made_of rest)
     c.in_ok-clone-in-Head.ensures.cases
     ∙ sym (head_copied c.in-Head.op c.in-Head.count c.in-Head.profile.now arguments.items (made_of rest)
-    (sym c.in_ok-taken-in-Head.ensures.0))
-    ∙ ap (with_rebuilt values (Head c.in-Head.op c.in-Head.profile c.in-Head.count)) (sym c.in_ok-taken-in-Head.ensures.1)
+    (sym c.in_ok-parts-in-Head.ensures.0))
+    ∙ ap (with_rebuilt values (Head c.in-Head.op c.in-Head.profile c.in-Head.count)) (sym c.in_ok-parts-in-Head.ensures.1)
     ∙ ap (λ next. with_rebuilt values next (made_of c.args.made.now.items)) (sym c.in-Head.is))
 
 pub returns-in_ok-push-in-Head-clause-less : goal.returns-in_ok-push-in-Head-clause-less

@@ -1,10 +1,14 @@
 use Rattle.std.proofs.Common.{◌≡◌, take}
+use Rattle.sort_terms.specs.TermSize.{size_of}
 use Rattle.sort_terms.specs.TermView.{term_of, terms_of}
 use Rattle.lotos_base.specs.Term.{node}
 use Rattle.path_order.specs.ComparedView.{all_tables, tables_behind}
 use Rattle.path_order.specs.Comparison.{IsToldOf, all_compared}
 use Rattle.path_order.specs.PrecedenceView.{precedence_of}
 use Rattle.path_order.proofs.comparing.+over.Given as goal
+
+abbrev pub decreases-over : goal.decreases-over
+decreases-over l = size_of l.other.now
 
 abbrev pub invariant-loop-position : goal.invariant-loop-position
 invariant-loop-position l =

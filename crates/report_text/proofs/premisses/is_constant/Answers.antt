@@ -12,5 +12,5 @@ returns-else-is_empty c =
     c.if-is_empty.false
     ∙ sym (ap (λ (truth : Option ℕ). is_constant truth (term_of c.args.term.now)) c.in-Some.is
     ∙ ap (λ (term : Term). is_constant (Some c.in-Some.constant) (term_of term)) c.in-Node.is
-    ∙ no_constant c.in-Some.constant c.in-Node.op c.in-Node.profile c.in-Node.arguments
-    (filled_list c.in-Node.arguments.items _ c.in-Node.arguments.ok.0 (sym c.is_empty.ensures ∙ c.if-is_empty.false)))
+    ∙ no_constant c.in-Some.constant c.in-Node.op c.in-Node.profile c.in-Node.arguments c.items.result.now.items c.items.ensures
+    (filled_list c.items.result.now.items _ c.items.result.now.ok.0 (sym c.is_empty.ensures ∙ c.if-is_empty.false)))

@@ -1,8 +1,15 @@
-use Rattle.std.proofs.Common.{◌≡◌, take}
+use Rattle.std.proofs.Common.{◌≡◌, ◌+◌, ◌*◌, take}
 use Rattle.lotos_base.specs.Substitution.{all_substituted}
+use Rattle.sort_terms.specs.TermSize.{size_of, sizes_of}
 use Rattle.sort_terms.specs.TermView.{terms_of}
 use Rattle.same_behaviours.specs.Placings.{values_of}
 use Rattle.same_behaviours.proofs.terms.+both.Given as goal
+
+abbrev pub decreases-same_terms : goal.decreases-same_terms
+decreases-same_terms l = 2 * size_of l.term.now
+
+abbrev pub decreases-all_same_terms : goal.decreases-all_same_terms
+decreases-all_same_terms l = 2 * sizes_of l.terms.now.items + 1
 
 abbrev pub invariant-all_same_terms-loop-i : goal.invariant-all_same_terms-loop-i
 invariant-all_same_terms-loop-i l =

@@ -1,8 +1,15 @@
-use Rattle.std.proofs.Common.{◌≡◌, take}
+use Rattle.std.proofs.Common.{◌≡◌, ◌+◌, ◌*◌, take}
 use Rattle.lotos_base.specs.Substitution.{all_substituted}
+use Rattle.sort_terms.specs.TermSize.{size_of, sizes_of}
 use Rattle.sort_terms.specs.TermView.{terms_of}
 use Rattle.same_behaviours.specs.Placings.{values_of}
 use Rattle.same_behaviours.proofs.terms.+placed.Given as goal
+
+abbrev pub decreases-is_placed : goal.decreases-is_placed
+decreases-is_placed l = 2 * size_of l.other.now
+
+abbrev pub decreases-are_placed : goal.decreases-are_placed
+decreases-are_placed l = 2 * sizes_of l.others.now.items + 1
 
 abbrev pub invariant-are_placed-loop-i : goal.invariant-are_placed-loop-i
 invariant-are_placed-loop-i l =

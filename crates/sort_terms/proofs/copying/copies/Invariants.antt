@@ -1,12 +1,6 @@
-use Rattle.std.proofs.Common.{◌≡◌, map}
-use Rattle.sort_terms.specs.Copied.{copied, turns_of}
-use Rattle.sort_terms.specs.MadeTerms.{made_of}
-use Rattle.sort_terms.specs.TermView.{profiled_of}
+use Rattle.std.proofs.Common.{◌≡◌, take}
+use Rattle.sort_terms.specs.TermView.{all_profiled}
 use Rattle.sort_terms.proofs.copying.copies.Given as goal
 
--- when all is done the terms are made
-abbrev pub invariant-loop-next : goal.invariant-loop-next
-invariant-loop-next l = copied l.left.items (made_of l.made.items) ≡ map profiled_of l.terms.items
-
-abbrev pub decreases-loop-next : goal.decreases-loop-next
-decreases-loop-next l = turns_of l.left.items
+abbrev pub invariant-loop-term : goal.invariant-loop-term
+invariant-loop-term l = all_profiled l.made.items ≡ all_profiled (take l.term-index l.term-items)

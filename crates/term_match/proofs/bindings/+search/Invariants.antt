@@ -1,8 +1,15 @@
-use Rattle.std.proofs.Common.{◌≡◌, drop}
+use Rattle.std.proofs.Common.{◌≡◌, drop, ◌+◌, ◌*◌}
+use Rattle.sort_terms.specs.TermSize.{size_of, sizes_of}
 use Rattle.sort_terms.specs.TermView.{all_profiled}
 use Rattle.term_match.specs.FoundView.{found_pairs}
 use Rattle.term_match.specs.Search.{all_searched}
 use Rattle.term_match.proofs.bindings.+search.Given as goal
+
+abbrev pub decreases-search : goal.decreases-search
+decreases-search l = 2 * size_of l.pattern.now
+
+abbrev pub decreases-search_all : goal.decreases-search_all
+decreases-search_all l = 2 * sizes_of l.patterns.now.items + 1
 
 abbrev pub invariant-search_all-loop-i : goal.invariant-search_all-loop-i
 invariant-search_all-loop-i l =

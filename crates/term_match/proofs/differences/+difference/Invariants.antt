@@ -1,7 +1,14 @@
-use Rattle.std.proofs.Common.{◌≡◌, ◌≤◌, length, drop}
+use Rattle.std.proofs.Common.{◌≡◌, ◌≤◌, length, drop, ◌+◌, ◌*◌}
+use Rattle.sort_terms.specs.TermSize.{size_of, sizes_of}
 use Rattle.sort_terms.specs.TermView.{all_profiled}
 use Rattle.term_match.specs.Disagreement.{disagreements}
 use Rattle.term_match.proofs.differences.+difference.Given as goal
+
+abbrev pub decreases-differ : goal.decreases-differ
+decreases-differ l = 2 * size_of l.left.now
+
+abbrev pub decreases-differ_among : goal.decreases-differ_among
+decreases-differ_among l = 2 * sizes_of l.terms.now.items + 1
 
 abbrev pub invariant-differ_among-loop-i : goal.invariant-differ_among-loop-i
 invariant-differ_among-loop-i l = record {

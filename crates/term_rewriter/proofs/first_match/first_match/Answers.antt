@@ -4,7 +4,8 @@ use Rattle.std.specs.Option.{option_map}
 use Rattle.std.proofs.lemmas.Option.{slice_get-get_or}
 use Rattle.lotos_base.proofs.Members.{numbers_more, read_at}
 use Rattle.sort_terms.specs.SortedView.{profiled_in}
-use Rattle.sort_terms.specs.TermView.{profiled_of, term_of, terms_of}
+use Rattle.sort_terms.specs.ProfiledTerm.{all_bare}
+use Rattle.sort_terms.specs.TermView.{profiled_of, term_of}
 use Rattle.sort_terms.specs.declared.terms.Term.{Term}
 use Rattle.term_match.specs.FoundView.{found_pairs}
 use Rattle.term_match.specs.Search.{searched}
@@ -37,7 +38,7 @@ returns-in-Some c =
     ∙ (λ i. searched (profiled_of (c.term-left.ensures i)) (profiled_of c.args.term.now) (found_pairs (c.new.ensures.items i)))) in
     record {
       pairs = found_pairs c.in-Some.field-0.items;
-      is_first = is_first c.args.rules.now c.in-Node.op (terms_of c.in-Node.arguments.items) (profiled_of c.args.term.now) candidates
+      is_first = is_first c.args.rules.now c.in-Node.op (all_bare c.in-Node.arguments) (profiled_of c.args.term.now) candidates
           c.loop-number.number-index (get_or candidates c.loop-number.number-index 0) c.rule_at.result.now
           (found_pairs c.in-Some.field-0.items)
           (ap term_of c.in-Node.is ∙ term_of-Node c.in-Node.op c.in-Node.profile c.in-Node.arguments) c.headed-candidates.ensures
@@ -61,7 +62,7 @@ loop-number-preserved c = λ k m before at.
 pub returns : goal.returns
 returns c =
     let all : length c.headed-candidates.result.now ≡ c.loop-number.number-index = omega arith in
-    none_matches c.args.rules.now c.in-Node.op (terms_of c.in-Node.arguments.items) (profiled_of c.args.term.now)
+    none_matches c.args.rules.now c.in-Node.op (all_bare c.in-Node.arguments) (profiled_of c.args.term.now)
     c.headed-candidates.result.now c.loop-number.number-index
     (ap term_of c.in-Node.is ∙ term_of-Node c.in-Node.op c.in-Node.profile c.in-Node.arguments) c.headed-candidates.ensures
     c.loop-number.invariant all

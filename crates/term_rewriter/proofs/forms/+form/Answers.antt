@@ -9,7 +9,7 @@ use Rattle.sort_terms.specs.TermSize.{whole_of}
 use Rattle.sort_terms.specs.TermView.{profiled_of, all_profiled}
 use Rattle.sort_terms.specs.declared.terms.Term.{Term}
 use Rattle.sort_terms.proofs.CountedLemmas.{of_none, of_some}
-use Rattle.sort_terms.proofs.BuiltLists.{profiled_Node, profiled_Var}
+use Rattle.sort_terms.proofs.BuiltLists.{node_with_items, profiled_Node, profiled_Var}
 use Rattle.term_rewriter.specs.FirstMatch.{NoneMatches, IsFirstRule}
 use Rattle.term_rewriter.proofs.FormLemmas.{variable_done, matched_within, no_forms, argument_asked, argument_made, argument_lacks, all_made}
 use Rattle.term_rewriter.proofs.RootLemmas.{ready_done, next_right, begun_under, whole_leads}
@@ -70,12 +70,13 @@ pub begun-loop-argument-init : goal.begun-loop-argument-init
 begun-loop-argument-init t c =
     no_forms c.args.rules.now (profiled_of c.args.shape.now) (profiled_of c.args.instance) c.in-Operation.op c.in-Node.op
     (operation_of c.in-Operation.profile.value) (operation_of c.in-Node.profile.value) c.deref-argument-items.result.now
-    c.in-Operation.arguments.items (into_iter_items c.into_iter-rest.result) c.in_ok-forms-in-Operation.forms.items
-    (ap profiled_of c.in-Node.is ∙ profiled_Node c.in-Node.op c.in-Node.profile c.in-Node.shapes
+    c.in_ok-parts-in-Operation.parts.items (into_iter_items c.into_iter-rest.result) c.in_ok-forms-in-Operation.forms.items
+    (node_with_items _ c.in-Node.op c.in-Node.profile c.in-Node.shapes c.items.result.now.items c.in-Node.is c.items.ensures
     ∙ ap (λ (ts : List Term). profiled_node c.in-Node.op (operation_of c.in-Node.profile.value) (all_profiled ts))
     (sym c.deref-argument-items.ensures.value))
     (ap profiled_of (sym c.into_parts.ensures ∙ ap whole_of c.in-Operation.is)
-    ∙ profiled_Node c.in-Operation.op c.in-Operation.profile c.in-Operation.arguments)
+    ∙ profiled_Node c.in-Operation.op c.in-Operation.profile c.in-Operation.arguments
+    ∙ ap (profiled_node c.in-Operation.op (operation_of c.in-Operation.profile.value)) (sym c.in_ok-parts-in-Operation.ensures))
     c.into_iter-rest.ensures.rest c.in_ok-forms-in-Operation.ensures.items c.requires.values
 
 pub begun-form-requires : goal.begun-form-requires
@@ -114,14 +115,14 @@ begun-loop-argument-preserved t c =
           (sym c.loop-argument.rest.rest.ok.0 ∙ w.in_default-next.ensures.cases.0)) c.loop-argument.invariant)
     ]
 
-pub begun-returns-after-loop-argument : goal.begun-returns-after-loop-argument
-begun-returns-after-loop-argument t c =
+pub begun-returns-in_ok-node-in-Operation : goal.begun-returns-in_ok-node-in-Operation
+begun-returns-in_ok-node-in-Operation t c =
     let xs = c.deref-argument-items.result.now in
     let end : c.loop-argument.argument-index ≡ length c.deref-argument-items.result.now =
     omega (arith, c.loop-argument-test.false, c.loop-argument.auto.argument-index-end) in
     whole_leads c.args.rules.now (profiled_of c.args.instance) _ c.in-Operation.op
     (operation_of c.in-Operation.profile.value) c.loop-argument.forms.items
-    (profiled_Node c.in-Operation.op c.in-Operation.profile c.loop-argument.forms) c.requires.term
+    (ap profiled_of c.in_ok-node-in-Operation.ensures) c.requires.term
     (all_made c.args.rules.now (profiled_of c.args.instance) c.in-Operation.op
     (operation_of c.in-Operation.profile.value) (drop c.loop-argument.argument-index xs) (into_iter_items c.loop-argument.rest)
     c.loop-argument.forms.items (nothing_left xs c.loop-argument.argument-index end) c.loop-argument.invariant)

@@ -2,12 +2,13 @@ use Rattle.std.proofs.Common.{arith, refl, ap, ◌∙◌, ◌≡◌, ◌≤◌, 
 use Rattle.sort_terms.specs.Operations.{operation_of}
 use Rattle.sort_terms.specs.TermView.{profiled_of, all_profiled}
 use Rattle.sort_terms.specs.declared.terms.Term.{Term}
+use Rattle.sort_terms.proofs.BuiltLists.{node_with_items}
 use Rattle.term_store.specs.Cells.{variable_key}
 use Rattle.term_store.specs.Numbered.{TakeIn, AreInstancesOf, numbers_in, values_of}
 use Rattle.term_store.specs.SharedView.{keys_in}
 use Rattle.term_store.proofs.NumberingLemmas.{known_number, variable_taken, variable_number, readied_behind, operation_taken, operation_number, IsNumberedSoFar, numbered_one, numbered_not, numbered_taken, numbered_all, below_grown}
 use Rattle.term_store.proofs.SizeLemmas.{size, sizes, member_size}
-use Rattle.term_store.proofs.ValueLemmas.{profiled_of-Var, profiled_of-Node, profiled_rest, profiled_end}
+use Rattle.term_store.proofs.ValueLemmas.{profiled_of-Var, profiled_rest, profiled_end}
 use Rattle.term_store.proofs.instances.+instance.Goals as goal
 
 pub instance_by-returns-in-Some-clause-number : goal.instance_by-returns-in-Some-clause-number
@@ -33,12 +34,12 @@ instance_by-returns-in_ok-add_instances-in-Node-clause-takes t c =
     let values = values_of c.args.pairs.now (keys_in c.args.shared.now) in
     let start : c.len-start.result ≡ length c.args.key.now.items = omega (arith, c.len-start.ensures, c.args.key.now.ok.0) in
     operation_taken values (profiled_of c.args.term.now) c.in-Node.op (operation_of c.in-Node.profile.value)
-    (all_profiled c.in-Node.arguments.items) (keys_in c.args.shared.now) (keys_in c.add_instances.new.shared)
+    (all_profiled c.items.result.now.items) (keys_in c.args.shared.now) (keys_in c.add_instances.new.shared)
     (drop c.len-start.result c.add_instances.new.key.items) (keys_in c.number_behind.new.shared)
-    (ap profiled_of c.in-Node.is ∙ profiled_of-Node c.in-Node.op c.in-Node.profile c.in-Node.arguments)
-    (readied_behind values c.in-Node.op (all_profiled c.in-Node.arguments.items) (keys_in c.args.shared.now)
-    (keys_in c.add_instances.new.shared) c.args.key.now.items c.begin.new.key.items c.add_instances.new.key.items c.len-start.result
-    start c.in_ok-begin-in-Node.ensures c.add_instances.ensures.takes c.in_ok-add_instances-in-Node.ensures.numbers)
+    (node_with_items _ c.in-Node.op c.in-Node.profile c.in-Node.arguments c.items.result.now.items c.in-Node.is c.items.ensures)
+    (readied_behind values c.in-Node.op (all_profiled c.items.result.now.items) (keys_in c.args.shared.now)
+    (keys_in c.add_instances.new.shared) c.args.key.now.items c.begin_key.new.key.items c.add_instances.new.key.items c.len-start.result
+    start c.in_ok-begin_key-in-Node.ensures c.add_instances.ensures.takes c.in_ok-add_instances-in-Node.ensures.numbers)
     c.number_behind.ensures.more
 
 pub instance_by-returns-in_ok-add_instances-in-Node-clause-number : goal.instance_by-returns-in_ok-add_instances-in-Node-clause-number
@@ -46,12 +47,12 @@ instance_by-returns-in_ok-add_instances-in-Node-clause-number t c =
     let values = values_of c.args.pairs.now (keys_in c.args.shared.now) in
     let start : c.len-start.result ≡ length c.args.key.now.items = omega (arith, c.len-start.ensures, c.args.key.now.ok.0) in
     operation_number values (profiled_of c.args.term.now) c.in-Node.op (operation_of c.in-Node.profile.value)
-    (all_profiled c.in-Node.arguments.items) (keys_in c.args.shared.now) (keys_in c.add_instances.new.shared)
+    (all_profiled c.items.result.now.items) (keys_in c.args.shared.now) (keys_in c.add_instances.new.shared)
     (drop c.len-start.result c.add_instances.new.key.items) (keys_in c.number_behind.new.shared) c.number_behind.result
-    (ap profiled_of c.in-Node.is ∙ profiled_of-Node c.in-Node.op c.in-Node.profile c.in-Node.arguments)
-    (readied_behind values c.in-Node.op (all_profiled c.in-Node.arguments.items) (keys_in c.args.shared.now)
-    (keys_in c.add_instances.new.shared) c.args.key.now.items c.begin.new.key.items c.add_instances.new.key.items c.len-start.result
-    start c.in_ok-begin-in-Node.ensures c.add_instances.ensures.takes c.in_ok-add_instances-in-Node.ensures.numbers)
+    (node_with_items _ c.in-Node.op c.in-Node.profile c.in-Node.arguments c.items.result.now.items c.in-Node.is c.items.ensures)
+    (readied_behind values c.in-Node.op (all_profiled c.items.result.now.items) (keys_in c.args.shared.now)
+    (keys_in c.add_instances.new.shared) c.args.key.now.items c.begin_key.new.key.items c.add_instances.new.key.items c.len-start.result
+    start c.in_ok-begin_key-in-Node.ensures c.add_instances.ensures.takes c.in_ok-add_instances-in-Node.ensures.numbers)
     c.number_behind.ensures.more c.number_behind.ensures.stands
 
 pub add_instances-instance_by-requires : goal.add_instances-instance_by-requires

@@ -1,10 +1,10 @@
-use Rattle.std.proofs.Common.{arith, ap, ◌<◌, ◌∙◌, length}
+use Rattle.std.proofs.Common.{arith, ◌<◌, ◌∙◌, length}
 use Rattle.sort_terms.specs.Operations.{operation_of}
 use Rattle.sort_terms.specs.TermView.{profiled_of, all_profiled}
 use Rattle.term_store.specs.SharedView.{keys_in}
 use Rattle.term_store.proofs.SearchLemmas.{counts_differ, members_below, member_below}
 use Rattle.term_store.proofs.SizeLemmas.{node_size, member_size}
-use Rattle.term_store.proofs.ValueLemmas.{profiled_of-Node}
+use Rattle.sort_terms.proofs.BuiltLists.{node_with_items}
 use Rattle.term_store.proofs.matching.+search.Goals as goal
 
 pub search_all-returns-then-len-numbers : goal.search_all-returns-then-len-numbers
@@ -15,8 +15,8 @@ search_all-returns-then-len-numbers t c =
 pub search-search_all-requires : goal.search-search_all-requires
 search-search_all-requires t c =
     let less = node_size (profiled_of c.args.pattern.now) c.in-Node.op (operation_of c.in-Node.profile.value)
-    (all_profiled c.in-Node.arguments.items)
-    (ap profiled_of c.in-Node.is ∙ profiled_of-Node c.in-Node.op c.in-Node.profile c.in-Node.arguments) in (
+    (all_profiled c.items.result.now.items)
+    (node_with_items _ c.in-Node.op c.in-Node.profile c.in-Node.arguments c.items.result.now.items c.in-Node.is c.items.ensures) in (
       omega (arith, less, c.decreases),
       (
         c.requires.cells,

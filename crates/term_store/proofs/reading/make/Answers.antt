@@ -1,6 +1,7 @@
 use Rattle.std.proofs.Common.{rules, arith, ◌<◌, ◌+◌, ◌∙◌, ap, length, subst, sym}
 use Rattle.std.proofs.lemmas.Result.{on_ok_weaker}
 use Rattle.sort_terms.specs.MadeTerms.{made_of}
+use Rattle.sort_terms.specs.TermView.{profiled_of}
 use Rattle.path_order.specs.RulesView.{signature_in}
 use Rattle.term_store.specs.Made.{all_made, number_in, turns, turns_of, with_made, with_operation}
 use Rattle.term_store.specs.SharedView.{keys_in}
@@ -56,8 +57,8 @@ index-requires c =
     c.args.profiles.now.items c.requires.profiled c.requires.have within c.in-Some.ensures in
     omega (arith, inside, c.args.profiles.now.ok.0)
 
-pub overflow_cast-term : goal.overflow_cast-term
-overflow_cast-term c =
+pub overflow_cast-op : goal.overflow_cast-op
+overflow_cast-op c =
     let within = subst (λ (next : Making). number_in next < length (keys_in c.args.shared.now)) c.in-Operation.is c.requires.within in
     let fits = operation_fits c.args.rules.now (keys_in c.args.shared.now) c.in-Operation.number c.in-Some.op c.in-Some.arguments.now
     c.requires.have within c.in-Some.ensures in
@@ -67,9 +68,10 @@ pub returns-in_ok-push-in-Some-clause-same : goal.returns-in_ok-push-in-Some-cla
 returns-in_ok-push-in-Some-clause-same c =
     let within = subst (λ (next : Making). number_in next < length (keys_in c.args.shared.now)) c.in-Operation.is c.requires.within in
     operation_made c.args.rules.now (keys_in c.args.shared.now) c.in-Operation.number c.in-Some.op c.in-Some.arguments.now
-    c.args.profiles.now.items c.index.result.now c.in_ok-clone-in-Some.field-0 c.in_ok-taken-in-Some.field-0 c.args.made.now.items
-    c.taken.new.made.items c.push.new.self.items c.args.left.now.items c.requires.profiled c.requires.have within c.in-Some.ensures
-    c.index.ensures c.in_ok-clone-in-Some.ensures.cases c.in_ok-taken-in-Some.ensures.0 c.in_ok-taken-in-Some.ensures.1
+    c.args.profiles.now.items c.index.result.now c.in_ok-clone-in-Some.field-0 c.in_ok-parts-in-Some.parts
+    c.in_ok-term-in-Some.term c.args.made.now.items c.taken.new.made.items c.push.new.self.items c.args.left.now.items
+    c.requires.profiled c.requires.have within c.in-Some.ensures c.index.ensures c.in_ok-clone-in-Some.ensures.cases
+    c.in_ok-parts-in-Some.ensures.0 c.in_ok-parts-in-Some.ensures.1 (ap profiled_of c.in_ok-term-in-Some.ensures)
     c.in_ok-push-in-Some.ensures.items
     ∙ ap (λ next. all_made (signature_in c.args.rules.now) (keys_in c.args.shared.now) c.args.left.now.items
     (with_made (signature_in c.args.rules.now) (keys_in c.args.shared.now) next (made_of c.args.made.now.items))) (sym c.in-Operation.is)

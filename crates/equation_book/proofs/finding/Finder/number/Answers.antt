@@ -12,3 +12,10 @@ returns-clause-finder c = record {
   profiled = c.requires.finder.profiled;
   sound = c.canonical.ensures.stay.sound;
 }
+
+pub returns-in_err-found-clause-finder : goal.returns-in_err-found-clause-finder
+returns-in_err-found-clause-finder c = record {
+  indexed = c.requires.finder.indexed;
+  profiled = c.requires.finder.profiled;
+  sound = c.canonical.ensures.stay.sound;
+}

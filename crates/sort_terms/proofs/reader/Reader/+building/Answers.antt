@@ -40,10 +40,11 @@ pub built_node-returns : goal.built_node-returns
 built_node-returns t c =
     built_operation c.args.self.now.signature.now.ops.items c.args.self.now.profiles.items c.args.number c.in-Some.profile.now
     c.in_ok-clone.field-0
-    c.in-Some-2.arguments _ c.args.self.now.profiled
+    c.in-Some-2.arguments c.in_ok-node.field-0 _ c.args.self.now.profiled
     (subst (λ ps. true ≡ ltb c.args.number (length ps)) c.deref.ensures.value c.in-Some.ensures.lookup.0)
     (subst (λ ps. c.in-Some.profile.now ≡ get_or ps c.args.number c.in-Some.profile.now) c.deref.ensures.value c.in-Some.ensures.lookup.1)
     c.in_ok-clone.ensures.cases
     (sym (ap (λ o. option_map (λ v. all_profiled v.items) o) c.in-Some-2.is) ∙ c.in_ok-arguments.ensures
     ∙ ap (λ (op : Op). all_built_from (signature_read c.args.self.now)
     (tables_of (out-Counted c.args.counted.now).arguments.items) op.arguments.items) c.deref-2.ensures)
+    (ap profiled_of c.in_ok-node.ensures)

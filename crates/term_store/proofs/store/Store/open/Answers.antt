@@ -12,6 +12,7 @@ invariant_of-result c = record {
   confluent = subst (λ (rules : List NumberedRule). ∥ AreConfluent (rules_of rules) ∥₁) (sym c.in_ok-rules.ensures.rules) c.requires;
   indexed = c.in_ok-index.ensures;
   sound = empty_sound c.in_ok-rules.rules c.new.result c.new.ensures.terms c.new.ensures.kept;
+  headed = c.heads_of-heads.ensures;
   profiled =
       c.in_ok-profiles.ensures ∙ ap (λ (ops : List Op). map operation_of ops) c.ops.ensures
       ∙ ap (λ (signature : Signature). map operation_of signature.ops.items) c.signature.ensures;
