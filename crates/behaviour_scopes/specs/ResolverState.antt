@@ -19,8 +19,8 @@ pub record State : Type 0 where
   pub process : ℕ
 
 -- before the first declaration of a text
-abbrev pub nothing_known : Signature → State
-nothing_known signature = record {
+abbrev pub nothing_declared : Signature → State
+nothing_declared signature = record {
   signature = signature;
   names = [];
   scope = record { gates = []; variables = []; processes = [] };

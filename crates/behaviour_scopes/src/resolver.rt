@@ -5,7 +5,7 @@ ghost use Rattle.sort_terms.specs.ReaderView.{signature_read};
 ghost use Rattle.sort_terms.specs.Reading.{IsScopeOver};
 ghost use Rattle.behaviour_semantics.specs.WellFormed.{Every};
 ghost use Rattle.behaviour_scopes.specs.ResolverState.{
-  nothing_known,
+  nothing_declared,
   seeing,
   with_first_variables,
   with_last_gates,
@@ -47,7 +47,7 @@ impl<'a> Resolver<'a> {
 
     /// Before the first declaration of a text.
     pub fn new(alloc: Global, terms: Terms<'a>) -> Resolver<'a>
-        ensures { state_in result ≡ nothing_known (signature_read terms.entry.reader) }
+        ensures { state_in result ≡ nothing_declared (signature_read terms.entry.reader) }
     {
         Resolver {
             terms,

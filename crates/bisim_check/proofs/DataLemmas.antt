@@ -10,7 +10,7 @@ use Rattle.sort_terms.specs.declared.operations.Sort.{Sort}
 use Rattle.sort_terms.specs.declared.sorted.Sorted.{Sorted}
 use Rattle.certificate_theory.specs.SameData.{AreSameSorts, AreSameOperations, AreSameEquations}
 use Rattle.bisim_check.specs.OneByOne.{OneByOne}
-use Rattle.bisim_check.specs.Agreeing.{AreOneSort, AreOneOp, AreOneRule, AreOneTerm}
+use Rattle.bisim_check.specs.Agreeing.{AgreeOnSort, AreOneOp, AreOneRule, AreOneTerm}
 
 -- ---- Member by member
 
@@ -46,10 +46,10 @@ module _ {X : Type 0} (R : X → X → Type 0) where
 
 -- ---- What they say of the plain lists
 
-pub same_sorts : (sorts others : List Sort) → OneByOne AreOneSort sorts others ↔ AreSameSorts (map sort_of sorts) (map sort_of others)
+pub same_sorts : (sorts others : List Sort) → OneByOne AgreeOnSort sorts others ↔ AreSameSorts (map sort_of sorts) (map sort_of others)
 same_sorts [] [] = ((λ h. h), (λ h. h))
 same_sorts (s ∷ sorts) (r ∷ others) =
-    let rest : OneByOne AreOneSort sorts others ↔ AreSameSorts (map sort_of sorts) (map sort_of others) = same_sorts sorts others in
+    let rest : OneByOne AgreeOnSort sorts others ↔ AreSameSorts (map sort_of sorts) (map sort_of others) = same_sorts sorts others in
     ((λ h. (h.0, rest.0 h.1)), (λ h. (h.0, rest.1 h.1)))
 same_sorts [] (r ∷ others) = ((λ h. h), (λ h. h))
 same_sorts (s ∷ sorts) [] = ((λ h. h), (λ h. h))
@@ -95,11 +95,11 @@ told_of : {X : Type 0} (R : X → X → Type 0) (r : Bool) (xs ys one other : Li
 told_of {X = X} R r xs ys one other e f h =
     subst (λ (it : List X). IsTrue r ↔ OneByOne R it other) e (subst (λ (it : List X). IsTrue r ↔ OneByOne R xs it) f h)
 
-pub sorts_told : (r : Bool) (xs ys one other : List Sort) → xs ≡ one → ys ≡ other → IsTrue r ↔ OneByOne AreOneSort xs ys
+pub sorts_told : (r : Bool) (xs ys one other : List Sort) → xs ≡ one → ys ≡ other → IsTrue r ↔ OneByOne AgreeOnSort xs ys
     → IsTrue r ↔ AreSameSorts (map sort_of one) (map sort_of other)
 sorts_told r xs ys one other e f h =
-    let told : IsTrue r ↔ OneByOne AreOneSort one other = told_of AreOneSort r xs ys one other e f h in
-    let same : OneByOne AreOneSort one other ↔ AreSameSorts (map sort_of one) (map sort_of other) = same_sorts one other in
+    let told : IsTrue r ↔ OneByOne AgreeOnSort one other = told_of AgreeOnSort r xs ys one other e f h in
+    let same : OneByOne AgreeOnSort one other ↔ AreSameSorts (map sort_of one) (map sort_of other) = same_sorts one other in
     ((λ t. same.0 (told.0 t)), (λ s. told.1 (same.1 s)))
 
 pub operations_told : (r : Bool) (xs ys one other : List Op) → xs ≡ one → ys ≡ other → IsTrue r ↔ OneByOne AreOneOp xs ys

@@ -15,7 +15,7 @@ use Rattle.same_behaviours.specs.Mixing.{mixed}
 use Rattle.certificate_theory.specs.Certificate.{ListedPair, AreListed}
 use Rattle.path_order.specs.HeadIndexView.{numbers_at}
 use Rattle.path_order.specs.declared.head_index.HeadIndex.{HeadIndex}
-use Rattle.bisim_check.specs.PairIndex.{bucket_of, AddsNumber, IsFiled, IsPairAt, IsPairIndex}
+use Rattle.bisim_check.specs.PairIndex.{bucket_of, AddsNumber, IsFiled, PairStandsAt, IsPairIndex}
 use Rattle.bisim_check.proofs.AnswerLemmas.{place_within}
 
 last_there : (xs : List ℕ) (n : ℕ) → slice_get (xs ++ (n ∷ [])) (length xs) ≡ Some n
@@ -68,7 +68,7 @@ found_filed pairs index b c filed h =
 
 pub none_filed : (pairs : List ListedPair) (index : HeadIndex) (b c : Behaviour) (numbers : List ℕ)
     → numbers ≡ numbers_at index (bucket_of b c) → IsPairIndex pairs index
-    → ((k n : ℕ) → k < length numbers → slice_get numbers k ≡ Some n → IsPairAt pairs b c n → ⊥) → AreListed pairs b c → ⊥
+    → ((k n : ℕ) → k < length numbers → slice_get numbers k ≡ Some n → PairStandsAt pairs b c n → ⊥) → AreListed pairs b c → ⊥
 none_filed pairs index b c numbers is filed none h =
     let there : IsFiled h.place numbers = subst (IsFiled h.place) (sym is) (found_filed pairs index b c filed h) in
     none there.position h.place (place_within numbers there.position h.place there.there) there.there

@@ -19,7 +19,7 @@ use Rattle.menu_builder.specs.HandedOn.{plain_entry, Entry}
 use Rattle.menu_builder.specs.Menus.{entries_in}
 use Rattle.bisim_check.specs.Events.{IsEventOf, HasNewEvent, IsUnanswered}
 use Rattle.bisim_check.specs.Matching.{Event, AreEvents, ListedTowards, AllAnswered}
-use Rattle.bisim_check.specs.Readings.{comparison_of, behaviour_at, pair_among, HasClosedEntries, HasClosedState, AreListedIn, IsKept, IsPlaced, ArePlaced}
+use Rattle.bisim_check.specs.Readings.{comparison_of, behaviour_at, pair_among, HasClosedEntries, HasClosedState, AreListedIn, IsKeptReading, IsPlacedPair, ArePlaced}
 use Rattle.bisim_check.specs.Surveys.{IsSideOf, IsSurveyed, AreSurveyed, behaviour_in, side_over}
 use Rattle.bisim_check.specs.declared.readings.Listed.{Listed}
 use Rattle.bisim_check.specs.declared.readings.Reading.{Reading}
@@ -81,7 +81,7 @@ surveyed_at data_ canon spec states n x all there = every_at (IsSurveyed data_ c
 
 -- all pairs have their states
 placed_all : (reading : Reading) (pairs : List Listed) → AreListedIn reading.lefts.items reading.rights.items pairs
-    → Every (IsPlaced reading) pairs
+    → Every (IsPlacedPair reading) pairs
 placed_all reading [] h = tt
 placed_all reading (p ∷ pairs) h = (
   record {
@@ -91,7 +91,7 @@ placed_all reading (p ∷ pairs) h = (
   placed_all reading pairs h.1,
 )
 
-pub all_placed : (data_ : Data) (canon : Term → Term) (left right : Spec) (reading : Reading) → IsKept data_ canon left right reading
+pub all_placed : (data_ : Data) (canon : Term → Term) (left right : Spec) (reading : Reading) → IsKeptReading data_ canon left right reading
     → ArePlaced reading
 all_placed data_ canon left right reading kept = placed_all reading reading.pairs.items kept.pairs
 

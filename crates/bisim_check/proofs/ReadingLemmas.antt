@@ -18,10 +18,10 @@ use Rattle.certificate_theory.specs.NamedStates.{IsClosedEntry, HasClosedMenu, H
 use Rattle.certificate_theory.proofs.ReadStates.{lines_counted}
 use Rattle.menu_builder.specs.HandedOn.{plain_entry, Entry}
 use Rattle.menu_builder.specs.Menus.{entries_in}
-use Rattle.bisim_check.specs.Faults.{TellsFault}
+use Rattle.bisim_check.specs.Faults.{TellsPairs}
 use Rattle.bisim_check.specs.LineView.{line_of}
 use Rattle.bisim_check.specs.NamedOnes.{HasNewState}
-use Rattle.bisim_check.specs.Readings.{comparison_of, behaviour_at, pair_among, pairs_among, reading_of, IsClosedOne, HasClosedEntries, HasClosedState, IsListed, AreListedIn, IsKept, IsOpenFault}
+use Rattle.bisim_check.specs.Readings.{comparison_of, behaviour_at, pair_among, pairs_among, reading_of, IsClosedOne, HasClosedEntries, HasClosedState, IsListedPair, AreListedIn, IsKeptReading, IsOpenFault}
 use Rattle.bisim_check.specs.Surveys.{IsSurveyed, AreSurveyed, behaviour_in, behaviours_in, side_over}
 use Rattle.bisim_check.specs.declared.faults.PairsFault.{PairsFault}
 use Rattle.bisim_check.specs.declared.lines.PairLine.{PairLine}
@@ -118,7 +118,7 @@ pair_more lefts rights pairs number i j one other here there =
 -- ---- One line
 
 module _ (data_ : Data) (canon : Term → Term) (left right : Spec) (b c : Behaviour) (old : Reading)
-    (kept : IsKept data_ canon left right old) where
+    (kept : IsKeptReading data_ canon left right old) where
   left_read : (states : Vec Surveyed Global) (number from entry : ℕ)
       → HasNewState (side_over data_ canon left) from entry old.lefts.items states.items
       → LineIsRead (comparison_of data_ canon left right b c) (reading_of old) number (names_left from entry)
@@ -149,29 +149,31 @@ module _ (data_ : Data) (canon : Term → Term) (left right : Spec) (b c : Behav
   pub left_told : {T : Type 0} (r : Result T PairsFault) (states : Vec Surveyed Global) (line : PairLine) (number from entry : ℕ)
       → line ≡ Left from entry
       → MatchResult r (λ _. HasNewState (side_over data_ canon left) from entry old.lefts.items states.items)
-      (TellsFault (NamesNoState (side_over data_ canon left) (behaviours_in old.lefts.items) from entry number))
+      (TellsPairs (NamesNoState (side_over data_ canon left) (behaviours_in old.lefts.items) from entry number))
       → MatchResult r (λ _. LineIsRead (comparison_of data_ canon left right b c) (reading_of old) number (line_of line)
       (reading_of (record old { lefts = states })))
-      (TellsFault (LineFails (comparison_of data_ canon left right b c) (reading_of old) number (line_of line)))
+      (TellsPairs (LineFails (comparison_of data_ canon left right b c) (reading_of old) number (line_of line)))
   left_told (Ok x) states line number from entry is h =
       subst (λ (it : PairLine). LineIsRead (comparison_of data_ canon left right b c) (reading_of old) number (line_of it)
       (reading_of (record old { lefts = states }))) (sym is) (left_read states number from entry h)
   left_told (Err e) states line number from entry is h =
-      subst (λ (it : PairLine). TellsFault (LineFails (comparison_of data_ canon left right b c) (reading_of old) number (line_of it)) e)
+      subst (λ (it : PairLine). TellsPairs (LineFails (comparison_of data_ canon left right b c) (reading_of old) number
+      (line_of it)) e)
       (sym is) h
 
   pub right_told : {T : Type 0} (r : Result T PairsFault) (states : Vec Surveyed Global) (line : PairLine) (number from entry : ℕ)
       → line ≡ Right from entry
       → MatchResult r (λ _. HasNewState (side_over data_ canon right) from entry old.rights.items states.items)
-      (TellsFault (NamesNoState (side_over data_ canon right) (behaviours_in old.rights.items) from entry number))
+      (TellsPairs (NamesNoState (side_over data_ canon right) (behaviours_in old.rights.items) from entry number))
       → MatchResult r (λ _. LineIsRead (comparison_of data_ canon left right b c) (reading_of old) number (line_of line)
       (reading_of (record old { rights = states })))
-      (TellsFault (LineFails (comparison_of data_ canon left right b c) (reading_of old) number (line_of line)))
+      (TellsPairs (LineFails (comparison_of data_ canon left right b c) (reading_of old) number (line_of line)))
   right_told (Ok x) states line number from entry is h =
       subst (λ (it : PairLine). LineIsRead (comparison_of data_ canon left right b c) (reading_of old) number (line_of it)
       (reading_of (record old { rights = states }))) (sym is) (right_read states number from entry h)
   right_told (Err e) states line number from entry is h =
-      subst (λ (it : PairLine). TellsFault (LineFails (comparison_of data_ canon left right b c) (reading_of old) number (line_of it)) e)
+      subst (λ (it : PairLine). TellsPairs (LineFails (comparison_of data_ canon left right b c) (reading_of old) number
+      (line_of it)) e)
       (sym is) h
 
   -- a pair whose states are there, with menus without variables
@@ -179,7 +181,7 @@ module _ (data_ : Data) (canon : Term → Term) (left right : Spec) (b c : Behav
       → slice_get old.rights.items j ≡ Some other → HasClosedEntries one.menu → HasClosedEntries other.menu
       → pairs.items ≡ old.pairs.items ++ (record { line = number; left = i; right = j } ∷ [])
       → LineIsRead (comparison_of data_ canon left right b c) (reading_of old) number (lists_pair i j)
-      (reading_of (record old { pairs = pairs })) × IsKept data_ canon left right (record old { pairs = pairs })
+      (reading_of (record old { pairs = pairs })) × IsKeptReading data_ canon left right (record old { pairs = pairs })
   pair_read pairs number i j one other here there one_closed other_closed added =
       let one_surveyed : IsSurveyed data_ canon left one = every_at (IsSurveyed data_ canon left) old.lefts.items i one kept.lefts here in
       let other_surveyed : IsSurveyed data_ canon right other =
@@ -204,7 +206,7 @@ module _ (data_ : Data) (canon : Term → Term) (left right : Spec) (b c : Behav
           lefts = kept.lefts;
           rights = kept.rights;
           pairs = subst (AreListedIn old.lefts.items old.rights.items) (sym added)
-              (every_last (IsListed old.lefts.items old.rights.items) old.pairs.items (record { line = number; left = i; right = j })
+              (every_last (IsListedPair old.lefts.items old.rights.items) old.pairs.items (record { line = number; left = i; right = j })
               kept.pairs (record {
                 left = record { surveyed = one; there = here; closed = one_closed };
                 right = record { surveyed = other; there = there; closed = other_closed };
@@ -244,10 +246,10 @@ module _ (data_ : Data) (canon : Term → Term) (left right : Spec) (b c : Behav
       (open_one data_ canon right other line f (every_at (IsSurveyed data_ canon right) old.rights.items j other kept.rights there) h))
 
 -- what is kept after a state was added
-pub left_kept : (data_ : Data) (canon : Term → Term) (left right : Spec) (old : Reading) → IsKept data_ canon left right old
+pub left_kept : (data_ : Data) (canon : Term → Term) (left right : Spec) (old : Reading) → IsKeptReading data_ canon left right old
     → {T : Type 0} (r : Result T PairsFault) (states : Vec Surveyed Global) (from entry : ℕ) (Q : PairsFault → Type 0)
     → MatchResult r (λ _. HasNewState (side_over data_ canon left) from entry old.lefts.items states.items) Q
-    → OnOk r (AreSurveyed data_ canon left states.items) → OnOk r (IsKept data_ canon left right (record old { lefts = states }))
+    → OnOk r (AreSurveyed data_ canon left states.items) → OnOk r (IsKeptReading data_ canon left right (record old { lefts = states }))
 left_kept data_ canon left right old kept (Ok x) states from entry Q h surveyed = record {
   lefts = surveyed;
   rights = kept.rights;
@@ -256,10 +258,10 @@ left_kept data_ canon left right old kept (Ok x) states from entry Q h surveyed 
 }
 left_kept data_ canon left right old kept (Err e) states from entry Q h surveyed = tt
 
-pub right_kept : (data_ : Data) (canon : Term → Term) (left right : Spec) (old : Reading) → IsKept data_ canon left right old
+pub right_kept : (data_ : Data) (canon : Term → Term) (left right : Spec) (old : Reading) → IsKeptReading data_ canon left right old
     → {T : Type 0} (r : Result T PairsFault) (states : Vec Surveyed Global) (from entry : ℕ) (Q : PairsFault → Type 0)
     → MatchResult r (λ _. HasNewState (side_over data_ canon right) from entry old.rights.items states.items) Q
-    → OnOk r (AreSurveyed data_ canon right states.items) → OnOk r (IsKept data_ canon left right (record old { rights = states }))
+    → OnOk r (AreSurveyed data_ canon right states.items) → OnOk r (IsKeptReading data_ canon left right (record old { rights = states }))
 right_kept data_ canon left right old kept (Ok x) states from entry Q h surveyed = record {
   lefts = kept.lefts;
   rights = surveyed;

@@ -12,15 +12,16 @@ use Rattle.certificate_theory.specs.Certificate.{CertificateFault, no_state, no_
 use Rattle.certificate_theory.specs.NamedStates.{numbered_entry, EntryLeads, NamesState, NamesNoState, state_is_missing, entry_is_missing, entry_is_open}
 use Rattle.menu_builder.specs.HandedOn.{plain_entry, IsEntryOf, IsEntryOver, Entry, Menu}
 use Rattle.menu_builder.specs.Menus.{entries_in}
-use Rattle.bisim_check.specs.Faults.{TellsFault, unmatched_on}
-use Rattle.bisim_check.specs.Readings.{IsNumbered}
+use Rattle.bisim_check.specs.Faults.{TellsPairs, unmatched_on}
+use Rattle.bisim_check.specs.Readings.{IsEntryNumbered}
 use Rattle.bisim_check.specs.Surveys.{IsSurveyed, AreSurveyed, behaviour_in, behaviours_in, side_over}
 use Rattle.bisim_check.specs.declared.surveys.Surveyed.{Surveyed}
 use Rattle.bisim_check.specs.declared.faults.PairsFault.{PairsFault}
 use Rattle.bisim_check.specs.declared.faults.PairsFault.TheVariants as fault
 
 -- what a fault tells, in other words
-pub told : (P Q : CertificateFault → Type 0) (f : PairsFault) → ((it : CertificateFault) → P it → Q it) → TellsFault P f → TellsFault Q f
+pub told : (P Q : CertificateFault → Type 0) (f : PairsFault) → ((it : CertificateFault) → P it → Q it) → TellsPairs P f
+    → TellsPairs Q f
 told P Q (fault.NoState line) more h = more (no_state line) h
 told P Q (fault.NoEntry line) more h = more (no_entry line) h
 told P Q (fault.OpenMenu line) more h = more (open_menu line) h
@@ -43,7 +44,7 @@ surveyed_more data_ canon spec states new last added all it =
 -- ---- An entry by its number
 
 pub found_at : (menu : Menu) (number : ℕ) (entry : Entry) → 0 < number → slice_get menu.entries.items (number - 1) ≡ Some entry
-    → IsNumbered menu number entry
+    → IsEntryNumbered menu number entry
 found_at menu zero entry some found = absurd (omega (arith, some))
 found_at menu (suc n) entry some found =
     let before : suc n - 1 ≡ n = omega arith in record {
@@ -52,12 +53,12 @@ found_at menu (suc n) entry some found =
       found = subst (λ (m : ℕ). slice_get menu.entries.items m ≡ Some entry) before found;
     }
 
-pub entry_at_number : (menu : Menu) (number : ℕ) (entry : Entry) → IsNumbered menu number entry
+pub entry_at_number : (menu : Menu) (number : ℕ) (entry : Entry) → IsEntryNumbered menu number entry
     → numbered_entry (entries_in menu) number ≡ Some (plain_entry entry)
 entry_at_number menu number entry h =
     ap (numbered_entry (entries_in menu)) h.numbered ∙ at_map plain_entry menu.entries.items h.position entry h.found
 
-pub entry_there : (menu : Menu) (number : ℕ) (entry : Entry) → IsNumbered menu number entry
+pub entry_there : (menu : Menu) (number : ℕ) (entry : Entry) → IsEntryNumbered menu number entry
     → IsEntry (entries_in menu) (plain_entry entry)
 entry_there menu number entry h = (h.position, at_map plain_entry menu.entries.items h.position entry h.found)
 
@@ -89,11 +90,11 @@ module _ (data_ : Data) (canon : Term → Term) (spec : Spec) (states : List Sur
   found_named : slice_get (behaviours_in states) from ≡ Some (behaviour_in found)
   found_named = at_map behaviour_in states from found there
 
-  pub entry_over : (number : ℕ) (entry : Entry) → IsNumbered found.menu number entry → IsEntryOf data_.signature entry
+  pub entry_over : (number : ℕ) (entry : Entry) → IsEntryNumbered found.menu number entry → IsEntryOf data_.signature entry
   entry_over number entry h =
       (every_at (IsEntryOver data_.signature) found.menu.entries.items h.position entry found_surveyed.entries h.found).entry_of
 
-  pub names : (number : ℕ) (entry : Entry) (target : Behaviour) → IsNumbered found.menu number entry → entry.vars.items ≡ []
+  pub names : (number : ℕ) (entry : Entry) (target : Behaviour) → IsEntryNumbered found.menu number entry → entry.vars.items ≡ []
       → EntryLeads (side_over data_ canon spec) (behaviour_in found) (plain_entry entry) target
       → NamesState (side_over data_ canon spec) (behaviours_in states) from number target
   names number entry target h closed leads = record {
@@ -107,7 +108,7 @@ module _ (data_ : Data) (canon : Term → Term) (spec : Spec) (states : List Sur
     leads = leads;
   }
 
-  pub names_open : (number line : ℕ) (entry : Entry) → IsNumbered found.menu number entry → (entry.vars.items ≡ [] → ⊥)
+  pub names_open : (number line : ℕ) (entry : Entry) → IsEntryNumbered found.menu number entry → (entry.vars.items ≡ [] → ⊥)
       → NamesNoState (side_over data_ canon spec) (behaviours_in states) from number line (open_menu line)
   names_open number line entry h is_open =
       entry_is_open (behaviour_in found) (entries_in found.menu) (plain_entry entry) found_named found_surveyed.exact

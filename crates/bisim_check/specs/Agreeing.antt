@@ -10,8 +10,8 @@ use Rattle.sort_terms.specs.declared.operations.Sort.{Sort}
 use Rattle.sort_terms.specs.declared.sorted.Sorted.{Sorted}
 use Rattle.certificate_theory.specs.SameData.{AreOneOperation, AreOneEquation}
 
-abbrev pub AreOneSort : Sort → Sort → Type 0
-AreOneSort sort other = AreSame sort.name other.name
+abbrev pub AgreeOnSort : Sort → Sort → Type 0
+AgreeOnSort sort other = AreSame sort.name other.name
 
 abbrev pub AreOneOp : Op → Op → Type 0
 AreOneOp op other = AreOneOperation (operation_of op) (operation_of other)

@@ -10,10 +10,10 @@ unmatched_on false line entry = unmatched_left line entry
 unmatched_on true line entry = unmatched_right line entry
 
 -- the certificate has the fault, or memory was wanted
-abbrev pub TellsFault : (CertificateFault → Type 0) → PairsFault → Type 0
-TellsFault P (fault.NoState line) = P (no_state line)
-TellsFault P (fault.NoEntry line) = P (no_entry line)
-TellsFault P (fault.OpenMenu line) = P (open_menu line)
-TellsFault P fault.NoStartPair = P no_start_pair
-TellsFault P (fault.Unmatched line right entry) = P (unmatched_on right line entry)
-TellsFault P fault.NoMemory = Unit {0}
+abbrev pub TellsPairs : (CertificateFault → Type 0) → PairsFault → Type 0
+TellsPairs P (fault.NoState line) = P (no_state line)
+TellsPairs P (fault.NoEntry line) = P (no_entry line)
+TellsPairs P (fault.OpenMenu line) = P (open_menu line)
+TellsPairs P fault.NoStartPair = P no_start_pair
+TellsPairs P (fault.Unmatched line right entry) = P (unmatched_on right line entry)
+TellsPairs P fault.NoMemory = Unit {0}

@@ -29,7 +29,7 @@ AddsNumber pair number before after = (f : ℕ)
     → numbers_at after f ≡ numbers_at before f ++ (if nat_eq (bucket_of pair.left pair.right) f then number ∷ [] else [])
 
 -- The pair with this number is the one of these states.
-pub record IsPairAt (pairs : List ListedPair) (b c : Behaviour) (number : ℕ) : Type 0 where
+pub record PairStandsAt (pairs : List ListedPair) (b c : Behaviour) (number : ℕ) : Type 0 where
   pub pair : ListedPair
   pub there : slice_get pairs number ≡ Some pair
   pub left : pair.left ≡ b

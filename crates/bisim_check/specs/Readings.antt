@@ -60,29 +60,29 @@ pub record HasClosedState (states : List Surveyed) (number : ℕ) : Type 0 where
   pub closed : HasClosedEntries surveyed.menu
 
 -- The states of the pair are there, and no entry of their menus has a variable.
-pub record IsListed (lefts rights : List Surveyed) (listed : Listed) : Type 0 where
+pub record IsListedPair (lefts rights : List Surveyed) (listed : Listed) : Type 0 where
   pub left : HasClosedState lefts listed.left
   pub right : HasClosedState rights listed.right
 
 abbrev pub AreListedIn : List Surveyed → List Surveyed → List Listed → Type 0
-AreListedIn lefts rights pairs = Every (IsListed lefts rights) pairs
+AreListedIn lefts rights pairs = Every (IsListedPair lefts rights) pairs
 
 -- All that the lines have given is so, and the states are surveyed.
-pub record IsKept (data_ : Data) (canon : Term → Term) (left right : Spec) (reading : Reading) : Type 0 where
+pub record IsKeptReading (data_ : Data) (canon : Term → Term) (left right : Spec) (reading : Reading) : Type 0 where
   pub lefts : AreSurveyed data_ canon left reading.lefts.items
   pub rights : AreSurveyed data_ canon right reading.rights.items
   pub pairs : AreListedIn reading.lefts.items reading.rights.items reading.pairs.items
 
 -- The states of each pair are there.
-pub record IsPlaced (reading : Reading) (listed : Listed) : Type 0 where
+pub record IsPlacedPair (reading : Reading) (listed : Listed) : Type 0 where
   pub left : listed.left < length reading.lefts.items
   pub right : listed.right < length reading.rights.items
 
 abbrev pub ArePlaced : Reading → Type 0
-ArePlaced reading = Every (IsPlaced reading) reading.pairs.items
+ArePlaced reading = Every (IsPlacedPair reading) reading.pairs.items
 
 -- The entry has this number in the menu, from 1.
-pub record IsNumbered (menu : Menu) (number : ℕ) (entry : Entry) : Type 0 where
+pub record IsEntryNumbered (menu : Menu) (number : ℕ) (entry : Entry) : Type 0 where
   pub position : ℕ
   pub numbered : number ≡ suc position
   pub found : slice_get menu.entries.items position ≡ Some entry

@@ -2,7 +2,7 @@
 
 ghost use Rattle.behaviour_semantics.specs.Behaviour.{Behaviour};
 ghost use Rattle.behaviour_tree.specs.StateView.{state_of};
-ghost use Rattle.bisim_check.specs.Faults.{TellsFault};
+ghost use Rattle.bisim_check.specs.Faults.{TellsPairs};
 ghost use Rattle.bisim_check.specs.LineView.{line_of};
 ghost use Rattle.bisim_check.specs.PairIndex.{IsPairIndex};
 ghost use Rattle.bisim_check.specs.Readings.{
@@ -10,8 +10,8 @@ ghost use Rattle.bisim_check.specs.Readings.{
   pair_among,
   pairs_in,
   reading_of,
-  IsKept,
-  IsListed,
+  IsKeptReading,
+  IsListedPair,
 };
 ghost use Rattle.bisim_check.specs.Surveys.{AreSurveyed, behaviours_in, IsSideOf, IsStateIn};
 ghost use Rattle.certificate_theory.specs.Certificate.{
@@ -91,7 +91,7 @@ pub fn check_pairs<D: Deciding>(
         (λ number. CertificateComesTo (comparison_of (D.known_data data.old) (D.canon data.old)
         left.now right.now (state_of left_start.now) (state_of right_start.now))
         (map line_of lines.now) (accepted number))
-        (TellsFault (λ fault. CertificateComesTo (comparison_of (D.known_data data.old)
+        (TellsPairs (λ fault. CertificateComesTo (comparison_of (D.known_data data.old)
         (D.canon data.old) left.now right.now (state_of left_start.now)
         (state_of right_start.now)) (map line_of lines.now) (refused fault))) }
     ensures same_known { KeepsData D.known_data D.canon data.old data.new }
@@ -129,7 +129,7 @@ fn begin<D: Deciding>(
         ≡ first_reading (comparison_of (D.known_data data.old) (D.canon data.old)
         left.now.spec.now right.now.spec.now (state_of left_start.now)
         (state_of right_start.now))) }
-    ensures kept { IfOk result (IsKept (D.known_data data.old) (D.canon data.old)
+    ensures kept { IfOk result (IsKeptReading (D.known_data data.old) (D.canon data.old)
         left.now.spec.now right.now.spec.now) }
     ensures none { IfOk result (λ reading. reading.pairs.items ≡ []) }
     ensures same_known { KeepsData D.known_data D.canon data.old data.new }
@@ -179,7 +179,7 @@ fn follow<D: Deciding>(
     requires left_ranked { AreRanksOf left.now.spec.now left.now.ranks.now }
     requires right { IsSideOf (D.known_data data.old).signature right.now.spec.now }
     requires right_ranked { AreRanksOf right.now.spec.now right.now.ranks.now }
-    requires kept { IsKept (D.known_data data.old) (D.canon data.old) left.now.spec.now
+    requires kept { IsKeptReading (D.known_data data.old) (D.canon data.old) left.now.spec.now
         right.now.spec.now reading.old }
     requires none { reading.old.pairs.items ≡ [] }
     requires sides { HasSortedSides (D.known_data data.old) }
@@ -189,7 +189,7 @@ fn follow<D: Deciding>(
         right.now.spec.now b c) → MatchResult result
         (λ number. CertificateComesTo (comparison_of (D.known_data data.old) (D.canon data.old)
         left.now.spec.now right.now.spec.now b c) (map line_of lines.now) (accepted number))
-        (TellsFault (λ fault. CertificateComesTo (comparison_of (D.known_data data.old)
+        (TellsPairs (λ fault. CertificateComesTo (comparison_of (D.known_data data.old)
         (D.canon data.old) left.now.spec.now right.now.spec.now b c) (map line_of lines.now)
         (refused fault))) }
     ensures same_known { KeepsData D.known_data D.canon data.old data.new }
@@ -215,17 +215,17 @@ fn read_lines<D: Deciding>(
     requires left_ranked { AreRanksOf left.now.spec.now left.now.ranks.now }
     requires right { IsSideOf (D.known_data data.old).signature right.now.spec.now }
     requires right_ranked { AreRanksOf right.now.spec.now right.now.ranks.now }
-    requires kept { IsKept (D.known_data data.old) (D.canon data.old) left.now.spec.now
+    requires kept { IsKeptReading (D.known_data data.old) (D.canon data.old) left.now.spec.now
         right.now.spec.now reading.old }
     requires few { length lines.now < 2 ^ 32 }
     ensures read { (b c : Behaviour) → MatchResult result
         (λ _. LinesAreRead (comparison_of (D.known_data data.old) (D.canon data.old)
         left.now.spec.now right.now.spec.now b c) (reading_of reading.old) 1
         (map line_of lines.now) (reading_of reading.new))
-        (TellsFault (LinesFail (comparison_of (D.known_data data.old) (D.canon data.old)
+        (TellsPairs (LinesFail (comparison_of (D.known_data data.old) (D.canon data.old)
         left.now.spec.now right.now.spec.now b c) (reading_of reading.old) 1
         (map line_of lines.now))) }
-    ensures kept_after { OnOk result (IsKept (D.known_data data.old) (D.canon data.old)
+    ensures kept_after { OnOk result (IsKeptReading (D.known_data data.old) (D.canon data.old)
         left.now.spec.now right.now.spec.now reading.new) }
     ensures same_known { KeepsData D.known_data D.canon data.old data.new }
 {
@@ -275,13 +275,13 @@ fn check_listed<D: Deciding>(
 ) -> Result<(), PairsFault>
     requires left { IsSideOf (D.known_data data.old).signature left.now }
     requires right { IsSideOf (D.known_data data.old).signature right.now }
-    requires kept { IsKept (D.known_data data.old) (D.canon data.old) left.now right.now
+    requires kept { IsKeptReading (D.known_data data.old) (D.canon data.old) left.now right.now
         reading.now }
     requires sides { HasSortedSides (D.known_data data.old) }
     ensures matched { (b c : Behaviour) → MatchResult result
         (λ _. AllPairsAreMatched (comparison_of (D.known_data data.old) (D.canon data.old)
         left.now right.now b c) (pairs_in reading.now))
-        (TellsFault (PairsFail (comparison_of (D.known_data data.old) (D.canon data.old)
+        (TellsPairs (PairsFail (comparison_of (D.known_data data.old) (D.canon data.old)
         left.now right.now b c) (pairs_in reading.now))) }
     ensures same_known { KeepsData D.known_data D.canon data.old data.new }
 {
@@ -312,16 +312,16 @@ fn check_pair<D: Deciding>(
 ) -> Result<(), PairsFault>
     requires left { IsSideOf (D.known_data data.old).signature left.now }
     requires right { IsSideOf (D.known_data data.old).signature right.now }
-    requires kept { IsKept (D.known_data data.old) (D.canon data.old) left.now right.now
+    requires kept { IsKeptReading (D.known_data data.old) (D.canon data.old) left.now right.now
         reading.now }
     requires indexed { IsPairIndex (pairs_in reading.now) index.now }
-    requires listed { IsListed reading.now.lefts.items reading.now.rights.items listed.now }
+    requires listed { IsListedPair reading.now.lefts.items reading.now.rights.items listed.now }
     requires sides { HasSortedSides (D.known_data data.old) }
     ensures matched { (b c : Behaviour) → MatchResult result
         (λ _. PairIsMatched (comparison_of (D.known_data data.old) (D.canon data.old) left.now
         right.now b c) (pairs_in reading.now) (pair_among reading.now.lefts.items
         reading.now.rights.items listed.now))
-        (TellsFault (PairFails (comparison_of (D.known_data data.old) (D.canon data.old)
+        (TellsPairs (PairFails (comparison_of (D.known_data data.old) (D.canon data.old)
         left.now right.now b c) (pairs_in reading.now) (pair_among reading.now.lefts.items
         reading.now.rights.items listed.now))) }
     ensures same_known { KeepsData D.known_data D.canon data.old data.new }

@@ -1,6 +1,6 @@
 //! Whether two data are the same.
 
-ghost use Rattle.bisim_check.specs.Agreeing.{AreOneOp, AreOneRule, AreOneSort, AreOneTerm};
+ghost use Rattle.bisim_check.specs.Agreeing.{AreOneOp, AreOneRule, AgreeOnSort, AreOneTerm};
 ghost use Rattle.certificate_theory.specs.SameData.{AreSameData};
 ghost use Rattle.sort_terms.specs.EquationView.{data_of};
 ghost use Rattle.std.specs.Prelude.{◌≡◌, ◌↔◌, IsTrue};
@@ -26,7 +26,7 @@ pub fn same_data(left: &Flat, right: &Flat) -> bool
 }
 
 impl Agreeing for Sort {
-    ghost agree = { AreOneSort };
+    ghost agree = { AgreeOnSort };
 
     fn agrees(&self, other: &Sort) -> bool {
         self.name.same(&other.name)

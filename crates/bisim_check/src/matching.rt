@@ -1,10 +1,10 @@
 //! Whether the events of one state have answers among those of another state.
 
 ghost use Rattle.bisim_check.specs.Events.{event_of, IsUnanswered};
-ghost use Rattle.bisim_check.specs.Faults.{TellsFault};
+ghost use Rattle.bisim_check.specs.Faults.{TellsPairs};
 ghost use Rattle.bisim_check.specs.Matching.{AllAnswered, HasAnswer, IsAnswer, ListedTowards};
-ghost use Rattle.bisim_check.specs.PairIndex.{IsPairAt, IsSearchable};
-ghost use Rattle.bisim_check.specs.Readings.{behaviour_at, pairs_in, ArePlaced, IsPlaced};
+ghost use Rattle.bisim_check.specs.PairIndex.{PairStandsAt, IsSearchable};
+ghost use Rattle.bisim_check.specs.Readings.{behaviour_at, pairs_in, ArePlaced, IsPlacedPair};
 ghost use Rattle.certificate_theory.specs.Agreement.{AreOneGate, IdenticalLabels};
 ghost use Rattle.certificate_theory.specs.Certificate.{AreListed};
 ghost use Rattle.behaviour_tree.specs.DefinitionView.{specification_of};
@@ -41,7 +41,7 @@ pub fn check_events(
         (λ _. AllAnswered (specification_of one.now) (specification_of other.now)
         (ListedTowards right (pairs_in reading.now)) (map event_of events.now.items)
         (map event_of answers.now.items))
-        (TellsFault (IsUnanswered (specification_of one.now) (specification_of other.now)
+        (TellsPairs (IsUnanswered (specification_of one.now) (specification_of other.now)
         (ListedTowards right (pairs_in reading.now)) right line
         (map event_of events.now.items) (map event_of answers.now.items))) }
 {
@@ -190,7 +190,7 @@ fn is_listed(reading: &Reading, index: &HeadIndex, left: &State, right: &State) 
 // Whether the pair with this number has the one state on the left and the other one on the right.
 fn is_numbered(reading: &Reading, number: usize, left: &State, right: &State) -> bool
     requires { ArePlaced reading.now }
-    ensures { IsTrue result ↔ IsPairAt (pairs_in reading.now) (state_of left.now)
+    ensures { IsTrue result ↔ PairStandsAt (pairs_in reading.now) (state_of left.now)
         (state_of right.now) number }
 {
     match reading.pairs.get(number) {
@@ -201,7 +201,7 @@ fn is_numbered(reading: &Reading, number: usize, left: &State, right: &State) ->
 
 // Whether the pair has the one state on the left and the other one on the right.
 fn is_pair(reading: &Reading, pair: &Listed, left: &State, right: &State) -> bool
-    requires { IsPlaced reading.now pair.now }
+    requires { IsPlacedPair reading.now pair.now }
     ensures { IsTrue result ↔ ((behaviour_at reading.now.lefts.items pair.now.left
         ≡ state_of left.now)
         × (behaviour_at reading.now.rights.items pair.now.right ≡ state_of right.now)) }

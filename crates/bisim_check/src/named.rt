@@ -3,7 +3,7 @@
 ghost use Rattle.behaviour_semantics.specs.Behaviour.{Behaviour};
 ghost use Rattle.behaviour_tree.specs.StateView.{state_of};
 ghost use Rattle.behaviour_tree.specs.declared.definitions.Spec.{Spec};
-ghost use Rattle.bisim_check.specs.Faults.{TellsFault};
+ghost use Rattle.bisim_check.specs.Faults.{TellsPairs};
 ghost use Rattle.bisim_check.specs.LineView.{line_of};
 ghost use Rattle.bisim_check.specs.NamedOnes.{HasNewState};
 ghost use Rattle.bisim_check.specs.Readings.{
@@ -11,8 +11,8 @@ ghost use Rattle.bisim_check.specs.Readings.{
   reading_of,
   HasClosedEntries,
   IsClosedOne,
-  IsKept,
-  IsNumbered,
+  IsKeptReading,
+  IsEntryNumbered,
   IsOpenFault,
 };
 ghost use Rattle.bisim_check.specs.Surveys.{
@@ -80,16 +80,16 @@ pub fn read_line<D: Deciding>(
     requires left_ranked { AreRanksOf left.now.spec.now left.now.ranks.now }
     requires right { IsSideOf (D.known_data data.old).signature right.now.spec.now }
     requires right_ranked { AreRanksOf right.now.spec.now right.now.ranks.now }
-    requires kept { IsKept (D.known_data data.old) (D.canon data.old) left.now.spec.now
+    requires kept { IsKeptReading (D.known_data data.old) (D.canon data.old) left.now.spec.now
         right.now.spec.now reading.old }
     ensures read { (b c : Behaviour) → MatchResult result
         (λ _. LineIsRead (comparison_of (D.known_data data.old) (D.canon data.old)
         left.now.spec.now right.now.spec.now b c) (reading_of reading.old) number
         (line_of line.now) (reading_of reading.new))
-        (TellsFault (LineFails (comparison_of (D.known_data data.old) (D.canon data.old)
+        (TellsPairs (LineFails (comparison_of (D.known_data data.old) (D.canon data.old)
         left.now.spec.now right.now.spec.now b c) (reading_of reading.old) number
         (line_of line.now))) }
-    ensures kept_after { OnOk result (IsKept (D.known_data data.old) (D.canon data.old)
+    ensures kept_after { OnOk result (IsKeptReading (D.known_data data.old) (D.canon data.old)
         left.now.spec.now right.now.spec.now reading.new) }
     ensures same_known { KeepsData D.known_data D.canon data.old data.new }
 {
@@ -132,7 +132,7 @@ fn add_state<D: Deciding>(
     ensures added { MatchResult result
         (λ _. HasNewState (side_over (D.known_data data.old) (D.canon data.old) side.now.spec.now)
         from number states.old.items states.new.items)
-        (TellsFault (NamesNoState
+        (TellsPairs (NamesNoState
         (side_over (D.known_data data.old) (D.canon data.old) side.now.spec.now)
         (behaviours_in states.old.items) from number line)) }
     ensures surveyed_after { OnOk result (AreSurveyed (D.known_data data.old) (D.canon data.old)
@@ -166,7 +166,7 @@ fn named_target<D: Deciding>(
     ensures named { MatchResult result
         (λ made. NamesState (side_over (D.known_data data.old) (D.canon data.old) spec.now)
         (behaviours_in states.now.items) from number (state_of made))
-        (TellsFault (NamesNoState (side_over (D.known_data data.old) (D.canon data.old) spec.now)
+        (TellsPairs (NamesNoState (side_over (D.known_data data.old) (D.canon data.old) spec.now)
         (behaviours_in states.now.items) from number line)) }
     ensures state { IfOk result (IsStateIn (D.known_data data.old).signature spec.now) }
     ensures same_known { KeepsData D.known_data D.canon data.old data.new }
@@ -184,7 +184,7 @@ fn named_target<D: Deciding>(
 fn state_named(states: &Vec<Surveyed>, number: u32, line: u32) -> Result<&Surveyed, PairsFault>
     ensures { MatchResult result
         (λ found. slice_get states.now.items number ≡ Some found.now)
-        (TellsFault (λ fault. (fault ≡ no_state line)
+        (TellsPairs (λ fault. (fault ≡ no_state line)
         × (slice_get (behaviours_in states.now.items) number ≡ None))) }
 {
     match states.get(number as usize) {
@@ -196,8 +196,8 @@ fn state_named(states: &Vec<Surveyed>, number: u32, line: u32) -> Result<&Survey
 // The entry with this number in the menu, from 1.
 #[tactic(auto, using(crate::proofs::SurveyLemmas::found_at, crate::proofs::SurveyLemmas::no_entry_at_zero, crate::proofs::SurveyLemmas::no_entry_past))]
 fn entry_numbered(menu: &Menu, number: u32, line: u32) -> Result<&Entry, PairsFault>
-    ensures { MatchResult result (λ entry. IsNumbered menu.now number entry.now)
-        (TellsFault (λ fault. (fault ≡ no_entry line)
+    ensures { MatchResult result (λ entry. IsEntryNumbered menu.now number entry.now)
+        (TellsPairs (λ fault. (fault ≡ no_entry line)
         × (numbered_entry (entries_in menu.now) number ≡ None))) }
 {
     if number == 0 {
@@ -212,11 +212,11 @@ fn entry_numbered(menu: &Menu, number: u32, line: u32) -> Result<&Entry, PairsFa
 // Lists the states with these numbers as a pair.
 fn add_pair(reading: &mut Reading, left: u32, right: u32, line: u32) -> Result<(), PairsFault>
     ensures { (data_ : Data) (canon : Term → Term) (one other : Spec) (b c : Behaviour)
-        → IsKept data_ canon one other reading.old → MatchResult result
+        → IsKeptReading data_ canon one other reading.old → MatchResult result
         (λ _. LineIsRead (comparison_of data_ canon one other b c) (reading_of reading.old) line
         (lists_pair left right) (reading_of reading.new)
-        × IsKept data_ canon one other reading.new)
-        (TellsFault (LineFails (comparison_of data_ canon one other b c) (reading_of reading.old)
+        × IsKeptReading data_ canon one other reading.new)
+        (TellsPairs (LineFails (comparison_of data_ canon one other b c) (reading_of reading.old)
         line (lists_pair left right))) }
 {
     let one = state_named(&reading.lefts, left, line)?;
@@ -229,7 +229,7 @@ fn add_pair(reading: &mut Reading, left: u32, right: u32, line: u32) -> Result<(
 // Answers nothing where no entry of the menu has a variable.
 fn closed_menu(menu: &Menu, line: u32) -> Result<(), PairsFault>
     ensures { MatchResult result (λ _. HasClosedEntries menu.now)
-        (TellsFault (IsOpenFault menu.now line)) }
+        (TellsPairs (IsOpenFault menu.now line)) }
 {
     for position in 0..menu.len() {
         closed_at(menu, position, line)?;
@@ -242,7 +242,7 @@ fn closed_at(menu: &Menu, position: usize, line: u32) -> Result<(), PairsFault>
     ensures { MatchResult result
         (λ _. (entry : Entry) → slice_get menu.now.entries.items position ≡ Some entry
         → IsClosedOne entry)
-        (TellsFault (IsOpenFault menu.now line)) }
+        (TellsPairs (IsOpenFault menu.now line)) }
 {
     match menu.entry(position) {
         None => Ok(()),

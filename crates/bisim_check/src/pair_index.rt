@@ -2,7 +2,7 @@
 
 ghost use Rattle.behaviour_tree.specs.StateView.{state_of};
 ghost use Rattle.bisim_check.specs.PairIndex.{bucket_of, AddsNumber, IsPairIndex};
-ghost use Rattle.bisim_check.specs.Readings.{pair_among, pairs_in, ArePlaced, IsPlaced};
+ghost use Rattle.bisim_check.specs.Readings.{pair_among, pairs_in, ArePlaced, IsPlacedPair};
 ghost use Rattle.std.specs.Prelude.{◌≡◌, ℕ, IfOk, OnOk, length};
 
 use crate::matching::state_at;
@@ -34,7 +34,7 @@ fn file(
     number: usize,
 ) -> Result<(), NoMemory>
     requires room { length index.old.numbers.items ≡ 65536 }
-    requires placed { IsPlaced reading.now listed.now }
+    requires placed { IsPlacedPair reading.now listed.now }
     ensures filed { OnOk result (AddsNumber
         (pair_among reading.now.lefts.items reading.now.rights.items listed.now) number index.old
         index.new) }

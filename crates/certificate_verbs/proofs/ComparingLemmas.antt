@@ -7,7 +7,7 @@ use Rattle.lotos_base.specs.Term.{Term}
 use Rattle.sort_terms.specs.EquationView.{data_of}
 use Rattle.behaviour_semantics.specs.Behaviour.{Specification}
 use Rattle.bisim_check.specs.LineTexts.{ArePairLines, IsFirstBadLine}
-use Rattle.bisim_check.specs.Faults.{TellsFault, unmatched_on}
+use Rattle.bisim_check.specs.Faults.{TellsPairs, unmatched_on}
 use Rattle.bisim_check.specs.Readings.{comparison_of}
 use Rattle.certificate_theory.specs.BisimulationLaws.{IsComparable}
 use Rattle.certificate_theory.specs.Certificate.{CertificateLine, CertificateFault, CertificateOutcome, accepted, refused, no_state, no_entry, open_menu, no_start_pair, Comparison}
@@ -313,7 +313,7 @@ module _ (first other : Acceptance) (one : WithText) (begun : Begun) (h : HoldsW
         (look_stops now (IsProof first other lines) (IsNoProof first other lines) refused_printed (faulty fault)
         (fault, judged_so lines (refused fault) comes, refl)) is
 
-    no_of : (fault : PairsFault) (alone : Alone) → TellsFault (λ f. CertificateComesTo compared lines (refused f)) fault
+    no_of : (fault : PairsFault) (alone : Alone) → TellsPairs (λ f. CertificateComesTo compared lines (refused f)) fault
         → IsPairsFaultPrinted fault (print_in alone) → IsPrinted (JudgesThen first other lines) now now alone
     no_of (pairs_fault.NoState line) alone told is = no_with (no_state line) alone told is
     no_of (pairs_fault.NoEntry line) alone told is = no_with (no_entry line) alone told is
@@ -322,7 +322,7 @@ module _ (first other : Acceptance) (one : WithText) (begun : Begun) (h : HoldsW
     no_of (pairs_fault.Unmatched line right entry) alone told is = no_with (unmatched_on right line entry) alone told is
     no_of pairs_fault.NoMemory alone told is = absurd is
 
-    pub judged_no : (fault : PairsFault) → TellsFault (λ f. CertificateComesTo compared lines (refused f)) fault
+    pub judged_no : (fault : PairsFault) → TellsPairs (λ f. CertificateComesTo compared lines (refused f)) fault
         → IfOk answer (λ (alone : Alone). IsPairsFaultPrinted fault (print_in alone))
         → IsAnswered (JudgesThen first other lines) now now answer
     judged_no fault told made =

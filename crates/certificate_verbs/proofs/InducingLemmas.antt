@@ -12,7 +12,7 @@ use Rattle.induct_check.specs.BookView.{book_theory}
 use Rattle.induct_check.specs.CheckView.{IsCertifiedText}
 use Rattle.induct_check.specs.FaultTexts.{IsTold}
 use Rattle.induct_check.specs.TextFaults.{IsTextFault}
-use Rattle.induct_check.specs.HandedOn.{IsMetBy, IsLeftOpen, Theory, Lemma, bad_line, no_variable, no_cover, no_tree, not_reducible, bad_use, not_same, AllHold, HoldsAtLine, lemmas_in, AtLine, LineFault, StatedLemma, HoldsOfFault, statement_of}
+use Rattle.induct_check.specs.HandedOn.{IsMetBy, IsLeftOpen, Theory, Lemma, bad_line, no_variable, no_cover, no_tree, not_reducible, bad_use, not_same, AllLemmasHold, HoldsAtLine, lemmas_in, AtLine, LineFault, StatedLemma, HoldsOfFault, statement_of}
 use Rattle.induct_check.specs.HandedOn.line_faults as fault
 use Rattle.command_words.specs.HandedOn.{Acceptance, ShelfState, TextNames, place_text, book_chooses, rules_in, precedence_in, goes_on, Has}
 use Rattle.command_words.specs.HandedOn.{HoldsRequired, HoldsWithRequirements, Required, WithRequirements}
@@ -90,7 +90,7 @@ module _ (spec : List ℕ) (first : Acceptance) (now : ShelfState) (text : List 
 
     -- it is right
     module _ (required : Required) (holds : HoldsRequired first.types first.libraries required) (lemmas : List StatedLemma)
-        (certified : IsCertifiedText theory text (lemmas_in lemmas)) (hold : AllHold theory.data_ (lemmas_in lemmas)) where
+        (certified : IsCertifiedText theory text (lemmas_in lemmas)) (hold : AllLemmasHold theory.data_ (lemmas_in lemmas)) where
       report_there : (alone : Alone) → IsReportAlone spec required lemmas alone → IsReport spec first text alone.text.items
       report_there alone is = record {
         short = short;

@@ -36,5 +36,5 @@ pub use Rattle.demo_walks.specs.HandedOn.{trace_limit, HasPut, StandsUnder, save
 pub use Rattle.demo_walks.specs.HandedOn.{shown_menu, basis_of, reached, HistoryLines, IsServing}
 pub use Rattle.demo_walks.specs.HandedOn.shelf_answer
 pub use Rattle.demo_walks.specs.HandedOn.step_answer
-pub use Rattle.induct_check.specs.HandedOn.{AllHold, stated, FirstFaultsAreOne, RightOnesHaveNoFault, RequirementsAreMetOnce, MetIsNotOpen}
+pub use Rattle.induct_check.specs.HandedOn.{AllLemmasHold, stated, FirstFaultsAreOne, RightOnesHaveNoFault, RequirementsAreMetOnce, MetIsNotOpen}
 pub use Rattle.induct_check.specs.HandedOn.{Lemma, HoldsByInduction, IsMetBy}

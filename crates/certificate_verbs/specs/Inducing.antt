@@ -8,7 +8,7 @@ use Rattle.lotos_base.specs.Outside.{Texts}
 use Rattle.lotos_base.specs.Signature.{Signature}
 use Rattle.induct_check.specs.CheckView.{IsCertifiedText}
 use Rattle.induct_check.specs.FaultTexts.{fault_text}
-use Rattle.induct_check.specs.HandedOn.{Theory, Lemma, InductionFault, IsMetBy, IsLeftOpen, AllHold}
+use Rattle.induct_check.specs.HandedOn.{Theory, Lemma, InductionFault, IsMetBy, IsLeftOpen, AllLemmasHold}
 use Rattle.induct_check.specs.TextFaults.{IsTextFault}
 use Rattle.command_words.specs.HandedOn.{Acceptance, ComesOfPart, AreRequirements, IsOpenedBy, Chooses, rules_of, NumberedRule, Precedence}
 use Rattle.command_words.specs.HandedOn.{TextNames, place_text, Comes, Part, Then, Has, Looks, GetsFile}
@@ -33,7 +33,7 @@ pub record IsChecked (one : Acceptance) (text : List ℕ) (lemmas : List Lemma) 
   pub theory : Theory
   pub theory_is : IsTheoryOf one theory
   pub certified : IsCertifiedText theory text lemmas
-  pub hold : AllHold theory.data_ lemmas
+  pub hold : AllLemmasHold theory.data_ lemmas
 
 -- ---- What is printed
 

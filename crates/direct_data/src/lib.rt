@@ -4,7 +4,6 @@
 #![tactic(auto)]
 
 #[cfg(test)]
-#[cfg(test)]
 mod data_terms;
 #[cfg(test)]
 mod names;
@@ -12,6 +11,8 @@ mod names;
 mod one_sort;
 #[cfg(test)]
 mod outside;
+#[cfg(test)]
+mod plain_terms;
 #[cfg(test)]
 mod requirements_of_types;
 #[cfg(test)]

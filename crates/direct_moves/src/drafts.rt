@@ -38,18 +38,48 @@ fn number_of(term: &Sorted) -> u64 {
     }
 }
 
+// Whether these are the variables 0 and 1.
+fn are_both(one: &Sorted, other: &Sorted) -> bool {
+    number_of(one) == 0 && number_of(other) == 1
+}
+
+// Whether the leaves are those of both sides, one behind the other.
+fn are_leaves(leaves: &[Sorted]) -> bool {
+    match leaves {
+        [one, other] => are_both(one, other),
+        _ => false,
+    }
+}
+
+// Whether the one condition is that both values are equal.
+fn are_conditions(conditions: &[(Sorted, Sorted)]) -> bool {
+    match conditions {
+        [only] => are_both(&only.0, &only.1),
+        _ => false,
+    }
+}
+
+// The left side joined with `g ?x` at this gate.
+fn joined_with(alloc: Global, left: &Draft, gate: u32) -> Result<Option<Draft>, NoMemory> {
+    let right = asking(alloc, gate)?;
+    join_offers(left, &right)
+}
+
+// `g ?x` at the gate 0 joined with the same at this gate.
+fn joined(alloc: Global, gate: u32) -> Result<Option<Draft>, NoMemory> {
+    let left = asking(alloc, 0)?;
+    joined_with(alloc, &left, gate)
+}
+
 #[test]
 fn sides_meet_at_one_gate(rt: HostRuntime) -> Result<(), Fail> {
     let alloc = rt.alloc();
-    let left = asking(alloc, 0)?;
-    assert!(rt; join_offers(&left, &asking(alloc, 1)?)?.is_none());
-    let both = join_offers(&left, &asking(alloc, 0)?)?.ok_or("no join")?;
-    assert_eq!(rt; both.leaves.len(), 2);
-    assert_eq!(rt; number_of(&both.leaves[0]), 0);
-    assert_eq!(rt; number_of(&both.leaves[1]), 1);
-    assert_eq!(rt; both.conditions.len(), 1);
-    assert_eq!(rt; number_of(&both.conditions[0].0), 0);
-    assert_eq!(rt; number_of(&both.conditions[0].1), 1);
+    assert!(rt; joined(alloc, 1)?.is_none());
+    let met = match joined(alloc, 0)? {
+        Some(both) => are_leaves(&both.leaves) && are_conditions(&both.conditions),
+        None => false,
+    };
+    assert!(rt; met);
     Ok(())
 }
 

@@ -78,22 +78,31 @@ fn term(alloc: Global, letter: u8) -> Result<Sorted, NoMemory> {
     constant(alloc, u32::from(letter), Rc::new(alloc, profile)?)
 }
 
+fn push_term(alloc: Global, letter: u8, made: &mut Vec<Sorted>) -> Result<(), NoMemory> {
+    made.push(term(alloc, letter)?)?;
+    Ok(())
+}
+
 fn terms(alloc: Global, letters: &[u8]) -> Result<Vec<Sorted>, NoMemory> {
     let mut made = Vec::new(alloc);
     for letter in letters {
-        let next = term(alloc, *letter)?;
-        made.push(next)?;
+        push_term(alloc, *letter, &mut made)?;
     }
     Ok(made)
+}
+
+fn push_value(alloc: Global, pair: &[u8], made: &mut Vec<(u64, Sorted)>) -> Result<(), NoMemory> {
+    if let [letter, value] = pair {
+        let value = term(alloc, *value)?;
+        made.push((u64::from(*letter), value))?;
+    }
+    Ok(())
 }
 
 fn environment(alloc: Global, letters: &[u8]) -> Result<Vec<(u64, Sorted)>, NoMemory> {
     let mut made = Vec::new(alloc);
     for pair in letters.chunks(2) {
-        if let [letter, value] = pair {
-            let value = term(alloc, *value)?;
-            made.push((u64::from(*letter), value))?;
-        }
+        push_value(alloc, pair, &mut made)?;
     }
     Ok(made)
 }
@@ -106,27 +115,54 @@ fn taken(alloc: Global, parts: &mut Vec<Rc<Beh>>) -> Result<Rc<Beh>, NoMemory> {
     }
 }
 
-fn asking(alloc: Global, letters: &[u8], next: Rc<Beh>) -> Result<Beh, NoMemory> {
-    let mut offers = Vec::new(alloc);
+fn push_asked(alloc: Global, letters: &[u8], offers: &mut Vec<Offer>) -> Result<(), NoMemory> {
     if let [letter, spelled, ..] = letters {
         offers.push(Offer::Ask(variable(alloc, *letter, *spelled)?))?;
     }
+    Ok(())
+}
+
+fn asked(alloc: Global, letters: &[u8]) -> Result<Vec<Offer>, NoMemory> {
+    let mut offers = Vec::new(alloc);
+    push_asked(alloc, letters, &mut offers)?;
+    Ok(offers)
+}
+
+fn asking(alloc: Global, letters: &[u8], parts: &mut Vec<Rc<Beh>>) -> Result<Beh, NoMemory> {
+    let next = taken(alloc, parts)?;
     Ok(Beh::Action {
         gate: 0,
-        offers,
+        offers: asked(alloc, letters)?,
         test: None,
         next,
     })
 }
 
-fn bound(alloc: Global, letters: &[u8], next: Rc<Beh>) -> Result<Beh, NoMemory> {
-    let mut bindings = Vec::new(alloc);
+fn binding(alloc: Global, letter: u8, value: u8) -> Result<(Variable, Sorted), NoMemory> {
+    let value = term(alloc, value)?;
+    Ok((variable(alloc, letter, letter)?, value))
+}
+
+fn push_bound(
+    alloc: Global,
+    letters: &[u8],
+    bindings: &mut Vec<(Variable, Sorted)>,
+) -> Result<(), NoMemory> {
     if let [letter, value, ..] = letters {
-        let variable = variable(alloc, *letter, *letter)?;
-        let value = term(alloc, *value)?;
-        bindings.push((variable, value))?;
+        bindings.push(binding(alloc, *letter, *value)?)?;
     }
-    Ok(Beh::Let(bindings, next))
+    Ok(())
+}
+
+fn bindings(alloc: Global, letters: &[u8]) -> Result<Vec<(Variable, Sorted)>, NoMemory> {
+    let mut made = Vec::new(alloc);
+    push_bound(alloc, letters, &mut made)?;
+    Ok(made)
+}
+
+fn bound(alloc: Global, letters: &[u8], parts: &mut Vec<Rc<Beh>>) -> Result<Beh, NoMemory> {
+    let next = taken(alloc, parts)?;
+    Ok(Beh::Let(bindings(alloc, letters)?, next))
 }
 
 fn called(alloc: Global, letters: &[u8]) -> Result<Beh, NoMemory> {
@@ -142,19 +178,12 @@ fn called(alloc: Global, letters: &[u8]) -> Result<Beh, NoMemory> {
 fn behaviour(alloc: Global, word: &str, parts: &mut Vec<Rc<Beh>>) -> Result<Beh, NoMemory> {
     match word.as_bytes() {
         b"stop" => Ok(Beh::Stop),
-        [b'?', letters @ ..] => {
-            let next = taken(alloc, parts)?;
-            asking(alloc, letters, next)
-        }
-        [b'l', b'e', b't', b':', letters @ ..] => {
-            let next = taken(alloc, parts)?;
-            bound(alloc, letters, next)
-        }
+        [b'?', letters @ ..] => asking(alloc, letters, parts),
+        [b'l', b'e', b't', b':', letters @ ..] => bound(alloc, letters, parts),
         [b'c', b'a', b'l', b'l', b':', letters @ ..] => called(alloc, letters),
         _ => {
             let right = taken(alloc, parts)?;
-            let left = taken(alloc, parts)?;
-            Ok(Beh::Parallel(PLACE, Meet::Nothing, left, right))
+            Ok(Beh::Parallel(PLACE, Meet::Nothing, taken(alloc, parts)?, right))
         }
     }
 }
@@ -169,8 +198,7 @@ fn side(alloc: Global, nodes: &mut Vec<Rc<Node>>) -> Result<Rc<Node>, NoMemory> 
 
 fn beside(alloc: Global, nodes: &mut Vec<Rc<Node>>) -> Result<Node, NoMemory> {
     let right = side(alloc, nodes)?;
-    let left = side(alloc, nodes)?;
-    Ok(Node::Parallel(Meet::Nothing, left, right))
+    Ok(Node::Parallel(Meet::Nothing, side(alloc, nodes)?, right))
 }
 
 fn called_node(alloc: Global, letters: &[u8]) -> Result<Node, NoMemory> {
@@ -182,41 +210,79 @@ fn called_node(alloc: Global, letters: &[u8]) -> Result<Node, NoMemory> {
     })
 }
 
+fn with_values(alloc: Global, letters: &[u8], parts: &mut Vec<Rc<Beh>>) -> Result<Node, NoMemory> {
+    let part = taken(alloc, parts)?;
+    Ok(Node::Part(part, environment(alloc, letters)?))
+}
+
+fn push_node(alloc: Global, made: Node, nodes: &mut Vec<Rc<Node>>) -> Result<(), NoMemory> {
+    nodes.push(Rc::new(alloc, made)?)?;
+    Ok(())
+}
+
+// Puts the node or the behaviour of the word on top.
+fn put(
+    alloc: Global,
+    word: &str,
+    parts: &mut Vec<Rc<Beh>>,
+    nodes: &mut Vec<Rc<Node>>,
+) -> Result<(), NoMemory> {
+    match word.as_bytes() {
+        b"Stop" => push_node(alloc, Node::Stop, nodes),
+        b"Beside" => push_node(alloc, beside(alloc, nodes)?, nodes),
+        [b'C', b'a', b'l', b'l', b':', letters @ ..] => {
+            push_node(alloc, called_node(alloc, letters)?, nodes)
+        }
+        [b'w', b'i', b't', b'h', b':', letters @ ..] => {
+            push_node(alloc, with_values(alloc, letters, parts)?, nodes)
+        }
+        _ => {
+            let part = behaviour(alloc, word, parts)?;
+            parts.push(Rc::new(alloc, part)?)?;
+            Ok(())
+        }
+    }
+}
+
+// The node of the words over these behaviours and nodes.
+fn built(
+    alloc: Global,
+    text: &str,
+    parts: &mut Vec<Rc<Beh>>,
+    nodes: &mut Vec<Rc<Node>>,
+) -> Result<Rc<Node>, NoMemory> {
+    for word in text.split(' ') {
+        put(alloc, word, parts, nodes)?;
+    }
+    side(alloc, nodes)
+}
+
 // The node of the words.
 fn node(alloc: Global, text: &str) -> Result<Rc<Node>, NoMemory> {
     let mut parts = Vec::new(alloc);
     let mut nodes = Vec::new(alloc);
-    for word in text.split(' ') {
-        let made = match word.as_bytes() {
-            b"Stop" => Node::Stop,
-            b"Beside" => beside(alloc, &mut nodes)?,
-            [b'C', b'a', b'l', b'l', b':', letters @ ..] => called_node(alloc, letters)?,
-            [b'w', b'i', b't', b'h', b':', letters @ ..] => {
-                let part = taken(alloc, &mut parts)?;
-                Node::Part(part, environment(alloc, letters)?)
-            }
-            _ => {
-                let part = behaviour(alloc, word, &mut parts)?;
-                parts.push(Rc::new(alloc, part)?)?;
-                continue;
-            }
-        };
-        nodes.push(Rc::new(alloc, made)?)?;
-    }
-    side(alloc, &mut nodes)
+    built(alloc, text, &mut parts, &mut nodes)
+}
+
+// Whether it is told, from both sides, if the node of the words is the same as this one.
+fn is_told(alloc: Global, one: &Rc<Node>, words: &str, same: bool) -> Result<bool, NoMemory> {
+    let other = node(alloc, words)?;
+    Ok(same_nodes(one, &other) == same && same_nodes(&other, one) == same)
+}
+
+// Whether the case of the line holds.
+fn holds(alloc: Global, line: &str) -> Result<bool, NoMemory> {
+    let same = line.contains(" == ");
+    let sign = if same { " == " } else { " != " };
+    let (left, right) = line.split_once(sign).unwrap_or((line, ""));
+    let one = node(alloc, left)?;
+    is_told(alloc, &one, right, same)
 }
 
 #[test]
 fn identical_behaviours_are_told(rt: HostRuntime) -> Result<(), Fail> {
-    let alloc = rt.alloc();
     for line in CASES.lines() {
-        let same = line.contains(" == ");
-        let sign = if same { " == " } else { " != " };
-        let (left, right) = line.split_once(sign).unwrap_or((line, ""));
-        let one = node(alloc, left)?;
-        let other = node(alloc, right)?;
-        assert!(rt; same_nodes(&one, &other) == same, "{line}");
-        assert!(rt; same_nodes(&other, &one) == same, "{line}");
+        assert!(rt; holds(rt.alloc(), line)?, "{line}");
     }
     Ok(())
 }

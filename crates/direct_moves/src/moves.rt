@@ -142,18 +142,52 @@ fn over_one(
     parts: &mut Vec<Rc<PlainBehaviour>>,
 ) -> Result<PlainBehaviour, AllocError> {
     let (head, rest) = word.split_once(':').unwrap_or((word, ""));
-    let (formal, among) = rest.split_once(':').unwrap_or((rest, ""));
-    let next = taken(alloc, parts)?;
     match head {
-        "hide" => Ok(PlainBehaviour::Hide(gates(alloc, rest)?, next)),
-        "choice" => Ok(PlainBehaviour::ChooseGate(gate(formal), gates(alloc, among)?, next)),
-        "par" => {
-            let among = gates(alloc, among)?;
-            Ok(PlainBehaviour::ParGate(gate(formal), among, PlainMeet::Nothing, next))
-        }
-        "i;" => Ok(PlainBehaviour::Inner(next)),
-        _ => Ok(PlainBehaviour::Action(gate(head), next)),
+        "hide" => hidden(alloc, rest, parts),
+        "choice" => chosen(alloc, rest, parts),
+        "par" => copied(alloc, rest, parts),
+        "i;" => Ok(PlainBehaviour::Inner(taken(alloc, parts)?)),
+        _ => Ok(PlainBehaviour::Action(gate(head), taken(alloc, parts)?)),
     }
+}
+
+fn hidden(
+    alloc: Global,
+    rest: &str,
+    parts: &mut Vec<Rc<PlainBehaviour>>,
+) -> Result<PlainBehaviour, AllocError> {
+    let among = gates(alloc, rest)?;
+    Ok(PlainBehaviour::Hide(among, taken(alloc, parts)?))
+}
+
+fn chosen(
+    alloc: Global,
+    rest: &str,
+    parts: &mut Vec<Rc<PlainBehaviour>>,
+) -> Result<PlainBehaviour, AllocError> {
+    let (formal, among) = rest.split_once(':').unwrap_or((rest, ""));
+    let among = gates(alloc, among)?;
+    Ok(PlainBehaviour::ChooseGate(gate(formal), among, taken(alloc, parts)?))
+}
+
+fn copied(
+    alloc: Global,
+    rest: &str,
+    parts: &mut Vec<Rc<PlainBehaviour>>,
+) -> Result<PlainBehaviour, AllocError> {
+    let (formal, among) = rest.split_once(':').unwrap_or((rest, ""));
+    let among = gates(alloc, among)?;
+    let next = taken(alloc, parts)?;
+    Ok(PlainBehaviour::ParGate(gate(formal), among, PlainMeet::Nothing, next))
+}
+
+// The last two parts, in their order.
+fn sides(
+    alloc: Global,
+    parts: &mut Vec<Rc<PlainBehaviour>>,
+) -> Result<(Rc<PlainBehaviour>, Rc<PlainBehaviour>), AllocError> {
+    let right = taken(alloc, parts)?;
+    Ok((taken(alloc, parts)?, right))
 }
 
 fn over_two(
@@ -161,16 +195,30 @@ fn over_two(
     word: &str,
     parts: &mut Vec<Rc<PlainBehaviour>>,
 ) -> Result<PlainBehaviour, AllocError> {
-    let right = taken(alloc, parts)?;
-    let left = taken(alloc, parts)?;
+    let (left, right) = sides(alloc, parts)?;
     match word {
         "[]" => Ok(PlainBehaviour::Choice(left, right)),
         ">>" => Ok(PlainBehaviour::Enable(left, right)),
-        "[>" => Ok(PlainBehaviour::Disable(left, right)),
-        "|||" => Ok(PlainBehaviour::Parallel(PlainMeet::Nothing, left, right)),
-        "||" => Ok(PlainBehaviour::Parallel(PlainMeet::Everything, left, right)),
-        _ => Ok(PlainBehaviour::Parallel(PlainMeet::Gates(gates(alloc, word)?), left, right)),
+        _ => Ok(PlainBehaviour::Disable(left, right)),
     }
+}
+
+fn meet_of(alloc: Global, word: &str) -> Result<PlainMeet, AllocError> {
+    match word {
+        "|||" => Ok(PlainMeet::Nothing),
+        "||" => Ok(PlainMeet::Everything),
+        _ => Ok(PlainMeet::Gates(gates(alloc, word)?)),
+    }
+}
+
+fn beside(
+    alloc: Global,
+    word: &str,
+    parts: &mut Vec<Rc<PlainBehaviour>>,
+) -> Result<PlainBehaviour, AllocError> {
+    let meet = meet_of(alloc, word)?;
+    let (left, right) = sides(alloc, parts)?;
+    Ok(PlainBehaviour::Parallel(meet, left, right))
 }
 
 fn made(
@@ -181,7 +229,8 @@ fn made(
     match word.as_bytes() {
         b"stop" => Ok(PlainBehaviour::Stop),
         b"exit" => Ok(PlainBehaviour::Exit),
-        [b'[' | b'|' | b'>', ..] => over_two(alloc, word, parts),
+        [b'[' | b'>', ..] => over_two(alloc, word, parts),
+        [b'|', ..] => beside(alloc, word, parts),
         [b'c', b'a', ..] => {
             let (_, actual) = word.split_once(':').unwrap_or((word, ""));
             Ok(PlainBehaviour::Call(0, gates(alloc, actual)?))
@@ -190,17 +239,31 @@ fn made(
     }
 }
 
-fn behaviour(alloc: Global, text: &str) -> Result<Rc<PlainBehaviour>, AllocError> {
-    let mut parts = Vec::new(alloc);
+// Puts the part of the word on top.
+fn put(alloc: Global, word: &str, parts: &mut Vec<Rc<PlainBehaviour>>) -> Result<(), AllocError> {
+    let part = made(alloc, word, parts)?;
+    parts.push(shared(alloc, part)?)?;
+    Ok(())
+}
+
+// The behaviour of the words over these parts.
+fn built(
+    alloc: Global,
+    text: &str,
+    parts: &mut Vec<Rc<PlainBehaviour>>,
+) -> Result<Rc<PlainBehaviour>, AllocError> {
     for word in text.split(' ') {
-        let part = made(alloc, word, &mut parts)?;
-        parts.push(shared(alloc, part)?)?;
+        put(alloc, word, parts)?;
     }
     for _ in 1..parts.len() {
-        let part = over_two(alloc, "[]", &mut parts)?;
-        parts.push(shared(alloc, part)?)?;
+        put(alloc, "[]", parts)?;
     }
-    taken(alloc, &mut parts)
+    taken(alloc, parts)
+}
+
+fn behaviour(alloc: Global, text: &str) -> Result<Rc<PlainBehaviour>, AllocError> {
+    let mut parts = Vec::new(alloc);
+    built(alloc, text, &mut parts)
 }
 
 fn process(alloc: Global, text: &str) -> Result<PlainProcess, AllocError> {
@@ -210,6 +273,17 @@ fn process(alloc: Global, text: &str) -> Result<PlainProcess, AllocError> {
     Ok(PlainProcess { gates, body })
 }
 
+// The target of the move at the position in the list.
+fn listed_target(
+    listed: &[PlainMove],
+    position: usize,
+) -> Result<Option<Rc<PlainBehaviour>>, AllocError> {
+    match listed.get(position) {
+        Some(taken) => Ok(Some(taken.target.clone()?)),
+        None => Ok(None),
+    }
+}
+
 // The target of the move at the position.
 fn target(
     alloc: Global,
@@ -217,31 +291,43 @@ fn target(
     body: &Rc<PlainBehaviour>,
     position: usize,
 ) -> Result<Option<Rc<PlainBehaviour>>, AllocError> {
-    let Some(listed) = moves(alloc, processes, 50, body)? else {
-        return Ok(None);
-    };
-    match listed.get(position) {
-        Some(taken) => Ok(Some(taken.target.clone()?)),
+    match moves(alloc, processes, 50, body)? {
+        Some(listed) => listed_target(&listed, position),
         None => Ok(None),
     }
 }
 
-// What the behaviour becomes by the moves at these positions.
-fn after(
+// Goes on to the target of the move at the position, if there is one.
+fn go_on(
     alloc: Global,
     processes: &[PlainProcess],
-    body: Rc<PlainBehaviour>,
+    reached: &mut Option<Rc<PlainBehaviour>>,
+    position: usize,
+) -> Result<(), AllocError> {
+    let next = match reached {
+        Some(body) => target(alloc, processes, body, position)?,
+        None => return Ok(()),
+    };
+    *reached = next;
+    Ok(())
+}
+
+// Goes on by the moves at these positions.
+fn follow(
+    alloc: Global,
+    processes: &[PlainProcess],
+    reached: &mut Option<Rc<PlainBehaviour>>,
     path: &str,
-) -> Result<Option<Rc<PlainBehaviour>>, AllocError> {
-    let mut reached = body;
+) -> Result<(), AllocError> {
     for digit in path.as_bytes() {
-        let position = usize::from(digit.wrapping_sub(b'0'));
-        let Some(next) = target(alloc, processes, &reached, position)? else {
-            return Ok(None);
-        };
-        reached = next;
+        go_on(
+            alloc,
+            processes,
+            reached,
+            usize::from(digit.wrapping_sub(b'0')),
+        )?;
     }
-    Ok(Some(reached))
+    Ok(())
 }
 
 fn is_spelled(label: PlainLabel, letter: u8) -> bool {
@@ -267,20 +353,53 @@ fn are_spelled(listed: &[PlainMove], letters: &str) -> bool {
     true
 }
 
+// Whether the moves of the behaviour have these labels.
+fn are_its_labels(
+    alloc: Global,
+    processes: &[PlainProcess],
+    reached: &Option<Rc<PlainBehaviour>>,
+    labels: &str,
+) -> Result<bool, AllocError> {
+    let Some(body) = reached else {
+        return Ok(false);
+    };
+    match moves(alloc, processes, 50, body)? {
+        Some(listed) => Ok(are_spelled(&listed, labels)),
+        None => Ok(labels == "none"),
+    }
+}
+
+// Whether what is reached by these moves has moves with these labels.
+fn leads_to(
+    alloc: Global,
+    processes: &[PlainProcess],
+    reached: &mut Option<Rc<PlainBehaviour>>,
+    path: &str,
+    labels: &str,
+) -> Result<bool, AllocError> {
+    follow(alloc, processes, reached, path)?;
+    are_its_labels(alloc, processes, reached, labels)
+}
+
+// The same from the behaviour of the text on.
+fn holds_over(
+    alloc: Global,
+    processes: &[PlainProcess],
+    text: &str,
+    path: &str,
+    labels: &str,
+) -> Result<bool, AllocError> {
+    let mut reached = Some(behaviour(alloc, text)?);
+    leads_to(alloc, processes, &mut reached, path, labels)
+}
+
 fn holds(alloc: Global, case: &str, labels: &str) -> Result<bool, AllocError> {
     let (written, path) = case.split_once(" after ").unwrap_or((case, ""));
     let (text, definition) = written
         .split_once(" where ")
         .unwrap_or((written, "- is stop"));
     let processes = [process(alloc, definition)?];
-    let body = behaviour(alloc, text)?;
-    let Some(reached) = after(alloc, &processes, body, path)? else {
-        return Ok(false);
-    };
-    match moves(alloc, &processes, 50, &reached)? {
-        Some(listed) => Ok(are_spelled(&listed, labels)),
-        None => Ok(labels == "none"),
-    }
+    holds_over(alloc, &processes, text, path, labels)
 }
 
 #[test]
@@ -311,18 +430,32 @@ fn is_at(shape: &PlainShape, position: usize) -> bool {
     }
 }
 
+// Whether each move is at the gate with its position.
+fn are_at_their_gates(listed: &[PlainMove]) -> bool {
+    for (position, made) in listed.iter().enumerate() {
+        if !is_at(&made.shape, position) {
+            return false;
+        }
+    }
+    true
+}
+
+// Whether no list has the depth of 1, and the moves in that of 2 are at the gates of their positions.
+fn has_its_moves(alloc: Global, body: &Rc<PlainBehaviour>) -> Result<bool, AllocError> {
+    if moves(alloc, &[], 1, body)?.is_some() {
+        return Ok(false);
+    }
+    match moves(alloc, &[], 2, body)? {
+        Some(listed) => Ok(are_at_their_gates(&listed)),
+        None => Ok(false),
+    }
+}
+
 // Moves at equal gates differ by the positions of the gates.
 #[test]
 fn equal_gates_give_two_moves(rt: HostRuntime) -> Result<(), Fail> {
     let alloc = rt.alloc();
     let body = behaviour(alloc, "stop z; choice:z:aa")?;
-    assert!(rt; moves(alloc, &[], 1, &body)?.is_none());
-    let listed = moves(alloc, &[], 2, &body)?;
-    assert!(rt; listed.is_some());
-    if let Some(listed) = listed {
-        for (position, made) in listed.iter().enumerate() {
-            assert!(rt; is_at(&made.shape, position));
-        }
-    }
+    assert!(rt; has_its_moves(alloc, &body)?);
     Ok(())
 }

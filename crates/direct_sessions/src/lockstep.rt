@@ -44,6 +44,7 @@ P[a, b, c](d) |[b]| P[c, b, a](e) where process P[x, y, z](v:C) : noexit := x !v
 P[a] |[a]| P[a] >> stop where process P[x] : exit := x; exit [] x; P[x] endproc
 (let x:C = d in P[a](x)) [> b; (let y:C = s(d) in P[c](y)) where process P[x](v:C) : noexit := x !v; P[x](s(v)) endproc
 (a; a; exit ||| (b; exit [> c; exit)) >> (par g in [a, b] ||| g; exit) >> c; stop
+(P[a] ||| (P[b] ||| c; exit)) >> stop where process P[x] : exit := x; (exit ||| x; exit) endproc
 hide a in hide b in (P[a] |[a]| P[a] ||| c; P[b]) where process P[x] : noexit := x; x; stop endproc
 P[a, a] where process P[x, y] : noexit := (x; stop) |[x]| (y; stop) endproc
 P[a](d) ||| Q[a, b] where process P[x](v:C) : noexit := x !v; P[x](v) [] x ?w:C; P[x](s(w)) endproc process Q[x, y] : noexit := y ?v:C [v = e]; x !v; Q[x, y] endproc";
@@ -133,11 +134,16 @@ fn served<M: MenuMaker>(
     requires { IsServing M.suits lines.old }
 {
     let bytes = Vec::from_slice(alloc, input.as_bytes())?;
+    let mut sink = MemSink::new(alloc, 100_000, Vec::new(alloc))?;
     let mut shelf = MemShelf::new(Vec::new(alloc), Vec::new(alloc));
     let mut source = MemSource::new(bytes, Vec::new(alloc));
-    let mut sink = MemSink::new(alloc, 100_000, Vec::new(alloc))?;
     serve_input(alloc, lines, &mut shelf, &mut source, &mut sink);
-    Ok(Vec::from_slice(alloc, sink.written())?)
+    copied(alloc, sink.written())
+}
+
+// The same bytes.
+fn copied(alloc: Global, bytes: &[u8]) -> Result<Vec<u8>, NoMemory> {
+    Ok(Vec::from_slice(alloc, bytes)?)
 }
 
 // The same of a session whose terms are over the signature.
@@ -200,26 +206,36 @@ fn agree(alloc: Global, text: &str, input: &str) -> Result<bool, Fail> {
 
 // The lines that follow from the seed.
 fn drawn(alloc: Global, seed: u64) -> Result<String, Fail> {
-    let mut lines = String::from_str(alloc, "step 1\nundo\nmenu\nstep 1\n")?;
+    let mut lines = String::new(alloc);
+    push_drawn(alloc, &mut lines, seed)?;
+    Ok(lines)
+}
+
+// Appends them.
+fn push_drawn(alloc: Global, lines: &mut String, seed: u64) -> Result<(), Fail> {
+    lines.push_str("step 1\nundo\nmenu\nstep 1\n")?;
     let mut number = seed;
     for _ in 0..6u32 {
         number = number
             .wrapping_mul(6_364_136_223_846_793_005)
             .wrapping_add(1_442_695_040_888_963_407);
-        push_turn(alloc, &mut lines, number >> 33)?;
+        push_turn(alloc, lines, number >> 33)?;
     }
     lines.push_str("trace\nsave t\nundo\nundo\nmenu\nstep 1\nreplay t\nmenu\nundo\nstep 2\n")?;
-    Ok(lines)
+    Ok(())
 }
 
 // One more step by one of the first three entries, undone and taken once more, or one with a value.
 fn push_turn(alloc: Global, lines: &mut String, number: u64) -> Result<(), Fail> {
     let chosen = (number % 3).wrapping_add(1);
-    let value = if number % 2 == 0 { "d" } else { "e" };
-    let turn = format!(in alloc;
-        "step {chosen}\nundo\nmenu\nstep {chosen}\nstep {chosen} {value}\nshow\n"
-    )?;
+    let turn = format!(in alloc; "step {chosen}\nundo\nmenu\nstep {chosen}\nstep {chosen} ")?;
     lines.push_str(turn.as_str())?;
+    if number % 2 == 0 {
+        lines.push_str("d")?;
+    } else {
+        lines.push_str("e")?;
+    }
+    lines.push_str("\nshow\n")?;
     Ok(())
 }
 

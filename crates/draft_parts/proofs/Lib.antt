@@ -5,6 +5,7 @@ pub mod HigherLemmas
 pub mod NestedLemmas
 pub mod ListLemmas
 pub mod MetLemmas
+pub mod PutLemmas
 pub mod PartingLemmas
 pub mod RuleListLemmas
 pub mod BothListLemmas

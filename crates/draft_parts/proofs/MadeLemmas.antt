@@ -1,5 +1,5 @@
 -- Lists of drafts put together.
-use Rattle.std.proofs.Common.{◌≡◌, ◌<◌, ◌≤◌, ◌++◌, ℕ, suc, ◌+◌, List, [], ◌∷◌, map, filter_map, drop, length, get_or, Bool, true, false, if◌then◌else◌, refl, ap, ◌∙◌, subst, sym, append_assoc, add-one, arith, ◌-◌, append-nil}
+use Rattle.std.proofs.Common.{◌≡◌, ◌<◌, ◌≤◌, ◌++◌, ℕ, suc, ◌+◌, List, [], ◌∷◌, map, filter_map, drop, length, get_or, Some, Bool, true, false, if◌then◌else◌, refl, ap, ◌∙◌, subst, sym, append_assoc, add-one, arith, ◌-◌, append-nil}
 use Rattle.std.specs.Prelude.{Option}
 use Rattle.std.proofs.Math.Dec.{eqb}
 use Rattle.std.proofs.Math.ListN.{drop_of_length-le}
@@ -17,10 +17,10 @@ use Rattle.behaviour_semantics.proofs.ListLemmas.{Every-append}
 use Rattle.event_offers.specs.OfferView.{plain_draft}
 use Rattle.event_offers.specs.declared.drafts.Draft.{Draft}
 use Rattle.draft_parts.specs.DraftTerms.{HasTermsOf}
-use Rattle.draft_parts.specs.DraftRules.{alone_draft}
+use Rattle.draft_parts.specs.DraftRules.{alone_draft, draft_within}
 use Rattle.draft_parts.specs.Lists.{both_lists, plain_drafts, AreMadeBy}
 use Rattle.draft_parts.specs.Parting.{alone_among, meeting_among}
-use Rattle.draft_parts.proofs.PartingLemmas.{alone_same, alone_over, both_same, meeting_over}
+use Rattle.draft_parts.proofs.PartingLemmas.{alone_same, alone_kept, alone_over, both_same, meeting_over}
 use Rattle.draft_parts.specs.HasDrafts.{beside_drafts, gate_drafts, row_drafts}
 use Rattle.draft_parts.specs.Rows.{call_pairs}
 use Rattle.draft_parts.specs.Made.{AreThese}
@@ -47,6 +47,20 @@ pub by_rule_of : (signature : Signature) (rule : plain.Draft → Option plain.Dr
     → AreThese signature (filter_map rule (plain_drafts part)) made
 by_rule_of signature rule part copy made e h =
     record { same = h.same ∙ ap (filter_map rule) e; over = h.over }
+
+-- What a rule that keeps each draft made of those that move alone.
+pub rest_alone : (signature : Signature) (meet : SynchronisationSet) (variant : Shape → Shape) (given among made : List Draft)
+    → among ≡ alone_among meet given → Every (HasTermsOf signature) given
+    → (Every (HasTermsOf signature) among → AreMadeBy signature (λ (d : plain.Draft). Some (draft_within variant d)) among made)
+    → AreMadeBy signature (alone_draft meet variant) given made
+rest_alone signature meet variant given among made e h k =
+    let m : AreMadeBy signature (λ (d : plain.Draft). Some (draft_within variant d)) among made =
+    k (subst (λ (ds : List Draft). Every (HasTermsOf signature) ds) (sym e) (alone_over (HasTermsOf signature) meet given h)) in
+    record {
+      same = m.same ∙ (ap (λ (ds : List Draft). filter_map (λ (d : plain.Draft). Some (draft_within variant d)) (plain_drafts ds)) e
+          ∙ alone_kept meet variant given);
+      over = m.over;
+    }
 
 -- ---- The sides of a parallel, those that move alone apart from the others.
 pub alone_made : (signature : Signature) (meet : SynchronisationSet) (variant : Shape → Shape) (given among made : List Draft)

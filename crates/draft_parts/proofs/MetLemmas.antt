@@ -167,12 +167,12 @@ met_set meet label (x ∷ drafts) (suc i) d e within is same =
     ∙ (ap (λ (ds : List plain.Draft). met_of meet label (x ∷ []) ++ ds) (met_set meet label drafts i d e (omega arith) is same)
     ∙ sym (met_cons meet label x drafts))
 
-over_set : (P : Draft → Type 0) (drafts : List Draft) (i : ℕ) (e : Draft) → Every P drafts → P e → Every P (set drafts i e)
+pub over_set : (P : Draft → Type 0) (drafts : List Draft) (i : ℕ) (e : Draft) → Every P drafts → P e → Every P (set drafts i e)
 over_set P [] i e h p = tt
 over_set P (x ∷ drafts) zero e h p = (p, h.1)
 over_set P (x ∷ drafts) (suc i) e h p = (h.0, over_set P drafts i e h.1 p)
 
-over_at : (P : Draft → Type 0) (drafts : List Draft) (i : ℕ) (d : Draft) → i < length drafts → d ≡ get_or drafts i d → Every P drafts → P d
+pub over_at : (P : Draft → Type 0) (drafts : List Draft) (i : ℕ) (d : Draft) → i < length drafts → d ≡ get_or drafts i d → Every P drafts → P d
 over_at P [] i d within is h = absurd (omega arith)
 over_at P (x ∷ drafts) zero d within is h = subst P (sym is) h.0
 over_at P (x ∷ drafts) (suc i) d within is h = over_at P drafts i d (omega arith) is h.1
@@ -206,7 +206,7 @@ met_begun meet label later given made none = record {
   kept = all_same meet given later;
 }
 
-here_is : (drafts : List Draft) (i : ℕ) (d : Draft) → i < length drafts → d ≡ get_or drafts i d → drop i drafts ≡ d ∷ drop (suc i) drafts
+pub here_is : (drafts : List Draft) (i : ℕ) (d : Draft) → i < length drafts → d ≡ get_or drafts i d → drop i drafts ≡ d ∷ drop (suc i) drafts
 here_is drafts i d within is = drop-cons drafts i d within ∙ ap (λ (y : Draft). y ∷ drop (suc i) drafts) (sym is)
 
 pub met_passed : (meet : SynchronisationSet) (label : Label) (later given now made : List Draft) (i : ℕ) (d : Draft) → i < length now

@@ -1,6 +1,7 @@
 -- A draft of a move alone meets nothing, and one that may meet makes no move alone.
-use Rattle.std.proofs.Common.{◌≡◌, ◌++◌, ℕ, List, [], ◌∷◌, length, filter_map, Option, None, Some, Bool, true, false, ◌&&◌, nat_eq, if◌then◌else◌, refl, ap, sym, ◌∙◌}
+use Rattle.std.proofs.Common.{◌≡◌, ◌<◌, ◌++◌, ℕ, suc, ◌+◌, List, [], ◌∷◌, length, filter, filter_map, drop, get_or, Option, None, Some, Bool, true, false, ◌&&◌, nat_eq, if◌then◌else◌, refl, ap, sym, ◌∙◌, subst, add-one}
 use Rattle.std.specs.List.{cons_option}
+use Rattle.std.proofs.Math.Seq.{drop-cons}
 use Rattle.std.proofs.lemmas.Bool.{eqb-true, not-true}
 use Rattle.lotos_base.specs.Signature.{Signature}
 use Rattle.lotos_base.specs.Substitution.{Substitution}
@@ -61,6 +62,51 @@ alone_same meet variant (d ∷ drafts) = go (moves_alone meet (label_of d.label)
     go true e rest = ap (λ (ds : List plain.Draft). cons_option (alone_draft meet variant (plain_draft d)) ds) rest
     go false e rest = rest ∙ sym (ap (λ (b : Bool). cons_option (if b then Some (draft_within variant (plain_draft d)) else None)
         (filter_map (alone_draft meet variant) (plain_drafts drafts))) e)
+
+-- Each draft that moves alone is kept.
+pub alone_kept : (meet : SynchronisationSet) (variant : Shape → Shape) (drafts : List Draft)
+    → filter_map (λ (d : plain.Draft). Some (draft_within variant d)) (plain_drafts (alone_among meet drafts))
+    ≡ filter_map (alone_draft meet variant) (plain_drafts drafts)
+alone_kept meet variant [] = refl
+alone_kept meet variant (d ∷ drafts) = go (moves_alone meet (label_of d.label)) (alone_kept meet variant drafts)
+  where
+    go : (b : Bool)
+        → filter_map (λ (x : plain.Draft). Some (draft_within variant x)) (plain_drafts (alone_among meet drafts))
+        ≡ filter_map (alone_draft meet variant) (plain_drafts drafts)
+        → filter_map (λ (x : plain.Draft). Some (draft_within variant x))
+        (plain_drafts (if b then d ∷ alone_among meet drafts else alone_among meet drafts))
+        ≡ cons_option (if b then Some (draft_within variant (plain_draft d)) else None)
+        (filter_map (alone_draft meet variant) (plain_drafts drafts))
+    go true rest = ap (λ (ds : List plain.Draft). draft_within variant (plain_draft d) ∷ ds) rest
+    go false rest = rest
+
+pub alone_filtered : (meet : SynchronisationSet) (drafts : List Draft)
+    → filter (λ (d : Draft). moves_alone meet (label_of d.label)) drafts ≡ alone_among meet drafts
+alone_filtered meet [] = refl
+alone_filtered meet (d ∷ drafts) =
+    ap (λ (ds : List Draft). if moves_alone meet (label_of d.label) then d ∷ ds else ds) (alone_filtered meet drafts)
+
+-- The drafts from an index on all move alone only if all do.
+pub record AreAloneIf (meet : SynchronisationSet) (rest drafts : List Draft) : Type 0 where
+  pub alone : rest ≡ alone_among meet rest → drafts ≡ alone_among meet drafts
+  pub meeting : [] ≡ meeting_among meet rest → [] ≡ meeting_among meet drafts
+
+pub one_alone : (meet : SynchronisationSet) (drafts : List Draft) (i : ℕ) (d : Draft) → i < length drafts → d ≡ get_or drafts i d
+    → moves_alone meet (label_of d.label) ≡ true → AreAloneIf meet (drop i drafts) drafts → AreAloneIf meet (drop (i + 1) drafts) drafts
+one_alone meet drafts i d within is moves h =
+    let here : drop i drafts ≡ d ∷ drop (suc i) drafts =
+    drop-cons drafts i d within ∙ ap (λ (y : Draft). y ∷ drop (suc i) drafts) (sym is) in
+    let next : drop (suc i) drafts ≡ drop (i + 1) drafts = ap (λ (j : ℕ). drop j drafts) (sym (add-one i)) in
+    subst (λ (ds : List Draft). AreAloneIf meet ds drafts) next (go (drop (suc i) drafts)
+    (subst (λ (ds : List Draft). AreAloneIf meet ds drafts) here h))
+  where
+    go : (rest : List Draft) → AreAloneIf meet (d ∷ rest) drafts → AreAloneIf meet rest drafts
+    go rest k = record {
+      alone = λ e. k.alone (ap (λ (ds : List Draft). d ∷ ds) e
+          ∙ ap (λ (b : Bool). if b then d ∷ alone_among meet rest else alone_among meet rest) (sym moves));
+      meeting = λ e. k.meeting (e
+          ∙ ap (λ (b : Bool). if b then meeting_among meet rest else d ∷ meeting_among meet rest) (sym moves));
+    }
 
 module _ (signature : Signature) (meet : SynchronisationSet) where
   -- what a left draft makes with a right one, by whether they move together

@@ -7,7 +7,7 @@ ghost use Rattle.event_offers.specs.OfferView.{plain_draft};
 ghost use Rattle.draft_parts.specs.HasDrafts.{beside_drafts, either_drafts};
 ghost use Rattle.draft_parts.specs.DraftTerms.{HasTermsOf};
 ghost use Rattle.draft_parts.specs.Made.{AreThese, inner_of};
-ghost use Rattle.std.specs.Prelude.{◌≡◌, ◌∷◌, [], IfOk};
+ghost use Rattle.std.specs.Prelude.{◌≡◌, ◌∷◌, ◌++◌, [], IfOk};
 ghost use Rattle.lotos_base.specs.Signature.{Signature};
 
 use crate::copies::copied;
@@ -64,7 +64,20 @@ pub fn either(lefts: Vec<Draft>, rights: Vec<Draft>) -> Result<Vec<Draft>, NoMem
 {
     let first = Rule::Below(Variant::Left).apply_to_all(lefts)?;
     let second = Rule::Below(Variant::Right).apply_to_all(rights)?;
-    appended(first, second)
+    joined(first, second)
+}
+
+// The drafts of the first list, and then those of the second. The shorter list is moved.
+fn joined(first: Vec<Draft>, second: Vec<Draft>) -> Result<Vec<Draft>, NoMemory>
+    ensures { IfOk result (λ made. made.items ≡ first.items ++ second.items) }
+{
+    if first.len() >= second.len() {
+        return appended(first, second);
+    }
+    let count = first.len();
+    let mut made = appended(second, first)?;
+    made.rotate_right(count);
+    Ok(made)
 }
 
 /// The drafts of a parallel: those of each side alone, and then those of both together.
@@ -84,5 +97,5 @@ pub fn beside(
     let both = both_sides(left.meeting, right.meeting, meet, first)?;
     let lefts = Rule::Alone(meet, Variant::Left).apply_to_all(left.alone)?;
     let rights = Rule::Alone(meet, Variant::Right).apply_to_all(right.alone)?;
-    appended(appended(lefts, rights)?, both)
+    joined(joined(lefts, rights)?, both)
 }

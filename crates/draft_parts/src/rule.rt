@@ -1,17 +1,21 @@
 //! A rule over the drafts of one part.
 
 ghost use Rattle.behaviour_semantics.specs.WellFormed.{Every};
+ghost use Rattle.behaviour_tree.specs.BehaviourView.{meet_of};
+ghost use Rattle.draft_parts.specs.DraftRules.{draft_within};
 ghost use Rattle.draft_parts.specs.Lists.{AreMadeBy};
+ghost use Rattle.draft_parts.specs.Parting.{alone_among};
+ghost use Rattle.draft_parts.specs.VariantView.{variant_of};
 ghost use Rattle.draft_parts.specs.RuleView.{IsDraftRuleOver, made_by};
 ghost use Rattle.event_offers.specs.OfferView.{plain_draft};
 ghost use Rattle.draft_parts.specs.DraftTerms.{HasTermsOf};
 ghost use Rattle.std.specs.Option.{option_map};
-ghost use Rattle.std.specs.Prelude.{◌≡◌, ◌++◌, IfOk, IfSome, option_to_list};
+ghost use Rattle.std.specs.Prelude.{◌≡◌, ◌++◌, IfOk, IfSome, OnOk, Some, option_to_list};
 ghost use Rattle.lotos_base.specs.Signature.{Signature};
 
 use crate::Variant;
 use crate::meeting::enabled;
-use crate::rules::{alone, below, guarded, hidden, relabelled, valued};
+use crate::rules::{alone, below, guarded, hidden, may_move_alone, put_below, relabelled, valued};
 use behaviour_tree::Meet;
 use event_offers::Draft;
 use lotos_base::NoMemory;
@@ -62,6 +66,19 @@ impl Rule<'_> {
             → Every (HasTermsOf signature) drafts.items
             → AreMadeBy signature (made_by signature self.now) drafts.items made.items) }
     {
+        match self {
+            Rule::Below(variant) => all_below(drafts, *variant),
+            Rule::Alone(meet, variant) => all_below(alone_drafts(drafts, meet), *variant),
+            _ => self.apply_to_each(drafts),
+        }
+    }
+
+    // What the rule makes of each of the drafts, in order.
+    fn apply_to_each(&self, drafts: Vec<Draft>) -> Result<Vec<Draft>, NoMemory>
+        ensures { IfOk result (λ made. (signature : Signature) → IsDraftRuleOver signature self.now
+            → Every (HasTermsOf signature) drafts.items
+            → AreMadeBy signature (made_by signature self.now) drafts.items made.items) }
+    {
         let mut made = Vec::with_capacity(*drafts.allocator(), drafts.len())?;
         let mut rest = drafts;
         rest.reverse();
@@ -71,6 +88,40 @@ impl Rule<'_> {
         }
         Ok(made)
     }
+}
+
+// The drafts that a side of a parallel makes alone.
+fn alone_drafts(drafts: Vec<Draft>, meet: &Meet) -> Vec<Draft>
+    ensures { result.items ≡ alone_among (meet_of meet.now) drafts.items }
+{
+    let mut made = drafts;
+    made.retain(|draft| may_move_alone(meet, &draft.label));
+    made
+}
+
+// The drafts, each below the variant.
+fn all_below(drafts: Vec<Draft>, variant: Variant) -> Result<Vec<Draft>, NoMemory>
+    ensures { IfOk result (λ made. (signature : Signature)
+        → Every (HasTermsOf signature) drafts.items
+        → AreMadeBy signature (λ d. Some (draft_within (variant_of variant) d))
+        drafts.items made.items) }
+{
+    let mut made = drafts;
+    put_all_below(&mut made, variant)?;
+    Ok(made)
+}
+
+// Puts the variant over the shape of each of the drafts.
+fn put_all_below(drafts: &mut Vec<Draft>, variant: Variant) -> Result<(), NoMemory>
+    ensures { OnOk result ((signature : Signature)
+        → Every (HasTermsOf signature) drafts.old.items
+        → AreMadeBy signature (λ d. Some (draft_within (variant_of variant) d))
+        drafts.old.items drafts.new.items) }
+{
+    for i in 0..drafts.len() {
+        put_below(&mut drafts[i], variant)?;
+    }
+    Ok(())
 }
 
 /// The drafts with one more, where there is one.

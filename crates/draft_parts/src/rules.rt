@@ -17,17 +17,18 @@ ghost use Rattle.draft_parts.specs.VariantView.{variant_of};
 ghost use Rattle.sort_terms.specs.ProfiledTerm.{IsOf};
 ghost use Rattle.sort_terms.specs.SortedView.{profiled_in, term_in};
 ghost use Rattle.std.specs.Option.{option_map};
-ghost use Rattle.std.specs.Prelude.{◌≡◌, IfOk, IfSome};
+ghost use Rattle.std.specs.Prelude.{◌≡◌, IfOk, IfSome, OnOk};
 ghost use Rattle.behaviour_semantics.specs.Rule.{hidden_label, moves_alone, synchronises};
 ghost use Rattle.behaviour_semantics.specs.Label.{gate_under as gate_made, label_under};
 ghost use Rattle.lotos_base.specs.Signature.{Signature};
 ghost use Rattle.lotos_base.specs.Substitution.{is_listed};
 
 use crate::variants::Variant;
-use behaviour_tree::{Label, Meet};
+use behaviour_tree::{Label, Meet, Shape};
 use event_offers::Draft;
 use lotos_base::NoMemory;
 use sort_terms::Sorted;
+use std::mem;
 
 /// The draft below a variant of shapes.
 pub fn below(draft: Draft, variant: Variant) -> Result<Draft, NoMemory>
@@ -43,6 +44,19 @@ pub fn below(draft: Draft, variant: Variant) -> Result<Draft, NoMemory>
         leaves: draft.leaves,
         conditions: draft.conditions,
     })
+}
+
+/// Puts a variant of shapes over the draft's shape.
+pub fn put_below(draft: &mut Draft, variant: Variant) -> Result<(), NoMemory>
+    ensures same { OnOk result (plain_draft draft.new
+        ≡ draft_within (variant_of variant) (plain_draft draft.old)) }
+    ensures over { OnOk result ((signature : Signature)
+        → HasTermsOf signature draft.old → HasTermsOf signature draft.new) }
+{
+    let alloc = *draft.leaves.allocator();
+    let part = mem::replace(&mut draft.shape, Shape::Act);
+    draft.shape = variant.over(alloc, part)?;
+    Ok(())
 }
 
 /// The draft of a side of a parallel that moves alone, or `None` where it may not.

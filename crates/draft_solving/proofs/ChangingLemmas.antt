@@ -1,5 +1,5 @@
 -- Drafts changed term by term, and what is ready to be changed.
-use Rattle.std.proofs.Common.{◌≡◌, ◌++◌, ℕ, List, [], ◌∷◌, map, Option, None, Some, Bool, true, false, not, cond, refl, ap, sym, ◌∙◌, subst}
+use Rattle.std.proofs.Common.{◌≡◌, ◌↔◌, ℕ, List, [], ◌∷◌, map, Option, None, Some, Bool, true, false, not, filter, cond, refl, ap, sym, ◌∙◌}
 use Rattle.lotos_base.specs.Term.{Term}
 use Rattle.lotos_base.specs.Tests.{term_eq}
 use Rattle.lotos_base.specs.Signature.{Signature}
@@ -11,50 +11,24 @@ use Rattle.behaviour_semantics.specs.Replacement.{test_with}
 use Rattle.behaviour_semantics.specs.Draft as plain
 use Rattle.behaviour_semantics.specs.Draft.{label_with, draft_with}
 use Rattle.behaviour_semantics.specs.Solving.{label_in, test_in, canonical, differing, tidied}
-use Rattle.behaviour_semantics.specs.WellFormed.{Every}
-use Rattle.behaviour_semantics.proofs.SolvingSteps.{differing-append}
 use Rattle.sort_terms.specs.SortedView.{profiled_in, term_in}
-use Rattle.sort_terms.specs.ProfiledTerm.{IsOf}
+use Rattle.sort_terms.specs.ProfiledTerm.{ProfiledTerm, bare, IsOf}
 use Rattle.sort_terms.specs.declared.sorted.Sorted.{Sorted}
-use Rattle.behaviour_tree.specs.BehaviourTerms.{profiles_of}
 use Rattle.lotos_base.specs.Equation.{Data}
 use Rattle.lotos_base.specs.Canon.{IsCanon}
-use Rattle.draft_solving.specs.Changing.{AreReady, IsVariable, changed_by}
+use Rattle.draft_solving.specs.Changing.{changed_by, have_other_sides, IsVariable, PutsWell, StaysUnder}
+use Rattle.draft_solving.proofs.LackLemmas.{lacking_stays}
 use Rattle.event_offers.specs.OfferView.{condition_of, conditions_of, condition_profiles, condition_sides}
 use Rattle.event_offers.specs.Offers.{IsConditionOf, AreConditionsOf}
-use Rattle.behaviour_tree.specs.Over.{AreTermsOf}
-use Rattle.behaviour_semantics.proofs.ListLemmas.{Every-append}
 
--- a condition with identical sides is dropped, and another one kept
-pub dropped : (left right : Sorted) → term_in left ≡ term_in right → differing (condition_of (left, right) ∷ []) ≡ []
-dropped left right e = ap (λ (b : Bool). cond (not b) (condition_of (left, right) ∷ []) []) ((Decides-term_eq (term_in left) (term_in
-    right)).1 e)
-
-pub kept : (left right : Sorted) → (term_in left ≡ term_in right → ⊥) → differing (condition_of (left, right) ∷ []) ≡ condition_of (
-  left,
-  right,
-) ∷ []
-kept left right apart = by (term_eq (term_in left) (term_in right)) refl
+-- what a comparison of two terms tells
+pub differ_told : (same : Bool) (t u : Term) → ((same ≡ true) ↔ (t ≡ u)) → not same ≡ not (term_eq t u)
+differ_told true t u h = sym (ap not ((Decides-term_eq t u).1 (h.0 refl)))
+differ_told false t u h = by (term_eq t u) refl
   where
-    by : (b : Bool) → term_eq (term_in left) (term_in right) ≡ b
-        → cond (not b) (condition_of (left, right) ∷ []) [] ≡ condition_of (left, right) ∷ []
-    by true e = absurd (apart ((Decides-term_eq (term_in left) (term_in right)).0 e))
+    by : (b : Bool) → term_eq t u ≡ b → true ≡ not b
+    by true e = cc (h.1 ((Decides-term_eq t u).0 e))
     by false e = refl
-
-pub differing_first : (test : Test) (tests : List Test) → differing (test ∷ tests) ≡ differing (test ∷ []) ++ differing tests
-differing_first test tests = differing-append (test ∷ []) tests
-
-pub pairs_more : (signature : Signature) (pairs : List (Sorted × Sorted)) (left right : Sorted) → AreConditionsOf signature
-    (condition_profiles pairs)
-    → IsOf signature (profiled_in left) → IsOf signature (profiled_in right)
-    → AreConditionsOf signature (condition_profiles (pairs ++ (left, right) ∷ []))
-pairs_more signature [] left right h l r = ((l, r), tt)
-pairs_more signature (pair ∷ pairs) left right h l r = (h.0, pairs_more signature pairs left right h.1 l r)
-
-pub terms_more : (signature : Signature) (terms : List Sorted) (t : Sorted) → AreTermsOf signature (profiles_of terms)
-    → IsOf signature (profiled_in t) → AreTermsOf signature (profiles_of (terms ++ t ∷ []))
-terms_more signature [] t h k = (k, tt)
-terms_more signature (u ∷ terms) t h k = (h.0, terms_more signature terms t h.1 k)
 
 -- ---- A term put in, and then canonical forms, is one change.
 terms_fused : (canon : Term → Term) (values : Substitution) (ts : List Term)
@@ -91,3 +65,42 @@ stays_settled canon found t is lacks = sym is ∙ ap canon (sym (lacks (term_in 
 -- a variable is its own canonical form
 pub variable_stays : (data_ : Data) (canon : Term → Term) → IsCanon data_ canon → (t : Term) → IsVariable t → t ≡ canon t
 variable_stays data_ canon is_canon t v = v.is ∙ (sym (is_canon.variables v.number v.sort) ∙ ap canon (sym v.is))
+
+-- what is seen at once to stay
+pub seen_to_stay : (signature : Signature) (data_ : Data) (canon : Term → Term) → IsCanon data_ canon → (put : Option (ℕ × Sorted))
+    (t : ProfiledTerm) → StaysUnder put t → PutsWell signature canon put t → bare t ≡ changed_by canon put (bare t)
+seen_to_stay signature data_ canon is_canon None t stays well = variable_stays data_ canon is_canon (bare t) stays
+seen_to_stay signature data_ canon is_canon (Some found) t stays well =
+    stays_settled canon found (bare t) well.0 (λ value. lacking_stays found.0 value t stays)
+
+-- ---- What is changed where it stands.
+-- The second term is what the change makes of the first, and of the signature, and so with the sides of conditions.
+pub record IsChanged (signature : Signature) (canon : Term → Term) (put : Option (ℕ × Sorted)) (old now : Sorted) : Type 0 where
+  pub same : term_in now ≡ changed_by canon put (term_in old)
+  pub is_of : IsOf signature (profiled_in now)
+
+pub record AreSidesChanged (signature : Signature) (canon : Term → Term) (put : Option (ℕ × Sorted)) (old now : Sorted × Sorted) : Type 0
+  where
+    pub same : condition_of now ≡ test_in (changed_by canon put) (condition_of old)
+    pub is_of : IsConditionOf signature (condition_sides now)
+
+-- the conditions of those that are kept
+pub kept_conditions : (pairs : List (Sorted × Sorted)) → conditions_of (filter have_other_sides pairs) ≡ differing (conditions_of pairs)
+kept_conditions [] = refl
+kept_conditions (pair ∷ pairs) = by (have_other_sides pair) (kept_conditions pairs)
+  where
+    by : (b : Bool) → conditions_of (filter have_other_sides pairs) ≡ differing (conditions_of pairs)
+        → conditions_of (cond b (pair ∷ filter have_other_sides pairs) (filter have_other_sides pairs))
+        ≡ cond b (condition_of pair ∷ differing (conditions_of pairs)) (differing (conditions_of pairs))
+    by true e = ap (λ (tests : List Test). condition_of pair ∷ tests) e
+    by false e = e
+
+pub kept_of : (signature : Signature) (test : Sorted × Sorted → Bool) (pairs : List (Sorted × Sorted))
+    → AreConditionsOf signature (condition_profiles pairs) → AreConditionsOf signature (condition_profiles (filter test pairs))
+kept_of signature test [] h = tt
+kept_of signature test (pair ∷ pairs) h = by (test pair) (kept_of signature test pairs h.1)
+  where
+    by : (b : Bool) → AreConditionsOf signature (condition_profiles (filter test pairs))
+        → AreConditionsOf signature (condition_profiles (cond b (pair ∷ filter test pairs) (filter test pairs)))
+    by true k = (h.0, k)
+    by false k = k

@@ -5,4 +5,6 @@ pub mod GroundLemmas
 pub mod LackLemmas
 pub mod FindingLemmas
 pub mod SolvingWay
+pub mod LinkLemmas
+pub mod MergingWay
 pub mod EntryLemmas

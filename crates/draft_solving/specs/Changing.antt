@@ -1,13 +1,15 @@
 -- A step of solving on a term, and what it asks of the term.
-use Rattle.std.specs.Prelude.{◌≡◌, ℕ, List, [], ◌∷◌, Option, None, Some}
+use Rattle.std.specs.Prelude.{◌≡◌, ℕ, List, [], ◌∷◌, Bool, not, Option, None, Some}
 use Rattle.lotos_base.specs.Signature.{Signature}
 use Rattle.lotos_base.specs.Sorting.{Occurs}
 use Rattle.lotos_base.specs.Term.{Term, variable}
+use Rattle.lotos_base.specs.Tests.{term_eq}
 use Rattle.lotos_base.specs.Substitution.{Substitution, substituted, binding}
 use Rattle.behaviour_semantics.specs.WellFormed.{Every}
 use Rattle.sort_terms.specs.ProfiledTerm.{ProfiledTerm, bare, head_sort, IsOf}
 use Rattle.sort_terms.specs.SortedView.{profiled_in, term_in}
 use Rattle.sort_terms.specs.declared.sorted.Sorted.{Sorted}
+use Rattle.term_match.specs.Disagreement.{has_number}
 
 -- a pair of the code, and the substitution that puts its term for its variable
 abbrev pub found_of : ℕ × Sorted → ℕ × Term
@@ -48,3 +50,12 @@ pub record IsVariable (t : Term) : Type 0 where
   pub number : ℕ
   pub sort : ℕ
   pub is : t ≡ variable number sort
+
+-- The term stays under the change: it is a variable where nothing is put, or lacks the variable for which a term is put.
+abbrev pub StaysUnder : Option (ℕ × Sorted) → ProfiledTerm → Type 0
+StaysUnder None t = IsVariable (bare t)
+StaysUnder (Some found) t = has_number found.0 t ≡ Bool.false
+
+-- the sides of the condition differ
+abbrev pub have_other_sides : Sorted × Sorted → Bool
+have_other_sides pair = not (term_eq (term_in pair.0) (term_in pair.1))

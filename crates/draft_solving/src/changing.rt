@@ -10,23 +10,27 @@ ghost use Rattle.draft_solving.specs.Changing.{
   AreReady,
   AreReadyPairs,
   changed_by,
+  have_other_sides,
   IsReadyForChange,
+  IsReadyPair,
   IsVariable,
   put_of,
   PutsSort,
+  StaysUnder,
 };
 ghost use Rattle.event_offers.specs.Keeping.{KeepsData};
 ghost use Rattle.event_offers.specs.OfferView.{
   condition_of,
   condition_profiles,
+  condition_sides,
   conditions_of,
   label_profiles,
   plain_draft,
 };
-ghost use Rattle.event_offers.specs.Offers.{AreConditionsOf};
+ghost use Rattle.event_offers.specs.Offers.{AreConditionsOf, IsConditionOf};
 ghost use Rattle.sort_terms.specs.ProfiledTerm.{IsOf};
 ghost use Rattle.sort_terms.specs.SortedView.{profiled_in, term_in};
-ghost use Rattle.std.specs.Prelude.{◌≡◌, ◌∷◌, ◌++◌, [], IfOk, IsTrue, OnOk, Some, map};
+ghost use Rattle.std.specs.Prelude.{◌≡◌, IfOk, IsTrue, OnOk, map};
 ghost use Rattle.lotos_base.specs.Signature.{Signature};
 ghost use Rattle.lotos_base.specs.Substitution.{substituted};
 
@@ -52,9 +56,73 @@ pub fn changed<D: Deciding>(
     ensures is_of { IfOk result (λ t. IsOf (D.known_data decider.old).signature (profiled_in t)) }
     ensures same_known { KeepsData D.known_data D.canon decider.old decider.new }
 {
+    let mut made = term;
+    change(&mut made, put, decider)?;
+    Ok(made)
+}
+
+// Changes the term where it stands. One that stays is not touched.
+fn change<D: Deciding>(
+    term: &mut Sorted,
+    put: &Option<(u64, Sorted)>,
+    decider: &mut D,
+) -> Result<(), NoMemory>
+    requires { IsReadyForChange (D.known_data decider.old).signature (D.canon decider.old) put.now
+        (profiled_in term.old) }
+    ensures same { OnOk result
+        (term_in term.new ≡ changed_by (D.canon decider.old) put.now (term_in term.old)) }
+    ensures is_of { OnOk result
+        (IsOf (D.known_data decider.old).signature (profiled_in term.new)) }
+    ensures same_known { KeepsData D.known_data D.canon decider.old decider.new }
+{
+    if stays(term, put) {
+        return Ok(());
+    }
+    let made = form(term, put, decider)?;
+    *term = made;
+    Ok(())
+}
+
+// Whether it is seen at once that the term stays: it is a variable, or lacks the one for which
+// another is put.
+fn stays(term: &Sorted, put: &Option<(u64, Sorted)>) -> bool
+    ensures { IsTrue result → StaysUnder put.now (profiled_in term.now) }
+{
     match put {
-        None => canonical(term, decider),
-        Some(found) => settled(term, found, decider),
+        None => is_variable(term),
+        Some(found) => !occurs(found.0, term.term()),
+    }
+}
+
+/// Whether the term is a variable.
+pub fn is_variable(term: &Sorted) -> bool
+    ensures { IsTrue result → IsVariable (term_in term.now) }
+{
+    match term.term() {
+        Term::Var { .. } => true,
+        Term::Node { .. } => false,
+    }
+}
+
+// The canonical form of the term, with another put for a variable before, if one is given.
+fn form<D: Deciding>(
+    term: &Sorted,
+    put: &Option<(u64, Sorted)>,
+    decider: &mut D,
+) -> Result<Sorted, NoMemory>
+    requires { IsReadyForChange (D.known_data decider.old).signature (D.canon decider.old) put.now
+        (profiled_in term.now) }
+    ensures same { IfOk result
+        (λ t. term_in t ≡ changed_by (D.canon decider.old) put.now (term_in term.now)) }
+    ensures is_of { IfOk result (λ t. IsOf (D.known_data decider.old).signature (profiled_in t)) }
+    ensures same_known { KeepsData D.known_data D.canon decider.old decider.new }
+{
+    match put {
+        None => decider.normal(term),
+        Some(found) => {
+            let made = put_one(term, found)?;
+            canonical(made, decider)
+        }
     }
 }
 
@@ -69,37 +137,6 @@ fn canonical<D: Deciding>(term: Sorted, decider: &mut D) -> Result<Sorted, NoMem
         return Ok(term);
     }
     decider.normal(&term)
-}
-
-// Whether the term is a variable.
-fn is_variable(term: &Sorted) -> bool
-    ensures { IsTrue result → IsVariable (term_in term.now) }
-{
-    match term.term() {
-        Term::Var { .. } => true,
-        Term::Node { .. } => false,
-    }
-}
-
-// The canonical form of the term with another put for a variable. Without the variable it stays.
-fn settled<D: Deciding>(
-    term: Sorted,
-    found: &(u64, Sorted),
-    decider: &mut D,
-) -> Result<Sorted, NoMemory>
-    requires { IsReadyForChange (D.known_data decider.old).signature (D.canon decider.old)
-        (Some found.now) (profiled_in term) }
-    ensures same { IfOk result (λ t. term_in t
-        ≡ changed_by (D.canon decider.old) (Some found.now) (term_in term)) }
-    ensures is_of { IfOk result
-        (λ t. IsOf (D.known_data decider.old).signature (profiled_in t)) }
-    ensures same_known { KeepsData D.known_data D.canon decider.old decider.new }
-{
-    if occurs(found.0, term.term()) {
-        let made = put_one(&term, found)?;
-        return canonical(made, decider);
-    }
-    Ok(term)
 }
 
 // The term with another put for a variable.
@@ -128,10 +165,9 @@ pub fn changed_terms<D: Deciding>(
         (λ made. AreTermsOf (D.known_data decider.old).signature (profiles_of made.items)) }
     ensures same_known { KeepsData D.known_data D.canon decider.old decider.new }
 {
-    let mut made = Vec::with_capacity(*terms.allocator(), terms.len())?;
-    for term in terms {
-        let next = changed(term, put, decider)?;
-        made.push(next)?;
+    let mut made = terms;
+    for i in 0..made.len() {
+        change(&mut made[i], put, decider)?;
     }
     Ok(made)
 }
@@ -172,34 +208,48 @@ pub fn changed_conditions<D: Deciding>(
         (condition_profiles made.items)) }
     ensures same_known { KeepsData D.known_data D.canon decider.old decider.new }
 {
-    let mut made = Vec::with_capacity(*conditions.allocator(), conditions.len())?;
-    for (left, right) in conditions {
-        let first = changed(left, put, decider)?;
-        let second = changed(right, put, decider)?;
-        push_differing(&mut made, first, second)?;
+    let mut made = conditions;
+    for i in 0..made.len() {
+        change_sides(&mut made[i], put, decider)?;
     }
+    drop_settled(&mut made);
     Ok(made)
 }
 
-// Adds the condition, if its sides differ.
-fn push_differing(
-    conditions: &mut Vec<(Sorted, Sorted)>,
-    left: Sorted,
-    right: Sorted,
+// Changes both sides of a condition where they stand.
+fn change_sides<D: Deciding>(
+    condition: &mut (Sorted, Sorted),
+    put: &Option<(u64, Sorted)>,
+    decider: &mut D,
 ) -> Result<(), NoMemory>
-    ensures same { OnOk result (conditions_of conditions.new.items
-        ≡ conditions_of conditions.old.items
-        ++ differing (condition_of (left, right) ∷ [])) }
-    ensures is_of { OnOk result ((signature : Signature)
-        → AreConditionsOf signature (condition_profiles conditions.old.items)
-        → IsOf signature (profiled_in left) → IsOf signature (profiled_in right)
-        → AreConditionsOf signature (condition_profiles conditions.new.items)) }
+    requires { IsReadyPair (D.known_data decider.old).signature (D.canon decider.old) put.now
+        (condition_sides condition.old) }
+    ensures same { OnOk result (condition_of condition.new
+        ≡ test_in (changed_by (D.canon decider.old) put.now) (condition_of condition.old)) }
+    ensures is_of { OnOk result
+        (IsConditionOf (D.known_data decider.old).signature (condition_sides condition.new)) }
+    ensures same_known { KeepsData D.known_data D.canon decider.old decider.new }
 {
-    if left.same(&right) {
-        return Ok(());
-    }
-    conditions.push((left, right))?;
-    Ok(())
+    change(&mut condition.0, put, decider)?;
+    change(&mut condition.1, put, decider)
+}
+
+// Drops the conditions with identical sides. Those before the first of them stay where they are.
+fn drop_settled(conditions: &mut Vec<(Sorted, Sorted)>)
+    ensures same { conditions_of conditions.new.items
+        ≡ differing (conditions_of conditions.old.items) }
+    ensures is_of { (signature : Signature)
+        → AreConditionsOf signature (condition_profiles conditions.old.items)
+        → AreConditionsOf signature (condition_profiles conditions.new.items) }
+{
+    conditions.retain(|condition| differ(condition));
+}
+
+// Whether the sides of the condition differ.
+fn differ(condition: &(Sorted, Sorted)) -> bool
+    ensures { result ≡ have_other_sides condition.now }
+{
+    !condition.0.same(&condition.1)
 }
 
 /// The same of all terms of a draft.

@@ -4,6 +4,7 @@
 #![tactic(auto)]
 
 pub mod changing;
+pub mod merging;
 pub mod replacements;
 pub mod solving;
 pub mod variables;

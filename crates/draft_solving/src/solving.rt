@@ -7,9 +7,11 @@ ghost use Rattle.behaviour_tree.specs.Over.{AreTermsOf};
 ghost use Rattle.behaviour_tree.specs.BehaviourTerms.{profiles_of};
 ghost use Rattle.behaviour_tree.specs.MoveView.{label_of};
 ghost use Rattle.draft_solving.specs.Changing.{AreReady, AreReadyPairs, changed_by};
+ghost use Rattle.draft_solving.specs.Merging.{AreBare};
 ghost use Rattle.event_offers.specs.Keeping.{KeepsData};
 ghost use Rattle.event_offers.specs.OfferView.{
   condition_profiles,
+  conditions_of,
   label_profiles,
   plain_draft,
   plain_entry,
@@ -23,6 +25,7 @@ ghost use Rattle.lotos_base.specs.Term.{Term};
 ghost use Rattle.term_match.specs.ProfiledInstance.{profiled_instance};
 
 use crate::changing::changed_draft;
+use crate::merging::{are_bare, merged_draft};
 use crate::replacements::{first_replacement, has_closed};
 use crate::variables::{places, sorts_by_number, sorts_left};
 use behaviour_tree::Label;
@@ -38,6 +41,40 @@ use sort_terms::{Deciding, Sorted};
 /// before a bare right one, everywhere, and the work begins again. The variables that are left are
 /// numbered from 0 in the order of their numbers.
 pub fn solve<D: Deciding>(draft: Draft, decider: &mut D) -> Result<Option<Entry>, NoMemory>
+    requires { IsDraftOver (D.known_data decider.old).signature draft }
+    ensures solved { IfOk result
+        (λ o. SolvesTo (D.canon decider.old) (plain_draft draft) (option_map plain_entry o)) }
+    ensures nothing { IfOk result (λ o. IfNone o ((leaves : List Term)
+        → LeavesMeet (D.known_data decider.old) (plain_draft draft) leaves → ⊥)) }
+    ensures over { IfOk result (λ o. IfSome o
+        (λ entry. IsEntryOver (D.known_data decider.old).signature entry)) }
+    ensures same_known { KeepsData D.known_data D.canon decider.old decider.new }
+{
+    if are_bare(&draft.conditions) {
+        let entry = merged_entry(draft, decider)?;
+        return Ok(Some(entry));
+    }
+    solve_by_steps(draft, decider)
+}
+
+// The entry that solving leaves of a draft whose conditions are between variables.
+fn merged_entry<D: Deciding>(draft: Draft, decider: &mut D) -> Result<Entry, NoMemory>
+    requires over { IsDraftOver (D.known_data decider.old).signature draft }
+    requires bare { AreBare (conditions_of draft.conditions.items) }
+    ensures solved { IfOk result (λ entry. SolvesTo (D.canon decider.old) (plain_draft draft)
+        (Some (plain_entry entry))) }
+    ensures over { IfOk result
+        (λ entry. IsEntryOver (D.known_data decider.old).signature entry) }
+    ensures same_known { KeepsData D.known_data D.canon decider.old decider.new }
+{
+    let made = merged_draft(draft)?;
+    let now = changed_draft(made, &None, decider)?;
+    let entry = entry_left(now)?;
+    Ok(entry)
+}
+
+// The same of any draft: one condition after another is used.
+fn solve_by_steps<D: Deciding>(draft: Draft, decider: &mut D) -> Result<Option<Entry>, NoMemory>
     requires { IsDraftOver (D.known_data decider.old).signature draft }
     ensures solved { IfOk result
         (λ o. SolvesTo (D.canon decider.old) (plain_draft draft) (option_map plain_entry o)) }
@@ -116,8 +153,8 @@ pub fn entry_left(draft: Draft) -> Result<Entry, NoMemory>
     })
 }
 
-// The label with other numbers for its variables. Values without variables stay where they are.
-fn label_left(renaming: &Renaming, label: Label) -> Result<Label, NoMemory>
+/// The label with other numbers for its variables. Values without variables stay where they are.
+pub fn label_left(renaming: &Renaming, label: Label) -> Result<Label, NoMemory>
     ensures same { IfOk result
         (λ made. label_of made ≡ label_with (renaming_of renaming.now) (label_of label)) }
     ensures profiles { IfOk result (λ made. label_profiles made

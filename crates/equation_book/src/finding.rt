@@ -5,7 +5,7 @@ ghost use Rattle.rewriting_theory.specs.ChosenForm.{Chosen};
 ghost use Rattle.sort_terms.specs.ProfiledTerm.{IsOf};
 ghost use Rattle.sort_terms.specs.SortedView.{profiled_in, term_in};
 ghost use Rattle.std.specs.Prelude.{◌≡◌, IfOk};
-ghost use Rattle.term_store.specs.Canonical.{IsCanonical};
+ghost use Rattle.term_store.specs.Canonical.{NumbersForm};
 ghost use Rattle.term_store.specs.Kept.{chosen_form};
 ghost use Rattle.term_store.specs.Turns.{StaySound};
 
@@ -50,7 +50,7 @@ impl Finder {
         ensures finder { IsFinderOf rules.now self.new }
         ensures stay { StaySound rules.now self.old.forms self.new.forms }
         ensures number { IfOk result
-            (λ n. IsCanonical rules.now self.new.forms (term_in term.now) n) }
+            (λ n. NumbersForm rules.now self.new.forms (term_in term.now) n) }
     {
         let found = canonical(alloc, rules, &self.index, &mut self.forms, term)?;
         Ok(found.number)
@@ -66,7 +66,7 @@ impl Finder {
     ) -> Result<Sorted, NoMemory>
         requires finder { IsFinderOf rules.now self.now }
         requires term { IsOf (signature_in rules.now) (profiled_in term.now) }
-        requires number { IsCanonical rules.now self.now.forms (term_in term.now) number }
+        requires number { NumbersForm rules.now self.now.forms (term_in term.now) number }
         ensures form { IfOk result
             (λ form. term_in form ≡ chosen_form rules.now (term_in term.now)) }
         ensures chosen { IfOk result

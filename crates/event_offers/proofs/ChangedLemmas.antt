@@ -9,7 +9,10 @@ use Rattle.behaviour_semantics.specs.Replacement.{test_with}
 use Rattle.sort_terms.specs.ProfiledTerm.{ProfiledTerm, ProfiledTerms, profiled_variable, profiled_node, no_profiled_terms, profiled_term_then, bare, all_bare}
 use Rattle.term_match.specs.ProfiledInstance.{ProfiledSubstitution, profiled_instance, profiled_instances}
 use Rattle.event_offers.specs.Renaming.{number_under, pair_instance, profiled_renaming_of, renaming_of}
+use Rattle.event_offers.specs.OfferView.{condition_of, condition_sides}
 use Rattle.event_offers.specs.declared.renaming.Renaming.{Renaming}
+use Rattle.sort_terms.specs.SortedView.{profiled_in, term_in}
+use Rattle.sort_terms.specs.declared.sorted.Sorted.{Sorted}
 use Rattle.event_offers.proofs.RenamingLemmas.{renamed_bare}
 
 mutual
@@ -74,3 +77,12 @@ tests_stay r e tests = same_map (test_with (renaming_of r)) (test_stays r e) tes
 pub pairs_stay : (r : Renaming) → ((n : ℕ) → number_under r n ≡ n) → (pairs : List (ProfiledTerm × ProfiledTerm))
     → pairs ≡ map (pair_instance (profiled_renaming_of r)) pairs
 pairs_stay r e pairs = same_map (pair_instance (profiled_renaming_of r)) (pair_stays r e) pairs
+
+-- The numbers of the second term's variables are those of the first, changed, and so with the sides of conditions.
+pub record IsRenamed (r : Renaming) (old now : Sorted) : Type 0 where
+  pub same : term_in now ≡ substituted (renaming_of r) (term_in old)
+  pub profiles : profiled_in now ≡ profiled_instance (profiled_renaming_of r) (profiled_in old)
+
+pub record AreSidesRenamed (r : Renaming) (old now : Sorted × Sorted) : Type 0 where
+  pub same : condition_of now ≡ test_with (renaming_of r) (condition_of old)
+  pub profiles : condition_sides now ≡ pair_instance (profiled_renaming_of r) (condition_sides old)

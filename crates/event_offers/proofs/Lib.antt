@@ -1,5 +1,6 @@
 pub mod LabelLemmas
 pub mod RenamingLemmas
+pub mod InPlace
 pub mod ChangedLemmas
 pub mod JoinLemmas
 pub mod ValueLemmas

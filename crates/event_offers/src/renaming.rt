@@ -6,7 +6,9 @@ ghost use Rattle.behaviour_tree.specs.BehaviourView.{terms_of};
 ghost use Rattle.behaviour_tree.specs.BehaviourTerms.{profiles_of};
 ghost use Rattle.behaviour_tree.specs.MoveView.{label_of};
 ghost use Rattle.event_offers.specs.OfferView.{
+  condition_of,
   condition_profiles,
+  condition_sides,
   conditions_of,
   label_profiles,
 };
@@ -22,6 +24,7 @@ ghost use Rattle.std.specs.Prelude.{
   ◌+◌,
   IfOk,
   IsTrue,
+  OnOk,
   ℕ,
   if◌then◌else◌,
   map,
@@ -126,22 +129,52 @@ impl Renaming {
         Ok(made)
     }
 
-    /// The term with the numbers of its variables changed. A term without variables stays where it
-    /// is.
-    pub fn changed(&self, term: Sorted) -> Result<Sorted, NoMemory>
-        ensures same { IfOk result
-            (λ t. term_in t ≡ substituted (renaming_of self.now) (term_in term)) }
-        ensures profiles { IfOk result (λ t. profiled_in t
-            ≡ profiled_instance (profiled_renaming_of self.now) (profiled_in term)) }
+    /// Changes the numbers of the variables of the term where it stands. A term without variables
+    /// is not touched.
+    pub fn change(&self, term: &mut Sorted) -> Result<(), NoMemory>
+        ensures same { OnOk result
+            (term_in term.new ≡ substituted (renaming_of self.now) (term_in term.old)) }
+        ensures profiles { OnOk result (profiled_in term.new
+            ≡ profiled_instance (profiled_renaming_of self.now) (profiled_in term.old)) }
     {
-        if term.ground() {
-            return Ok(term);
+        match term.term() {
+            Term::Var { number, sort } => {
+                let number = self.number(*number)?;
+                let sort = *sort;
+                *term = Sorted::of(Term::Var { number, sort });
+                Ok(())
+            }
+            Term::Node { .. } => self.change_operation(term),
         }
-        self.term(&term)
     }
 
-    /// The terms with the numbers of their variables changed. Where no number changes the terms
-    /// stay where they are.
+    // The same of a term that is not a variable itself.
+    fn change_operation(&self, term: &mut Sorted) -> Result<(), NoMemory>
+        ensures same { OnOk result
+            (term_in term.new ≡ substituted (renaming_of self.now) (term_in term.old)) }
+        ensures profiles { OnOk result (profiled_in term.new
+            ≡ profiled_instance (profiled_renaming_of self.now) (profiled_in term.old)) }
+    {
+        if term.ground() {
+            return Ok(());
+        }
+        let made = self.term(term)?;
+        *term = made;
+        Ok(())
+    }
+
+    // Changes the numbers of the variables of both sides where they stand.
+    fn change_sides(&self, condition: &mut (Sorted, Sorted)) -> Result<(), NoMemory>
+        ensures same { OnOk result (condition_of condition.new
+            ≡ test_with (renaming_of self.now) (condition_of condition.old)) }
+        ensures profiles { OnOk result (condition_sides condition.new
+            ≡ pair_instance (profiled_renaming_of self.now) (condition_sides condition.old)) }
+    {
+        self.change(&mut condition.0)?;
+        self.change(&mut condition.1)
+    }
+
+    /// The terms with the numbers of their variables changed, each where it stands.
     pub fn all_changed(&self, terms: Vec<Sorted>) -> Result<Vec<Sorted>, NoMemory>
         ensures same { IfOk result (λ made. terms_of made.items
             ≡ map (substituted (renaming_of self.now)) (terms_of terms.items)) }
@@ -152,16 +185,14 @@ impl Renaming {
         if self.changes_nothing() {
             return Ok(terms);
         }
-        let mut made = Vec::with_capacity(*terms.allocator(), terms.len())?;
-        for term in terms {
-            let next = self.changed(term)?;
-            made.push(next)?;
+        let mut made = terms;
+        for i in 0..made.len() {
+            self.change(&mut made[i])?;
         }
         Ok(made)
     }
 
-    /// The conditions with the numbers of their variables changed. Where no number changes the
-    /// conditions stay where they are.
+    /// The conditions with the numbers of their variables changed, each where it stands.
     pub fn changed_conditions(
         &self,
         conditions: Vec<(Sorted, Sorted)>,
@@ -175,11 +206,9 @@ impl Renaming {
         if self.changes_nothing() {
             return Ok(conditions);
         }
-        let mut made = Vec::with_capacity(*conditions.allocator(), conditions.len())?;
-        for (left, right) in conditions {
-            let first = self.changed(left)?;
-            let second = self.changed(right)?;
-            made.push((first, second))?;
+        let mut made = conditions;
+        for i in 0..made.len() {
+            self.change_sides(&mut made[i])?;
         }
         Ok(made)
     }

@@ -6,8 +6,8 @@ use Rattle.lotos_base.specs.WrittenTerm.{WrittenTerm}
 use Rattle.induct_parts.specs.HandedOn.{Cover, TreeLine, PatternTree, ProofLine, Lemma, lines_of_trees, lines_of_tree, lines_of_lemma}
 use Rattle.induct_parts.specs.CertificateView.{lines_of_lemmas, lines_of_certificate}
 use Rattle.induct_check.specs.CertificateLines.{Form, cover_form, tree_form, split_form, lemma_form, left_form, right_form, use_form, leaf_form, same_form, no_form, form_of, path_of, byte_before, parts_at}
-use Rattle.induct_check.specs.CertificateReading.{OpenPart, among_covers, in_tree, behind_variables, behind_left, in_proof, NamedCase, ReadSoFar, Task, read_cover, read_tree, tree_line, read_variables, read_left, read_right, proof_line, no_task, among_covers_task, pattern_split, in_tree_task, left_task, right_task, variable_split, in_proof_task, task_of, Piece, new_cover, new_tree, new_tree_line, new_variables, new_left, new_lemma, new_proof_line, Gives, with_last, tree_with, lemma_with, stated, proof_behind, with_piece}
-use Rattle.induct_check.specs.TextFaults.{ReadText, ComesTo, ends, lacks_a_line, lacks_line_feed, goes_on, stops, stops_at_left}
+use Rattle.induct_check.specs.CertificateReading.{OpenPart, among_covers, in_tree, behind_variables, behind_left, in_proof, NamedCase, ReadSoFar, Task, read_cover, read_tree, tree_line, read_variables, read_left, read_right, proof_line, no_task, among_covers_task, pattern_split, in_tree_task, left_task, right_task, variable_split, in_proof_task, task_of, Piece, new_cover, new_tree, new_tree_line, new_variables, new_left, new_lemma, new_proof_line, GivesPiece, with_last, tree_with, lemma_with, stated, proof_behind, with_piece}
+use Rattle.induct_check.specs.TextFaults.{ReadText, LinesReadTo, ends, lacks_a_line, lacks_line_feed, goes_on, stops, stops_at_left}
 
 -- the lines of the head of a lemma that were read, where its proof has not begun
 abbrev waiting : OpenPart → ℕ
@@ -168,7 +168,7 @@ one_more reading (new_lemma variables statement) enough =
 one_more reading (new_proof_line line cases) enough =
     omega (arith, proof_line_more line reading.certificate.lemmas, same_waiting cases reading.part)
 
-piece_needs : (signature : Signature) (task : Task) (piece : Piece) → Gives signature task piece → needs piece ≤ asks_behind task
+piece_needs : (signature : Signature) (task : Task) (piece : Piece) → GivesPiece signature task piece → needs piece ≤ asks_behind task
 piece_needs signature (read_cover sort items) piece h = subst (λ (p : Piece). needs p ≤ 0) (sym h.2) (omega arith)
 piece_needs signature (read_tree item) piece h = subst (λ (p : Piece). needs p ≤ 0) (sym h.2) (omega arith)
 piece_needs signature (tree_line line) piece h = subst (λ (p : Piece). needs p ≤ 0) (sym h) (omega arith)
@@ -181,7 +181,7 @@ piece_needs signature no_task piece h = absurd h
 -- ---- All lines
 
 few : (signature : Signature) (number : ℕ) (reading : ReadSoFar) (parts : List (List ℕ)) (text : ReadText)
-    → ComesTo signature number reading parts text → lines_of_certificate text.certificate + 1 ≤ read_lines reading + length parts
+    → LinesReadTo signature number reading parts text → lines_of_certificate text.certificate + 1 ≤ read_lines reading + length parts
 few signature number reading parts text (ends done) = omega arith
 few signature number reading parts text (lacks_a_line open_) = omega arith
 few signature number reading parts text lacks_line_feed = omega arith
@@ -222,6 +222,6 @@ few_parts separator [] = omega arith
 few_parts separator (byte ∷ bytes) = parts_by separator byte bytes (byte == separator) (few_parts separator bytes)
 
 pub few_lines : (signature : Signature) (text : List ℕ) (reading : ReadSoFar) (read : ReadText) → read_lines reading ≡ 0
-    → ComesTo signature 1 reading (parts_at 10 text) read → lines_of_certificate read.certificate ≤ length text
+    → LinesReadTo signature 1 reading (parts_at 10 text) read → lines_of_certificate read.certificate ≤ length text
 few_lines signature text reading read none comes =
     omega (arith, none, few signature 1 reading (parts_at 10 text) read comes, few_parts 10 text)

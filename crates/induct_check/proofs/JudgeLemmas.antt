@@ -11,11 +11,11 @@ use Rattle.induct_parts.specs.declared.line_fault.LineFault.{LineFault}
 use Rattle.induct_parts.specs.declared.line_fault.LineFault.TheVariants.{BadLine, NoVariable, NoCover, NoTree, NotReducible, BadUse, NotSame, NoMemory}
 use Rattle.induct_parts.proofs.LineSteps.{fault_more}
 use Rattle.induct_check.specs.CheckView.{IsCertifiedText, IsFirstOf}
-use Rattle.induct_check.specs.TextFaults.{ReadText, Stop, TextComesTo, IsReadAs, ComesBefore, IsTextFault, in_certificate, before_stop, at_stop}
+use Rattle.induct_check.specs.TextFaults.{ReadText, Stop, TextComesTo, IsReadAsInduction, ComesBeforeStop, IsTextFault, in_certificate, before_stop, at_stop}
 
 -- what a text comes to, by whether it stops
 pub comes_whole : (signature : Signature) (text : List ℕ) (read : ReadText) → read.stop ≡ None → TextComesTo signature text read
-    → IsReadAs signature text read.certificate
+    → IsReadAsInduction signature text read.certificate
 comes_whole signature text read whole comes =
     subst (λ (stop : Option Stop). TextComesTo signature text (record { certificate = read.certificate; stop = stop })) whole comes
 
@@ -86,12 +86,13 @@ has_fault P Q (NotSame statement) p q = (not_same (statement_of statement), p, q
 has_fault P Q NoMemory p q = absurd (q tt)
 
 fault_behind : FirstFaultsAreOne → (theory : Theory) (certificate : Certificate) (stop : Stop) (at : AtLine)
-    → HoldsAtLine (IsInductionFault theory certificate) at → ¬ HoldsAtLine (ComesBefore stop) at
-    → (line : ℕ) (fault : InductionFault) → IsInductionFault theory certificate line fault → ¬ ComesBefore stop line fault
+    → HoldsAtLine (IsInductionFault theory certificate) at → ¬ HoldsAtLine (ComesBeforeStop stop) at
+    → (line : ℕ) (fault : InductionFault) → IsInductionFault theory certificate line fault → ¬ ComesBeforeStop stop line fault
 fault_behind laws theory certificate stop at wrong late line fault there before =
-    let here = has_fault (IsInductionFault theory certificate at.line) (ComesBefore stop at.line) at.fault wrong late in
+    let here = has_fault (IsInductionFault theory certificate at.line) (ComesBeforeStop stop at.line) at.fault wrong late in
     let one : (line ≡ at.line) × (fault ≡ here.0) = laws theory certificate line at.line fault here.0 there here.1 in
-    here.2 (subst (λ (n : ℕ). ComesBefore stop n here.0) one.0 (subst (λ (f : InductionFault). ComesBefore stop line f) one.1 before))
+    here.2 (subst (λ (n : ℕ). ComesBeforeStop stop n here.0) one.0
+    (subst (λ (f : InductionFault). ComesBeforeStop stop line f) one.1 before))
 
 -- the first of a fault and a stop
 first_by : FirstFaultsAreOne → (theory : Theory) (signature : Signature) (text : List ℕ) (read : ReadText) (at told : AtLine)
@@ -102,7 +103,7 @@ first_by laws theory signature text read at told None is same wrong first comes 
     (whole_fault theory signature text read at same is wrong comes)
 first_by laws theory signature text read at told (Some stop) is same wrong (inl first) comes =
     subst (λ (a : AtLine). HoldsAtLine (IsTextFault theory text) a) (sym first.1)
-    (both_hold (IsInductionFault theory read.certificate at.line) (ComesBefore stop at.line) (IsTextFault theory text at.line)
+    (both_hold (IsInductionFault theory read.certificate at.line) (ComesBeforeStop stop at.line) (IsTextFault theory text at.line)
     (λ f w b. before_stop (comes_stopped theory.data_.signature text read stop is
     (over signature theory.data_.signature text read same comes)) w b)
     at.fault wrong first.0)

@@ -13,9 +13,9 @@ use Rattle.sort_terms.proofs.ReadsLemmas.{comes_once}
 use Rattle.syntax_trees.specs.WrittenVariable.{WrittenVariable}
 use Rattle.induct_parts.specs.HandedOn.{Cover, Certificate, Lemma, Statement, IsCertified, IsInductionFault, InductionFault, bad_line}
 use Rattle.induct_parts.specs.HandedOn.{FirstFaultsAreOne, RightOnesHaveNoFault, Theory}
-use Rattle.induct_check.specs.CertificateReading.{ItemsList, nothing_listed, item_lists, AreOperationsOf, IsWrittenCover, AreNumbered, AreLemmaVariables, IsWrittenSide, AreSides, Task, read_cover, read_tree, tree_line, read_variables, read_left, read_right, proof_line, no_task, Piece, new_cover, new_tree, new_variables, new_left, new_lemma, Gives, FailsWithLeft, ReadSoFar, nothing_read, with_piece}
+use Rattle.induct_check.specs.CertificateReading.{ItemsList, nothing_listed, item_lists, AreOperationsOf, IsWrittenCover, AreNumbered, AreLemmaVariables, IsWrittenSide, AreReadSides, Task, read_cover, read_tree, tree_line, read_variables, read_left, read_right, proof_line, no_task, Piece, new_cover, new_tree, new_variables, new_left, new_lemma, GivesPiece, FailsWithLeft, ReadSoFar, nothing_read, with_piece}
 use Rattle.induct_check.specs.CheckView.{IsCertifiedText}
-use Rattle.induct_check.specs.TextFaults.{task_behind, Stop, ReadText, ComesTo, ends, lacks_a_line, lacks_line_feed, goes_on, stops, stops_at_left, TextComesTo, IsReadAs, ComesBefore, IsTextFault, in_certificate, before_stop, at_stop}
+use Rattle.induct_check.specs.TextFaults.{task_behind, Stop, ReadText, LinesReadTo, ends, lacks_a_line, lacks_line_feed, goes_on, stops, stops_at_left, TextComesTo, IsReadAsInduction, ComesBeforeStop, IsTextFault, in_certificate, before_stop, at_stop}
 use Rattle.induct_check.proofs.WrittenLemmas.{written_once}
 
 -- ---- What a line gives
@@ -84,8 +84,9 @@ module _ (signature : Signature) (well : IsWellFormedSignature signature) where
   pair_statement : (one other : SortedPair) → answered one ≡ answered other → one ≡ other
   pair_statement one other same = cc same
 
-  sides_once : (variables : List Variable) (left right : WrittenTerm) (one other : Statement) → AreSides signature variables left right one
-      → AreSides signature variables left right other → one ≡ other
+  sides_once : (variables : List Variable) (left right : WrittenTerm) (one other : Statement)
+      → AreReadSides signature variables left right one
+      → AreReadSides signature variables left right other → one ≡ other
   sides_once variables left right one other is also =
       let pair : SortedPair = record { left = one.left; right = one.right; sort = is.0 } in
       let second : SortedPair = record { left = other.left; right = other.right; sort = also.0 } in
@@ -93,7 +94,7 @@ module _ (signature : Signature) (well : IsWellFormedSignature signature) where
       let same : pair ≡ second = pair_statement pair second both in
       (λ i. record { left = (same i).left; right = (same i).right })
 
-  gives_once : (task : Task) (one other : Piece) → Gives signature task one → Gives signature task other → one ≡ other
+  gives_once : (task : Task) (one other : Piece) → GivesPiece signature task one → GivesPiece signature task other → one ≡ other
   gives_once (read_cover sort items) one other is also =
       is.2 ∙ ap (λ (c : Cover). new_cover c) (cover_once sort items is.0 also.0 is.1 also.1) ∙ sym also.2
   gives_once (read_tree item) one other is also =
@@ -109,13 +110,13 @@ module _ (signature : Signature) (well : IsWellFormedSignature signature) where
       let side : is.0 ≡ also.0 = side_once variables term is.0 also.0 is.2 also.2 in
       let statement : is.1 ≡ also.1 =
       sides_once variables left is.0 is.1 also.1 is.3
-      (subst (λ (w : WrittenTerm). AreSides signature variables left w also.1) (sym side) also.3) in
+      (subst (λ (w : WrittenTerm). AreReadSides signature variables left w also.1) (sym side) also.3) in
       is.4 ∙ ap (λ (s : Statement). new_lemma variables s) statement ∙ sym also.4
   gives_once (proof_line line cases) one other is also = is ∙ sym also
   gives_once no_task one other is also = absurd is
 
   -- what fails with the left side gives nothing
-  gives_or_fails : (task : Task) (piece : Piece) → Gives signature task piece → ¬ FailsWithLeft signature task
+  gives_or_fails : (task : Task) (piece : Piece) → GivesPiece signature task piece → ¬ FailsWithLeft signature task
   gives_or_fails (read_cover sort items) piece is fails = fails
   gives_or_fails (read_tree item) piece is fails = fails
   gives_or_fails (tree_line line) piece is fails = fails
@@ -123,14 +124,14 @@ module _ (signature : Signature) (well : IsWellFormedSignature signature) where
   gives_or_fails (read_left variables term) piece is fails = fails
   gives_or_fails (read_right variables left term) piece is fails =
       let side : is.0 ≡ fails.0 = side_once variables term is.0 fails.0 is.2 fails.1 in
-      fails.2 is.1 (subst (λ (w : WrittenTerm). AreSides signature variables left w is.1) side is.3)
+      fails.2 is.1 (subst (λ (w : WrittenTerm). AreReadSides signature variables left w is.1) side is.3)
   gives_or_fails (proof_line line cases) piece is fails = fails
   gives_or_fails no_task piece is fails = fails
 
   -- ---- What a text comes to
 
   pub comes_to_once : {number : ℕ} {reading : ReadSoFar} {parts : List (List ℕ)} {one other : ReadText}
-      → ComesTo signature number reading parts one → ComesTo signature number reading parts other → one ≡ other
+      → LinesReadTo signature number reading parts one → LinesReadTo signature number reading parts other → one ≡ other
   comes_to_once (ends may) (ends also) = refl
   comes_to_once (ends may) (lacks_a_line not) = absurd (cc (may, not))
   comes_to_once (lacks_a_line not) (ends may) = absurd (cc (may, not))
@@ -139,7 +140,7 @@ module _ (signature : Signature) (well : IsWellFormedSignature signature) where
   comes_to_once (goes_on {number = number} {reading = reading} {line = line} {next = next} {parts = parts} {text = text} piece gives rest)
       (goes_on more also later) =
       let same : piece ≡ more = gives_once (task_behind signature reading line) piece more gives also in
-      comes_to_once (subst (λ (p : Piece). ComesTo signature (suc number) (with_piece reading p) (next ∷ parts) text) same rest) later
+      comes_to_once (subst (λ (p : Piece). LinesReadTo signature (suc number) (with_piece reading p) (next ∷ parts) text) same rest) later
   comes_to_once (goes_on piece gives rest) (stops none not) = absurd (none piece gives)
   comes_to_once (goes_on {reading = reading} {line = line} piece gives rest) (stops_at_left fails) =
       absurd (gives_or_fails (task_behind signature reading line) piece gives fails)
@@ -200,12 +201,12 @@ module _ (one_fault : FirstFaultsAreOne) (no_fault : RightOnesHaveNoFault) (theo
 
   -- a fault that comes before the stop, and the stop
   not_at_stop : (c d : Certificate) (stop last : Stop) (line : ℕ) (fault : InductionFault) → stopped_so c stop ≡ stopped_so d last
-      → IsInductionFault theory c line fault → ComesBefore stop line fault
-      → ((n : ℕ) (f : InductionFault) → IsInductionFault theory d n f → ¬ ComesBefore last n f) → ⊥
+      → IsInductionFault theory c line fault → ComesBeforeStop stop line fault
+      → ((n : ℕ) (f : InductionFault) → IsInductionFault theory d n f → ¬ ComesBeforeStop last n f) → ⊥
   not_at_stop c d stop last line fault same wrong before none =
       none line fault
       (subst (λ (e : Certificate). IsInductionFault theory e line fault) (ap (λ (r : ReadText). r.certificate) same) wrong)
-      (subst (λ (s : Stop). ComesBefore s line fault) (same_stop stop last (ap (λ (r : ReadText). r.stop) same)) before)
+      (subst (λ (s : Stop). ComesBeforeStop s line fault) (same_stop stop last (ap (λ (r : ReadText). r.stop) same)) before)
 
   pub text_fault_once : (line more : ℕ) (fault other : InductionFault) → IsTextFault theory text line fault
       → IsTextFault theory text more other → (line ≡ more) × (fault ≡ other)

@@ -7,7 +7,7 @@ use Rattle.lotos_base.specs.WrittenTerm.{WrittenTerm}
 use Rattle.lotos_grammar.specs.HandedOn.{TextsHaveOneOutcome}
 use Rattle.sort_terms.specs.Reading.{IsSortNamed}
 use Rattle.induct_parts.specs.HandedOn.{Cover, split_pattern, Statement, split_variable}
-use Rattle.induct_check.specs.CertificateReading.{ItemsList, AreOperationsOf, AreLemmaVariables, IsWrittenSide, AreSides, number_named, cases_behind, Task, read_cover, read_tree, read_variables, read_left, read_right, proof_line, no_task, pattern_split, variable_split, among_covers_task, in_tree_task, left_task, right_task, Piece, new_cover, new_tree, new_tree_line, new_variables, new_left, new_lemma, Gives, FailsWithLeft}
+use Rattle.induct_check.specs.CertificateReading.{ItemsList, AreOperationsOf, AreLemmaVariables, IsWrittenSide, AreReadSides, number_named, cases_behind, Task, read_cover, read_tree, read_variables, read_left, read_right, proof_line, no_task, pattern_split, variable_split, among_covers_task, in_tree_task, left_task, right_task, Piece, new_cover, new_tree, new_tree_line, new_variables, new_left, new_lemma, GivesPiece, FailsWithLeft}
 use Rattle.induct_check.specs.FormView.{form_in}
 use Rattle.induct_check.specs.declared.forms.Form.{Form}
 use Rattle.induct_check.specs.declared.forms.Form.TheVariants as line
@@ -19,7 +19,7 @@ use Rattle.induct_check.proofs.StatedLemmas.{known_variables, no_variables}
 
 -- the line gives nothing, and is no right side either
 abbrev pub GivesNothing : Signature → Task → Type 0
-GivesNothing signature task = ((piece : Piece) → ¬ Gives signature task piece) × (¬ FailsWithLeft signature task)
+GivesNothing signature task = ((piece : Piece) → ¬ GivesPiece signature task piece) × (¬ FailsWithLeft signature task)
 
 -- ---- Covers and trees
 
@@ -32,7 +32,7 @@ pub no_cover_items : (signature : Signature) (sort items : List ℕ) → ((fs : 
 no_cover_items signature sort items none = ((λ p h. none h.0.operations h.1.listed), (λ h. h))
 
 pub gives_cover : (signature : Signature) (sort items : List ℕ) (n : ℕ) (fs : List ℕ) → IsSortNamed signature n sort
-    → AreOperationsOf signature items fs → Gives signature (read_cover sort items) (new_cover (record { sort = n; operations = fs }))
+    → AreOperationsOf signature items fs → GivesPiece signature (read_cover sort items) (new_cover (record { sort = n; operations = fs }))
 gives_cover signature sort items n fs named listed =
     (record { sort = n; operations = fs }, record { named = named; listed = listed }, refl)
 
@@ -52,7 +52,7 @@ several_operations laws signature item fs listed several =
     ((λ p h. several (ap length (one_operation laws signature item fs h.0 listed h.1))), (λ h. h))
 
 pub gives_tree : (signature : Signature) (item : List ℕ) (fs : List ℕ) (f : ℕ) → AreOperationsOf signature item fs → fs ≡ f ∷ []
-    → Gives signature (read_tree item) (new_tree f) × ((operation : Operation) × IsOperation signature f operation)
+    → GivesPiece signature (read_tree item) (new_tree f) × ((operation : Operation) × IsOperation signature f operation)
 gives_tree signature item fs f listed is =
     let one : AreOperationsOf signature item (f ∷ []) = subst (λ gs. AreOperationsOf signature item gs) is listed in
     ((f, one, refl), first_listed signature one.0 f [] one.2)
@@ -69,7 +69,7 @@ known_here signature None vs are = subst (λ us. AreKnownVariables signature us)
 known_here signature (Some text) vs are = known_variables signature are.0 vs are.3
 
 pub gives_variables : (signature : Signature) (text : Option (List ℕ)) (vs : List Variable) → AreLemmaVariables signature text vs
-    → Gives signature (read_variables text) (new_variables vs) × AreKnownVariables signature vs
+    → GivesPiece signature (read_variables text) (new_variables vs) × AreKnownVariables signature vs
 gives_variables signature text vs are = ((vs, are, refl), known_here signature text vs are)
 
 pub no_left_side : (signature : Signature) (vs : List Variable) (term : List ℕ)
@@ -78,7 +78,7 @@ no_left_side signature vs term none = ((λ p h. none h.0 h.1), (λ h. h))
 
 pub gives_left : (signature : Signature) (vs us : List Variable) (term : List ℕ) (left : WrittenTerm) → us ≡ vs
     → AreKnownVariables signature vs → IsWrittenSide signature vs term left
-    → Gives signature (read_left vs term) (new_left us left) × AreKnownVariables signature us
+    → GivesPiece signature (read_left vs term) (new_left us left) × AreKnownVariables signature us
 gives_left signature vs us term left same known side =
     ((left, side, ap (λ xs. new_left xs left) same), subst (λ xs. AreKnownVariables signature xs) (sym same) known)
 
@@ -87,14 +87,14 @@ pub no_right_side : (signature : Signature) (vs : List Variable) (left : Written
 no_right_side signature vs left term none = ((λ p h. none h.0 h.2), (λ h. none h.0 h.1))
 
 pub fails_with_left : (signature : Signature) (vs : List Variable) (left right : WrittenTerm) (term : List ℕ)
-    → IsWrittenSide signature vs term right → ((statement : Statement) → AreSides signature vs left right statement → ⊥)
+    → IsWrittenSide signature vs term right → ((statement : Statement) → AreReadSides signature vs left right statement → ⊥)
     → FailsWithLeft signature (read_right vs left term)
 fails_with_left signature vs left right term side none = (right, side, none)
 
 pub gives_lemma : (signature : Signature) (vs us : List Variable) (left right : WrittenTerm) (term : List ℕ) (statement : Statement)
     → us ≡ vs
-    → IsWrittenSide signature vs term right → AreSides signature vs left right statement
-    → Gives signature (read_right vs left term) (new_lemma us statement)
+    → IsWrittenSide signature vs term right → AreReadSides signature vs left right statement
+    → GivesPiece signature (read_right vs left term) (new_lemma us statement)
 gives_lemma signature vs us left right term statement same side sides =
     (right, statement, side, sides, ap (λ xs. new_lemma xs statement) same)
 
@@ -105,7 +105,7 @@ no_split signature None is = ((λ p h. h), (λ h. h))
 no_split signature (Some path) is = absurd (cc is)
 
 pub gives_split : (signature : Signature) (path : Option (List ℕ)) (p : List ℕ) → path ≡ Some p
-    → Gives signature (pattern_split path) (new_tree_line (split_pattern p))
+    → GivesPiece signature (pattern_split path) (new_tree_line (split_pattern p))
 gives_split signature None p is = absurd (cc is)
 gives_split signature (Some path) p is = ap (λ (o : Option (List ℕ)). by_option o) (sym is)
   where

@@ -12,7 +12,7 @@ use Rattle.sort_terms.specs.ReadingOutcome.{ReadingRefusal, ComesTo, answered, S
 use Rattle.sort_terms.proofs.ReadsLemmas.{reads_sorted}
 use Rattle.syntax_trees.specs.WrittenVariable.{WrittenVariable}
 use Rattle.induct_parts.specs.HandedOn.{Statement, IsStated}
-use Rattle.induct_check.specs.CertificateReading.{AreNumbered, AreSides, stated}
+use Rattle.induct_check.specs.CertificateReading.{AreNumbered, AreReadSides, stated}
 use Rattle.induct_check.specs.PieceView.{AreKnownVariables}
 
 sort_there : (signature : Signature) (s : ℕ) (name : List ℕ) → IsSortNamed signature s name → IsSort signature s
@@ -84,7 +84,7 @@ sort_listed signature variables n s known at =
     subst (λ (r : ℕ). IsSort signature r) there.2 (known.over n there.0 there.1)
 
 pub sides_stated : (signature : Signature) (variables : List Variable) (left right : WrittenTerm) (statement : Statement)
-    → AreKnownVariables signature variables → AreSides signature variables left right statement
+    → AreKnownVariables signature variables → AreReadSides signature variables left right statement
     → IsStated signature (stated variables statement)
 sides_stated signature variables left right statement known sides =
     let pair : SortedPair = record { left = statement.left; right = statement.right; sort = sides.0 } in

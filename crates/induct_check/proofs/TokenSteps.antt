@@ -6,7 +6,7 @@ use Rattle.lotos_lexer.specs.declared.tokens.Token.{Token}
 use Rattle.lotos_rows.specs.Names.{AreVariables}
 use Rattle.syntax_trees.specs.WrittenVariable.{WrittenVariable}
 use Rattle.induct_check.specs.VariableStates.{Awaited, comma_or_end, VariablesRead, none_read, read_token, read_tokens, read_on}
-use Rattle.induct_check.specs.VariableView.{GoesOn, awaited_of}
+use Rattle.induct_check.specs.VariableView.{VariablesGoOn, awaited_of}
 use Rattle.induct_check.specs.declared.variables.Awaited.{Awaited as CodeAwaited}
 use Rattle.induct_check.specs.declared.variables.Awaited.TheVariants.{Name, CommaOrColon, Sort, CommaOrEnd}
 use Rattle.induct_check.proofs.VariableLemmas.{variables_read, are_variables, none_stays}
@@ -18,13 +18,13 @@ awaits_end Sort e = absurd (cc e)
 awaits_end CommaOrEnd e = refl
 
 leads_nowhere : (fits : Bool) (read behind : VariablesRead) (text : List ℕ) (token : Token) → fits ≡ false
-    → GoesOn fits (read_token text read token) behind → read_token text read token ≡ None
+    → VariablesGoOn fits (read_token text read token) behind → read_token text read token ≡ None
 leads_nowhere true read behind text token is h = absurd (cc is)
 leads_nowhere false read behind text token is h = h
 
 -- behind a token that may not stand there nothing is read
 pub stuck_token : (text : List ℕ) (tokens : List Token) (read behind : VariablesRead) (i : ℕ) (d : Token) (fits : Bool)
-    (ws : List WrittenVariable) → i < length tokens → fits ≡ false → GoesOn fits (read_token text read (get_or tokens i d)) behind
+    (ws : List WrittenVariable) → i < length tokens → fits ≡ false → VariablesGoOn fits (read_token text read (get_or tokens i d)) behind
     → read_tokens text none_read tokens ≡ read_tokens text read (drop i tokens) → AreVariables text tokens ws → ⊥
 stuck_token text tokens read behind i d fits ws within is goes so_far are =
     let none : read_tokens text none_read tokens ≡ None =

@@ -11,7 +11,7 @@ use Rattle.sort_terms.specs.Reading.{IsSortNamed}
 use Rattle.syntax_trees.specs.TreeViews.{variable_of, variables_of}
 use Rattle.syntax_trees.specs.WrittenVariable.{WrittenVariable}
 use Rattle.syntax_trees.specs.declared.named.VarText.{VarText}
-use Rattle.induct_check.specs.CertificateReading.{AreNumbered, AreApart}
+use Rattle.induct_check.specs.CertificateReading.{AreNumbered, HaveOwnNames}
 use Rattle.induct_check.specs.VariableView.{HasEarlier}
 
 -- The first so many are numbered, and none of them has an earlier one with its name.
@@ -96,7 +96,7 @@ all_numbered signature written n variables past within now = record {
 }
 
 pub all_apart : (signature : Signature) (written : List WrittenVariable) (n : ℕ) (variables : List Variable) → length written ≤ n
-    → AreNumberedSoFar signature written n variables → AreApart written
+    → AreNumberedSoFar signature written n variables → HaveOwnNames written
 all_apart signature written n variables past now i j v w at there same = by (compared i j)
   where
     earlier : (k l : ℕ) (x y : WrittenVariable) → k < l → slice_get written k ≡ Some x → slice_get written l ≡ Some y
@@ -111,7 +111,7 @@ all_apart signature written n variables past now i j v w at there same = by (com
     by (inr (inr is)) = is
 
 -- a name that stands twice, or a sort that is not there, leaves no variables
-pub not_apart : (written : List WrittenVariable) (n : ℕ) → HasEarlier written n → AreApart written → ⊥
+pub not_apart : (written : List WrittenVariable) (n : ℕ) → HasEarlier written n → HaveOwnNames written → ⊥
 not_apart written n h apart =
     let same : h.place ≡ n = apart h.place n h.earlier h.here h.is_earlier h.is_here h.one_name in
     omega (arith, same, h.before)
@@ -162,7 +162,7 @@ one_not_earlier written k number d e before within differ so_far j v w below at 
 
 pub numbered_done : (signature : Signature) (written : List VarText) (n : ℕ) (variables : List Variable) → length written ≤ n
     → n ≤ length written → AreNumberedSoFar signature (variables_of written) n variables
-    → AreApart (variables_of written) × AreNumbered signature (variables_of written) variables
+    → HaveOwnNames (variables_of written) × AreNumbered signature (variables_of written) variables
 numbered_done signature written n variables past within now =
     let long : length (variables_of written) ≡ length written = length-map written variable_of in (
       all_apart signature (variables_of written) n variables (omega (arith, long, past)) now,

@@ -6,7 +6,7 @@ use Rattle.lotos_lexer.specs.declared.tokens.Token.{Token}
 use Rattle.lotos_lexer.specs.Tokens as lexed
 use Rattle.lotos_rows.specs.Names.{AreVariables}
 use Rattle.syntax_trees.specs.WrittenVariable.{WrittenVariable}
-use Rattle.induct_check.specs.CertificateReading.{AreVariablesIn, AreApart, AreNumbered, AreLemmaVariables}
+use Rattle.induct_check.specs.CertificateReading.{AreVariablesIn, HaveOwnNames, AreNumbered, AreLemmaVariables}
 use Rattle.induct_check.proofs.VariableLemmas.{variables_once}
 
 tokens_once : (some other : List Token) → lexed.Tokens some ≡ lexed.Tokens other → some ≡ other
@@ -28,15 +28,15 @@ not_written signature o text vs is none are =
     none h.0 h.1
 
 pub not_numbered : (signature : Signature) (o : Option (List ℕ)) (text : List ℕ) (ws : List WrittenVariable) (vs : List Variable)
-    → o ≡ Some text → AreVariablesIn text ws → ((us : List Variable) → AreApart ws → ¬ AreNumbered signature ws us)
+    → o ≡ Some text → AreVariablesIn text ws → ((us : List Variable) → HaveOwnNames ws → ¬ AreNumbered signature ws us)
     → AreLemmaVariables signature o vs → ⊥
 not_numbered signature o text ws vs is written none are =
     let h = by_text signature o text vs is are in
     let same : h.0 ≡ ws = written_once text h.0 ws h.1 written in
-    none vs (subst (λ (xs : List WrittenVariable). AreApart xs) same h.2)
+    none vs (subst (λ (xs : List WrittenVariable). HaveOwnNames xs) same h.2)
     (subst (λ (xs : List WrittenVariable). AreNumbered signature xs vs) same h.3)
 
 pub are_numbered : (signature : Signature) (o : Option (List ℕ)) (text : List ℕ) (ws : List WrittenVariable) (vs : List Variable)
-    → o ≡ Some text → AreVariablesIn text ws → AreApart ws → AreNumbered signature ws vs → AreLemmaVariables signature o vs
+    → o ≡ Some text → AreVariablesIn text ws → HaveOwnNames ws → AreNumbered signature ws vs → AreLemmaVariables signature o vs
 are_numbered signature o text ws vs is written apart numbered =
     subst (λ (p : Option (List ℕ)). AreLemmaVariables signature p vs) (sym is) (ws, written, apart, numbered)

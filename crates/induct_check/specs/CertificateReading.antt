@@ -45,8 +45,8 @@ pub record AreNumbered (signature : Signature) (written : List WrittenVariable) 
       → (v.name ≡ w.name) × (v.number ≡ i) × IsSortNamed signature v.sort w.sort
 
 -- No two of the variables have one name.
-abbrev pub AreApart : List WrittenVariable → Type 0
-AreApart written = (i j : ℕ) (v w : WrittenVariable) → slice_get written i ≡ Some v → slice_get written j ≡ Some w
+abbrev pub HaveOwnNames : List WrittenVariable → Type 0
+HaveOwnNames written = (i j : ℕ) (v w : WrittenVariable) → slice_get written i ≡ Some v → slice_get written j ≡ Some w
     → AreOneName v.name w.name → i ≡ j
 
 -- The text writes variables with their sorts, as the grammar has them.
@@ -57,7 +57,7 @@ AreVariablesIn text written = (tokens : List Token) × (tokens_of 0 text ≡ lex
 abbrev pub AreLemmaVariables : Signature → Option (List ℕ) → List Variable → Type 0
 AreLemmaVariables signature None variables = variables ≡ []
 AreLemmaVariables signature (Some text) variables =
-    (written : List WrittenVariable) × AreVariablesIn text written × AreApart written × AreNumbered signature written variables
+    (written : List WrittenVariable) × AreVariablesIn text written × HaveOwnNames written × AreNumbered signature written variables
 
 -- Read by itself, the term is refused for no name and no sort.
 abbrev pub NamesAreKnown : Signature → List Variable → WrittenTerm → Type 0
@@ -71,8 +71,8 @@ pub record IsWrittenSide (signature : Signature) (variables : List Variable) (te
   pub known : NamesAreKnown signature variables side
 
 -- The two sides have one pair of readings with one sort.
-abbrev pub AreSides : Signature → List Variable → WrittenTerm → WrittenTerm → Statement → Type 0
-AreSides signature variables left right statement =
+abbrev pub AreReadSides : Signature → List Variable → WrittenTerm → WrittenTerm → Statement → Type 0
+AreReadSides signature variables left right statement =
     (sort : ℕ) × PairReadingIs signature variables left right
     (answered (record { left = statement.left; right = statement.right; sort = sort }))
 
@@ -243,21 +243,21 @@ pub data Piece : Type 0 where
   new_proof_line : ProofLine → Option (List NamedCase) → Piece
 
 -- The line that asks for this gives the piece.
-abbrev pub Gives : Signature → Task → Piece → Type 0
-Gives signature (read_cover sort items) piece =
+abbrev pub GivesPiece : Signature → Task → Piece → Type 0
+GivesPiece signature (read_cover sort items) piece =
     (cover : Cover) × IsWrittenCover signature sort items cover × (piece ≡ new_cover cover)
-Gives signature (read_tree item) piece =
+GivesPiece signature (read_tree item) piece =
     (operation : ℕ) × AreOperationsOf signature item (operation ∷ []) × (piece ≡ new_tree operation)
-Gives signature (tree_line line) piece = piece ≡ new_tree_line line
-Gives signature (read_variables text) piece =
+GivesPiece signature (tree_line line) piece = piece ≡ new_tree_line line
+GivesPiece signature (read_variables text) piece =
     (variables : List Variable) × AreLemmaVariables signature text variables × (piece ≡ new_variables variables)
-Gives signature (read_left variables term) piece =
+GivesPiece signature (read_left variables term) piece =
     (left : WrittenTerm) × IsWrittenSide signature variables term left × (piece ≡ new_left variables left)
-Gives signature (read_right variables left term) piece =
+GivesPiece signature (read_right variables left term) piece =
     (right : WrittenTerm) × (statement : Statement) × IsWrittenSide signature variables term right
-    × AreSides signature variables left right statement × (piece ≡ new_lemma variables statement)
-Gives signature (proof_line line cases) piece = piece ≡ new_proof_line line cases
-Gives signature no_task piece = ⊥
+    × AreReadSides signature variables left right statement × (piece ≡ new_lemma variables statement)
+GivesPiece signature (proof_line line cases) piece = piece ≡ new_proof_line line cases
+GivesPiece signature no_task piece = ⊥
 
 -- The line is a right side by itself, but with the left side it has no pair of readings with one sort, or several.
 abbrev pub FailsWithLeft : Signature → Task → Type 0
@@ -268,7 +268,7 @@ FailsWithLeft signature (read_variables text) = ⊥
 FailsWithLeft signature (read_left variables term) = ⊥
 FailsWithLeft signature (read_right variables left term) =
     (right : WrittenTerm) × IsWrittenSide signature variables term right
-    × ((statement : Statement) → ¬ AreSides signature variables left right statement)
+    × ((statement : Statement) → ¬ AreReadSides signature variables left right statement)
 FailsWithLeft signature (proof_line line cases) = ⊥
 FailsWithLeft signature no_task = ⊥
 

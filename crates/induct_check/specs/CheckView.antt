@@ -5,12 +5,12 @@ use Rattle.induct_parts.specs.FaultView.{HoldsAtLine}
 use Rattle.induct_parts.specs.SettingView.{AllCovered}
 use Rattle.induct_parts.specs.declared.at_line.AtLine.{AtLine}
 use Rattle.induct_parts.specs.declared.line_fault.LineFault.TheVariants.{BadLine}
-use Rattle.induct_check.specs.TextFaults.{IsReadAs, Stop, ComesBefore}
+use Rattle.induct_check.specs.TextFaults.{IsReadAsInduction, Stop, ComesBeforeStop}
 
 -- The text is read as a right certificate, whose lemmas are these, and the sort of each of its covers is covered.
 pub record IsCertifiedText (theory : Theory) (text : List ℕ) (lemmas : List Lemma) : Type 0 where
   pub certificate : Certificate
-  pub read : IsReadAs theory.data_.signature text certificate
+  pub read : IsReadAsInduction theory.data_.signature text certificate
   pub right : IsCertified theory certificate
   pub covered : AllCovered theory.data_.signature theory.rules certificate.covers
   pub lemmas_are : certificate.lemmas ≡ lemmas
@@ -19,5 +19,5 @@ pub record IsCertifiedText (theory : Theory) (text : List ℕ) (lemmas : List Le
 abbrev pub IsFirstOf : Option Stop → AtLine → AtLine → Type 0
 IsFirstOf None at told = told ≡ at
 IsFirstOf (Some stop) at told =
-    (HoldsAtLine (ComesBefore stop) at × (told ≡ at))
-    ⊎ ((¬ HoldsAtLine (ComesBefore stop) at) × (told.line ≡ stop.line) × (told.fault ≡ BadLine))
+    (HoldsAtLine (ComesBeforeStop stop) at × (told ≡ at))
+    ⊎ ((¬ HoldsAtLine (ComesBeforeStop stop) at) × (told.line ≡ stop.line) × (told.fault ≡ BadLine))

@@ -5,7 +5,7 @@ pub use Rattle.induct_parts.specs.HandedOn.{RequirementsAreMetOnce, MetIsNotOpen
 pub use Rattle.induct_parts.specs.HandedOn.{Theory}
 pub use Rattle.induct_parts.specs.CertificateView.{lemmas_in}
 pub use Rattle.induct_parts.specs.FaultView.{HoldsOfFault, HoldsAtLine}
-pub use Rattle.induct_parts.specs.SettingView.{AllHold, AllCovered, IsKnownLemma}
+pub use Rattle.induct_parts.specs.SettingView.{AllLemmasHold, AllCovered, IsKnownLemma}
 pub use Rattle.induct_parts.specs.StatementView.{statement_of}
 pub use Rattle.induct_parts.specs.declared.at_line.AtLine.{AtLine}
 pub use Rattle.induct_parts.specs.declared.certificates.StatedLemma.{StatedLemma}

@@ -13,7 +13,7 @@ abbrev pub known_signature : Known → Signature
 known_signature known = signature_of known.signature.now
 
 -- The reader and the index are those of the signature.
-pub record IsKnown (known : Known) : Type 0 where
+pub record HasKnownSignature (known : Known) : Type 0 where
   pub reader : signature_read known.reader.now ≡ signature_of known.signature.now
   pub operations : (key : List ℕ) → numbers_under known.operations.now key
       ≡ positions_of key (map (λ o. spelling o.name) known.signature.now.ops.items)

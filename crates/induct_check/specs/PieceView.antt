@@ -10,7 +10,7 @@ use Rattle.induct_parts.specs.HandedOn.{IsStated}
 use Rattle.induct_parts.specs.CertificateView.{cover_in, tree_line_of, proof_line_of}
 use Rattle.induct_parts.specs.StatementView.{IsStatementOf, statement_of}
 use Rattle.induct_check.specs.CertificateReading as plain
-use Rattle.induct_check.specs.CertificateReading.{OpenPart, among_covers, in_tree, behind_variables, behind_left, in_proof, Task, Gives, FailsWithLeft, stated}
+use Rattle.induct_check.specs.CertificateReading.{OpenPart, among_covers, in_tree, behind_variables, behind_left, in_proof, Task, GivesPiece, FailsWithLeft, stated}
 use Rattle.induct_check.specs.NameView.{named_cases_in}
 use Rattle.induct_check.specs.declared.pieces.Part.{Part}
 use Rattle.induct_check.specs.declared.pieces.Part.TheVariants as part
@@ -61,7 +61,7 @@ IsKnownPiece signature (piece.ProofLine line cases) = Unit {0}
 
 -- What becomes of a line that asks for this.
 abbrev pub IsUnderstood : Signature → Task → LineOutcome → Type 0
-IsUnderstood signature task (outcome.Piece piece) = Gives signature task (piece_in piece) × IsKnownPiece signature piece
+IsUnderstood signature task (outcome.Piece piece) = GivesPiece signature task (piece_in piece) × IsKnownPiece signature piece
 IsUnderstood signature task outcome.Nothing =
-    ((piece : plain.Piece) → ¬ Gives signature task piece) × (¬ FailsWithLeft signature task)
+    ((piece : plain.Piece) → ¬ GivesPiece signature task piece) × (¬ FailsWithLeft signature task)
 IsUnderstood signature task outcome.WithLeft = FailsWithLeft signature task

@@ -1,4 +1,5 @@
 -- What was read by the code, and what is known of it.
+use Rattle.std.specs.Prelude.{Option}
 use Rattle.std.specs.Option.{option_map}
 use Rattle.lotos_base.specs.Signature.{Signature}
 use Rattle.induct_parts.specs.CertificateView.{certificate_in}
@@ -19,6 +20,10 @@ stop_of stop = record { line = stop.line; early = stop.early }
 
 abbrev pub read_text : Read → ReadText
 read_text read = record { certificate = certificate_in read.certificate; stop = option_map stop_of read.stop }
+
+-- what the text comes to that stops here behind what was read, if it stops
+abbrev pub stopping : Reading → Option Stop → ReadText
+stopping reading stop = record { certificate = certificate_in reading.certificate; stop = option_map stop_of stop }
 
 -- The certificate and the open part are known.
 pub record IsKnownReading (signature : Signature) (reading : Reading) : Type 0 where

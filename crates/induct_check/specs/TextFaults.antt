@@ -4,7 +4,7 @@ use Rattle.std.specs.Str.{bytes_eq}
 use Rattle.lotos_base.specs.Signature.{Signature}
 use Rattle.induct_parts.specs.HandedOn.{Certificate, InductionFault, bad_line, no_tree, Theory, IsInductionFault}
 use Rattle.induct_check.specs.CertificateLines.{parts_at, cut_at_blank, form_of}
-use Rattle.induct_check.specs.CertificateReading.{OpenPart, among_covers, in_tree, behind_variables, behind_left, in_proof, ReadSoFar, nothing_read, Task, task_of, Piece, Gives, FailsWithLeft, with_piece}
+use Rattle.induct_check.specs.CertificateReading.{OpenPart, among_covers, in_tree, behind_variables, behind_left, in_proof, ReadSoFar, nothing_read, Task, task_of, Piece, GivesPiece, FailsWithLeft, with_piece}
 
 -- ---- Line by line
 
@@ -14,7 +14,7 @@ task_behind signature reading line = task_of signature reading.certificate.cover
 
 -- The line gives the piece behind what was read.
 abbrev pub LineGives : Signature → ReadSoFar → List ℕ → Piece → Type 0
-LineGives signature reading line piece = Gives signature (task_behind signature reading line) piece
+LineGives signature reading line piece = GivesPiece signature (task_behind signature reading line) piece
 
 -- whether the text may end: nothing of the head of a lemma is missing
 abbrev pub may_end : OpenPart → Bool
@@ -52,53 +52,53 @@ stopped_at reading told line = stopped reading told (stands_early reading.part (
 
 -- The lines from this number on come to this, behind what was read. The last part of a text is no line; it is empty where the last
 -- line ends with its line feed.
-pub data ComesTo (signature : Signature) : ℕ → ReadSoFar → List (List ℕ) → ReadText → Type 0 where
+pub data LinesReadTo (signature : Signature) : ℕ → ReadSoFar → List (List ℕ) → ReadText → Type 0 where
   ends : {number : ℕ} {reading : ReadSoFar} → IsTrue (may_end reading.part)
-      → ComesTo signature number reading ([] ∷ []) (record { certificate = reading.certificate; stop = None })
+      → LinesReadTo signature number reading ([] ∷ []) (record { certificate = reading.certificate; stop = None })
   -- a line of the head of a lemma is missing
   lacks_a_line : {number : ℕ} {reading : ReadSoFar} → IsFalse (may_end reading.part)
-      → ComesTo signature number reading ([] ∷ []) (stopped reading number false)
+      → LinesReadTo signature number reading ([] ∷ []) (stopped reading number false)
   -- the last line lacks its line feed
   lacks_line_feed : {number byte : ℕ} {bytes : List ℕ} {reading : ReadSoFar}
-      → ComesTo signature number reading ((byte ∷ bytes) ∷ []) (stopped_at reading number (byte ∷ bytes))
+      → LinesReadTo signature number reading ((byte ∷ bytes) ∷ []) (stopped_at reading number (byte ∷ bytes))
   goes_on : {number : ℕ} {reading : ReadSoFar} {line next : List ℕ} {parts : List (List ℕ)} {text : ReadText} (piece : Piece)
       → LineGives signature reading line piece
-      → ComesTo signature (suc number) (with_piece reading piece) (next ∷ parts) text
-      → ComesTo signature number reading (line ∷ next ∷ parts) text
+      → LinesReadTo signature (suc number) (with_piece reading piece) (next ∷ parts) text
+      → LinesReadTo signature number reading (line ∷ next ∷ parts) text
   stops : {number : ℕ} {reading : ReadSoFar} {line next : List ℕ} {parts : List (List ℕ)}
       → ((piece : Piece) → ¬ LineGives signature reading line piece)
       → ¬ FailsWithLeft signature (task_behind signature reading line)
-      → ComesTo signature number reading (line ∷ next ∷ parts) (stopped_at reading number line)
+      → LinesReadTo signature number reading (line ∷ next ∷ parts) (stopped_at reading number line)
   -- the two sides have no pair of readings, or several, which is told at the line of the left one
   stops_at_left : {told : ℕ} {reading : ReadSoFar} {line next : List ℕ} {parts : List (List ℕ)}
       → FailsWithLeft signature (task_behind signature reading line)
-      → ComesTo signature (suc told) reading (line ∷ next ∷ parts) (stopped_at reading told line)
+      → LinesReadTo signature (suc told) reading (line ∷ next ∷ parts) (stopped_at reading told line)
 
 -- the text comes to this
 abbrev pub TextComesTo : Signature → List ℕ → ReadText → Type 0
-TextComesTo signature text read = ComesTo signature 1 nothing_read (parts_at 10 text) read
+TextComesTo signature text read = LinesReadTo signature 1 nothing_read (parts_at 10 text) read
 
 -- The text is read as the certificate.
-abbrev pub IsReadAs : Signature → List ℕ → Certificate → Type 0
-IsReadAs signature text certificate = TextComesTo signature text (record { certificate = certificate; stop = None })
+abbrev pub IsReadAsInduction : Signature → List ℕ → Certificate → Type 0
+IsReadAsInduction signature text certificate = TextComesTo signature text (record { certificate = certificate; stop = None })
 
 -- ---- The first fault
 
 -- The fault of what was read comes before the stop: it stands at an earlier line, where an operation that lacks a tree, whose line
 -- is that of a cover, is looked at as soon as a line comes that stands neither among the covers nor in a tree, or at the end.
-abbrev pub ComesBefore : Stop → ℕ → InductionFault → Type 0
-ComesBefore stop line fault =
+abbrev pub ComesBeforeStop : Stop → ℕ → InductionFault → Type 0
+ComesBeforeStop stop line fault =
     (((f : ℕ) → ¬ (fault ≡ no_tree f)) × (line < stop.line)) ⊎ ((f : ℕ) × (fault ≡ no_tree f) × IsFalse stop.early)
 
 -- The first fault of the text: that of the whole certificate, that of what was read where it comes before the stop, or the stop.
 pub data IsTextFault (theory : Theory) (text : List ℕ) : ℕ → InductionFault → Type 0 where
   in_certificate : {line : ℕ} {fault : InductionFault} {certificate : Certificate}
-      → IsReadAs theory.data_.signature text certificate → IsInductionFault theory certificate line fault
+      → IsReadAsInduction theory.data_.signature text certificate → IsInductionFault theory certificate line fault
       → IsTextFault theory text line fault
   before_stop : {line : ℕ} {fault : InductionFault} {certificate : Certificate} {stop : Stop}
       → TextComesTo theory.data_.signature text (record { certificate = certificate; stop = Some stop })
-      → IsInductionFault theory certificate line fault → ComesBefore stop line fault → IsTextFault theory text line fault
+      → IsInductionFault theory certificate line fault → ComesBeforeStop stop line fault → IsTextFault theory text line fault
   at_stop : {certificate : Certificate} {stop : Stop}
       → TextComesTo theory.data_.signature text (record { certificate = certificate; stop = Some stop })
-      → ((line : ℕ) (fault : InductionFault) → IsInductionFault theory certificate line fault → ¬ ComesBefore stop line fault)
+      → ((line : ℕ) (fault : InductionFault) → IsInductionFault theory certificate line fault → ¬ ComesBeforeStop stop line fault)
       → IsTextFault theory text stop.line bad_line

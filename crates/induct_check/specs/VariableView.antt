@@ -23,9 +23,9 @@ read_in read = record {
 }
 
 -- A token that may stand there leads to this; one that may not leads to nothing.
-abbrev pub GoesOn : Bool → Option plain.VariablesRead → plain.VariablesRead → Type 0
-GoesOn true next read = next ≡ Some read
-GoesOn false next read = next ≡ None
+abbrev pub VariablesGoOn : Bool → Option plain.VariablesRead → plain.VariablesRead → Type 0
+VariablesGoOn true next read = next ≡ Some read
+VariablesGoOn false next read = next ≡ None
 
 -- One of the variables before this one has its name.
 pub record HasEarlier (written : List WrittenVariable) (number : ℕ) : Type 0 where

@@ -6,7 +6,7 @@ ghost use Rattle.induct_check.specs.CheckView.{IsCertifiedText};
 ghost use Rattle.induct_check.specs.TextFaults.{IsTextFault};
 ghost use Rattle.induct_parts.specs.CertificateView.{lemmas_in};
 ghost use Rattle.induct_parts.specs.FaultView.{HoldsAtLine};
-ghost use Rattle.induct_parts.specs.SettingView.{AllHold, IsKnownLemma};
+ghost use Rattle.induct_parts.specs.SettingView.{AllLemmasHold, IsKnownLemma};
 ghost use Rattle.lotos_base.proofs.ExampleHelpers.{Each};
 ghost use Rattle.sort_terms.specs.EquationView.{data_of};
 ghost use Rattle.std.specs.Prelude.{◌≡◌, ◌+◌, ◌<◌, ◌^◌, IfErr, IfOk, length};
@@ -25,7 +25,7 @@ pub fn check_text(alloc: Global, book: &mut Book, text: &[u8]) -> Result<Vec<Sta
     ensures same_canon { book_canon book.new ≡ book_canon book.old }
     ensures certified { IfOk result (λ lemmas. IsCertifiedText (book_theory book.old) text.now
         (lemmas_in lemmas.items)) }
-    ensures hold { IfOk result (λ lemmas. AllHold (data_of book.old.flat)
+    ensures hold { IfOk result (λ lemmas. AllLemmasHold (data_of book.old.flat)
         (lemmas_in lemmas.items)) }
     ensures known { IfOk result (λ lemmas. Each (IsKnownLemma (data_of book.old.flat).signature)
         lemmas.items) }

@@ -3,7 +3,7 @@
 ghost use Rattle.induct_check.specs.CheckView.{IsCertifiedText, IsFirstOf};
 ghost use Rattle.induct_check.specs.ReadingView.{read_text, stop_of};
 ghost use Rattle.induct_check.specs.TextFaults.{
-  ComesBefore,
+  ComesBeforeStop,
   IsTextFault,
   Stop as PlainStop,
   TextComesTo,
@@ -16,7 +16,7 @@ ghost use Rattle.induct_parts.specs.CertificateView.{
 ghost use Rattle.induct_parts.specs.FaultView.{HoldsAtLine};
 ghost use Rattle.induct_parts.specs.HandedOn.{AreSortedRulesOf};
 ghost use Rattle.induct_parts.specs.SettingView.{
-  AllHold,
+  AllLemmasHold,
   IsKnownCertificate,
   IsKnownLemma,
   known_theory,
@@ -73,7 +73,7 @@ pub fn check_lemmas<D: Deciding>(
     ensures certified { IfOk result (λ lemmas. IsCertifiedText
         (known_theory (D.known_data data_.old) rules.now (D.canon data_.old)) text.now
         (lemmas_in lemmas.items)) }
-    ensures hold { IfOk result (λ lemmas. AllHold (D.known_data data_.old)
+    ensures hold { IfOk result (λ lemmas. AllLemmasHold (D.known_data data_.old)
         (lemmas_in lemmas.items)) }
     ensures known { IfOk result (λ lemmas. Each (IsKnownLemma (signature_of signature.now))
         lemmas.items) }
@@ -110,7 +110,7 @@ fn judged<D: Deciding>(
         → TextComesTo (signature_of signature.now) text (read_text read)
         → IsCertifiedText (known_theory (D.known_data data_.old) rules.now (D.canon data_.old)) text
         (lemmas_in lemmas.items)) }
-    ensures hold { IfOk result (λ lemmas. AllHold (D.known_data data_.old)
+    ensures hold { IfOk result (λ lemmas. AllLemmasHold (D.known_data data_.old)
         (lemmas_in lemmas.items)) }
     ensures known { IfOk result (λ lemmas. Each (IsKnownLemma (signature_of signature.now))
         lemmas.items) }
@@ -161,7 +161,7 @@ fn first_fault(stop: Option<Stop>, at: AtLine) -> AtLine
 
 // Whether the fault comes before the stop.
 fn comes_before(stop: Stop, at: &AtLine) -> bool
-    ensures { IsTrue result ↔ HoldsAtLine (ComesBefore (stop_of stop)) at.now }
+    ensures { IsTrue result ↔ HoldsAtLine (ComesBeforeStop (stop_of stop)) at.now }
 {
     match at.fault {
         LineFault::NoTree(_) => !stop.early,

@@ -2,7 +2,7 @@
 
 ghost use Rattle.induct_check.specs.CertificateReading.{AreOperationsOf, ItemsList};
 ghost use Rattle.induct_check.specs.ItemView.{ItemGives};
-ghost use Rattle.induct_check.specs.KnownView.{IsKnown, known_signature};
+ghost use Rattle.induct_check.specs.KnownView.{HasKnownSignature, known_signature};
 ghost use Rattle.lotos_base.specs.WrittenView.{listed_operation_of};
 ghost use Rattle.std.specs.Prelude.{ℕ, IfOk, List, MatchOption, map};
 
@@ -14,7 +14,7 @@ use path_order::items::listed_by;
 /// The operations that the items in the text list, if the text is items without statuses, each of
 /// which lists an operation.
 pub fn operations_of(known: &Known, text: &[u8]) -> Result<Option<Vec<u32>>, NoMemory>
-    requires { IsKnown known.now }
+    requires { HasKnownSignature known.now }
     ensures { IfOk result (λ found. MatchOption found
         ((fs : List ℕ) → ¬ AreOperationsOf (known_signature known.now) text.now fs)
         (λ fs. AreOperationsOf (known_signature known.now) text.now fs.items)) }
@@ -29,7 +29,7 @@ pub fn operations_of(known: &Known, text: &[u8]) -> Result<Option<Vec<u32>>, NoM
 
 // The operations that the items list, if none has a status and each lists one.
 fn operations_of_items(known: &Known, items: &[OrderItem]) -> Result<Option<Vec<u32>>, NoMemory>
-    requires { IsKnown known.now }
+    requires { HasKnownSignature known.now }
     ensures { IfOk result (λ found. MatchOption found
         ((fs : List ℕ)
         → ¬ ItemsList (known_signature known.now) (map listed_operation_of items.now) fs)
@@ -49,7 +49,7 @@ fn operations_of_items(known: &Known, items: &[OrderItem]) -> Result<Option<Vec<
 
 // The operations that the item lists; none where it has a status.
 fn operations_of_item(known: &Known, item: &OrderItem) -> Result<Vec<u32>, NoMemory>
-    requires { IsKnown known.now }
+    requires { HasKnownSignature known.now }
     ensures { IfOk result (λ found. ItemGives (known_signature known.now)
         (listed_operation_of item.now) found.items) }
 {

@@ -20,7 +20,7 @@ ghost use Rattle.induct_check.specs.CertificateReading.{
   variable_split,
 };
 ghost use Rattle.induct_check.specs.FormView.{IsShort, form_in};
-ghost use Rattle.induct_check.specs.KnownView.{IsKnown, known_signature};
+ghost use Rattle.induct_check.specs.KnownView.{HasKnownSignature, known_signature};
 ghost use Rattle.induct_check.specs.NameView.{named_cases_in};
 ghost use Rattle.induct_check.specs.PieceView.{
   AreKnownVariables,
@@ -110,7 +110,7 @@ pub fn understood(
     part: &Part,
     line: &[u8],
 ) -> Result<LineOutcome, NoMemory>
-    requires known { IsKnown known.now }
+    requires known { HasKnownSignature known.now }
     requires part { IsKnownPart (known_signature known.now) (part_in part.now) }
     requires short { length line.now + 1 < 2 ^ 32 }
     ensures { IfOk result (IsUnderstood (known_signature known.now)
@@ -129,7 +129,7 @@ pub fn understood(
 
 // Among the covers.
 fn among_covers(known: &Known, form: Form<'_>) -> Result<LineOutcome, NoMemory>
-    requires known { IsKnown known.now }
+    requires known { HasKnownSignature known.now }
     requires short { IsShort (form_in form) }
     ensures { IfOk result (IsUnderstood (known_signature known.now)
         (among_covers_task (form_in form.entry))) }
@@ -144,7 +144,7 @@ fn among_covers(known: &Known, form: Form<'_>) -> Result<LineOutcome, NoMemory>
 
 // In a tree.
 fn in_tree(known: &Known, form: Form<'_>) -> Result<LineOutcome, NoMemory>
-    requires known { IsKnown known.now }
+    requires known { HasKnownSignature known.now }
     requires short { IsShort (form_in form) }
     ensures { IfOk result (IsUnderstood (known_signature known.now)
         (in_tree_task (form_in form.entry))) }
@@ -164,7 +164,7 @@ fn behind_variables(
     variables: &[Variable],
     form: Form<'_>,
 ) -> Result<LineOutcome, NoMemory>
-    requires known { IsKnown known.now }
+    requires known { HasKnownSignature known.now }
     requires variables { AreKnownVariables (known_signature known.now)
         (map variable_of variables.now) }
     requires short { IsShort (form_in form) }
@@ -184,7 +184,7 @@ fn behind_left(
     left: &Written,
     form: Form<'_>,
 ) -> Result<LineOutcome, NoMemory>
-    requires known { IsKnown known.now }
+    requires known { HasKnownSignature known.now }
     requires variables { AreKnownVariables (known_signature known.now)
         (map variable_of variables.now) }
     requires short { IsShort (form_in form) }
@@ -205,7 +205,7 @@ fn in_proof(
     left: &[NamedCase],
     form: Form<'_>,
 ) -> Result<LineOutcome, NoMemory>
-    requires known { IsKnown known.now }
+    requires known { HasKnownSignature known.now }
     requires short { IsShort (form_in form) }
     ensures { IfOk result (IsUnderstood (known_signature known.now)
         (in_proof_task (known_signature known.now) (covers_in covers.now)
@@ -225,7 +225,7 @@ fn in_proof(
 
 // A cover.
 fn cover_piece(known: &Known, sort: &[u8], items: &[u8]) -> Result<LineOutcome, NoMemory>
-    requires { IsKnown known.now }
+    requires { HasKnownSignature known.now }
     ensures { IfOk result (IsUnderstood (known_signature known.now)
         (read_cover sort.now items.now)) }
 {
@@ -244,7 +244,7 @@ fn cover_piece(known: &Known, sort: &[u8], items: &[u8]) -> Result<LineOutcome, 
 
 // A tree.
 fn tree_piece(known: &Known, item: &[u8]) -> Result<LineOutcome, NoMemory>
-    requires { IsKnown known.now }
+    requires { HasKnownSignature known.now }
     ensures { IfOk result (IsUnderstood (known_signature known.now) (read_tree item.now)) }
 {
     texts_have_one_outcome();
@@ -270,7 +270,7 @@ fn pattern_split(known: &Known, word: &[u8]) -> Result<LineOutcome, NoMemory>
 
 // The variables of a lemma.
 fn variables_piece(known: &Known, text: Option<&[u8]>) -> Result<LineOutcome, NoMemory>
-    requires known { IsKnown known.now }
+    requires known { HasKnownSignature known.now }
     requires short { MatchOption text (Unit {0}) (λ t. length t.now + 1 < 2 ^ 32) }
     ensures { IfOk result (IsUnderstood (known_signature known.now)
         (read_variables (option_map (λ t. t.now) text.entry))) }
@@ -283,7 +283,7 @@ fn variables_piece(known: &Known, text: Option<&[u8]>) -> Result<LineOutcome, No
 
 // The left side of a lemma.
 fn left_piece(known: &Known, variables: &[Variable], term: &[u8]) -> Result<LineOutcome, NoMemory>
-    requires known { IsKnown known.now }
+    requires known { HasKnownSignature known.now }
     requires variables { AreKnownVariables (known_signature known.now)
         (map variable_of variables.now) }
     requires short { length term.now + 1 < 2 ^ 32 }
@@ -304,7 +304,7 @@ fn right_piece(
     left: &Written,
     term: &[u8],
 ) -> Result<LineOutcome, NoMemory>
-    requires known { IsKnown known.now }
+    requires known { HasKnownSignature known.now }
     requires variables { AreKnownVariables (known_signature known.now)
         (map variable_of variables.now) }
     requires short { length term.now + 1 < 2 ^ 32 }

@@ -11,12 +11,12 @@ ghost use Rattle.induct_check.specs.CertificateReading.{
   with_last,
   with_piece,
 };
-ghost use Rattle.induct_check.specs.KnownView.{IsKnown, known_signature};
+ghost use Rattle.induct_check.specs.KnownView.{HasKnownSignature, known_signature};
 ghost use Rattle.induct_check.specs.NameView.{named_cases_in};
 ghost use Rattle.induct_check.specs.PieceView.{IsKnownPart, IsKnownPiece, part_in, piece_in};
-ghost use Rattle.induct_check.specs.ReadingView.{IsKnownReading, read_text, reading_in};
+ghost use Rattle.induct_check.specs.ReadingView.{IsKnownReading, read_text, reading_in, stopping};
 ghost use Rattle.induct_check.specs.TextFaults.{
-  ComesTo,
+  LinesReadTo,
   TextComesTo,
   may_end as may_end_behind,
   stands_early as stands_early_in,
@@ -90,7 +90,7 @@ pub struct Read {
 
 /// Reads the text of a certificate to its end, or to the first line that does not read.
 pub fn read_certificate(known: &Known, text: &[u8]) -> Result<Read, NoMemory>
-    requires known { IsKnown known.now }
+    requires known { HasKnownSignature known.now }
     requires short { length text.now + 1 < 2 ^ 32 }
     ensures read { IfOk result (λ read. TextComesTo (known_signature known.now) text.now
         (read_text read)) }
@@ -103,11 +103,11 @@ pub fn read_certificate(known: &Known, text: &[u8]) -> Result<Read, NoMemory>
 
 // Reads the parts at line feeds.
 fn read_parts(known: &Known, parts: &[&[u8]]) -> Result<Read, NoMemory>
-    requires known { IsKnown known.now }
+    requires known { HasKnownSignature known.now }
     requires some { 0 < length parts.now }
     requires short { Each (λ part. length part + 1 < 2 ^ 32)
         (map (λ part. part.now) parts.now) }
-    ensures read { IfOk result (λ read. ComesTo (known_signature known.now) 1 nothing_read
+    ensures read { IfOk result (λ read. LinesReadTo (known_signature known.now) 1 nothing_read
         (map (λ part. part.now) parts.now) (read_text read)) }
     ensures known { IfOk result (λ read. IsKnownCertificate (known_signature known.now)
         read.certificate) }
@@ -120,53 +120,67 @@ fn read_parts(known: &Known, parts: &[&[u8]]) -> Result<Read, NoMemory>
         },
         part: Part::Covers,
     };
+    let stop = read_behind(known, parts, &mut reading)?;
+    Ok(Read {
+        certificate: reading.certificate,
+        stop,
+    })
+}
+
+// Reads the parts at line feeds behind nothing, and says where they stop to read.
+fn read_behind(
+    known: &Known,
+    parts: &[&[u8]],
+    reading: &mut Reading,
+) -> Result<Option<Stop>, NoMemory>
+    requires known { HasKnownSignature known.now }
+    requires some { 0 < length parts.now }
+    requires short { Each (λ part. length part + 1 < 2 ^ 32)
+        (map (λ part. part.now) parts.now) }
+    requires nothing { reading_in reading.old ≡ nothing_read }
+    requires reading { IsKnownReading (known_signature known.now) reading.old }
+    ensures read { IfOk result (λ stop. LinesReadTo (known_signature known.now) 1 nothing_read
+        (map (λ part. part.now) parts.now) (stopping reading.new stop)) }
+    ensures known { OnOk result (IsKnownReading (known_signature known.now) reading.new) }
+{
     let last = parts.len() - 1;
     for number in 0..last {
         let line = part_at(parts, number);
         let covers = reading.certificate.covers.as_slice();
         match understood(known, covers, &reading.part, line)? {
-            LineOutcome::Piece(piece) => add(known, &mut reading, piece)?,
-            LineOutcome::Nothing => return Ok(stopped_at(reading, number + 1, line)),
-            LineOutcome::WithLeft => return Ok(stopped_at(reading, number, line)),
+            LineOutcome::Piece(piece) => add(known, reading, piece)?,
+            LineOutcome::Nothing => return Ok(Some(stopped_at(reading, number + 1, line))),
+            LineOutcome::WithLeft => return Ok(Some(stopped_at(reading, number, line))),
         }
     }
     Ok(ended(reading, last + 1, part_at(parts, last)))
 }
 
-// What the text comes to that stops at the line.
-fn stopped_at(reading: Reading, told: usize, line: &[u8]) -> Read
-    ensures read { read_text result ≡ plain_stopped_at (reading_in reading) told line.now }
-    ensures same { result.certificate ≡ reading.certificate }
+// Where the text stops to read that stops at the line.
+fn stopped_at(reading: &Reading, told: usize, line: &[u8]) -> Stop
+    ensures { stopping reading.now (Some result)
+        ≡ plain_stopped_at (reading_in reading.now) told line.now }
 {
     let early = stands_early(&reading.part, cut(line).0);
-    Read {
-        certificate: reading.certificate,
-        stop: Some(Stop { line: told, early }),
-    }
+    Stop { line: told, early }
 }
 
-// What the text comes to whose last part, which no line feed ends, is this.
-fn ended(reading: Reading, number: usize, rest: &[u8]) -> Read
-    ensures read { (signature : Signature)
-        → ComesTo signature number (reading_in reading) (rest.now ∷ []) (read_text result) }
-    ensures same { result.certificate ≡ reading.certificate }
+// Where the text stops to read whose last part, which no line feed ends, is this, if it does.
+fn ended(reading: &Reading, number: usize, rest: &[u8]) -> Option<Stop>
+    ensures { (signature : Signature)
+        → LinesReadTo signature number (reading_in reading.now) (rest.now ∷ [])
+        (stopping reading.now result) }
 {
     if !rest.is_empty() {
-        return stopped_at(reading, number, rest);
+        return Some(stopped_at(reading, number, rest));
     }
     if may_end(&reading.part) {
-        return Read {
-            certificate: reading.certificate,
-            stop: None,
-        };
+        return None;
     }
-    Read {
-        certificate: reading.certificate,
-        stop: Some(Stop {
-            line: number,
-            early: false,
-        }),
-    }
+    Some(Stop {
+        line: number,
+        early: false,
+    })
 }
 
 // Whether the text may end: nothing of the head of a lemma is missing.

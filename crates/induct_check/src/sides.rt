@@ -1,7 +1,7 @@
 //! The sides of a lemma.
 
-ghost use Rattle.induct_check.specs.CertificateReading.{AreSides, IsWrittenSide, NamesAreKnown};
-ghost use Rattle.induct_check.specs.KnownView.{IsKnown, known_signature};
+ghost use Rattle.induct_check.specs.CertificateReading.{AreReadSides, IsWrittenSide, NamesAreKnown};
+ghost use Rattle.induct_check.specs.KnownView.{HasKnownSignature, known_signature};
 ghost use Rattle.induct_parts.specs.HandedOn.{Statement as PlainStatement};
 ghost use Rattle.induct_parts.specs.StatementView.{IsStatementOf, statement_of};
 ghost use Rattle.lotos_base.specs.WrittenTerm.{WrittenTerm};
@@ -32,7 +32,7 @@ use sort_terms::{Scope, SortFault, Variable};
 
 /// The term that the text of a side is, if it is one and its names are known.
 pub fn side(known: &Known, variables: &[Variable], text: &[u8]) -> Result<Option<Written>, NoMemory>
-    requires known { IsKnown known.now }
+    requires known { HasKnownSignature known.now }
     requires scope { IsScopeOver (known_signature known.now) (map variable_of variables.now) }
     requires short { length text.now + 1 < 2 ^ 32 }
     ensures { IfOk result (λ found. MatchOption found
@@ -59,7 +59,7 @@ fn one_side(
     variables: &[Variable],
     mut terms: Vec<Written>,
 ) -> Result<Option<Written>, NoMemory>
-    requires known { IsKnown known.now }
+    requires known { HasKnownSignature known.now }
     requires scope { IsScopeOver (known_signature known.now) (map variable_of variables.now) }
     ensures { IfOk result (λ found. MatchOption found
         ((side : WrittenTerm) → map written_term_of terms.items ≡ side ∷ []
@@ -82,7 +82,7 @@ fn one_side(
 
 // Whether the names of the term are known.
 fn are_names_known(known: &Known, variables: &[Variable], term: &Written) -> Result<bool, NoMemory>
-    requires known { IsKnown known.now }
+    requires known { HasKnownSignature known.now }
     requires scope { IsScopeOver (known_signature known.now) (map variable_of variables.now) }
     ensures { IfOk result (λ answer. IsTrue answer ↔ NamesAreKnown (known_signature known.now)
         (map variable_of variables.now) (written_term_of term.now)) }
@@ -106,13 +106,13 @@ pub fn both_sides(
     left: &Written,
     right: &Written,
 ) -> Result<Option<Statement>, NoMemory>
-    requires known { IsKnown known.now }
+    requires known { HasKnownSignature known.now }
     requires scope { IsScopeOver (known_signature known.now) (map variable_of variables.now) }
     ensures { IfOk result (λ found. MatchOption found
-        ((statement : PlainStatement) → ¬ AreSides (known_signature known.now)
+        ((statement : PlainStatement) → ¬ AreReadSides (known_signature known.now)
         (map variable_of variables.now) (written_term_of left.now) (written_term_of right.now)
         statement)
-        (λ s. AreSides (known_signature known.now) (map variable_of variables.now)
+        (λ s. AreReadSides (known_signature known.now) (map variable_of variables.now)
         (written_term_of left.now) (written_term_of right.now) (statement_of s)
         × IsStatementOf (known_signature known.now) s)) }
 {

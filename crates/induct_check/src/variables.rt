@@ -1,14 +1,14 @@
 //! The variables of a lemma.
 
 ghost use Rattle.induct_check.specs.CertificateReading.{
-  AreApart,
+  HaveOwnNames,
   AreLemmaVariables,
   AreNumbered,
   AreVariablesIn,
 };
-ghost use Rattle.induct_check.specs.KnownView.{IsKnown, known_signature};
+ghost use Rattle.induct_check.specs.KnownView.{HasKnownSignature, known_signature};
 ghost use Rattle.induct_check.specs.VariableStates.{read_token, with_sort};
-ghost use Rattle.induct_check.specs.VariableView.{GoesOn, HasEarlier, read_in};
+ghost use Rattle.induct_check.specs.VariableView.{VariablesGoOn, HasEarlier, read_in};
 ghost use Rattle.lotos_base.specs.Equation.{Variable as PlainVariable};
 ghost use Rattle.lotos_base.specs.Name.{spelling};
 ghost use Rattle.lotos_base.specs.WrittenView.{placed_name_of};
@@ -73,7 +73,7 @@ pub fn lemma_variables(
     known: &Known,
     text: Option<&[u8]>,
 ) -> Result<Option<Vec<Variable>>, NoMemory>
-    requires known { IsKnown known.now }
+    requires known { HasKnownSignature known.now }
     requires short { MatchOption text (Unit {0}) (λ t. length t.now < 2 ^ 32) }
     ensures { IfOk result (λ found. MatchOption found
         ((vs : List PlainVariable)
@@ -137,7 +137,7 @@ fn next(
     token: Token,
     read: &mut VariablesRead,
 ) -> Result<bool, NoMemory>
-    ensures { IfOk result (λ fits. GoesOn fits
+    ensures { IfOk result (λ fits. VariablesGoOn fits
         (read_token text.now (read_in read.old) token) (read_in read.new)) }
 {
     match read.awaited {
@@ -225,11 +225,11 @@ fn add_variables(
 // The variables with their numbers and the numbers of their sorts, if no two have one name and each
 // sort is there.
 fn numbered(known: &Known, written: &[VarText]) -> Result<Option<Vec<Variable>>, NoMemory>
-    requires { IsKnown known.now }
+    requires { HasKnownSignature known.now }
     ensures { IfOk result (λ found. MatchOption found
-        ((vs : List PlainVariable) → AreApart (variables_of written.now)
+        ((vs : List PlainVariable) → HaveOwnNames (variables_of written.now)
         → ¬ AreNumbered (known_signature known.now) (variables_of written.now) vs)
-        (λ vs. AreApart (variables_of written.now)
+        (λ vs. HaveOwnNames (variables_of written.now)
         × AreNumbered (known_signature known.now) (variables_of written.now)
         (map variable_of vs.items))) }
 {
@@ -252,7 +252,7 @@ fn numbered_variable(
     written: &VarText,
     number: usize,
 ) -> Result<Option<Variable>, NoMemory>
-    requires { IsKnown known.now }
+    requires { HasKnownSignature known.now }
     ensures { IfOk result (λ found. MatchOption found
         ((s : ℕ) → ¬ IsSortNamed (known_signature known.now) s (spelling written.now.sort))
         (λ v. (spelling v.name ≡ spelling written.now.name) × (v.number ≡ number)

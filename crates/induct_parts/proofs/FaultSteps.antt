@@ -8,7 +8,7 @@ use Rattle.certificate_theory.specs.Splits.{Theory}
 use Rattle.certificate_theory.specs.Certified.{IsFit, IsCertificateOver, IsWrongCover, IsRightTree, IsWrongTree, IsRightLemma, IsWrongLemma, AreComplete, IsCertified, IsFirstLack, IsInductionFault, in_covers, in_trees, behind_trees, in_lemmas, lines_of_cover, lines_of_tree, lines_of_trees, lines_of_lemma}
 use Rattle.certificate_theory.proofs.LemmasHold.{covers_hold, lemmas_hold}
 use Rattle.induct_parts.specs.FaultView.{HoldsAtLine}
-use Rattle.induct_parts.specs.SettingView.{AllCovered, AllHold}
+use Rattle.induct_parts.specs.SettingView.{AllCovered, AllLemmasHold}
 use Rattle.induct_parts.specs.declared.at_line.AtLine.{AtLine}
 use Rattle.induct_parts.proofs.LineSteps.{fault_more}
 
@@ -61,5 +61,5 @@ module _ (theory : Theory) (certificate : Certificate) where
   all_covered fit over certified i cover at = covers_hold theory certificate i cover fit over certified at
 
   pub all_hold : IsFit theory → IsCertificateOver theory.data_.signature certificate → IsCertified theory certificate
-      → AllHold theory.data_ certificate.lemmas
+      → AllLemmasHold theory.data_ certificate.lemmas
   all_hold fit over certified i lemma at = lemmas_hold theory certificate i lemma fit over certified at

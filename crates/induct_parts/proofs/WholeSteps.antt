@@ -10,7 +10,7 @@ use Rattle.certificate_theory.specs.Splits.{Theory}
 use Rattle.certificate_theory.specs.Certified.{IsFit, IsCertificateOver, IsCertified, IsInductionFault, lines_of_trees}
 use Rattle.induct_parts.specs.CertificateView.{certificate_in, covers_in, trees_in, lemmas_in, cover_in, lines_of_certificate, lines_of_lemmas}
 use Rattle.induct_parts.specs.FaultView.{HoldsAtLine}
-use Rattle.induct_parts.specs.SettingView.{setting_signature, theory_in, IsKnownCertificate, known_theory, AllCovered, AllHold}
+use Rattle.induct_parts.specs.SettingView.{setting_signature, theory_in, IsKnownCertificate, known_theory, AllCovered, AllLemmasHold}
 use Rattle.induct_parts.specs.declared.at_line.AtLine.{AtLine}
 use Rattle.induct_parts.specs.declared.certificates.Certificate.{Certificate as CodeCertificate}
 use Rattle.induct_parts.specs.declared.certificates.Cover.{Cover as CodeCover}
@@ -55,7 +55,7 @@ module _ (setting : Setting) (data_ : Data) (canon : Term → Term) (e : setting
       all_covered (known_theory data_ setting.rules.now canon) (certificate_in certificate) fit (over_known known) (certified_known h)
 
   pub hold_known : IsFit (known_theory data_ setting.rules.now canon) → IsKnownCertificate (setting_signature setting) certificate
-      → IsCertified (theory_in setting data_ canon) other → AllHold data_ (certificate_in certificate).lemmas
+      → IsCertified (theory_in setting data_ canon) other → AllLemmasHold data_ (certificate_in certificate).lemmas
   hold_known fit known h =
       all_hold (known_theory data_ setting.rules.now canon) (certificate_in certificate) fit (over_known known) (certified_known h)
 

@@ -77,5 +77,5 @@ AllCovered signature rules covers = (i : ℕ) (cover : Cover) → slice_get cove
     → IsCoveredBy signature rules cover.sort cover.operations
 
 -- each lemma holds by induction
-abbrev pub AllHold : Data → List Lemma → Type 0
-AllHold data_ lemmas = (i : ℕ) (lemma : Lemma) → slice_get lemmas i ≡ Some lemma → HoldsByInduction data_ lemma.statement
+abbrev pub AllLemmasHold : Data → List Lemma → Type 0
+AllLemmasHold data_ lemmas = (i : ℕ) (lemma : Lemma) → slice_get lemmas i ≡ Some lemma → HoldsByInduction data_ lemma.statement

@@ -8,7 +8,7 @@ ghost use Rattle.induct_parts.specs.CertificateView.{
 ghost use Rattle.induct_parts.specs.FaultView.{HoldsAtLine};
 ghost use Rattle.induct_parts.specs.SettingView.{
   AllCovered,
-  AllHold,
+  AllLemmasHold,
   IsKnownCertificate,
   known_theory,
   setting_covers,
@@ -60,7 +60,7 @@ pub fn check_certificate<D: Deciding>(
         (certificate_in certificate.now)) }
     ensures covers { IfOk result (λ u. AllCovered (D.known_data data_.old).signature
         (plain_rules_in rules.now) (certificate_in certificate.now).covers) }
-    ensures hold { IfOk result (λ u. AllHold (D.known_data data_.old)
+    ensures hold { IfOk result (λ u. AllLemmasHold (D.known_data data_.old)
         (certificate_in certificate.now).lemmas) }
     ensures refused { IfErr result (λ at. HoldsAtLine (IsInductionFault
         (known_theory (D.known_data data_.old) rules.now (D.canon data_.old))

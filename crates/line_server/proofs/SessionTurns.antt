@@ -6,7 +6,7 @@ use Rattle.line_server.specs.Cutting.{complete, unfinished, last_line, lines_in}
 use Rattle.line_server.specs.Machine.{Machine}
 use Rattle.line_server.specs.Answered.{Answered}
 use Rattle.line_server.specs.Serving.{HasServed, StopsAt}
-use Rattle.line_server.specs.Turn.{Surroundings, Turning, turning, moment_in, IsRead, IsAtEnd, GoesOn, EndsIn, at_end, input_failed, past_limit, in_piece, EndsWith, all_served, stopped_at, EndsInPiece, by_line, by_stop, Closes, closed, broken_off, failed_text, too_long_text, end_at}
+use Rattle.line_server.specs.Turn.{Surroundings, Turning, turning, moment_in, IsRead, IsAtEnd, TurnGoesOn, EndsIn, at_end, input_failed, past_limit, in_piece, LinesEndWith, all_served, stopped_at, EndsInPiece, by_line, by_stop, SessionCloses, closed, broken_off, failed_text, too_long_text, end_at}
 use Rattle.line_server.specs.Session as session
 use Rattle.line_server.specs.Session.{Turns, last_turn, one_turn, HasNoMore, CountsStand, AnsweredWhole, SessionCame, IsSessionServed, of_failed_input, of_long_input}
 use Rattle.line_server.specs.declared.ends.SessionEnd.{SessionEnd}
@@ -69,7 +69,7 @@ read_all (Some left) between after bytes first end =
     ((first.0, first.1, none.1 ∙ ap (λ (it : List ℕ). Some it) (sym none.0)), none.1)
 
 reached_on : {State : Type 0} (machine : Machine State) (start : Surroundings State) (now next : Turning State)
-    → Reached machine start now → GoesOn machine now next → Reached machine start next
+    → Reached machine start now → TurnGoesOn machine now next → Reached machine start next
 reached_on machine start now next reached on = record {
   read = reached.read ++ on.bytes;
   count = omega (arith, length-append reached.read on.bytes, reached.count, on.total);
@@ -95,7 +95,7 @@ stopped machine start after seen NoMemory within read counts stops =
 ends_at_end : {State : Type 0} (machine : Machine State) (start : Surroundings State) (now : Turning State) (after : Surroundings State)
     (end : SessionEnd) → Reached machine start now → IsAtEnd now.around.input.bytes after.input.bytes
     → after.input.faults ≡ now.around.input.faults
-    → EndsWith machine (last_line now.line) (moment_in now.around) (moment_in after) end → IsSessionServed machine start after end
+    → LinesEndWith machine (last_line now.line) (moment_in now.around) (moment_in after) end → IsSessionServed machine start after end
 ends_at_end machine start now after end reached is counts (all_served text quits answered wrote output) =
     let read = read_all start.input.bytes now.around.input.bytes after.input.bytes reached.read reached.left is in record {
       seen = reached.read;
@@ -129,7 +129,7 @@ rises_from before between after is rises = subst (λ (it : ℕ). Rises it after)
 ends_failed : {State : Type 0} (machine : Machine State) (start : Surroundings State) (now : Turning State) (after : Surroundings State)
     (end : SessionEnd) → Reached machine start now → IsRead now.around.input.bytes [] after.input.bytes
     → Rises now.around.input.faults after.input.faults → after.state ≡ now.around.state
-    → Closes failed_text InputFailed now.around.output after.output end → IsSessionServed machine start after end
+    → SessionCloses failed_text InputFailed now.around.output after.output end → IsSessionServed machine start after end
 ends_failed machine start now after end reached kept rises same (closed wrote output) = record {
   seen = reached.read;
   within = omega (arith, reached.count, reached.within);
@@ -156,7 +156,7 @@ ends_long : {State : Type 0} (machine : Machine State) (start : Surroundings Sta
     (end : SessionEnd) → Reached machine start now → (byte : ℕ) → now.total ≡ input_limit
     → IsRead now.around.input.bytes (byte ∷ []) after.input.bytes → after.input.faults ≡ now.around.input.faults
     → after.state ≡ now.around.state
-    → Closes too_long_text InputTooLong now.around.output after.output end → IsSessionServed machine start after end
+    → SessionCloses too_long_text InputTooLong now.around.output after.output end → IsSessionServed machine start after end
 ends_long machine start now after end reached byte whole read counts same (closed wrote output) = record {
   seen = reached.read;
   within = omega (arith, reached.count, reached.within);

@@ -9,7 +9,7 @@ use Rattle.line_server.specs.Machine.{Machine}
 use Rattle.line_server.specs.Answered.{no_line}
 use Rattle.line_server.specs.Writing.{WritesAll, WritesBeginning}
 use Rattle.line_server.specs.Serving.{ServesLine, Moment, moment}
-use Rattle.line_server.specs.Turn.{IsRead, IsAtEnd, EndsWith, all_served, stopped_at}
+use Rattle.line_server.specs.Turn.{IsRead, IsAtEnd, LinesEndWith, all_served, stopped_at}
 use Rattle.line_server.specs.declared.lines.Answer.{Answer}
 use Rattle.line_server.specs.declared.ends.SessionEnd.TheVariants.{Finished, OutputFailed, NoMemory}
 use Rattle.line_server.specs.declared.ends.Stop.TheVariants as stop
@@ -52,9 +52,9 @@ one_taken (byte ∷ bytes) count one within = ap (λ (n : ℕ). take n (byte ∷
 -- ---- The last line
 
 pub last_none : {State : Type 0} (machine : Machine State) (line : List ℕ) (now : Moment State) → line ≡ []
-    → EndsWith machine (last_line line) now now Finished
+    → LinesEndWith machine (last_line line) now now Finished
 last_none machine line now none =
-    subst (λ (it : List ℕ). EndsWith machine (last_line it) now now Finished) (sym none)
+    subst (λ (it : List ℕ). LinesEndWith machine (last_line it) now now Finished) (sym none)
     (all_served [] false (no_line now.state) (writes_none now.output.bytes now.output.bytes refl) refl)
 
 one_last : (line : List ℕ) → line ≢ [] → last_line line ≡ line ∷ []
@@ -65,10 +65,10 @@ pub last_served : {State : Type 0} (machine : Machine State) (line : List ℕ) (
     (written written_after : Option (List ℕ))
     (faults faults_after : ℕ) (answer : Answer) → line ≢ []
     → ServesLine machine state line state_after answer → WritesAll written written_after answer.text.items → faults_after ≡ faults
-    → EndsWith machine (last_line line) (moment state written faults) (moment state_after written_after faults_after) Finished
+    → LinesEndWith machine (last_line line) (moment state written faults) (moment state_after written_after faults_after) Finished
 last_served machine line state state_after written written_after faults faults_after answer some serves wrote counts =
     let served = line_served machine line state state_after written written_after faults faults_after answer serves wrote counts in
-    subst (λ (it : List (List ℕ)). EndsWith machine it (moment state written faults)
+    subst (λ (it : List (List ℕ)). LinesEndWith machine it (moment state written faults)
     (moment state_after written_after faults_after) Finished)
     (sym (one_last line some)) (all_served served.text answer.quits served.answered served.wrote served.counts)
 
@@ -76,9 +76,9 @@ pub last_failed : {State : Type 0} (machine : Machine State) (line : List ℕ) (
     (written written_after : Option (List ℕ))
     (faults faults_after : ℕ) (answer : Answer) → line ≢ []
     → ServesLine machine state line state_after answer → WritesBeginning written written_after answer.text.items → Rises faults faults_after
-    → EndsWith machine (last_line line) (moment state written faults) (moment state_after written_after faults_after) OutputFailed
+    → LinesEndWith machine (last_line line) (moment state written faults) (moment state_after written_after faults_after) OutputFailed
 last_failed machine line state state_after written written_after faults faults_after answer some serves wrote rises =
-    subst (λ (it : List (List ℕ)). EndsWith machine it (moment state written faults)
+    subst (λ (it : List (List ℕ)). LinesEndWith machine it (moment state written faults)
     (moment state_after written_after faults_after) OutputFailed)
     (sym (one_last line some))
     (stopped_at stop.OutputFailed (line_failed machine line [] state state_after written written_after faults faults_after answer serves
@@ -86,9 +86,9 @@ last_failed machine line state state_after written written_after faults faults_a
 
 pub last_wanted : {State : Type 0} (machine : Machine State) (line : List ℕ) (state state_after : State) (written : Option (List ℕ))
     (faults : ℕ) → line ≢ [] → machine.leaves state line state_after
-    → EndsWith machine (last_line line) (moment state written faults) (moment state_after written faults) NoMemory
+    → LinesEndWith machine (last_line line) (moment state written faults) (moment state_after written faults) NoMemory
 last_wanted machine line state state_after written faults some leaves =
-    subst (λ (it : List (List ℕ)). EndsWith machine it (moment state written faults) (moment state_after written faults) NoMemory)
+    subst (λ (it : List (List ℕ)). LinesEndWith machine it (moment state written faults) (moment state_after written faults) NoMemory)
     (sym (one_last line some)) (stopped_at stop.NoMemory (line_wanted machine line [] state state_after written faults leaves))
 
 pub nothing_begun : (line : List ℕ) → length line ≡ 0 → line ≡ []

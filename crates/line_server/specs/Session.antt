@@ -6,14 +6,14 @@ use Rattle.line_server.specs.Cutting.{complete, lines_in}
 use Rattle.line_server.specs.Machine.{Machine}
 use Rattle.line_server.specs.Answered.{Answered, FailedAt, WantedAt}
 use Rattle.line_server.specs.Writing.{Stream, WritesAll, WritesUpTo}
-use Rattle.line_server.specs.Turn.{Surroundings, Turning, turning, IsRead, GoesOn, EndsIn, failed_text, too_long_text}
+use Rattle.line_server.specs.Turn.{Surroundings, Turning, turning, IsRead, TurnGoesOn, EndsIn, failed_text, too_long_text}
 use Rattle.line_server.specs.declared.ends.SessionEnd.{SessionEnd}
 use Rattle.line_server.specs.declared.ends.SessionEnd.TheVariants.{Finished, InputFailed, InputTooLong, OutputFailed, NoMemory}
 
 -- turns that go on, one after another, and then one in which the session ends
 pub data Turns {State : Type 0} (machine : Machine State) (after : Surroundings State) (end : SessionEnd) : Turning State → Type 0 where
   last_turn : (now : Turning State) → EndsIn machine now after end → Turns machine after end now
-  one_turn : (now next : Turning State) → GoesOn machine now next → Turns machine after end next → Turns machine after end now
+  one_turn : (now next : Turning State) → TurnGoesOn machine now next → Turns machine after end next → Turns machine after end now
 
 -- A session is its turns, from the one on in which no line has begun and no byte was read.
 abbrev pub IsServedInTurns : {State : Type 0} → Machine State → Surroundings State → Surroundings State → SessionEnd → Type 0

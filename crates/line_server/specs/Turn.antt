@@ -49,7 +49,7 @@ abbrev pub too_long_text : List ℕ
 too_long_text = codes "input too long\n"
 
 -- The input gave some bytes, the lines that they complete were answered, and the answers written.
-pub record GoesOn {State : Type 0} (machine : Machine State) (before after : Turning State) : Type 0 where
+pub record TurnGoesOn {State : Type 0} (machine : Machine State) (before after : Turning State) : Type 0 where
   pub bytes : List ℕ
   pub some : bytes ≢ []
   pub read : IsRead before.around.input.bytes bytes after.around.input.bytes
@@ -65,29 +65,29 @@ end_at stop.OutputFailed = OutputFailed
 end_at stop.NoMemory = NoMemory
 
 -- The lines were answered, and the answers written; or serving stopped at one of them.
-pub data EndsWith {State : Type 0} (machine : Machine State) (lines : List (List ℕ)) (before after : Moment State) : SessionEnd → Type 0
+pub data LinesEndWith {State : Type 0} (machine : Machine State) (lines : List (List ℕ)) (before after : Moment State) : SessionEnd → Type 0
   where
     all_served :
         (text : List ℕ) (quits : Bool) →
         Answered machine before.state lines text after.state quits →
         WritesAll before.output.bytes after.output.bytes text →
         after.output.faults ≡ before.output.faults →
-        EndsWith machine lines before after Finished
+        LinesEndWith machine lines before after Finished
     stopped_at :
         (why : Stop) →
         StopsAt why machine lines before after →
-        EndsWith machine lines before after (end_at why)
+        LinesEndWith machine lines before after (end_at why)
 
 -- The closing line is written, and the session ends so; or the output failed at one of its bytes.
-pub data Closes (text : List ℕ) (end : SessionEnd) (before after : Stream) : SessionEnd → Type 0 where
+pub data SessionCloses (text : List ℕ) (end : SessionEnd) (before after : Stream) : SessionEnd → Type 0 where
   closed :
       WritesAll before.bytes after.bytes text →
       after.faults ≡ before.faults →
-      Closes text end before after end
+      SessionCloses text end before after end
   broken_off :
       WritesBeginning before.bytes after.bytes text →
       Rises before.faults after.faults →
-      Closes text end before after OutputFailed
+      SessionCloses text end before after OutputFailed
 
 -- A line in these bytes ended the session, or serving stopped at one.
 pub data EndsInPiece {State : Type 0} (machine : Machine State) (line bytes : List ℕ) (before after : Moment State) : SessionEnd → Type 0
@@ -107,13 +107,13 @@ pub data EndsIn {State : Type 0} (machine : Machine State) (before : Turning Sta
     at_end :
         IsAtEnd before.around.input.bytes after.input.bytes →
         after.input.faults ≡ before.around.input.faults →
-        EndsWith machine (last_line before.line) (moment_in before.around) (moment_in after) end →
+        LinesEndWith machine (last_line before.line) (moment_in before.around) (moment_in after) end →
         EndsIn machine before after end
     input_failed :
         IsRead before.around.input.bytes [] after.input.bytes →
         Rises before.around.input.faults after.input.faults →
         after.state ≡ before.around.state →
-        Closes failed_text InputFailed before.around.output after.output end →
+        SessionCloses failed_text InputFailed before.around.output after.output end →
         EndsIn machine before after end
     past_limit :
         (byte : ℕ) →
@@ -121,7 +121,7 @@ pub data EndsIn {State : Type 0} (machine : Machine State) (before : Turning Sta
         IsRead before.around.input.bytes (byte ∷ []) after.input.bytes →
         after.input.faults ≡ before.around.input.faults →
         after.state ≡ before.around.state →
-        Closes too_long_text InputTooLong before.around.output after.output end →
+        SessionCloses too_long_text InputTooLong before.around.output after.output end →
         EndsIn machine before after end
     in_piece :
         (bytes : List ℕ) →

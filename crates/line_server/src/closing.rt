@@ -2,7 +2,7 @@
 
 ghost use Rattle.line_server.specs.Cutting.{last_line};
 ghost use Rattle.line_server.specs.Serving.{IsLine, moment};
-ghost use Rattle.line_server.specs.Turn.{Closes, EndsWith};
+ghost use Rattle.line_server.specs.Turn.{SessionCloses, LinesEndWith};
 ghost use Rattle.line_server.specs.Writing.{stream};
 
 use crate::ends::SessionEnd;
@@ -13,7 +13,7 @@ use std::alloc::Global;
 
 /// Writes the closing line, and answers how the session ends.
 pub fn close<K: Sink>(output: &mut K, text: &[u8], end: SessionEnd) -> SessionEnd
-    ensures { Closes text.now end (stream (K.written output.old) (K.faults output.old))
+    ensures { SessionCloses text.now end (stream (K.written output.old) (K.faults output.old))
         (stream (K.written output.new) (K.faults output.new)) result }
 {
     match write_whole(output, text) {
@@ -32,7 +32,7 @@ pub fn finish<L: Lines, F: Shelf, K: Sink>(
 ) -> SessionEnd
     requires ready { L.is_ready lines.old }
     requires line { IsLine line.now }
-    ensures served { EndsWith L.machine (last_line line.now)
+    ensures served { LinesEndWith L.machine (last_line line.now)
         (moment (L.state lines.old (F.texts shelf.old) (F.faults shelf.old)
         (F.calls shelf.old)) (K.written output.old) (K.faults output.old))
         (moment (L.state lines.new (F.texts shelf.new) (F.faults shelf.new)

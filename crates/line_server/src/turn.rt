@@ -3,7 +3,7 @@
 ghost use Rattle.std.specs.Prelude.{◌≡◌, ◌≢◌, ◌+◌, ◌≤◌, length, IfOk, MatchResult, OnOk};
 ghost use Rattle.std.specs.List.{All};
 ghost use Rattle.line_server.specs.Limits.{input_limit, piece_limit};
-ghost use Rattle.line_server.specs.Turn.{EndsIn, GoesOn, around, turning};
+ghost use Rattle.line_server.specs.Turn.{EndsIn, TurnGoesOn, around, turning};
 ghost use Rattle.line_server.specs.Writing.{stream};
 
 use crate::closing::{close, finish};
@@ -34,7 +34,7 @@ pub fn serve_turn<L: Lines, F: Shelf, S: Source, K: Sink>(
     requires short { length line.old.items ≤ total }
     requires within { total ≤ input_limit }
     ensures turned { MatchResult result
-        (λ count. GoesOn L.machine
+        (λ count. TurnGoesOn L.machine
         (turning (around (L.state lines.old (F.texts shelf.old) (F.faults shelf.old)
         (F.calls shelf.old)) (stream (S.left input.old) (S.faults input.old))
         (stream (K.written output.old) (K.faults output.old)))

@@ -109,11 +109,11 @@ pub record PartSets : Type 0 where
   pub follow : List ℕ
   pub rank : ℕ
 
-abbrev pub nothing_known : PartSets
-nothing_known = record { derived = None; nullable = false; first = []; follow = []; rank = 0 }
+abbrev pub no_parts_known : PartSets
+no_parts_known = record { derived = None; nullable = false; first = []; follow = []; rank = 0 }
 
 abbrev pub known_of : List PartSets → ℕ → PartSets
-known_of table part = slice_index_or table part nothing_known
+known_of table part = slice_index_or table part no_parts_known
 
 abbrev pub sets_of : List PartSets → Sets
 sets_of table = record {
@@ -198,7 +198,7 @@ rounds (suc n) rows table = rounds n rows (round 0 rows table)
 
 -- at first it is known that the end may follow the start part
 abbrev pub first_known : ContextFree → List PartSets
-first_known g = changed (λ known. record known { follow = g.tokens ∷ [] }) g.start (replicate g.parts nothing_known)
+first_known g = changed (λ known. record known { follow = g.tokens ∷ [] }) g.start (replicate g.parts no_parts_known)
 
 abbrev pub known_after : ℕ → ContextFree → List PartSets
 known_after n g = rounds n g.rows (first_known g)

@@ -19,7 +19,7 @@ use Rattle.line_server.specs.declared.ends.SessionEnd.{SessionEnd}
 use Rattle.certificate_verbs.specs.Finishing.{Print, Finish}
 use Rattle.certificate_verbs.specs.declared.ended.Ended.{Ended}
 use Rattle.certificate_verbs.specs.declared.ended.Ended.TheVariants.{Done, NoMemory}
-use Rattle.lotos_top.specs.Headline.{Stands, IsSteady, Simulates, Headline}
+use Rattle.lotos_top.specs.Headline.{CountStands, IsSteady, Simulates, Headline}
 use Rattle.lotos_top.specs.Opening.{SessionBegins, opening_text}
 use Rattle.lotos_top.specs.Run.{Streams, ServesSession, in_front, in_want, behind, Follows, Ran, ended_by}
 use Rattle.lotos_top.specs.Work.{work_of}
@@ -28,7 +28,7 @@ use Rattle.lotos_top.proofs.WorkLemmas.{session_on, session_unread, session_stop
 
 -- ---- Counts
 
-no_rise : (before after : ℕ) → Stands before after → ¬ Rises before after
+no_rise : (before after : ℕ) → CountStands before after → ¬ Rises before after
 no_rise before after stands = λ rises. by rises
   where
     by : Rises before after → ⊥

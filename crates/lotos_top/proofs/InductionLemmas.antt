@@ -2,7 +2,7 @@
 use Rattle.std.proofs.Common.{◌≡◌, List, Option, sym, subst}
 use Rattle.lotos_base.specs.Equation.{Data}
 use Rattle.certificate_verbs.proofs.HandedOn.{renamed_holds}
-use Rattle.certificate_verbs.specs.HandedOn.{Did, ShelfState, GotFile, Gives, Comes, goes_on, unread, stops, wants_memory, AllHold, stated}
+use Rattle.certificate_verbs.specs.HandedOn.{Did, ShelfState, GotFile, Gives, Comes, goes_on, unread, stops, wants_memory, AllLemmasHold, stated}
 use Rattle.certificate_verbs.specs.HandedOn.{CommandLine, Induced}
 use Rattle.certificate_verbs.specs.Finishing.{Print, print, Finish}
 use Rattle.certificate_verbs.specs.Inducing.{ChecksInduction}
@@ -31,8 +31,8 @@ found_inductive i files finish it = record {
       renamed_holds it.one.data_ met.lemma.statement (stated equation) met.renamed (hold k met.lemma met.is_lemma);
 }
   where
-    hold : AllHold it.one.data_ it.is_report.lemmas
-    hold = subst (λ (d : Data). AllHold d it.is_report.lemmas) it.is_report.checked.theory_is.data_is it.is_report.checked.hold
+    hold : AllLemmasHold it.one.data_ it.is_report.lemmas
+    hold = subst (λ (d : Data). AllLemmasHold d it.is_report.lemmas) it.is_report.checked.theory_is.data_is it.is_report.checked.hold
 
 says_inductive : (i : Induced) (shelf between shelf_after : ShelfState) (before after : Streams) (answer : Ended)
     (comes : Comes Print Finish) → Did shelf between (ChecksInduction i) comes

@@ -1,5 +1,5 @@
 -- What is ready by what came of the acceptance.
-use Rattle.std.proofs.Common.{◌≡◌, inl, inr, ℕ, zero, List, [], ◌∷◌, map, All, Option, None, Some, IfSome, IsSomeAnd, codes, refl, sym, ap, ◌∙◌, subst, arith}
+use Rattle.std.proofs.Common.{◌≡◌, inl, inr, ℕ, zero, List, [], ◌∷◌, map, All, Option, None, Some, IfSome, IsSomeAnd, Result, Ok, Err, IfOk, MatchResult, codes, refl, sym, ap, ◌∙◌, subst, arith}
 use Rattle.std.proofs.lemmas.Option.{none-some}
 use Rattle.lotos_base.specs.MemShelf.{File, text_under, texts_of, faults_of, calls_of}
 use Rattle.lotos_base.specs.Outside.{Texts}
@@ -16,12 +16,22 @@ use Rattle.certificate_verbs.specs.declared.ended.Ended.TheVariants.{Done, Words
 use Rattle.certificate_verbs.proofs.PartLemmas.{gives_none}
 use Rattle.certificate_verbs.proofs.PrintedLemmas.{print_is, goes_on_to}
 use Rattle.lotos_top.specs.Opening.{SessionBegins, opening_text}
-use Rattle.lotos_top.specs.Prepared.{begun, CameTo, IsReady, FailsAlone}
+use Rattle.lotos_top.specs.Prepared.{begun, CameTo, IsReady, IsMadeReady, FailsAlone}
 use Rattle.lotos_top.specs.Parts.{Finds, Opens}
 use Rattle.lotos_top.specs.Work.{work_of}
 use Rattle.lotos_top.specs.declared.opening.Opened.{Opened}
+use Rattle.lotos_top.specs.declared.opening.Ready.{Ready}
 use Rattle.lotos_top.specs.declared.opening.Ready.TheVariants as ready
 use Rattle.lotos_top.proofs.WorkLemmas.{found, opened_on}
+
+-- ---- A text that is made ready
+
+-- it is ready where it was made, and memory was wanted where it was not
+pub made_ready : {E : Type 0} (made : Result Alone E) (given : Result Ready E) (Is : Alone → Type 0) (P : Ready → Type 0) (Q : Type 0)
+    → IsMadeReady made given → IfOk made Is → ((alone : Alone) → Is alone → P (ready.Alone alone)) → Q
+    → MatchResult given P (λ _. Q)
+made_ready (Ok alone) given Is P Q is held good came = subst (λ it. MatchResult it P (λ _. Q)) (sym is) (good alone held)
+made_ready (Err fault) given Is P Q is held good came = subst (λ it. MatchResult it P (λ _. Q)) (sym is) came
 
 -- ---- What was accepted is opened
 

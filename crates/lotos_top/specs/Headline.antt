@@ -12,14 +12,14 @@ use Rattle.lotos_top.specs.Opening.{SessionBegins, opening_text}
 use Rattle.lotos_top.specs.Run.{Streams}
 
 -- a count stands, below its last value
-abbrev pub Stands : ℕ → ℕ → Type 0
-Stands before after = (after ≡ before) × (before < last_count)
+abbrev pub CountStands : ℕ → ℕ → Type 0
+CountStands before after = (after ≡ before) × (before < last_count)
 
 -- no fault of shelf, input and output was counted
 pub record IsSteady (shelf shelf_after : ShelfState) (before after : Streams) : Type 0 where
-  pub shelf_stands : Stands shelf.faults shelf_after.faults
-  pub input_stands : Stands before.input.faults after.input.faults
-  pub output_stands : Stands before.output.faults after.output.faults
+  pub shelf_stands : CountStands shelf.faults shelf_after.faults
+  pub input_stands : CountStands before.input.faults after.input.faults
+  pub output_stands : CountStands before.output.faults after.output.faults
 
 -- The session begins as the acceptance says; the lines of the input are answered one after another, each by what it comes to in
 -- the state that is reached, and leads to a state that is reached; the head of the report, the menu and all answers are written;

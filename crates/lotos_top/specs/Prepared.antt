@@ -1,5 +1,5 @@
 -- What is made ready before anything is written.
-use Rattle.std.specs.Prelude.{◌≡◌, [], Option, Some}
+use Rattle.std.specs.Prelude.{◌≡◌, [], Option, Some, Result, Ok, Err, MatchResult}
 use Rattle.certificate_verbs.specs.HandedOn.{ShelfState, book_canon, Refused, refused_of, Did, Comes, goes_on, unread, stops, Part}
 use Rattle.certificate_verbs.specs.HandedOn.{NotAccepted, File, Spec as Refuses, NoMemory, basis_of, reached, HistoryLines, basis_over}
 use Rattle.certificate_verbs.specs.HandedOn.{progress_of, IsLawfulSession, Beginning, CommandLine}
@@ -42,6 +42,10 @@ abbrev pub IsReady : Option CommandLine → (before after : ShelfState) → Read
 IsReady line before after (ready.Alone alone) =
     (comes : Comes Print Finish) × Did before after (work_of line) comes × (printed_by comes ≡ Some (print_in alone))
 IsReady line before after (ready.Session opened) = Did before after (work_of line) (goes_on (serves (begun opened))) × IsLawfulAt opened
+
+-- a text is made ready where it was made
+abbrev pub IsMadeReady : {E : Type 0} → Result Alone E → Result Ready E → Type 0
+IsMadeReady made given = MatchResult made (λ alone. given ≡ Ok (ready.Alone alone)) (λ fault. given ≡ Err fault)
 
 -- ---- Faults of the code
 

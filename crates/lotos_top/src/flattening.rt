@@ -7,7 +7,7 @@ ghost use Rattle.lotos_top.specs.Prepared.{CameTo, IsReady};
 ghost use Rattle.sort_terms.specs.EquationView.{data_of};
 ghost use Rattle.std.specs.Prelude.{◌≡◌, IfOk, MatchResult, Some, option_map};
 
-use crate::opening::Ready;
+use crate::opening::{Ready, ready_alone};
 use certificate_verbs::{Alone, Ended, WithBook, failed_alone, founded_under};
 use flat_text::write_flat;
 use lotos_base::{NoMemory, Shelf};
@@ -29,8 +29,8 @@ pub fn flattened<F: Shelf>(
         (shelf_state (F.texts shelf.new) (F.faults shelf.new) (F.calls shelf.new))) }
 {
     match founded_under(alloc, spec, order, shelf) {
-        Ok(known) => Ok(Ready::Alone(flat_alone(alloc, &known)?)),
-        Err(fault) => Ok(Ready::Alone(failed_alone(alloc, spec, order, &fault)?)),
+        Ok(known) => ready_alone(flat_alone(alloc, &known)),
+        Err(fault) => ready_alone(failed_alone(alloc, spec, order, &fault)),
     }
 }
 

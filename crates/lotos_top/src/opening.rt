@@ -30,7 +30,14 @@ ghost use Rattle.certificate_verbs.specs.declared.ended.Ended.TheVariants.{
 ghost use Rattle.lotos_base.specs.Name.{spelling};
 ghost use Rattle.lotos_top.specs.Opening.{SessionBegins, opening_text};
 ghost use Rattle.lotos_top.specs.Parts.{Opens};
-ghost use Rattle.lotos_top.specs.Prepared.{CameTo, FailsAlone, IsLawfulAt, IsReady, begun};
+ghost use Rattle.lotos_top.specs.Prepared.{
+  CameTo,
+  FailsAlone,
+  IsLawfulAt,
+  IsMadeReady,
+  IsReady,
+  begun,
+};
 ghost use Rattle.sort_terms.specs.EquationView.{data_of};
 ghost use Rattle.sort_terms.specs.SignatureView.{signature_of};
 ghost use Rattle.std.specs.Prelude.{
@@ -121,6 +128,16 @@ pub fn prepare<F: Shelf>(alloc: Global, words: &[String], shelf: &mut F) -> Resu
     }
 }
 
+/// Makes ready a text that was made.
+pub fn ready_alone(made: Result<Alone, NoMemory>) -> Result<Ready, NoMemory>
+    ensures { IsMadeReady made result }
+{
+    match made {
+        Ok(alone) => Ok(Ready::Alone(alone)),
+        Err(fault) => Err(fault),
+    }
+}
+
 // Makes ready what `check` prints.
 fn checked<F: Shelf>(
     alloc: Global,
@@ -141,8 +158,8 @@ fn checked<F: Shelf>(
         (shelf_state (F.texts shelf.new) (F.faults shelf.new) (F.calls shelf.new))) }
 {
     match open(alloc, spec, order, values, shelf) {
-        Ok(opened) => Ok(Ready::Alone(opened_alone(alloc, &opened)?)),
-        Err(fault) => Ok(Ready::Alone(failed_alone(alloc, spec, order, &fault)?)),
+        Ok(opened) => ready_alone(opened_alone(alloc, &opened)),
+        Err(fault) => ready_alone(failed_alone(alloc, spec, order, &fault)),
     }
 }
 
@@ -167,7 +184,7 @@ fn served<F: Shelf>(
 {
     match open(alloc, spec, order, values, shelf) {
         Ok(opened) => Ok(Ready::Session(opened)),
-        Err(fault) => Ok(Ready::Alone(failed_alone(alloc, spec, order, &fault)?)),
+        Err(fault) => ready_alone(failed_alone(alloc, spec, order, &fault)),
     }
 }
 
@@ -288,19 +305,18 @@ fn demonstrated(alloc: Global, cells: u32) -> Result<Ready, NoMemory>
 {
     let text = demo_text(alloc, cells)?;
     match open_text(alloc, text.as_slice()) {
-        Ok(opened) => Ok(Ready::Alone(summary_alone(alloc, opened, cells)?)),
-        Err(fault) => Ok(Ready::Alone(failed_alone(alloc, "demo", None, &fault)?)),
+        Ok(mut opened) => ready_alone(summary_alone(alloc, &mut opened, cells)),
+        Err(fault) => ready_alone(failed_alone(alloc, "demo", None, &fault)),
     }
 }
 
 // What is printed for a demonstration whose text is accepted.
-fn summary_alone(alloc: Global, opened: Opened, cells: u32) -> Result<Alone, NoMemory>
-    requires lawful { IsLawfulAt opened }
-    requires at_start { opened.session.course.history.items ≡ [] }
-    ensures { IfOk result (λ alone. IsSummary (begun opened).basis
-        (begun opened).progress.situation cells alone.text.items × (alone.ended ≡ done)) }
+fn summary_alone(alloc: Global, opened: &mut Opened, cells: u32) -> Result<Alone, NoMemory>
+    requires lawful { IsLawfulAt opened.old }
+    requires at_start { opened.old.session.course.history.items ≡ [] }
+    ensures { IfOk result (λ alone. IsSummary (begun opened.old).basis
+        (begun opened.old).progress.situation cells alone.text.items × (alone.ended ≡ done)) }
 {
-    let mut opened = opened;
     let mut text = Vec::new(alloc);
     write_summary(
         alloc,

@@ -19,7 +19,8 @@ use Rattle.menu_parts.specs.declared.rules.PartRule.{PartRule}
 use Rattle.step_taker.specs.Taken.{Ground}
 use Rattle.step_taker.specs.Walked.{IsPassableNode}
 use Rattle.menu_parts.specs.Forms.{IsBase, IsExactOn, IsMadeBeside, IsMadeOf, IsMadeOfEither}
-use Rattle.menu_parts.specs.KeptMenus.{IsKept, IsKeptFor, IsListed, listed_for}
+use Rattle.menu_parts.specs.KeptMenus.{IsKept, IsKeptFor, IsListed}
+use Rattle.menu_parts.specs.Spread.{listed_for}
 use Rattle.menu_parts.specs.declared.kept.Kept.{Kept, Whole, One, Two}
 use Rattle.menu_parts.specs.declared.kept.Kept as kept
 use Rattle.menu_parts.specs.declared.kept.Listed.{Listed}
@@ -31,6 +32,7 @@ module _ (basis : Ground) where
   root_listed (Whole listed) h = h
   root_listed (kept.One' listed _ part) h = h.0
   root_listed (kept.Two' listed _ left _ right) h = h.0
+  root_listed (kept.Beside' listed _ spread) h = h.0
 
   pub kept_again : (node : Node) (earlier made : Kept) → made ≡ earlier → IsKept basis earlier
       → stands_for (listed_for earlier).node.value ≡ stands_for node → IsKeptFor basis node made

@@ -24,7 +24,8 @@ use Rattle.menu_parts.specs.Items.{HasEntryTerms, HasItemTerms, plain_item}
 use Rattle.step_taker.specs.Taken.{Ground, ground_of}
 use Rattle.step_taker.specs.Walked.{IsClosedOn, IsPassableNode}
 use Rattle.menu_parts.specs.Forms.{IsBase, IsExactOn}
-use Rattle.menu_parts.specs.KeptMenus.{IsKept, IsKeptFor, listed_for}
+use Rattle.menu_parts.specs.KeptMenus.{IsKept, IsKeptFor}
+use Rattle.menu_parts.specs.Spread.{listed_for}
 use Rattle.menu_parts.specs.declared.kept.Kept.{Kept}
 use Rattle.menu_parts.proofs.KeptLemmas.{exact_for, root_listed}
 use Rattle.menu_parts.proofs.OverLemmas.{entries_over}

@@ -5,7 +5,9 @@ use Rattle.std.specs.declared.alloc.Global.{Global}
 use Rattle.std.specs.declared.rc.Rc.{Rc}
 use Rattle.lotos_base.specs.Term.{Term}
 use Rattle.lotos_base.specs.Equation.{Data}
+use Rattle.behaviour_semantics.specs.Behaviour.{Behaviour}
 use Rattle.behaviour_semantics.specs.Draft.{above_processes}
+use Rattle.behaviour_semantics.specs.Solving.{Entry}
 use Rattle.behaviour_semantics.specs.WellFormed.{Every}
 use Rattle.behaviour_tree.specs.DefinitionView.{specification_of}
 use Rattle.behaviour_tree.specs.StateView.{stands_for}
@@ -14,9 +16,12 @@ use Rattle.menu_parts.specs.Items.{HasItemTerms, plain_item}
 use Rattle.step_taker.specs.Taken.{Ground, ground_of}
 use Rattle.menu_builder.specs.HandedOn.{AreRanksOf}
 use Rattle.menu_parts.specs.Forms.{IsBase, IsExactOn}
-use Rattle.menu_parts.specs.declared.kept.Kept.{Kept, Whole, One', Two'}
+use Rattle.menu_parts.specs.PartMenus.{relabel_menu}
+use Rattle.menu_parts.specs.Spread.{AreByWay, NoneEnds, listed_for, of_left, of_right, spread_menu}
+use Rattle.menu_parts.specs.declared.kept.Kept.{Kept, Whole, One', Two', Beside'}
+use Rattle.menu_parts.specs.declared.kept.Spread.{Spread, Side', Under', Both'}
 use Rattle.menu_parts.specs.declared.kept.Listed.{Listed}
-use Rattle.menu_parts.specs.declared.making.Making.{Making}
+use Rattle.menu_parts.specs.declared.components.Making.{Making}
 use Rattle.menu_parts.specs.declared.makers.PartMenus.{PartMenus}
 use Rattle.behaviour_tree.specs.declared.states.Node.{Node}
 
@@ -25,21 +30,35 @@ pub record IsListed (basis : Ground) (listed : Listed) : Type 0 where
   pub exact : IsExactOn basis (stands_for listed.node.value) (map plain_item listed.items.items)
   pub terms : Every (HasItemTerms basis.data_.signature) listed.items.items
 
--- the menu of the node itself
-abbrev pub listed_for : Kept → Listed
-listed_for (Whole listed) = listed
-listed_for (One' listed _ part) = listed
-listed_for (Two' listed _ left _ right) = listed
+abbrev mutual
+  -- it is exact, and so are those of all parts
+  pub IsKept : Ground → Kept → Type 0
+  IsKept basis (Whole listed) = IsListed basis listed
+  IsKept basis (One' listed _ part) = IsListed basis listed × IsKept basis part
+  IsKept basis (Two' listed _ left _ right) = IsListed basis listed × IsKept basis left × IsKept basis right
+  IsKept basis (Beside' listed _ spread) = IsListed basis listed × AreKeptBelow basis (λ entries. entries) spread
 
--- it is exact, and so are those of all parts
-abbrev pub IsKept : Ground → Kept → Type 0
-IsKept basis (Whole listed) = IsListed basis listed
-IsKept basis (One' listed _ part) = IsListed basis listed × IsKept basis part
-IsKept basis (Two' listed _ left _ right) = IsListed basis listed × IsKept basis left × IsKept basis right
+  -- so are those of parts side by side; the items of each part are what the whole has of its menu, by the way up to the whole;
+  -- and what stands under a relabelling does not end
+  pub AreKeptBelow : Ground → (List Entry → List Entry) → Spread → Type 0
+  AreKeptBelow basis way (Side' _ kept own) =
+      IsKept basis kept × AreByWay basis.data_.signature way (listed_for kept).items.items own.items
+  AreKeptBelow basis way (Under' pairs _ part) =
+      NoneEnds (spread_menu part) × AreKeptBelow basis (λ entries. way (relabel_menu pairs.items entries)) part
+  AreKeptBelow basis way (Both' _ left _ right) =
+      AreKeptBelow basis (λ entries. way (of_left entries)) left × AreKeptBelow basis (λ entries. way (of_right entries)) right
 
 -- it is kept for what the node stands for
 abbrev pub IsKeptFor : Ground → Node → Kept → Type 0
 IsKeptFor basis node kept = IsKept basis kept × (stands_for (listed_for kept).node.value ≡ stands_for node)
+
+-- It is kept, and the list at its root is the exact menu of the behaviour.
+abbrev pub IsKeptAs : Ground → Behaviour → Kept → Type 0
+IsKeptAs basis b kept = IsKept basis kept × IsExactOn basis b (map plain_item (listed_for kept).items.items)
+
+-- The parts side by side are kept, and what is made of their menus is the exact menu of the behaviour.
+abbrev pub IsSpreadFor : Ground → (List Entry → List Entry) → Behaviour → Spread → Type 0
+IsSpreadFor basis way b spread = AreKeptBelow basis way spread × IsExactOn basis b (spread_menu spread)
 
 -- What menus are made over: the specification is over data with a canon, its ranks are its own, and the number is above all
 -- variables that processes declare.

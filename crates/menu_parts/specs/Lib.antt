@@ -9,5 +9,6 @@ pub mod Items
 pub mod Rules
 pub mod Joined
 pub mod Forms
+pub mod Spread
 pub mod KeptMenus
 pub mod HandedOn

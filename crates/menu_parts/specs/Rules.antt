@@ -3,7 +3,7 @@ use Rattle.std.specs.Prelude.{◌≡◌, List, map, filter_map, Option, Some}
 use Rattle.lotos_base.specs.Signature.{Signature}
 use Rattle.behaviour_semantics.specs.Behaviour.{sorts_of}
 use Rattle.behaviour_semantics.specs.Label.{Label}
-use Rattle.behaviour_semantics.specs.Shape.{Shape}
+use Rattle.behaviour_semantics.specs.Shape.{Shape, relabelled}
 use Rattle.behaviour_semantics.specs.Solving.{Entry}
 use Rattle.behaviour_semantics.specs.WellFormed.{Every}
 use Rattle.behaviour_tree.specs.BehaviourView.{meet_of, variables_of}
@@ -12,7 +12,7 @@ use Rattle.menu_parts.specs.PartRule.{alone_rule, by_rule, enable_entry, hide_ru
 use Rattle.menu_parts.specs.Items.{HasItemTerms, plain_item}
 use Rattle.menu_parts.specs.declared.items.Item.{Item}
 use Rattle.menu_parts.specs.declared.rules.PartRule.{PartRule}
-use Rattle.menu_parts.specs.declared.rules.PartRule.TheVariants.{Same, Below, Alone, Hidden, Relabelled, Enabled}
+use Rattle.menu_parts.specs.declared.rules.PartRule.TheVariants.{Same, Below, Alone, Hidden, Relabelled, Under, Enabled}
 
 -- the entry below a variant, with another label
 abbrev pub below : (Shape → Shape) → Label → Entry → Entry
@@ -25,6 +25,7 @@ made_by signature (Below variant) = by_rule (passing_on (variant_of variant))
 made_by signature (Alone meet variant) = by_rule (alone_rule (meet_of meet.now) (variant_of variant))
 made_by signature (Hidden gates) = by_rule (hide_rule gates.now)
 made_by signature (Relabelled pairs variant) = by_rule (under_rule (variant_of variant) pairs.items)
+made_by signature (Under pairs) = by_rule (under_rule relabelled pairs.now.items)
 made_by signature (Enabled variables) = enable_entry signature (sorts_of (variables_of variables.now.items))
 
 -- The entries are those that the rule makes of the given ones, in order, and their terms are of the signature.

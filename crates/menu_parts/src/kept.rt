@@ -1,7 +1,8 @@
 //! Menus that are kept: for a node, and for its parts.
 
 ghost use Rattle.behaviour_tree.specs.StateView.{stands_for};
-ghost use Rattle.menu_parts.specs.KeptMenus.{IsKept, IsListed, listed_for};
+ghost use Rattle.menu_parts.specs.KeptMenus.{AreKeptBelow, IsKept, IsListed};
+ghost use Rattle.menu_parts.specs.Spread.{listed_for};
 ghost use Rattle.std.specs.Prelude.{◌≡◌, ◌↔◌, IfSome, IsTrue};
 ghost use Rattle.step_taker.specs.Taken.{Ground};
 
@@ -21,6 +22,7 @@ pub struct Listed {
 
 /// The menu of a node, with those of its parts from which it was made.
 #[derive(Drop)]
+#[cycle(keeping)]
 pub enum Kept {
     /// It was made as a whole.
     Whole(Listed),
@@ -28,6 +30,21 @@ pub enum Kept {
     One(Listed, Rc<Kept>),
     /// It was made from those of two sides.
     Two(Listed, Rc<Kept>, Rc<Kept>),
+    /// It was made from those of parts side by side.
+    Beside(Listed, Rc<Spread>),
+}
+
+/// Parts that stand side by side, where none waits for another, with their menus. The entries of
+/// the whole are those that stand here with each part, in order.
+#[derive(Drop)]
+#[cycle(keeping)]
+pub enum Spread {
+    /// A part, and its entries as they are for the whole.
+    Side(Rc<Kept>, Vec<Item>),
+    /// The parts under a relabelling.
+    Under(Vec<(u32, u32)>, Rc<Spread>),
+    /// The parts of the left side, and those of the right side.
+    Both(Rc<Spread>, Rc<Spread>),
 }
 
 impl Kept {
@@ -40,6 +57,7 @@ impl Kept {
             Kept::Whole(listed) => listed,
             Kept::One(listed, _) => listed,
             Kept::Two(listed, _, _) => listed,
+            Kept::Beside(listed, _) => listed,
         }
     }
 
@@ -64,7 +82,7 @@ impl Kept {
             → IfSome result (λ part. IsKept basis part.now.value) }
     {
         match self {
-            Kept::Whole(_) => None,
+            Kept::Whole(_) | Kept::Beside(_, _) => None,
             Kept::One(_, part) => Some(part),
             Kept::Two(_, left, _) => Some(left),
         }
@@ -76,8 +94,19 @@ impl Kept {
             → IfSome result (λ part. IsKept basis part.now.value) }
     {
         match self {
-            Kept::Whole(_) | Kept::One(_, _) => None,
+            Kept::Whole(_) | Kept::One(_, _) | Kept::Beside(_, _) => None,
             Kept::Two(_, _, right) => Some(right),
+        }
+    }
+
+    /// The parts side by side, if it was made from such.
+    pub fn spread(&self) -> Option<&Rc<Spread>>
+        ensures { (basis : Ground) → IsKept basis self.now
+            → IfSome result (λ s. AreKeptBelow basis (λ entries. entries) s.now.value) }
+    {
+        match self {
+            Kept::Beside(_, spread) => Some(spread),
+            _ => None,
         }
     }
 }

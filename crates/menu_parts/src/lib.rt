@@ -5,6 +5,7 @@
 //! menu, and that the exact menu of a behaviour is made from the exact menus of its parts.
 #![tactic(auto)]
 
+pub mod components;
 pub mod forms;
 pub mod items;
 pub mod joins;
@@ -14,8 +15,13 @@ pub mod makers;
 pub mod making;
 pub mod menu_laws;
 pub mod moving;
+pub mod opening;
 pub mod parts;
+pub mod rooms;
 pub mod rules;
+pub mod spreading;
+pub mod spreads;
+pub mod ways;
 pub mod widths;
 
 pub use items::{Item, entries_of, items_of};

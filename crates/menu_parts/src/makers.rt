@@ -5,13 +5,16 @@ ghost use Rattle.lotos_base.specs.Equation.{Data};
 ghost use Rattle.lotos_base.specs.Signature.{Signature};
 ghost use Rattle.lotos_base.specs.Term.{Term};
 ghost use Rattle.menu_builder.specs.Menus.{entries_in};
-ghost use Rattle.menu_parts.specs.KeptMenus.{Suits, listed_for};
+ghost use Rattle.menu_parts.specs.KeptMenus.{Suits};
 ghost use Rattle.menu_parts.specs.Items.{HasEntryTerms, HasItemTerms, plain_item};
+ghost use Rattle.menu_parts.specs.Spread.{listed_for};
 ghost use Rattle.std.specs.Prelude.{◌≡◌, IfOk, map};
 
+use crate::components::Making;
 use crate::items::entries_of;
 use crate::kept::Kept;
-use crate::making::{LEVELS, Making, brought};
+use crate::making::brought;
+use crate::rooms::Room;
 use crate::widths::is_wide;
 use behaviour_tree::boxes::shared;
 use behaviour_tree::{Spec, State};
@@ -70,7 +73,14 @@ impl MenuMaker for PartMenus {
             least: self.least,
             alloc,
         };
-        let next = brought(&making, &node, self.kept.as_ref(), false, LEVELS, decider)?;
+        let next = brought(
+            &making,
+            &node,
+            self.kept.as_ref(),
+            false,
+            Room::all(),
+            decider,
+        )?;
         let menu = menu_of(&next)?;
         self.kept = Some(next);
         Ok(menu)

@@ -1,51 +1,36 @@
 //! Menus brought to the next state: what is the same as before is used again.
 
+ghost use Rattle.behaviour_semantics.specs.Behaviour.{no_gates};
 ghost use Rattle.behaviour_tree.specs.BehaviourView.{meet_of};
 ghost use Rattle.behaviour_tree.specs.StateView.{stands_for};
 ghost use Rattle.menu_parts.specs.Forms.{IsMadeBeside, IsMadeOf, IsMadeOfEither};
-ghost use Rattle.menu_parts.specs.KeptMenus.{IsKept, IsKeptFor, IsMaking};
+ghost use Rattle.menu_parts.specs.KeptMenus.{AreKeptBelow, IsKept, IsKeptFor, IsMaking, IsSpreadFor};
+ghost use Rattle.menu_parts.specs.Spread.{IsRelabelled, by_way, of_left, of_right};
 ghost use Rattle.std.specs.Prelude.{IfOk, IfSome};
 ghost use Rattle.step_taker.specs.HandedOn.{KeepsData};
 ghost use Rattle.step_taker.specs.Taken.{ground_of};
 ghost use Rattle.step_taker.specs.Walked.{IsPassableNode};
 
+use crate::components::{Making, whole};
 use crate::forms::{Form, node_form};
-use crate::items::items_of;
 use crate::joins::{beside, either};
-use crate::kept::{Kept, Listed};
+use crate::kept::{Kept, Listed, Spread};
 use crate::moving::{part_moved, sides_moved};
+use crate::opening::{Opened, open_node, spreads};
 use crate::parts::{closed_node, compared, first_of, going_on, second_of};
+use crate::rooms::Room;
 use crate::rules::PartRule;
+use crate::spreading::{beside_kept, both_made, side_made, under_made};
+use crate::spreads::{left_of, right_of, same_side, side_of, spread_of, under_of};
+use crate::ways::Way;
 use behaviour_tree::boxes::{owner, shared};
-use behaviour_tree::{Meet, Node, Spec};
+use behaviour_tree::{Meet, Node};
 use lotos_base::NoMemory;
-use menu_builder::menus::node_entries;
-use menu_builder::{Levels, Ranks};
 use sort_terms::Deciding;
-use std::alloc::Global;
 use std::rc::Rc;
 use step_taker::moved::Walk;
 
-/// Parts of a state are looked at one by one down to so many levels; what stands deeper is one
-/// component, since the menu of each part above it is kept, and is as long as all that stands
-/// below.
-pub const LEVELS: u32 = 128;
-
-/// What menus are made over: the specification with the ranks of its processes, and a number above
-/// those of all variables that processes declare.
-#[derive(Drop)]
-pub struct Making<'a> {
-    /// The specification.
-    pub spec: &'a Spec,
-    /// The ranks of its processes.
-    pub ranks: &'a Ranks,
-    /// The number.
-    pub least: u64,
-    /// Where memory is taken.
-    pub alloc: Global,
-}
-
-/// The menu of the node, with those of its parts down to so many levels. Where a kept menu is for
+/// The menu of the node, with those of its parts as far as there is room. Where a kept menu is for
 /// the same behaviour it is used again; a node that is known to have moved is not compared.
 #[cycle(bringing)]
 pub fn brought<D: Deciding>(
@@ -53,7 +38,7 @@ pub fn brought<D: Deciding>(
     node: &Rc<Node>,
     kept: Option<&Rc<Kept>>,
     moved: bool,
-    levels: u32,
+    room: Room,
     decider: &mut D,
 ) -> Result<Rc<Kept>, NoMemory>
     requires base { IsMaking
@@ -75,7 +60,7 @@ pub fn brought<D: Deciding>(
             return owner(earlier);
         }
     }
-    renewed(making, node, kept, levels, decider)
+    renewed(making, node, kept, room, decider)
 }
 
 // The menu of a node for which none is kept. Its parts are looked for among those of the kept one.
@@ -84,7 +69,7 @@ fn renewed<D: Deciding>(
     making: &Making<'_>,
     node: &Rc<Node>,
     kept: Option<&Rc<Kept>>,
-    levels: u32,
+    room: Room,
     decider: &mut D,
 ) -> Result<Rc<Kept>, NoMemory>
     requires base { IsMaking
@@ -102,9 +87,9 @@ fn renewed<D: Deciding>(
     ensures same_known { KeepsData D.known_data D.canon decider.old decider.new }
 {
     let closed = closed_node(making.alloc, node)?;
-    match levels.checked_sub(1) {
-        None => whole(making, &closed, 0, decider),
-        Some(below) => formed(making, &closed, going_on(kept), below, decider),
+    match room.below_menu() {
+        None => whole(making, &closed, room, decider),
+        Some(below) => made_anew(making, &closed, going_on(kept), below, decider),
     }
 }
 
@@ -114,7 +99,7 @@ fn formed<D: Deciding>(
     making: &Making<'_>,
     node: &Rc<Node>,
     kept: Option<&Rc<Kept>>,
-    levels: u32,
+    room: Room,
     decider: &mut D,
 ) -> Result<Rc<Kept>, NoMemory>
     requires base { IsMaking
@@ -138,50 +123,13 @@ fn formed<D: Deciding>(
     };
     let form = node_form(&walk, node, decider)?;
     match form {
-        Form::Whole => whole(making, node, levels, decider),
-        Form::One(rule, part) => one(making, node, &rule, &part, kept, levels, decider),
-        Form::Either(left, right) => {
-            of_either(making, node, &left, &right, kept, levels, decider)
-        }
+        Form::Whole => whole(making, node, room, decider),
+        Form::One(rule, part) => one(making, node, &rule, &part, kept, room, decider),
+        Form::Either(left, right) => { of_either(making, node, &left, &right, kept, room, decider) }
         Form::Beside(meet, left, right) => {
-            of_parallel(making, node, meet, &left, &right, kept, levels, decider)
+            of_parallel(making, node, meet, &left, &right, kept, room, decider)
         }
     }
-}
-
-// The menu of a node that is one component, where so many levels are left. One that was used counts
-// as one of those of a menu.
-fn whole<D: Deciding>(
-    making: &Making<'_>,
-    node: &Rc<Node>,
-    levels: u32,
-    decider: &mut D,
-) -> Result<Rc<Kept>, NoMemory>
-    requires base { IsMaking
-        (ground_of (D.known_data decider.old) (D.canon decider.old) making.now.spec.now)
-        making.now }
-    requires node { IsPassableNode
-        (ground_of (D.known_data decider.old) (D.canon decider.old) making.now.spec.now)
-        node.now.value }
-    ensures kept { IfOk result (λ made. IsKeptFor
-        (ground_of (D.known_data decider.old) (D.canon decider.old) making.now.spec.now)
-        node.now.value made.value) }
-    ensures same_known { KeepsData D.known_data D.canon decider.old decider.new }
-{
-    let used = LEVELS.saturating_sub(levels);
-    let left = Levels::all().below_many(used)?;
-    let entries = node_entries(
-        making.alloc,
-        making.spec,
-        making.ranks,
-        node,
-        making.least,
-        left,
-        decider,
-    )?;
-    let items = items_of(entries)?;
-    let node = owner(node)?;
-    shared(making.alloc, Kept::Whole(Listed { node, items }))
 }
 
 // The menu of a node that a rule makes of that of one part.
@@ -192,7 +140,7 @@ fn one<D: Deciding>(
     rule: &PartRule<'_>,
     part: &Rc<Node>,
     kept: Option<&Rc<Kept>>,
-    levels: u32,
+    room: Room,
     decider: &mut D,
 ) -> Result<Rc<Kept>, NoMemory>
     requires base { IsMaking
@@ -213,7 +161,7 @@ fn one<D: Deciding>(
     ensures same_known { KeepsData D.known_data D.canon decider.old decider.new }
 {
     let moved = part_moved(node, kept);
-    let below = brought(making, part, first_of(kept), moved, levels, decider)?;
+    let below = brought(making, part, first_of(kept), moved, room, decider)?;
     let given = below.items();
     let items = rule.apply_to_all(given)?;
     let node = owner(node)?;
@@ -228,7 +176,7 @@ fn both<D: Deciding>(
     right: &Rc<Node>,
     kept: Option<&Rc<Kept>>,
     moved: (bool, bool),
-    levels: u32,
+    room: Room,
     decider: &mut D,
 ) -> Result<(Rc<Kept>, Rc<Kept>), NoMemory>
     requires base { IsMaking
@@ -251,8 +199,8 @@ fn both<D: Deciding>(
         right.now.value made.1.value) }
     ensures same_known { KeepsData D.known_data D.canon decider.old decider.new }
 {
-    let first = brought(making, left, first_of(kept), moved.0, levels, decider)?;
-    let second = brought(making, right, second_of(kept), moved.1, levels, decider)?;
+    let first = brought(making, left, first_of(kept), moved.0, room, decider)?;
+    let second = brought(making, right, second_of(kept), moved.1, room, decider)?;
     Ok((first, second))
 }
 
@@ -264,7 +212,7 @@ fn of_either<D: Deciding>(
     left: &Rc<Node>,
     right: &Rc<Node>,
     kept: Option<&Rc<Kept>>,
-    levels: u32,
+    room: Room,
     decider: &mut D,
 ) -> Result<Rc<Kept>, NoMemory>
     requires base { IsMaking
@@ -288,7 +236,7 @@ fn of_either<D: Deciding>(
     ensures same_known { KeepsData D.known_data D.canon decider.old decider.new }
 {
     let moved = sides_moved(node, kept);
-    let sides = both(making, left, right, kept, moved, levels, decider)?;
+    let sides = both(making, left, right, kept, moved, room, decider)?;
     let lefts = sides.0.items();
     let rights = sides.1.items();
     let items = either(lefts, rights)?;
@@ -308,7 +256,7 @@ fn of_parallel<D: Deciding>(
     left: &Rc<Node>,
     right: &Rc<Node>,
     kept: Option<&Rc<Kept>>,
-    levels: u32,
+    room: Room,
     decider: &mut D,
 ) -> Result<Rc<Kept>, NoMemory>
     requires base { IsMaking
@@ -333,7 +281,7 @@ fn of_parallel<D: Deciding>(
     ensures same_known { KeepsData D.known_data D.canon decider.old decider.new }
 {
     let moved = sides_moved(node, kept);
-    let sides = both(making, left, right, kept, moved, levels, decider)?;
+    let sides = both(making, left, right, kept, moved, room, decider)?;
     let lefts = sides.0.items();
     let rights = sides.1.items();
     let items = beside(meet, lefts, rights, decider)?;
@@ -342,4 +290,278 @@ fn of_parallel<D: Deciding>(
         making.alloc,
         Kept::Two(Listed { node, items }, sides.0, sides.1),
     )
+}
+
+// The same by its form, or by its parts side by side.
+#[cycle(bringing)]
+fn made_anew<D: Deciding>(
+    making: &Making<'_>,
+    node: &Rc<Node>,
+    kept: Option<&Rc<Kept>>,
+    room: Room,
+    decider: &mut D,
+) -> Result<Rc<Kept>, NoMemory>
+    requires base { IsMaking
+        (ground_of (D.known_data decider.old) (D.canon decider.old) making.now.spec.now)
+        making.now }
+    requires node { IsPassableNode
+        (ground_of (D.known_data decider.old) (D.canon decider.old) making.now.spec.now)
+        node.now.value }
+    requires kept { IfSome kept (λ k. IsKept
+        (ground_of (D.known_data decider.old) (D.canon decider.old) making.now.spec.now)
+        k.now.value) }
+    ensures kept { IfOk result (λ made. IsKeptFor
+        (ground_of (D.known_data decider.old) (D.canon decider.old) making.now.spec.now)
+        node.now.value made.value) }
+    ensures same_known { KeepsData D.known_data D.canon decider.old decider.new }
+{
+    if spreads(node) {
+        return of_spread(making, node, kept, room, decider);
+    }
+    formed(making, node, kept, room, decider)
+}
+
+// The menu of a node with parts side by side.
+#[cycle(bringing)]
+fn of_spread<D: Deciding>(
+    making: &Making<'_>,
+    node: &Rc<Node>,
+    kept: Option<&Rc<Kept>>,
+    room: Room,
+    decider: &mut D,
+) -> Result<Rc<Kept>, NoMemory>
+    requires base { IsMaking
+        (ground_of (D.known_data decider.old) (D.canon decider.old) making.now.spec.now)
+        making.now }
+    requires node { IsPassableNode
+        (ground_of (D.known_data decider.old) (D.canon decider.old) making.now.spec.now)
+        node.now.value }
+    requires kept { IfSome kept (λ k. IsKept
+        (ground_of (D.known_data decider.old) (D.canon decider.old) making.now.spec.now)
+        k.now.value) }
+    ensures kept { IfOk result (λ made. IsKeptFor
+        (ground_of (D.known_data decider.old) (D.canon decider.old) making.now.spec.now)
+        node.now.value made.value) }
+    ensures same_known { KeepsData D.known_data D.canon decider.old decider.new }
+{
+    let spread = spread_at(making, node, &Way::Top, spread_of(kept), room, decider)?;
+    beside_kept(making.alloc, node, spread)
+}
+
+// The menus of parts side by side, which stand at the end of the way.
+#[cycle(bringing)]
+fn spread_at<D: Deciding>(
+    making: &Making<'_>,
+    node: &Rc<Node>,
+    way: &Way<'_>,
+    earlier: Option<&Rc<Spread>>,
+    room: Room,
+    decider: &mut D,
+) -> Result<Rc<Spread>, NoMemory>
+    requires base { IsMaking
+        (ground_of (D.known_data decider.old) (D.canon decider.old) making.now.spec.now)
+        making.now }
+    requires node { IsPassableNode
+        (ground_of (D.known_data decider.old) (D.canon decider.old) making.now.spec.now)
+        node.now.value }
+    requires earlier { IfSome earlier (λ s. AreKeptBelow
+        (ground_of (D.known_data decider.old) (D.canon decider.old) making.now.spec.now)
+        (by_way way.now) s.now.value) }
+    ensures spread { IfOk result (λ made. IsSpreadFor
+        (ground_of (D.known_data decider.old) (D.canon decider.old) making.now.spec.now)
+        (by_way way.now) (stands_for node.now.value) made.value) }
+    ensures same_known { KeepsData D.known_data D.canon decider.old decider.new }
+{
+    if let Some(same) = same_side(earlier, node) {
+        return owner(same);
+    }
+    if spreads(node) {
+        if let Some(below) = room.below_level() {
+            return spread_below(making, node, way, earlier, below, decider);
+        }
+    }
+    one_side(making, node, way, side_of(earlier), room, decider)
+}
+
+// The menu of one part, which is known to have moved.
+#[cycle(bringing)]
+fn one_side<D: Deciding>(
+    making: &Making<'_>,
+    node: &Rc<Node>,
+    way: &Way<'_>,
+    kept: Option<&Rc<Kept>>,
+    room: Room,
+    decider: &mut D,
+) -> Result<Rc<Spread>, NoMemory>
+    requires base { IsMaking
+        (ground_of (D.known_data decider.old) (D.canon decider.old) making.now.spec.now)
+        making.now }
+    requires node { IsPassableNode
+        (ground_of (D.known_data decider.old) (D.canon decider.old) making.now.spec.now)
+        node.now.value }
+    requires kept { IfSome kept (λ k. IsKept
+        (ground_of (D.known_data decider.old) (D.canon decider.old) making.now.spec.now)
+        k.now.value) }
+    ensures spread { IfOk result (λ made. IsSpreadFor
+        (ground_of (D.known_data decider.old) (D.canon decider.old) making.now.spec.now)
+        (by_way way.now) (stands_for node.now.value) made.value) }
+    ensures same_known { KeepsData D.known_data D.canon decider.old decider.new }
+{
+    let made = brought(making, node, kept, true, room, decider)?;
+    side_made(making.alloc, way, made)
+}
+
+// The menus of the parts side by side of a node.
+#[cycle(bringing)]
+fn spread_below<D: Deciding>(
+    making: &Making<'_>,
+    node: &Rc<Node>,
+    way: &Way<'_>,
+    earlier: Option<&Rc<Spread>>,
+    room: Room,
+    decider: &mut D,
+) -> Result<Rc<Spread>, NoMemory>
+    requires base { IsMaking
+        (ground_of (D.known_data decider.old) (D.canon decider.old) making.now.spec.now)
+        making.now }
+    requires node { IsPassableNode
+        (ground_of (D.known_data decider.old) (D.canon decider.old) making.now.spec.now)
+        node.now.value }
+    requires earlier { IfSome earlier (λ s. AreKeptBelow
+        (ground_of (D.known_data decider.old) (D.canon decider.old) making.now.spec.now)
+        (by_way way.now) s.now.value) }
+    ensures spread { IfOk result (λ made. IsSpreadFor
+        (ground_of (D.known_data decider.old) (D.canon decider.old) making.now.spec.now)
+        (by_way way.now) (stands_for node.now.value) made.value) }
+    ensures same_known { KeepsData D.known_data D.canon decider.old decider.new }
+{
+    let closed = closed_node(making.alloc, node)?;
+    let form = open_node(making.alloc, &closed)?;
+    match form {
+        Opened::Alone => one_side(making, &closed, way, None, room, decider),
+        Opened::Relabelled(pairs, part) => {
+            under(making, &closed, pairs, &part, way, earlier, room, decider)
+        }
+        Opened::Beside(left, right) => {
+            side_by_side(making, &closed, &left, &right, way, earlier, room, decider)
+        }
+    }
+}
+
+// The menus of the parts side by side under a relabelling.
+#[cycle(bringing)]
+fn under<D: Deciding>(
+    making: &Making<'_>,
+    node: &Rc<Node>,
+    pairs: Vec<(u32, u32)>,
+    part: &Rc<Node>,
+    way: &Way<'_>,
+    earlier: Option<&Rc<Spread>>,
+    room: Room,
+    decider: &mut D,
+) -> Result<Rc<Spread>, NoMemory>
+    requires base { IsMaking
+        (ground_of (D.known_data decider.old) (D.canon decider.old) making.now.spec.now)
+        making.now }
+    requires part { IsPassableNode
+        (ground_of (D.known_data decider.old) (D.canon decider.old) making.now.spec.now)
+        part.now.value }
+    requires form { IsRelabelled
+        (ground_of (D.known_data decider.old) (D.canon decider.old) making.now.spec.now)
+        pairs.items (stands_for part.now.value) (stands_for node.now.value) }
+    requires earlier { IfSome earlier (λ s. AreKeptBelow
+        (ground_of (D.known_data decider.old) (D.canon decider.old) making.now.spec.now)
+        (by_way way.now) s.now.value) }
+    ensures spread { IfOk result (λ made. IsSpreadFor
+        (ground_of (D.known_data decider.old) (D.canon decider.old) making.now.spec.now)
+        (by_way way.now) (stands_for node.now.value) made.value) }
+    ensures same_known { KeepsData D.known_data D.canon decider.old decider.new }
+{
+    let below = Way::Under(&pairs, &*way);
+    let inner = spread_at(
+        making,
+        part,
+        &below,
+        under_of(earlier, &pairs),
+        room,
+        decider,
+    )?;
+    under_made(making.alloc, node, pairs, way, inner)
+}
+
+// The menus of the parts side by side of a left and of a right side.
+#[cycle(bringing)]
+fn side_by_side<D: Deciding>(
+    making: &Making<'_>,
+    node: &Rc<Node>,
+    left: &Rc<Node>,
+    right: &Rc<Node>,
+    way: &Way<'_>,
+    earlier: Option<&Rc<Spread>>,
+    room: Room,
+    decider: &mut D,
+) -> Result<Rc<Spread>, NoMemory>
+    requires base { IsMaking
+        (ground_of (D.known_data decider.old) (D.canon decider.old) making.now.spec.now)
+        making.now }
+    requires left { IsPassableNode
+        (ground_of (D.known_data decider.old) (D.canon decider.old) making.now.spec.now)
+        left.now.value }
+    requires right { IsPassableNode
+        (ground_of (D.known_data decider.old) (D.canon decider.old) making.now.spec.now)
+        right.now.value }
+    requires form { IsMadeBeside
+        (ground_of (D.known_data decider.old) (D.canon decider.old) making.now.spec.now)
+        no_gates (stands_for left.now.value) (stands_for right.now.value)
+        (stands_for node.now.value) }
+    requires earlier { IfSome earlier (λ s. AreKeptBelow
+        (ground_of (D.known_data decider.old) (D.canon decider.old) making.now.spec.now)
+        (by_way way.now) s.now.value) }
+    ensures spread { IfOk result (λ made. IsSpreadFor
+        (ground_of (D.known_data decider.old) (D.canon decider.old) making.now.spec.now)
+        (by_way way.now) (stands_for node.now.value) made.value) }
+    ensures same_known { KeepsData D.known_data D.canon decider.old decider.new }
+{
+    let sides = both_spreads(making, left, right, way, earlier, room, decider)?;
+    both_made(making, node, left, right, way, sides.0, sides.1, decider)
+}
+
+// Those of the left side and those of the right side.
+#[cycle(bringing)]
+fn both_spreads<D: Deciding>(
+    making: &Making<'_>,
+    left: &Rc<Node>,
+    right: &Rc<Node>,
+    way: &Way<'_>,
+    earlier: Option<&Rc<Spread>>,
+    room: Room,
+    decider: &mut D,
+) -> Result<(Rc<Spread>, Rc<Spread>), NoMemory>
+    requires base { IsMaking
+        (ground_of (D.known_data decider.old) (D.canon decider.old) making.now.spec.now)
+        making.now }
+    requires left { IsPassableNode
+        (ground_of (D.known_data decider.old) (D.canon decider.old) making.now.spec.now)
+        left.now.value }
+    requires right { IsPassableNode
+        (ground_of (D.known_data decider.old) (D.canon decider.old) making.now.spec.now)
+        right.now.value }
+    requires earlier { IfSome earlier (λ s. AreKeptBelow
+        (ground_of (D.known_data decider.old) (D.canon decider.old) making.now.spec.now)
+        (by_way way.now) s.now.value) }
+    ensures left { IfOk result (λ made. IsSpreadFor
+        (ground_of (D.known_data decider.old) (D.canon decider.old) making.now.spec.now)
+        (λ entries. by_way way.now (of_left entries)) (stands_for left.now.value)
+        made.0.value) }
+    ensures right { IfOk result (λ made. IsSpreadFor
+        (ground_of (D.known_data decider.old) (D.canon decider.old) making.now.spec.now)
+        (λ entries. by_way way.now (of_right entries)) (stands_for right.now.value)
+        made.1.value) }
+    ensures same_known { KeepsData D.known_data D.canon decider.old decider.new }
+{
+    let below = Way::Left(&*way);
+    let first = spread_at(making, left, &below, left_of(earlier), room, decider)?;
+    let below = Way::Right(&*way);
+    let second = spread_at(making, right, &below, right_of(earlier), room, decider)?;
+    Ok((first, second))
 }

@@ -45,6 +45,8 @@ pub enum PartRule<'a> {
     Hidden(&'a [u32]),
     /// Under a relabelling, below the variant.
     Relabelled(Vec<(u32, u32)>, Variant),
+    /// Under the relabelling of a node.
+    Under(&'a Vec<(u32, u32)>),
     /// A left side of `>>`, which ends with values for these variables or goes on.
     Enabled(&'a Vec<Variable>),
 }
@@ -65,6 +67,9 @@ impl PartRule<'_> {
             PartRule::Hidden(gates) => Ok(Some(under_hide(alloc, item, gates)?)),
             PartRule::Relabelled(pairs, variant) => {
                 Ok(Some(under_pairs(alloc, item, pairs, *variant)?))
+            }
+            PartRule::Under(pairs) => {
+                Ok(Some(under_pairs(alloc, item, pairs, Variant::Relabelled)?))
             }
             PartRule::Enabled(variables) => enabled(alloc, item, variables),
         }

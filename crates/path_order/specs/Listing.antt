@@ -17,7 +17,7 @@ abbrev pub IsNumberIn : List ℕ → ℕ → Type 0
 IsNumberIn numbers f = (j : ℕ) × (slice_get numbers j ≡ Some f)
 
 -- The first number stands in the list before the second one.
-pub record StandsBefore (numbers : List ℕ) (f g : ℕ) : Type 0 where
+pub record ComesEarlier (numbers : List ℕ) (f g : ℕ) : Type 0 where
   pub first : ℕ
   pub second : ℕ
   pub is_first : slice_get numbers first ≡ Some f
@@ -28,7 +28,7 @@ pub record StandsBefore (numbers : List ℕ) (f g : ℕ) : Type 0 where
 -- neither is, and it is declared later.
 abbrev pub IsAbove : List ℕ → ℕ → ℕ → Type 0
 IsAbove listing f g =
-    StandsBefore listing f g ⊎ ((IsNumberIn listing f × (¬ IsNumberIn listing g)) ⊎
+    ComesEarlier listing f g ⊎ ((IsNumberIn listing f × (¬ IsNumberIn listing g)) ⊎
     ((¬ IsNumberIn listing f) × (¬ IsNumberIn listing g) × (g < f)))
 
 -- The item lists no operation.

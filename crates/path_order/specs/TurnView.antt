@@ -7,8 +7,8 @@ use Rattle.path_order.specs.declared.turning.Turn.{Turn}
 use Rattle.path_order.specs.declared.turning.Turn.TheVariants.{Identical, Forward, Backward, Neither}
 
 -- The sides are identical, or differ and one of them is greater, or neither is.
-abbrev pub IsTurnOf : Precedence → Term → Term → Turn → Type 0
-IsTurnOf precedence l r Identical = l ≡ r
-IsTurnOf precedence l r Forward = (l ≢ r) × IsGreater precedence l r
-IsTurnOf precedence l r Backward = (l ≢ r) × IsGreater precedence r l
-IsTurnOf precedence l r Neither = (l ≢ r) × (¬ IsGreater precedence l r) × (¬ IsGreater precedence r l)
+abbrev pub IsComparedTurn : Precedence → Term → Term → Turn → Type 0
+IsComparedTurn precedence l r Identical = l ≡ r
+IsComparedTurn precedence l r Forward = (l ≢ r) × IsGreater precedence l r
+IsComparedTurn precedence l r Backward = (l ≢ r) × IsGreater precedence r l
+IsComparedTurn precedence l r Neither = (l ≢ r) × (¬ IsGreater precedence l r) × (¬ IsGreater precedence r l)

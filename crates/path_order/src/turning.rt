@@ -1,7 +1,7 @@
 //! How one equation is turned.
 
 ghost use Rattle.path_order.specs.PrecedenceView.{precedence_of};
-ghost use Rattle.path_order.specs.TurnView.{IsTurnOf};
+ghost use Rattle.path_order.specs.TurnView.{IsComparedTurn};
 ghost use Rattle.sort_terms.specs.SortedView.{term_in};
 ghost use Rattle.std.specs.Prelude.{IfOk};
 
@@ -31,7 +31,7 @@ pub fn turn_of(
     left: &Sorted,
     right: &Sorted,
 ) -> Result<Turn, NoMemory>
-    ensures { IfOk result (λ turn. IsTurnOf (precedence_of precedence.now) (term_in left.now)
+    ensures { IfOk result (λ turn. IsComparedTurn (precedence_of precedence.now) (term_in left.now)
         (term_in right.now) turn) }
 {
     if left.same(right) {

@@ -1,4 +1,4 @@
-//! Which operations of a signature have twins, asked once for each.
+//! Which operations of a signature have twins: as the signature says, or else asked once for each.
 
 ghost use Rattle.lotos_base.specs.Twins.{has_twin};
 ghost use Rattle.printed_texts.specs.KnownTwins.{AreKnownOf};
@@ -12,8 +12,8 @@ use sort_terms::{Op, Signature};
 use std::alloc::Global;
 use std::collections::BTreeMap;
 
-/// For some operations of a signature, by their numbers, whether they have twins. To find out, all
-/// operations are looked at.
+/// For some operations of a signature, by their numbers, whether they have twins. Where the
+/// signature itself does not say so, all operations are looked at to find out.
 #[derive(Drop)]
 pub struct KnownTwins {
     by_number: BTreeMap<u32, bool>,
@@ -33,6 +33,27 @@ impl KnownTwins {
 
     /// Whether the operation with this number has a twin.
     pub fn has_twin(
+        &mut self,
+        signature: &Signature,
+        number: u32,
+        operation: &Op,
+    ) -> Result<bool, NoMemory>
+        requires known { AreKnownOf (signature_of signature.now) (known_at self.old) }
+        requires at { Some (operation_of operation.now)
+            ≡ slice_get (signature_of signature.now).operations number }
+        ensures twin { IfOk result (λ found. found
+            ≡ has_twin (signature_of signature.now) (operation_of operation.now)) }
+        ensures known { OnOk result
+            (AreKnownOf (signature_of signature.now) (known_at self.new)) }
+    {
+        match signature.twin(number) {
+            Some(mark) => Ok(mark),
+            None => self.found(signature, number, operation),
+        }
+    }
+
+    // The same where the signature does not say so.
+    fn found(
         &mut self,
         signature: &Signature,
         number: u32,

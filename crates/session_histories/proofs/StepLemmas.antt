@@ -1,38 +1,44 @@
 -- Which steps a session can take.
-use Rattle.std.proofs.Common.{◌≡◌, ℕ, zero, suc, List, [], ◌∷◌, map, None, Some, refl, ap, ap₂, sym, ◌∙◌, subst}
+use Rattle.std.proofs.Common.{◌≡◌, ◌<◌, ℕ, zero, suc, List, [], ◌∷◌, map, None, Some, refl, ap, ap₂, sym, ◌∙◌, subst, arith}
 use Rattle.behaviour_semantics.proofs.SupplyLemmas.{length-values}
 use Rattle.lotos_base.specs.Term.{Term}
+use Rattle.lotos_base.specs.Equality.{Equal}
 use Rattle.lotos_base.specs.Equation.{Data}
-use Rattle.lotos_base.specs.Substitution.{substituted}
+use Rattle.lotos_base.specs.Substitution.{Substitution, substituted}
 use Rattle.lotos_base.specs.Canon.{IsCanon}
 use Rattle.lotos_base.proofs.CanonLemmas.{canon_ground, canon_equal}
 use Rattle.lotos_base.proofs.EqualityLemmas.{equal_back}
 use Rattle.behaviour_semantics.specs.Behaviour.{Behaviour}
 use Rattle.behaviour_semantics.specs.Derives.{Derives, DerivesCanonically, leaves_in}
 use Rattle.behaviour_semantics.specs.Draft.{Draft, draft_of}
+use Rattle.behaviour_semantics.specs.DraftOrder.{IsDraftTerm, IsLeaf}
 use Rattle.behaviour_semantics.specs.DraftOrderLaws.{IsSolvedFrom}
 use Rattle.behaviour_semantics.specs.EqualLeavesLaws.{EqualLeavesGiveLikeMoves, LikeMove}
 use Rattle.behaviour_semantics.specs.Label.{Label}
-use Rattle.behaviour_semantics.specs.Menu.{EqualLabels, EqualTerms, Exact, IsEntry, Meets, derivation_at, label_at}
+use Rattle.behaviour_semantics.specs.Menu.{EqualLabels, EqualTerms, Exact, HasEntry, IsEntry, Meets, Rise, derivation_at, label_at}
 use Rattle.behaviour_semantics.specs.OrderLaws.{AtMostOneMenuIsExact}
 use Rattle.behaviour_semantics.specs.Rule.{AreValues, as_given}
-use Rattle.behaviour_semantics.specs.Shape.{Derivation}
+use Rattle.behaviour_semantics.specs.Shape.{Before, Derivation, Shape}
 use Rattle.behaviour_semantics.specs.Solving.{Entry, SolvesTo}
+use Rattle.behaviour_semantics.specs.SolvingLaws.{IsTermOver}
 use Rattle.behaviour_semantics.specs.TransitionLaws.{MovesAreDetermined, SameMove}
+use Rattle.behaviour_semantics.specs.WellFormed.{Every}
 use Rattle.behaviour_semantics.proofs.EqualLeaves.{like_move}
 use Rattle.behaviour_semantics.proofs.RelatedTerms.{canon_represents, given_represents}
 use Rattle.behaviour_semantics.proofs.DraftFineness.{FineDraft, fine_draft}
+use Rattle.behaviour_semantics.proofs.MeetingLeaves.{alike_hold}
 use Rattle.behaviour_semantics.proofs.MenuLemmas.{same_members}
 use Rattle.behaviour_semantics.proofs.OptionLemmas.{some_value}
+use Rattle.behaviour_semantics.proofs.SolvedValues.{equal_terms_back}
 use Rattle.behaviour_semantics.proofs.SolvingAnyDraft.{solving_any}
-use Rattle.behaviour_semantics.proofs.OrderLemmas.{entries_within}
+use Rattle.behaviour_semantics.proofs.OrderLemmas.{Before-irrefl, entries_within}
 use Rattle.printed_texts.specs.HandedOn.{canonical_derivation}
 use Rattle.session_histories.specs.Session.{SessionBasis, Item, Situation, Progress, stepped}
 use Rattle.session_histories.specs.Refusal.{entry_numbered, step_refusal}
 use Rattle.session_histories.specs.Lawful.{IsSituation, IsLawfulItem, HasStepped}
 use Rattle.session_histories.specs.SessionLaws.{IsStateOver}
 use Rattle.session_histories.specs.StepLaws.{AreGroundTerms, HasItem}
-use Rattle.session_histories.proofs.RefusalLemmas.{IsFree, free, freed, sorts_fit, fit_sorts, none_unmet, condition_free, free_of_conditions}
+use Rattle.session_histories.proofs.RefusalLemmas.{IsFree, free, freed, sorts_fit, fit_sorts, grounded, none_unmet, condition_free, free_of_conditions}
 
 -- ---- Entries of a menu
 
@@ -180,6 +186,97 @@ equal_leaves = record {
   kept = λ data_ canon specification b over. like_move data_ canon canon canon specification b over
       (canon_represents data_ canon over.is_canon) (canon_represents data_ canon over.is_canon);
 }
+
+-- ---- The derivation of an entry is one of the state only where the values meet the entry
+
+-- one entry at most has a shape
+one_of_shape : (menu : List Entry) → Rise menu → (e f : Entry) → IsEntry menu e → IsEntry menu f → e.shape ≡ f.shape → e ≡ f
+one_of_shape [] rise e f (i, at) inside same = absurd (cc at)
+one_of_shape (g ∷ menu) rise e f (zero, at) (zero, at') same = sym (some_value at) ∙ some_value at'
+one_of_shape (g ∷ menu) rise e f (zero, at) (suc j, at') same =
+    absurd (Before-irrefl f.shape (subst (λ (s : Shape). Before s f.shape) same (rise 0 (suc j) e f (omega arith) at at')))
+one_of_shape (g ∷ menu) rise e f (suc i, at) (zero, at') same =
+    absurd (Before-irrefl f.shape (subst (λ (s : Shape). Before f.shape s) same (rise 0 (suc i) f e (omega arith) at' at)))
+one_of_shape (g ∷ menu) rise e f (suc i, at) (suc j, at') same =
+    one_of_shape menu (λ k l x y lt here there. rise (suc k) (suc l) x y (let h : suc k < suc l = omega arith in h) here there) e f (i, at)
+    (j, at') same
+
+-- where leaves are equal one by one, the values of each variable that is a leaf are
+leaf_values : (data_ : Data) (values others : Substitution) (leaves : List Term)
+    → EqualTerms data_ (map (substituted values) leaves) (map (substituted others) leaves) → (n s : ℕ) → IsLeaf leaves n s
+    → Equal data_ (values n s) (others n s)
+leaf_values data_ values others [] equal n s (i, at) = absurd (cc at)
+leaf_values data_ values others (leaf ∷ leaves) equal n s (zero, at) =
+    subst (λ (t : Term). Equal data_ (substituted values t) (substituted others t)) (some_value at) equal.0
+leaf_values data_ values others (leaf ∷ leaves) equal n s (suc i, at) = leaf_values data_ values others leaves equal.1 n s (i, at)
+
+-- Values that meet the entry, with leaves that equal those of these values.
+record OtherValues (data_ : Data) (entry : Entry) (given : List Term) : Type 0 where
+  pub values : List Term
+  pub meets : Meets data_ entry values
+  pub leaves : EqualTerms data_ (derivation_at entry given).leaves (derivation_at entry values).leaves
+
+-- where the derivation of an entry with some values has its entry, it is the same one
+other_values : (data_ : Data) (menu : List Entry) → Rise menu → (entry : Entry) (values : List Term) → IsEntry menu entry
+    → (label : Label) → HasEntry data_ menu (derivation_at entry values) label → OtherValues data_ entry values
+other_values data_ menu rise entry values inside label has =
+    let same : has.entry ≡ entry = one_of_shape menu rise has.entry entry has.listed inside has.shape in
+    record {
+      values = has.values;
+      meets = subst (λ (it : Entry). Meets data_ it has.values) same has.meets;
+      leaves = equal_terms_back data_ (derivation_at entry has.values).leaves (derivation_at entry values).leaves
+          (subst (λ (it : Entry). EqualTerms data_ (derivation_at it has.values).leaves (derivation_at entry values).leaves) same
+          has.leaves);
+    }
+
+module _ (data_ : Data) (canon : Term → Term) (is_canon : IsCanon data_ canon) (sorts : List ℕ) (values : List Term)
+    (fit : AreValues data_.signature sorts values) where
+  leaves_grounded : (own leaves : List Term) → Every (IsDraftTerm data_.signature own) leaves → Every (IsTermOver sorts) leaves
+      → (leaf_sorts : List ℕ) × AreValues data_.signature leaf_sorts (map (substituted (leaves_in values)) leaves)
+  leaves_grounded own [] h over = ([], tt)
+  leaves_grounded own (leaf ∷ leaves) h over =
+      let rest : (leaf_sorts : List ℕ) × AreValues data_.signature leaf_sorts (map (substituted (leaves_in values)) leaves) =
+      leaves_grounded own leaves h.1 over.1 in
+      (h.0.0 ∷ rest.0, (grounded data_ canon is_canon sorts values fit leaf h.0.0 h.0.1.sorted over.0, rest.1))
+
+-- Values of the sorts of an entry meet it where its derivation with them, in canonical form, has a move: the derivation with
+-- the values as they are has one too, so the menu has values that meet the entry and make equal leaves. Each variable of a
+-- condition is a leaf, so the values of the two are equal there.
+pub met_where_kept : EqualLeavesGiveLikeMoves → (basis : SessionBasis) (before : Situation) → IsStateOver basis before.state
+    → IsSituation basis before → (number : ℕ) (values : List Term) (entry : Entry) → entry_numbered before.menu number ≡ Some entry
+    → AreValues basis.data_.signature entry.variables values → (label : Label) (next : Behaviour)
+    → DerivesCanonically basis.data_ basis.canon basis.specification.processes before.state
+    (canonical_derivation basis.canon entry values) label next
+    → Meets basis.data_ entry values
+met_where_kept equal basis before over menu number values entry listed sorted label next keeps =
+    let inside : IsEntry before.menu entry = is_listed before.menu number entry listed in
+    let solved : (draft : Draft) × IsSolvedFrom basis.data_.signature basis.canon draft entry =
+    solved_entry basis before over menu entry inside in
+    let leaves : (leaf_sorts : List ℕ) × AreValues basis.data_.signature leaf_sorts (derivation_at entry values).leaves =
+    leaves_grounded basis.data_ basis.canon over.is_canon entry.variables values sorted entry.leaves entry.leaves
+    solved.1.as_draft.leaves solved.1.over_leaves in
+    let made : Derivation = canonical_derivation basis.canon entry values in
+    let both : AreValues basis.data_.signature leaves.0 made.leaves
+    × EqualTerms basis.data_ (derivation_at entry values).leaves made.leaves =
+    canonical_values basis.data_ basis.canon over.is_canon (substituted (leaves_in values)) leaves.0 entry.leaves leaves.1 in
+    let like : LikeMove basis.data_ as_given basis.specification.processes before.state (derivation_at entry values) label next =
+    equal.derived_from_kept basis.data_ basis.canon basis.specification before.state over made (derivation_at entry values) label next
+    (record {
+      shape = refl;
+      sorts = leaves.0;
+      first = both.0;
+      second = leaves.1;
+      equal = equal_terms_back basis.data_ (derivation_at entry values).leaves made.leaves both.1;
+    }) keeps in
+    let others : OtherValues basis.data_ entry values =
+    other_values basis.data_ before.menu menu.rising entry values inside like.label_given
+    (menu.complete (derivation_at entry values) like.label_given like.target_given like.gives) in
+    record {
+      sorted = sorted;
+      met = alike_hold basis.data_ entry.leaves (leaves_in values) (leaves_in others.values)
+          (leaf_values basis.data_ (leaves_in values) (leaves_in others.values) entry.leaves others.leaves) entry.conditions
+          solved.1.as_draft.conditions others.meets.met;
+    }
 
 -- ---- A state has one menu
 

@@ -11,7 +11,7 @@ use Rattle.lotos_top.specs.Opening.{opening_text}
 use Rattle.lotos_top.proofs.HandedOn.{outcomes_over_texts_are_one}
 use Rattle.session_laws.specs.Alike.{AreFoundedAlike}
 use Rattle.session_laws.specs.AlikeLaws.{FoundedOver, RunAlike}
-use Rattle.session_laws.specs.FlatRuns.{FlattenedTextsStandForTheSame, HasText, ComesAlike, FlatTextsRunAlike}
+use Rattle.session_laws.specs.FlatRuns.{FlattenedTextsStandForTheSame, HasTextOfName, ComesAlike, FlatTextsRunAlike}
 use Rattle.session_laws.specs.OneBeginning.{SessionsBeginOnce}
 use Rattle.session_laws.specs.ReadBack.{IsReadBack, StandsUnder}
 use Rattle.session_laws.proofs.AlikeLemmas.{what_is_founded_alike_runs_alike}
@@ -29,7 +29,7 @@ take_all (suc n) [] within = refl
 take_all (suc n) (x ∷ xs) within = ap (λ (ys : List ℕ). x ∷ ys) (take_all n xs (omega (arith, within)))
 
 stands_under : (texts others : Texts) (name : List ℕ) (order : Option (List ℕ)) (text : List ℕ) → length text ≤ text_limit
-    → HasText texts others name order text → StandsUnder texts others name order text
+    → HasTextOfName texts others name order text → StandsUnder texts others name order text
 stands_under texts others name order text within has = record {
   got =
       ap (λ (o : Option (List ℕ)). option_map (λ (bytes : List ℕ). take (text_limit + 1) bytes) o) has.there
@@ -128,7 +128,7 @@ flat_texts_run_alike laws once read_back texts spec order report comes =
           let under : StandsUnder texts others name order (flat_text founded.data_ founded.spec) =
           stands_under texts others name order (flat_text founded.data_ founded.spec)
           (subst (λ (t : List ℕ). length t ≤ text_limit) is_text within)
-          (subst (λ (t : List ℕ). HasText texts others name order t) is_text has) in
+          (subst (λ (t : List ℕ). HasTextOfName texts others name order t) is_text has) in
           comes_alike laws once texts others spec name order founded (flat_text founded.data_ founded.spec) over under
           (read_back texts spec order founded over (subst (λ (t : List ℕ). length t ≤ text_limit) is_text within));
     }

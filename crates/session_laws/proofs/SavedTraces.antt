@@ -25,7 +25,7 @@ use Rattle.session_laws.specs.PrintedStates.{IsNamedProcess, HasNamedDefinitions
 use Rattle.session_laws.proofs.PrintedStates.{at_hand}
 use Rattle.session_laws.specs.LineBounds.{IsWithinLines, LinesKeepWithin}
 use Rattle.session_laws.specs.OneBeginning.{SessionsBeginOnce}
-use Rattle.session_laws.specs.SavedTraces.{ComesTo, Saves, Replays, ReplaysTo, SavedTracesAreReplayed}
+use Rattle.session_laws.specs.SavedTraces.{SessionComesTo, Saves, Replays, ReplaysTo, SavedTracesAreReplayed}
 
 -- ---- What is saved
 
@@ -74,7 +74,7 @@ record StandsSo (begun : Beginning) (now : SessionPoint) : Type 0 where
   pub reached : IsReached begun now.standing
   pub within : IsWithinLines now.standing.progress
 
-stands_so : LinesKeepWithin → LinesLeadOn → (begun : Beginning) (now : SessionPoint) → CanBegin begun → ComesTo begun now
+stands_so : LinesKeepWithin → LinesLeadOn → (begun : Beginning) (now : SessionPoint) → CanBegin begun → SessionComesTo begun now
     → StandsSo begun now
 stands_so keep lead begun now can to = record {
   reached =

@@ -21,7 +21,7 @@ FlattenedTextsStandForTheSame = (texts : Texts) (spec : List ℕ) (order : Optio
     → IsReadBack founded (flat_text founded.data_ founded.spec)
 
 -- Texts of a shelf have this text under this name, and the same order file as the first texts, if one is asked for.
-pub record HasText (texts others : Texts) (name : List ℕ) (order : Option (List ℕ)) (text : List ℕ) : Type 0 where
+pub record HasTextOfName (texts others : Texts) (name : List ℕ) (order : Option (List ℕ)) (text : List ℕ) : Type 0 where
   pub there : others name ≡ Some text
   pub same_order : (file : List ℕ) → order ≡ Some file → others file ≡ texts file
 
@@ -67,7 +67,7 @@ pub record FlattenedRunsAlike (texts : Texts) (spec : List ℕ) (order : Option 
   pub again :
       length report.text ≤ text_limit →
       (others : Texts) (name : List ℕ) →
-      HasText texts others name order report.text →
+      HasTextOfName texts others name order report.text →
       ComesAlike texts others spec name order founded
 
 abbrev pub FlatTextsRunAlike : Type 0

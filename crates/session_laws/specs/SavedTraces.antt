@@ -12,7 +12,7 @@ use Rattle.lotos_top.specs.Opening.{SessionBegins}
 
 -- The session that began so stands there, behind lines that were answered beside some shelf. The shelf may have counted faults on
 -- the way, and lines may have been refused.
-pub record ComesTo (begun : Beginning) (now : SessionPoint) : Type 0 where
+pub record SessionComesTo (begun : Beginning) (now : SessionPoint) : Type 0 where
   pub texts : Option Texts
   pub faults : ℕ
   pub calls : ℕ
@@ -24,7 +24,7 @@ pub record ComesTo (begun : Beginning) (now : SessionPoint) : Type 0 where
 -- has these afterwards.
 pub record Saves (begun : Beginning) (name : List ℕ) (progress : Progress) (after : Texts) : Type 0 where
   pub now : SessionPoint
-  pub comes_to : ComesTo begun now
+  pub comes_to : SessionComesTo begun now
   pub progress_is : now.standing.progress ≡ progress
   pub before : Texts
   pub tells : now.standing.texts ≡ Some before
@@ -38,7 +38,7 @@ pub record Saves (begun : Beginning) (name : List ℕ) (progress : Progress) (af
 -- The next line replays the text with the name, beside a shelf that tells these texts and counts no fault at it.
 pub record Replays (begun : Beginning) (name : List ℕ) (told : Texts) (reply : Reply SessionPoint) : Type 0 where
   pub now : SessionPoint
-  pub comes_to : ComesTo begun now
+  pub comes_to : SessionComesTo begun now
   pub tells : now.standing.texts ≡ Some told
   pub line : List ℕ
   pub asks : request_of line ≡ replay name

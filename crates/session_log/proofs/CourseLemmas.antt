@@ -1,5 +1,5 @@
 -- Courses that are begun, stepped and undone.
-use Rattle.std.proofs.Common.{◌≡◌, ℕ, zero, suc, ◌+◌, drop, List, [], ◌∷◌, ◌++◌, Some, None, length, append-nil, false, refl, ap, ap₂, sym, ◌∙◌, subst}
+use Rattle.std.proofs.Common.{◌≡◌, ◌≢◌, ℕ, zero, suc, ◌+◌, drop, List, [], ◌∷◌, ◌++◌, Some, None, length, append-nil, false, refl, ap, ap₂, sym, ◌∙◌, subst}
 use Rattle.std.proofs.lemmas.List.{map-append, nil_from_length, length-map}
 use Rattle.std.proofs.lemmas.Option.{none-some}
 use Rattle.lotos_base.specs.Signature.{Signature}
@@ -35,10 +35,10 @@ use Rattle.session_histories.specs.Lawful.{IsSituation, LeadTo, IsLawful, HasSte
 use Rattle.session_histories.specs.SessionLaws.{IsStateOver}
 use Rattle.session_histories.specs.StepLaws.{HasItem}
 use Rattle.session_histories.proofs.ProgressLemmas.{stepped_lawful, undone_lawful}
-use Rattle.session_histories.proofs.StepLemmas.{equal_leaves, lawful_item, one_situation}
+use Rattle.session_histories.proofs.StepLemmas.{equal_leaves, lawful_item, met_where_kept, one_situation}
 use Rattle.session_log.specs.CourseView.{basis_over, item_of, situation_of, past_of, pasts_of, progress_of}
 use Rattle.session_log.specs.Courses.{AreClosedStates, IsGoneOn, IsUndone, oldest_state, first_state_of, behind_state}
-use Rattle.session_log.specs.Entries.{AreGiven, IsChosenEntry, IsEntryAt}
+use Rattle.session_log.specs.Entries.{AreGiven, IsDerivationFor, IsEntryAt}
 use Rattle.session_log.specs.Kept.{AreSuited, IsKeptCourse, IsKeptMenu, IsKeptPast, IsKeptState}
 use Rattle.session_log.specs.declared.courses.Course.{Course}
 use Rattle.session_log.specs.declared.courses.Past.{Past}
@@ -46,7 +46,8 @@ use Rattle.session_log.proofs.EntryLemmas.{entry_there, values_told, well_counte
 use Rattle.session_log.specs.RefusalView.{TellsStep}
 use Rattle.session_log.specs.declared.refusals.StepRefusal.{StepRefusal}
 use Rattle.sort_terms.specs.SortedView.{term_in}
-use Rattle.step_taker.specs.HandedOn.{StepFault}
+use Rattle.step_taker.specs.HandedOn.{StepFault, UnlessMemory}
+use Rattle.step_taker.specs.HandedOn.step_fault
 use Rattle.step_taker.specs.Taken.{IsTaken, IsStepFault, ground_of}
 
 -- ---- Courses as sessions
@@ -85,7 +86,7 @@ begun data_ canon spec course state menu exact none = record {
       (record { start = exact; steps = refl });
 }
 
--- ---- The derivation of a step has no fault
+-- ---- The derivation of a step has no fault exactly where the values meet the entry
 
 pub state_over : {M : Type 0} (suits : M → Spec → Data → (Term → Term) → Type 0) (data_ : Data) (canon : Term → Term) (spec : Spec)
     (ranks : Ranks) (maker : M) (course : Course) → IsCanon data_ canon → AreSuited suits data_ canon spec ranks maker
@@ -109,32 +110,48 @@ kept_situation data_ canon spec course kept =
     situation_now (basis_over data_ canon spec) _ (situation_of course.state course.menu) (pasts_of course.history.items)
     kept.lawful.start kept.lawful.steps
 
-pub chosen_free : (data_ : Data) (canon : Term → Term) (spec : Spec) (course : Course) (number : ℕ) (values : List Sorted)
-    (derivation : Derivation) → IsStateOver (basis_over data_ canon spec) (state_of course.state)
-    → IsKeptCourse data_ canon spec course → IsChosenEntry data_ canon course.menu number values derivation
+-- a derivation of an entry with values that meet it has no fault
+pub free_where_met : (data_ : Data) (canon : Term → Term) (spec : Spec) (course : Course) (number : ℕ) (entry : Entry)
+    (values : List Sorted) (derivation : Derivation) → IsStateOver (basis_over data_ canon spec) (state_of course.state)
+    → IsKeptCourse data_ canon spec course → IsEntryAt course.menu number entry
+    → IsDerivationFor data_ canon entry values derivation → Meets data_ (plain_entry entry) (terms_of values)
     → fault_of data_ canon (specification_of spec).processes (state_of course.state) (derivation_of derivation) ≡ None
-chosen_free data_ canon spec course number values derivation over kept chosen =
+free_where_met data_ canon spec course number entry values derivation over kept at derived meets =
+    let listed : entry_numbered (entries_in course.menu) number ≡ Some (plain_entry entry) = entry_there course.menu number entry at in
     let made : HasItem (basis_over data_ canon spec) (situation_of course.state course.menu) number (terms_of values) =
     lawful_item equal_leaves (basis_over data_ canon spec) (situation_of course.state course.menu) over
-    (kept_situation data_ canon spec course kept) number (terms_of values) (plain_entry chosen.entry)
-    (entry_there course.menu number chosen.entry chosen.listed) chosen.meets in
+    (kept_situation data_ canon spec course kept) number (terms_of values) (plain_entry entry) listed meets in
     let free : fault_of data_ canon (specification_of spec).processes (state_of course.state) made.item.derivation ≡ None =
     faultless_where_kept data_ canon (specification_of spec) (state_of course.state) over made.item.derivation made.item.label
     made.next made.lawful.keeps in
-    let entries : made.lawful.entry ≡ plain_entry chosen.entry =
-    some_value (sym made.lawful.listed ∙ (ap (entry_numbered (entries_in course.menu)) made.numbered
-    ∙ entry_there course.menu number chosen.entry chosen.listed)) in
+    let entries : made.lawful.entry ≡ plain_entry entry =
+    some_value (sym made.lawful.listed ∙ (ap (entry_numbered (entries_in course.menu)) made.numbered ∙ listed)) in
     let same : made.item.derivation ≡ derivation_of derivation =
-    made.lawful.derivation ∙ (ap₂ (canonical_derivation canon) entries made.valued ∙ sym chosen.same) in
+    made.lawful.derivation ∙ (ap₂ (canonical_derivation canon) entries made.valued ∙ sym derived.same) in
     subst (λ (it : plain_shape.Derivation). fault_of data_ canon (specification_of spec).processes (state_of course.state) it ≡ None) same
     free
+
+-- values with whose derivation a step was taken meet the entry
+pub met_where_taken : (data_ : Data) (canon : Term → Term) (spec : Spec) (course : Course) (number : ℕ) (entry : Entry)
+    (values : List Sorted) (derivation : Derivation) (label : Label) (target : State)
+    → IsStateOver (basis_over data_ canon spec) (state_of course.state) → IsKeptCourse data_ canon spec course
+    → IsEntryAt course.menu number entry → IsDerivationFor data_ canon entry values derivation
+    → IsTaken (ground_of data_ canon spec) course.state derivation label target → Meets data_ (plain_entry entry) (terms_of values)
+met_where_taken data_ canon spec course number entry values derivation label target over kept at derived taken =
+    met_where_kept equal_leaves (basis_over data_ canon spec) (situation_of course.state course.menu) over
+    (kept_situation data_ canon spec course kept) number (terms_of values) (plain_entry entry)
+    (entry_there course.menu number entry at) derived.sorted (label_of label) (state_of target)
+    (subst (λ (it : plain_shape.Derivation). DerivesCanonically data_ canon (specification_of spec).processes (state_of course.state) it
+    (label_of label) (state_of target)) derived.same taken.keeps)
 
 -- ---- A step that was taken
 
 -- `next` has the item of the step, and the state and the menu that it leads to.
 pub record IsStep (data_ : Data) (canon : Term → Term) (spec : Spec) (old : Course) (number : ℕ) (values : List Sorted) (label : Label)
     (next : Past) (new : Course) : Type 0 where
-  pub chosen : IsChosenEntry data_ canon old.menu number values next.derivation
+  pub entry : Entry
+  pub listed : IsEntryAt old.menu number entry
+  pub derived : IsDerivationFor data_ canon entry values next.derivation
   pub taken : IsTaken (ground_of data_ canon spec) old.state next.derivation label next.state
   pub exact : Exact data_ canon (specification_of spec).processes (state_of next.state) (entries_in next.menu)
   pub entries : IsKeptMenu data_.signature next.menu
@@ -149,20 +166,22 @@ abbrev kept_past : Course → Past → Past
 kept_past old next = record next { state = old.state; menu = old.menu }
 
 pub has_stepped : (data_ : Data) (canon : Term → Term) (spec : Spec) (old : Course) (number : ℕ) (values : List Sorted) (label : Label)
-    (next : Past) (new : Course) → IsStep data_ canon spec old number values label next new
+    (next : Past) (new : Course) → IsStateOver (basis_over data_ canon spec) (state_of old.state) → IsKeptCourse data_ canon spec old
+    → IsStep data_ canon spec old number values label next new
     → HasStepped (basis_over data_ canon spec) (progress_of old) number (terms_of values) (label_of label) (progress_of new)
-has_stepped data_ canon spec old number values label next new h = record {
+has_stepped data_ canon spec old number values label next new over kept h = record {
   item = item_of next;
   next = situation_of new.state new.menu;
   numbered = h.numbered;
   valued = ap terms_of h.valued;
   labelled = h.labelled;
   lawful = record {
-    entry = plain_entry h.chosen.entry;
-    listed = ap (entry_numbered (entries_in old.menu)) h.numbered ∙ entry_there old.menu number h.chosen.entry h.chosen.listed;
-    meets = subst (λ (it : List Sorted). Meets data_ (plain_entry h.chosen.entry) (terms_of it)) (sym h.valued) h.chosen.meets;
-    derivation = h.chosen.same
-        ∙ ap (λ (it : List Sorted). canonical_derivation canon (plain_entry h.chosen.entry) (terms_of it)) (sym h.valued);
+    entry = plain_entry h.entry;
+    listed = ap (entry_numbered (entries_in old.menu)) h.numbered ∙ entry_there old.menu number h.entry h.listed;
+    meets = subst (λ (it : List Sorted). Meets data_ (plain_entry h.entry) (terms_of it)) (sym h.valued)
+        (met_where_taken data_ canon spec old number h.entry values next.derivation label next.state over kept h.listed h.derived h.taken);
+    derivation = h.derived.same
+        ∙ ap (λ (it : List Sorted). canonical_derivation canon (plain_entry h.entry) (terms_of it)) (sym h.valued);
     keeps = subst (λ (it : State). DerivesCanonically data_ canon (specification_of spec).processes (state_of old.state)
         (derivation_of next.derivation) (label_of next.label) (state_of it)) (sym h.gone.state)
         (subst (λ (it : plain.Label). DerivesCanonically data_ canon (specification_of spec).processes (state_of old.state)
@@ -176,9 +195,9 @@ has_stepped data_ canon spec old number values label next new h = record {
 }
 
 pub kept_stepped : (data_ : Data) (canon : Term → Term) (spec : Spec) (old : Course) (number : ℕ) (values : List Sorted) (label : Label)
-    (next : Past) (new : Course) → IsKeptCourse data_ canon spec old → AreGiven data_.signature values
-    → IsStep data_ canon spec old number values label next new → IsKeptCourse data_ canon spec new
-kept_stepped data_ canon spec old number values label next new kept given h = record {
+    (next : Past) (new : Course) → IsStateOver (basis_over data_ canon spec) (state_of old.state) → IsKeptCourse data_ canon spec old
+    → AreGiven data_.signature values → IsStep data_ canon spec old number values label next new → IsKeptCourse data_ canon spec new
+kept_stepped data_ canon spec old number values label next new over kept given h = record {
   state = subst (IsKeptState data_.signature spec) (sym h.gone.state) (record { over = h.taken.over; closed = h.taken.closed });
   menu = subst (IsKeptMenu data_.signature) (sym h.gone.menu) h.entries;
   history = subst (Every (IsKeptPast data_.signature spec)) (sym h.gone.history)
@@ -192,7 +211,7 @@ kept_stepped data_ canon spec old number values label next new kept given h = re
         tt,
       ));
   lawful = (stepped_lawful (basis_over data_ canon spec) (progress_of old) (progress_of new) number (terms_of values) (label_of label)
-      kept.lawful (has_stepped data_ canon spec old number values label next new h)).0;
+      kept.lawful (has_stepped data_ canon spec old number values label next new over kept h)).0;
 }
 
 -- ---- A step that was undone
@@ -345,10 +364,23 @@ chosen_told data_ canon menu number values entry listed counted refusal h spec =
     (subst (λ (n : ℕ). number_refusal (entries_in menu) number n ≡ None) (sym (length-map values term_in))
     (well_counted menu number (length values) entry listed counted)) refusal h
 
-pub no_fault : (data_ : Data) (canon : Term → Term) (spec : Spec) (state : State) (derivation : Derivation) (fault : StepFault)
-    → fault_of data_ canon (specification_of spec).processes (state_of state) (derivation_of derivation) ≡ None
-    → IsStepFault (ground_of data_ canon spec) state derivation fault → ⊥
-no_fault data_ canon spec state derivation fault free h = none-some h.first (sym free ∙ h.is)
+-- a fault that is not want of memory
+told_unless_memory : (P : StepFault → Type 0) (fault : StepFault) → UnlessMemory P fault → fault ≢ step_fault.NoMemory → P fault
+told_unless_memory P step_fault.NoMemory h other = absurd (other refl)
+told_unless_memory P (step_fault.NotFitting node) h other = h
+told_unless_memory P (step_fault.BadValue leaf) h other = h
+told_unless_memory P (step_fault.Unmet node left right) h other = h
+
+-- values with whose derivation a step has a fault do not meet the entry
+pub unmet_where_refused : (data_ : Data) (canon : Term → Term) (spec : Spec) (state : State) (entry : Entry) (values : List Sorted)
+    (derivation : Derivation) (fault : StepFault) → (Meets data_ (plain_entry entry) (terms_of values)
+    → fault_of data_ canon (specification_of spec).processes (state_of state) (derivation_of derivation) ≡ None)
+    → UnlessMemory (IsStepFault (ground_of data_ canon spec) state derivation) fault → fault ≢ step_fault.NoMemory
+    → Meets data_ (plain_entry entry) (terms_of values) → ⊥
+unmet_where_refused data_ canon spec state entry values derivation fault free told other meets =
+    let h : IsStepFault (ground_of data_ canon spec) state derivation fault =
+    told_unless_memory (IsStepFault (ground_of data_ canon spec) state derivation) fault told other in
+    none-some h.first (sym (free meets) ∙ h.is)
 
 pub taken_over : (data_ other : Data) (canon also : Term → Term) (spec : Spec) (state target : State) (derivation : Derivation)
     (label : Label) → other ≡ data_ → also ≡ canon → IsTaken (ground_of other also spec) state derivation label target

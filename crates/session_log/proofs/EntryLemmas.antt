@@ -1,6 +1,7 @@
 -- Entries of menus and values for them.
 use Rattle.std.proofs.Common.{◌≡◌, ◌≢◌, ◌<◌, ◌-◌, ◌+◌, ℕ, suc, List, [], ◌∷◌, drop, get_or, length, Option, Some, None, slice_get, nat_eq, if◌then◌else◌, Bool, true, false, refl, ap, ap₂, sym, ◌∙◌, subst, arith, add-one, eqb-true, eq-eqb, ne_eqb}
 use Rattle.std.proofs.lemmas.List.{length-map}
+use Rattle.std.specs.Option.{option_map}
 use Rattle.std.proofs.lemmas.Option.{slice_get_past}
 use Rattle.lotos_base.proofs.Members.{past_map, at_map}
 use Rattle.lotos_base.proofs.Pieces.{next_member}
@@ -8,6 +9,8 @@ use Rattle.lotos_base.specs.Signature.{Signature}
 use Rattle.lotos_base.specs.Term.{Term}
 use Rattle.lotos_base.specs.Sorting.{IsGround, IsGroundOf, sort_of}
 use Rattle.lotos_base.proofs.SortLemmas.{sort_of_sorted}
+use Rattle.behaviour_semantics.specs.Behaviour.{Test}
+use Rattle.behaviour_semantics.specs.Derives.{leaves_in}
 use Rattle.behaviour_semantics.specs.Fault.{first_of_two}
 use Rattle.behaviour_semantics.specs.Rule.{AreValues, is_same_sort}
 use Rattle.behaviour_semantics.specs.Solving.{Entry as PlainEntry}
@@ -16,19 +19,19 @@ use Rattle.behaviour_semantics.proofs.InstanceLemmas.{every_at}
 use Rattle.behaviour_tree.specs.BehaviourTerms.{profiles_of}
 use Rattle.behaviour_tree.specs.BehaviourView.{terms_of}
 use Rattle.behaviour_tree.specs.Over.{AreTermsOf}
-use Rattle.menu_builder.specs.HandedOn.{plain_entry, IsEntryOf, IsEntryOver, Entry, Menu}
+use Rattle.menu_builder.specs.HandedOn.{plain_entry, unmet_among, IsEntryOf, IsEntryOver, Entry, Menu}
 use Rattle.menu_builder.specs.Menus.{entries_in}
 use Rattle.sort_terms.specs.ProfiledTerm.{head_sort, IsOf}
 use Rattle.sort_terms.specs.SortedView.{profiled_in, term_in}
 use Rattle.sort_terms.specs.declared.sorted.Sorted.{Sorted}
 use Rattle.sort_terms.proofs.ProfiledTermLemmas.{fitting_has_sort}
 use Rattle.session_histories.specs.Refusal as plain
-use Rattle.session_histories.specs.Refusal.{no_entry, value_count, value_sort, unmet, entry_numbered, count_refusal, number_refusal, sort_refusal, value_refusal, step_refusal}
+use Rattle.session_histories.specs.Refusal.{no_entry, value_count, value_sort, unmet, condition_refusal, entry_numbered, count_refusal, number_refusal, sort_refusal, value_refusal, step_refusal}
 use Rattle.session_histories.specs.Session.{SessionBasis}
 use Rattle.session_log.specs.Entries.{AreGiven, IsEntryAt}
 use Rattle.session_log.specs.Kept.{IsKeptMenu}
 use Rattle.session_log.specs.RefusalView.{TellsStep}
-use Rattle.session_histories.proofs.RefusalLemmas.{sorts_fit}
+use Rattle.session_histories.proofs.RefusalLemmas.{fit_sorts, sorts_fit}
 use Rattle.session_log.specs.declared.refusals.StepRefusal.{StepRefusal}
 use Rattle.session_log.specs.declared.refusals.StepRefusal.TheVariants as step
 
@@ -111,6 +114,12 @@ number_told basis menu number values refusal h =
     (λ why e. ap (λ (it : Option plain.StepRefusal). first_of_two it (value_refusal basis.data_.signature basis.canon
     (entry_numbered menu number) values)) e) refusal h
 
+pub miscount_told : (basis : SessionBasis) (menu : List PlainEntry) (number : ℕ) (values : List Sorted) (refusal : StepRefusal)
+    → TellsStep (number_refusal menu number (length values)) refusal → TellsStep (step_refusal basis menu number (terms_of values)) refusal
+miscount_told basis menu number values refusal h =
+    number_told basis menu number (terms_of values) refusal
+    (subst (λ (n : ℕ). TellsStep (number_refusal menu number n) refusal) (sym (length-map values term_in)) h)
+
 -- a refusal of the values is one of the step, where the number is not refused
 pub values_told : (basis : SessionBasis) (menu : List PlainEntry) (number : ℕ) (values : List Term) (entry : PlainEntry)
     → entry_numbered menu number ≡ Some entry → number_refusal menu number (length values) ≡ None → (refusal : StepRefusal)
@@ -163,6 +172,16 @@ pub given_sorts : (signature : Signature) (sorts : List ℕ) (values : List Sort
 given_sorts signature sorts values given counted free =
     sorts_fit signature 0 sorts (terms_of values) (length-map values term_in ∙ counted)
     (given_ground signature values given.terms given.ground) free
+
+-- values of their sorts are refused for the first condition that does not hold
+pub unmet_told : (signature : Signature) (canon : Term → Term) (entry : Entry) (values : List Sorted) (test : Test)
+    → AreValues signature entry.vars.items (terms_of values)
+    → unmet_among canon (leaves_in (terms_of values)) (plain_entry entry).conditions ≡ Some test
+    → value_refusal signature canon (Some (plain_entry entry)) (terms_of values) ≡ Some (unmet test.left test.right)
+unmet_told signature canon entry values test sorted e =
+    ap (λ (it : Option plain.StepRefusal). first_of_two it (condition_refusal canon (plain_entry entry) (terms_of values)))
+    (fit_sorts signature 0 entry.vars.items (terms_of values) sorted)
+    ∙ ap (option_map (λ (it : Test). unmet it.left it.right)) e
 
 -- ---- Values one after another
 

@@ -4,7 +4,7 @@ use Rattle.lotos_base.specs.Signature.{Signature}
 use Rattle.lotos_base.specs.Sorting.{IsGround}
 use Rattle.lotos_base.specs.Term.{Term}
 use Rattle.lotos_base.specs.Equation.{Data}
-use Rattle.behaviour_semantics.specs.Menu.{Meets}
+use Rattle.behaviour_semantics.specs.Rule.{AreValues}
 use Rattle.behaviour_semantics.specs.WellFormed.{Every}
 use Rattle.behaviour_tree.specs.BehaviourTerms.{profiles_of}
 use Rattle.behaviour_tree.specs.BehaviourView.{terms_of}
@@ -27,12 +27,11 @@ pub record AreGiven (signature : Signature) (values : List Sorted) : Type 0 wher
   pub terms : AreTermsOf signature (profiles_of values)
   pub ground : Every (λ (value : Sorted). IsGround (term_in value)) values
 
--- The derivation is that of the entry with this number and these values, in canonical form.
-pub record IsChosenEntry (data_ : Data) (canon : Term → Term) (menu : Menu) (number : ℕ) (values : List Sorted) (derivation : Derivation)
+-- The values are ground, one for each variable of the entry, of its sort, and the derivation is that of the entry with these
+-- values, in canonical form.
+pub record IsDerivationFor (data_ : Data) (canon : Term → Term) (entry : Entry) (values : List Sorted) (derivation : Derivation)
     : Type 0 where
-  pub entry : Entry
-  pub listed : IsEntryAt menu number entry
-  pub meets : Meets data_ (plain_entry entry) (terms_of values)
+  pub sorted : AreValues data_.signature entry.vars.items (terms_of values)
   pub same : derivation_of derivation ≡ canonical_derivation canon (plain_entry entry) (terms_of values)
   pub leaves : AreTermsOf data_.signature (profiles_of derivation.leaves.items)
 

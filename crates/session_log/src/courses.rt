@@ -1,20 +1,20 @@
 //! How far a session has come.
 
 ghost use Rattle.behaviour_semantics.specs.Fault.{fault_of};
-ghost use Rattle.behaviour_tree.specs.BehaviourTerms.{profiles_of};
+ghost use Rattle.behaviour_semantics.specs.Menu.{Meets};
 ghost use Rattle.behaviour_tree.specs.BehaviourView.{terms_of};
 ghost use Rattle.behaviour_tree.specs.Closed.{IsClosedNode};
 ghost use Rattle.behaviour_tree.specs.DefinitionView.{specification_of};
 ghost use Rattle.behaviour_tree.specs.MoveView.{derivation_of, label_of};
-ghost use Rattle.behaviour_tree.specs.Over.{AreTermsOf, IsSpecOver, IsStateOf};
+ghost use Rattle.behaviour_tree.specs.Over.{IsSpecOver, IsStateOf};
 ghost use Rattle.behaviour_tree.specs.StateView.{state_of};
 ghost use Rattle.behaviour_tree.specs.declared.definitions.Spec.{Spec};
 ghost use Rattle.lotos_base.specs.Equation.{Data};
 ghost use Rattle.lotos_base.specs.Term.{Term};
-ghost use Rattle.menu_builder.specs.HandedOn.{KeepsData};
+ghost use Rattle.menu_builder.specs.HandedOn.{IsEntryOf, KeepsData, plain_entry};
 ghost use Rattle.menu_builder.specs.Menus.{entries_in};
 ghost use Rattle.session_histories.specs.Lawful.{HasStepped};
-ghost use Rattle.session_histories.specs.Refusal.{step_refusal};
+ghost use Rattle.session_histories.specs.Refusal.{step_refusal, value_refusal};
 ghost use Rattle.session_log.specs.CourseView.{basis_over, progress_of};
 ghost use Rattle.session_log.specs.Courses.{
   behind_state,
@@ -23,21 +23,31 @@ ghost use Rattle.session_log.specs.Courses.{
   IsUndone,
   first_state_of,
 };
-ghost use Rattle.session_log.specs.Entries.{AreGiven, IsChosenEntry};
-ghost use Rattle.session_log.specs.Kept.{AreSuited, IsKeptCourse, IsKeptMenu, IsKeptState};
+ghost use Rattle.session_log.specs.Entries.{AreGiven, IsDerivationFor};
+ghost use Rattle.session_log.specs.Kept.{AreSuited, IsKeptCourse, IsKeptState};
 ghost use Rattle.session_log.specs.RefusalView.{TellsStep};
-ghost use Rattle.std.specs.Prelude.{◌≡◌, ◌<◌, IfOk, MatchResult, None, OnErr, OnOk, [], length};
+ghost use Rattle.std.specs.Prelude.{
+  ◌≡◌,
+  ◌<◌,
+  IfOk,
+  MatchResult,
+  None,
+  OnErr,
+  OnOk,
+  Some,
+  [],
+  length,
+};
 ghost use Rattle.step_taker.specs.Taken.{IsTaken, ground_of};
 
-use crate::entries::{check_values, counted_entry};
+use crate::entries::{counted_entry, derivation_for, unmet_refusal};
 use crate::refusals::StepRefusal;
 use behaviour_tree::{Derivation, Label, Spec, State};
 use lotos_base::NoMemory;
-use menu_builder::{Menu, MenuMaker, Ranks, label_copy};
+use menu_builder::{Entry, Menu, MenuMaker, Ranks, label_copy};
 use sort_terms::{Deciding, Sorted};
 use std::alloc::Global;
 use std::mem;
-use step_taker::depths::checked_depth;
 use step_taker::{StepFault, take};
 
 /// A step that was taken, with the state and the menu before it.
@@ -165,8 +175,10 @@ impl Course {
             ranks.now maker.new }
         ensures same_known { KeepsData D.known_data D.canon data.old data.new }
     {
-        let derivation = self.chosen(number, values.as_slice(), data)?;
-        let taken = moved(spec, &self.state, &derivation, data)?;
+        let given = values.as_slice();
+        let entry = counted_entry(&self.menu, number, given.len())?;
+        let derivation = derivation_for(entry, given, data)?;
+        let taken = moved(spec, &self.state, entry, given, &derivation, data)?;
         let (label, state) = taken;
         let alloc = self.allocator();
         let kept = label_copy(alloc, &label)?;
@@ -196,30 +208,6 @@ impl Course {
         Ok(())
     }
 
-    // The derivation of the entry with this number and these values.
-    fn chosen<D: Deciding>(
-        &self,
-        number: u64,
-        values: &[Sorted],
-        data: &mut D,
-    ) -> Result<Derivation, StepRefusal>
-        requires menu { IsKeptMenu (D.known_data data.old).signature self.now.menu }
-        requires given { AreGiven (D.known_data data.old).signature values.now }
-        ensures chosen { MatchResult result
-            (IsChosenEntry (D.known_data data.old) (D.canon data.old) self.now.menu number
-            values.now)
-            (λ refusal. (spec : Spec) → TellsStep (step_refusal
-            (basis_over (D.known_data data.old) (D.canon data.old) spec)
-            (entries_in self.now.menu) number (terms_of values.now)) refusal) }
-        ensures same_known { KeepsData D.known_data D.canon data.old data.new }
-    {
-        let entry = counted_entry(&self.menu, number, values.len())?;
-        check_values(entry, values, data)?;
-        // The derivation is a copy of the shape, made by recursion.
-        checked_depth(&entry.shape)?;
-        Ok(entry.derivation(values, data)?)
-    }
-
     /// Drops the last step, if there is one.
     pub fn undo(&mut self) -> bool
         ensures undone { IsUndone result (progress_of self.old) (progress_of self.new) }
@@ -237,32 +225,39 @@ impl Course {
     }
 }
 
-// The move of a derivation that has no fault.
-#[tactic(auto, using(crate::proofs::CourseLemmas::no_fault))]
+// The move of the derivation of the entry with these values, which has no fault where they meet the
+// entry. Where it has one, the first condition that does not hold is looked for.
 fn moved<D: Deciding>(
     spec: &Spec,
     state: &State,
+    entry: &Entry,
+    values: &[Sorted],
     derivation: &Derivation,
     data: &mut D,
-) -> Result<(Label, State), NoMemory>
+) -> Result<(Label, State), StepRefusal>
     requires over { IsSpecOver (D.known_data data.old).signature spec.now }
     requires state { IsStateOf (D.known_data data.old).signature spec.now state.now }
     requires closed { IsClosedNode state.now.node }
-    requires leaves { AreTermsOf (D.known_data data.old).signature
-        (profiles_of derivation.now.leaves.items) }
-    requires free { fault_of (D.known_data data.old) (D.canon data.old)
+    requires entry { IsEntryOf (D.known_data data.old).signature entry.now }
+    requires given { AreGiven (D.known_data data.old).signature values.now }
+    requires derived { IsDerivationFor (D.known_data data.old) (D.canon data.old) entry.now
+        values.now derivation.now }
+    requires free { Meets (D.known_data data.old) (plain_entry entry.now) (terms_of values.now)
+        → fault_of (D.known_data data.old) (D.canon data.old)
         (specification_of spec.now).processes (state_of state.now) (derivation_of derivation.now)
         ≡ None }
-    ensures answer { IfOk result (λ made.
-        IsTaken (ground_of (D.known_data data.old) (D.canon data.old) spec.now)
-        state.now derivation.now made.0 made.1) }
+    ensures answer { MatchResult result
+        (λ made. IsTaken (ground_of (D.known_data data.old) (D.canon data.old) spec.now)
+        state.now derivation.now made.0 made.1)
+        (TellsStep (value_refusal (D.known_data data.old).signature (D.canon data.old)
+        (Some (plain_entry entry.now)) (terms_of values.now))) }
     ensures same_known { KeepsData D.known_data D.canon data.old data.new }
 {
     match take(spec, state, derivation, data) {
         Ok(moved) => Ok(moved),
-        Err(StepFault::NoMemory) => Err(NoMemory),
-        Err(StepFault::NotFitting { .. }) => unreachable!(),
-        Err(StepFault::BadValue { .. }) => unreachable!(),
-        Err(StepFault::Unmet { .. }) => unreachable!(),
+        Err(fault) => match fault {
+            StepFault::NoMemory => Err(StepRefusal::NoMemory),
+            _ => Err(unmet_refusal(entry, values, data)?),
+        },
     }
 }

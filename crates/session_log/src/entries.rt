@@ -1,6 +1,7 @@
-//! The entry of a step, and whether values fit it.
+//! The entry of a step, the derivation that values make of it, and whether they fit it.
 
 ghost use Rattle.behaviour_semantics.specs.Menu.{Meets};
+ghost use Rattle.behaviour_semantics.specs.Rule.{AreValues};
 ghost use Rattle.behaviour_tree.specs.BehaviourTerms.{profiles_of};
 ghost use Rattle.behaviour_tree.specs.BehaviourView.{terms_of};
 ghost use Rattle.behaviour_tree.specs.Over.{AreTermsOf};
@@ -12,13 +13,16 @@ ghost use Rattle.session_histories.specs.Refusal.{
   sort_refusal,
   value_refusal,
 };
-ghost use Rattle.session_log.specs.Entries.{AreGiven, IsEntryAt, sort_told};
+ghost use Rattle.session_log.specs.Entries.{AreGiven, IsDerivationFor, IsEntryAt, sort_told};
 ghost use Rattle.session_log.specs.RefusalView.{TellsStep};
-ghost use Rattle.std.specs.Prelude.{◌≡◌, ℕ, MatchResult, Some, length};
+ghost use Rattle.std.specs.Prelude.{◌≡◌, ℕ, IfOk, MatchResult, Some, length};
 
 use crate::refusals::StepRefusal;
+use behaviour_tree::Derivation;
+use lotos_base::NoMemory;
 use menu_builder::{Entry, Menu};
 use sort_terms::{Deciding, Sorted};
+use step_taker::depths::checked_depth;
 
 /// The entry with this number from 1, for which so many values are given.
 #[tactic(auto, using(crate::proofs::EntryLemmas::miscounted, crate::proofs::EntryLemmas::well_counted))]
@@ -57,18 +61,18 @@ fn numbered_entry(menu: &Menu, number: u64) -> Result<&Entry, StepRefusal>
     }
 }
 
-/// Refuses values, of which there are as many as the entry has variables, for the first one of
-/// another sort, or else for the first condition that does not hold.
-pub fn check_values<D: Deciding>(
+/// The derivation of the entry with these values, of which there are as many as it has variables.
+/// Refuses the first value of another sort. Whether the values meet the entry is not asked.
+pub fn derivation_for<D: Deciding>(
     entry: &Entry,
     values: &[Sorted],
     data: &mut D,
-) -> Result<(), StepRefusal>
+) -> Result<Derivation, StepRefusal>
     requires over { IsEntryOf (D.known_data data.old).signature entry.now }
     requires given { AreGiven (D.known_data data.old).signature values.now }
     requires counted { length values.now ≡ length entry.now.vars.items }
-    ensures checked { MatchResult result
-        (λ _. Meets (D.known_data data.old) (plain_entry entry.now) (terms_of values.now))
+    ensures derived { MatchResult result
+        (IsDerivationFor (D.known_data data.old) (D.canon data.old) entry.now values.now)
         (TellsStep (value_refusal (D.known_data data.old).signature (D.canon data.old)
         (Some (plain_entry entry.now)) (terms_of values.now))) }
     ensures same_known { KeepsData D.known_data D.canon data.old data.new }
@@ -76,9 +80,31 @@ pub fn check_values<D: Deciding>(
     if let Some(variable) = other_sort(&entry.vars, values) {
         return Err(StepRefusal::ValueSort { variable });
     }
+    // The derivation is a copy of the shape, made by recursion.
+    checked_depth(&entry.shape)?;
+    Ok(entry.derivation(values, data)?)
+}
+
+/// Why values of the sorts of the variables that do not meet the entry are refused: the first
+/// condition that does not hold.
+pub fn unmet_refusal<D: Deciding>(
+    entry: &Entry,
+    values: &[Sorted],
+    data: &mut D,
+) -> Result<StepRefusal, NoMemory>
+    requires over { IsEntryOf (D.known_data data.old).signature entry.now }
+    requires given { AreGiven (D.known_data data.old).signature values.now }
+    requires sorted { AreValues (D.known_data data.old).signature entry.now.vars.items
+        (terms_of values.now) }
+    requires unmet { Meets (D.known_data data.old) (plain_entry entry.now) (terms_of values.now)
+        → ⊥ }
+    ensures told { IfOk result (TellsStep (value_refusal (D.known_data data.old).signature
+        (D.canon data.old) (Some (plain_entry entry.now)) (terms_of values.now))) }
+    ensures same_known { KeepsData D.known_data D.canon data.old data.new }
+{
     match entry.unmet(values, data)? {
-        None => Ok(()),
-        Some((left, right)) => Err(StepRefusal::Unmet { left, right }),
+        Some((left, right)) => Ok(StepRefusal::Unmet { left, right }),
+        None => unreachable!(),
     }
 }
 

@@ -1,6 +1,7 @@
 pub mod Operations
 pub mod ProfiledTerm
 pub mod ProfiledTermLaws
+pub mod TwinMarks
 pub mod SignatureLemmas
 pub mod SignatureView
 pub mod TermView

@@ -15,7 +15,7 @@ use Rattle.lotos_lexer.specs.Pieces.{piece_at}
 use Rattle.lotos_lexer.specs.Tokens.{Lexed, Tokens, BadByte, OpenComment, with_token, behind, behind_all, token_at, list_open_behind, cut}
 use Rattle.lotos_lexer.proofs.CuttingLemmas.{cut-blank, cut-comment, cut-token, cut-unclosed, cut-nothing}
 use Rattle.specification_laws.specs.LongestTokens.{IsToken, a_word, a_digit_name, a_run, a_fixed, closing_gates}
-use Rattle.specification_laws.specs.Cuttings.{Part, a_blank, a_comment, a_token, part_bytes, all_bytes, Tells, IsOpen, Stands, Ending, at_the_end, at_a_bad_byte, at_an_open_comment, Ends, IsCutting, TextsHaveOneCutting, line_feeds, on_line, place_behind, tokens_behind, lexed_as, TokensAreOfCuttings, ClosingSignsClose}
+use Rattle.specification_laws.specs.Cuttings.{Part, a_blank, a_comment, a_token, part_bytes, all_bytes, TellsOpen, HasOpenGates, Stands, Ending, at_the_end, at_a_bad_byte, at_an_open_comment, Ends, IsCutting, TextsHaveOneCutting, line_feeds, on_line, place_behind, tokens_behind, lexed_as, TokensAreOfCuttings, ClosingSignsClose}
 use Rattle.specification_laws.proofs.LongestLemmas.{fails, all_fixed, later_row, begins_so}
 use Rattle.specification_laws.proofs.CommentLemmas.{rest_of}
 use Rattle.specification_laws.proofs.PartLemmas.{piece_of, stands_piece, bad_piece, open_piece, Begins, with_part, with_fault, begins, stands_long, same_part}
@@ -95,7 +95,7 @@ never_in : (part : Part) (inner after : List Part) → [] ≡ inner ++ (part ∷
 never_in part [] after same = cc same
 never_in part (i ∷ inner) after same = cc same
 
-has_cutting : (most : ℕ) (open_list : Bool) (before : List Part) (text : List ℕ) → length text ≤ most → Tells open_list before
+has_cutting : (most : ℕ) (open_list : Bool) (before : List Part) (text : List ℕ) → length text ≤ most → TellsOpen open_list before
     → HasCutting before text
 has_cutting zero open_list before [] few told = record {
   parts = [];
@@ -108,7 +108,7 @@ has_cutting (suc most) open_list before text few told =
     by (begins open_list before text told) (λ opened parts bytes less is. has_cutting most opened parts bytes less is)
   where
     by : Begins open_list before text
-        → ((opened : Bool) (parts : List Part) (bytes : List ℕ) → length bytes ≤ most → Tells opened parts → HasCutting parts bytes)
+        → ((opened : Bool) (parts : List Part) (bytes : List ℕ) → length bytes ≤ most → TellsOpen opened parts → HasCutting parts bytes)
         → HasCutting before text
     by (with_fault ending ends) below = record {
       parts = [];
@@ -150,7 +150,7 @@ part_not_open (a_comment bytes) is = cc is
 part_not_open (a_token kind bytes) is = cc is
 
 -- where a part stands, the text has not ended
-not_ended : (open_list : Bool) (before : List Part) (part : Part) (rest : List ℕ) (ending : Ending) → Tells open_list before
+not_ended : (open_list : Bool) (before : List Part) (part : Part) (rest : List ℕ) (ending : Ending) → TellsOpen open_list before
     → Stands before part rest → Ends before (part_bytes part ++ rest) ending → ⊥
 not_ended open_list before part rest at_the_end told stands ends =
     let long = stands_long before part rest stands in
@@ -164,7 +164,8 @@ not_ended open_list before part rest at_an_open_comment told stands ends =
     (sym (stands_piece open_list before part rest told stands) ∙ open_piece open_list (part_bytes part ++ rest) ends)
 
 -- a text ends in one way
-one_end : (open_list : Bool) (before : List Part) (text : List ℕ) (ending end : Ending) → Tells open_list before → Ends before text ending
+one_end : (open_list : Bool) (before : List Part) (text : List ℕ) (ending end : Ending) → TellsOpen open_list before
+    → Ends before text ending
     → Ends before text end → end ≡ ending
 one_end open_list before text at_the_end at_the_end told ends also = refl
 one_end open_list before text at_the_end at_a_bad_byte told ends also = absurd (also.some ends)
@@ -182,7 +183,7 @@ abbrev AreSame : List Part → List ℕ → Ending → List Part → List ℕ �
 AreSame parts rest ending others left end = (others ≡ parts) × (left ≡ rest) × (end ≡ ending)
 
 one_cutting : (open_list : Bool) (before : List Part) (text : List ℕ) (parts : List Part) (rest : List ℕ) (ending : Ending)
-    (others : List Part) (left : List ℕ) (end : Ending) → Tells open_list before → IsCutFrom before text parts rest ending
+    (others : List Part) (left : List ℕ) (end : Ending) → TellsOpen open_list before → IsCutFrom before text parts rest ending
     → IsCutFrom before text others left end → AreSame parts rest ending others left end
 one_cutting open_list before text [] rest ending [] left end told is also =
     let nil = append-nil before in
@@ -218,7 +219,7 @@ one_cutting open_list before text (part ∷ parts) rest ending (other ∷ others
     (told_behind open_list before part (all_bytes parts ++ rest) told stands) later moved in
     (ap (λ (p : Part). p ∷ others) same.0 ∙ ap (λ (ps : List Part). part ∷ ps) more.0, more.1, more.2)
 
-nothing_open : Tells false []
+nothing_open : TellsOpen false []
 nothing_open opened = never_in _ opened.before opened.after opened.opened
 
 pub texts_have_one_cutting : TextsHaveOneCutting
@@ -334,7 +335,7 @@ module _ (number : ℕ) (bytes : List ℕ) where
       ap (λ (bs : List ℕ). OpenComment (place_behind number bs)) (append_assoc bytes spelled (all_bytes parts))
 
   -- where the parts end, so does the lexer
-  end_cut : (open_list : Bool) (before : List Part) (rest : List ℕ) (ending : Ending) → Tells open_list before → Ends before rest ending
+  end_cut : (open_list : Bool) (before : List Part) (rest : List ℕ) (ending : Ending) → TellsOpen open_list before → Ends before rest ending
       → cut number 0 open_list (position_behind bytes) rest ≡ lexed_from number bytes [] ending
   end_cut open_list before rest at_the_end told ends = ap (cut number 0 open_list (position_behind bytes)) ends
   end_cut open_list before rest at_a_bad_byte told ends =
@@ -355,7 +356,7 @@ module _ (number : ℕ) (bytes : List ℕ) where
 
   -- the lexer goes on behind a part
   part_cut : (open_list : Bool) (before : List Part) (part : Part) (rest : List ℕ) (parts : List Part) (ending : Ending)
-      → Tells open_list before → Stands before part rest
+      → TellsOpen open_list before → Stands before part rest
       → cut number 0 (open_after part open_list) (position_behind (bytes ++ part_bytes part)) rest
       ≡ lexed_from number (bytes ++ part_bytes part) parts ending
       → cut number 0 open_list (position_behind bytes) (part_bytes part ++ rest) ≡ lexed_from number bytes (part ∷ parts) ending
@@ -390,7 +391,7 @@ module _ (number : ℕ) (bytes : List ℕ) where
           ∙ from_token kind spelled parts ending)
 
 cut_from : (number : ℕ) (bytes : List ℕ) (open_list : Bool) (before : List Part) (text : List ℕ) (parts : List Part) (rest : List ℕ)
-    (ending : Ending) → Tells open_list before → IsCutFrom before text parts rest ending
+    (ending : Ending) → TellsOpen open_list before → IsCutFrom before text parts rest ending
     → cut number 0 open_list (position_behind bytes) text ≡ lexed_from number bytes parts ending
 cut_from number bytes open_list before text [] rest ending told is =
     ap (cut number 0 open_list (position_behind bytes)) is.made_up
@@ -439,13 +440,13 @@ closing_signs_close text parts rest ending is before part after same = record { 
     stands : Stands before part bytes
     stands = is.each before part after same
 
-    only : part ≡ a_token GATES_CLOSE (codes "]|") → IsOpen before
+    only : part ≡ a_token GATES_CLOSE (codes "]|") → HasOpenGates before
     only closes =
         let here = subst (λ (p : Part). Stands before p bytes) closes stands in
-        subst (λ (o : Bool). Tells o before)
+        subst (λ (o : Bool). TellsOpen o before)
         (closing_only here.open_list GATES_CLOSE (codes "]|") refl refl here.longest.token) here.told
 
-    always : begins_with (codes "]|") (part_bytes part ++ bytes) ≡ true → IsOpen before → part ≡ a_token GATES_CLOSE (codes "]|")
+    always : begins_with (codes "]|") (part_bytes part ++ bytes) ≡ true → HasOpenGates before → part ≡ a_token GATES_CLOSE (codes "]|")
     always starts opened =
         let parted = rest_of (codes "]|") (part_bytes part ++ bytes) (begins_so (codes "]|") (part_bytes part ++ bytes) starts) in
         let is_it : piece_at true (part_bytes part ++ bytes) ≡ piece.Token (lexeme_of GATES_CLOSE 2) = ap (piece_at true) parted in

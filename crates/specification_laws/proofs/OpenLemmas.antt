@@ -11,7 +11,7 @@ use Rattle.std.proofs.Math.Seq.{take-append_seam}
 use Rattle.lotos_lexer.specs.declared.kinds.TheConstants.{GATES_OPEN}
 use Rattle.lotos_lexer.specs.Tokens.{list_open_behind}
 use Rattle.specification_laws.specs.LongestTokens.{IsToken}
-use Rattle.specification_laws.specs.Cuttings.{Part, a_blank, a_comment, a_token, has_no_bracket, IsOpen, Tells, Stands}
+use Rattle.specification_laws.specs.Cuttings.{Part, a_blank, a_comment, a_token, has_no_bracket, HasOpenGates, TellsOpen, Stands}
 use Rattle.specification_laws.proofs.LongestLemmas.{fails}
 use Rattle.specification_laws.proofs.BracketLemmas.{is_no_bracket, closes, fits, token_fits}
 
@@ -58,7 +58,7 @@ both false other h k = h
 abbrev Leaves : Part → Type 0
 Leaves part = (has_no_bracket part ≡ true) × ((bytes : List ℕ) → part ≡ a_token GATES_OPEN bytes → ⊥)
 
-still_open : (before : List Part) (part : Part) → Leaves part → IsOpen before → IsOpen (before ++ (part ∷ []))
+still_open : (before : List Part) (part : Part) → Leaves part → HasOpenGates before → HasOpenGates (before ++ (part ∷ []))
 still_open before part leaves opened = record {
   before = opened.before;
   after = opened.after ++ (part ∷ []);
@@ -69,11 +69,11 @@ still_open before part leaves opened = record {
       (both (has_no_bracket part) true leaves.0 refl);
 }
 
-open_before : (before : List Part) (part : Part) → Leaves part → IsOpen (before ++ (part ∷ [])) → IsOpen before
+open_before : (before : List Part) (part : Part) → Leaves part → HasOpenGates (before ++ (part ∷ [])) → HasOpenGates before
 open_before before part leaves opened =
     by (end_parted before part opened.before (a_token GATES_OPEN (codes "|[")) opened.after opened.opened)
   where
-    by : EndParted before part opened.before (a_token GATES_OPEN (codes "|[")) opened.after → IsOpen before
+    by : EndParted before part opened.before (a_token GATES_OPEN (codes "|[")) opened.after → HasOpenGates before
     by (at_last is) = absurd (leaves.1 (codes "|[") is)
     by (earlier inner ends is) = record {
       before = opened.before;
@@ -85,15 +85,15 @@ open_before before part leaves opened =
           ∙ (ap (list_all has_no_bracket) (sym ends) ∙ opened.still))).0;
     }
 
-left_so : (open_list : Bool) (before : List Part) (part : Part) → Leaves part → Tells open_list before
-    → Tells open_list (before ++ (part ∷ []))
+left_so : (open_list : Bool) (before : List Part) (part : Part) → Leaves part → TellsOpen open_list before
+    → TellsOpen open_list (before ++ (part ∷ []))
 left_so true before part leaves told = still_open before part leaves told
 left_so false before part leaves told = λ opened. told (open_before before part leaves opened)
 
-opened_now : (before : List Part) → IsOpen (before ++ (a_token GATES_OPEN (codes "|[") ∷ []))
+opened_now : (before : List Part) → HasOpenGates (before ++ (a_token GATES_OPEN (codes "|[") ∷ []))
 opened_now before = record { before = before; after = []; opened = refl; still = refl }
 
-closed_now : (before : List Part) (part : Part) → has_no_bracket part ≡ false → IsOpen (before ++ (part ∷ [])) → ⊥
+closed_now : (before : List Part) (part : Part) → has_no_bracket part ≡ false → HasOpenGates (before ++ (part ∷ [])) → ⊥
 closed_now before part bracket opened =
     by (end_parted before part opened.before (a_token GATES_OPEN (codes "|[")) opened.after opened.opened)
   where
@@ -110,17 +110,18 @@ open_after (a_blank byte) open_list = open_list
 open_after (a_comment bytes) open_list = open_list
 open_after (a_token kind bytes) open_list = list_open_behind kind open_list
 
-token_tells : (open_list : Bool) (before : List Part) (kind : ℕ) (bytes : List ℕ) → Tells open_list before
-    → fits (kind == GATES_OPEN) (closes kind) bytes ≡ true → Tells (list_open_behind kind open_list) (before ++ (a_token kind bytes ∷ []))
+token_tells : (open_list : Bool) (before : List Part) (kind : ℕ) (bytes : List ℕ) → TellsOpen open_list before
+    → fits (kind == GATES_OPEN) (closes kind) bytes ≡ true
+    → TellsOpen (list_open_behind kind open_list) (before ++ (a_token kind bytes ∷ []))
 token_tells open_list before kind bytes told fit = by (kind == GATES_OPEN) refl (closes kind) refl fit
   where
     by : (opening : Bool) → (kind == GATES_OPEN) ≡ opening → (closing : Bool) → closes kind ≡ closing → fits opening closing bytes ≡ true
-        → Tells (if opening then true else if closing then false else open_list) (before ++ (a_token kind bytes ∷ []))
+        → TellsOpen (if opening then true else if closing then false else open_list) (before ++ (a_token kind bytes ∷ []))
     by true is closing is_closing fit =
         let same : kind ≡ GATES_OPEN = (Decides-eqb kind GATES_OPEN).0 is in
         let spelled : bytes ≡ codes "|[" = (bytes_eq-Decides bytes (codes "|[")).0 fit in
-        subst (λ (k : ℕ). IsOpen (before ++ (a_token k bytes ∷ []))) (sym same)
-        (subst (λ (bs : List ℕ). IsOpen (before ++ (a_token GATES_OPEN bs ∷ []))) (sym spelled) (opened_now before))
+        subst (λ (k : ℕ). HasOpenGates (before ++ (a_token k bytes ∷ []))) (sym same)
+        (subst (λ (bs : List ℕ). HasOpenGates (before ++ (a_token GATES_OPEN bs ∷ []))) (sym spelled) (opened_now before))
     by false is true is_closing fit =
         λ opened. closed_now before (a_token kind bytes) (not-true (list_all is_no_bracket bytes) fit) opened
     by false is false is_closing fit =
@@ -134,8 +135,9 @@ token_tells open_list before kind bytes told fit = by (kind == GATES_OPEN) refl 
         other_kind : (others : List ℕ) → a_token kind bytes ≡ a_token GATES_OPEN others → ⊥
         other_kind others same = fails (kind == GATES_OPEN) (ap (λ (k : ℕ). k == GATES_OPEN) (ap kind_of same)) is
 
-pub told_behind : (open_list : Bool) (before : List Part) (part : Part) (rest : List ℕ) → Tells open_list before → Stands before part rest
-    → Tells (open_after part open_list) (before ++ (part ∷ []))
+pub told_behind : (open_list : Bool) (before : List Part) (part : Part) (rest : List ℕ) → TellsOpen open_list before
+    → Stands before part rest
+    → TellsOpen (open_after part open_list) (before ++ (part ∷ []))
 told_behind open_list before (a_blank byte) rest told stands =
     left_so open_list before (a_blank byte) (refl, λ bytes same. cc same) told
 told_behind open_list before (a_comment inside) rest told stands =

@@ -9,7 +9,7 @@ use Rattle.lotos_lexer.specs.Lexemes.{lexeme_of, lexeme_at}
 use Rattle.lotos_lexer.specs.Pieces.{close_at, comment, token, piece_at}
 use Rattle.lotos_lexer.proofs.Spans.{LexemeSpans, lexeme_at_spans}
 use Rattle.specification_laws.specs.LongestTokens.{IsToken, IsLongest, HasNoToken, IsTokenTaken}
-use Rattle.specification_laws.specs.Cuttings.{Part, a_blank, a_comment, a_token, part_bytes, Tells, IsComment, BeginsPlainly, Stands, IsBadByte, IsOpenComment, Ending, at_the_end, at_a_bad_byte, at_an_open_comment, Ends}
+use Rattle.specification_laws.specs.Cuttings.{Part, a_blank, a_comment, a_token, part_bytes, TellsOpen, IsComment, BeginsPlainly, Stands, IsBadByte, IsOpenComment, Ending, at_the_end, at_a_bad_byte, at_an_open_comment, Ends}
 use Rattle.specification_laws.proofs.WordLemmas.{taken_long}
 use Rattle.specification_laws.proofs.LongestLemmas.{begins_so, tokens_are_longest}
 use Rattle.specification_laws.proofs.CommentLemmas.{rest_of, close_of, close_found, close_none}
@@ -39,7 +39,7 @@ none_taken open_list bytes none = by (lexeme_at open_list bytes) (tokens_are_lon
     by (Some lexeme) taken = absurd (none lexeme.length lexeme.kind taken.within taken.token)
 
 -- what is told of parts is one
-one_told : (one other : Bool) (parts : List Part) → Tells one parts → Tells other parts → one ≡ other
+one_told : (one other : Bool) (parts : List Part) → TellsOpen one parts → TellsOpen other parts → one ≡ other
 one_told true true parts told also = refl
 one_told true false parts told also = absurd (also told)
 one_told false true parts told also = absurd (told also)
@@ -74,7 +74,8 @@ comment_piece open_list bytes rest is =
         let inside = length-append is.inner (codes "*)") in
         omega (arith, all, inside)
 
-pub stands_piece : (open_list : Bool) (before : List Part) (part : Part) (rest : List ℕ) → Tells open_list before → Stands before part rest
+pub stands_piece : (open_list : Bool) (before : List Part) (part : Part) (rest : List ℕ) → TellsOpen open_list before
+    → Stands before part rest
     → piece_at open_list (part_bytes part ++ rest) ≡ piece_of part
 stands_piece open_list before (a_blank byte) rest told stands =
     ap (λ (b : Bool). if b then piece.Blank
@@ -87,7 +88,7 @@ stands_piece open_list before (a_token kind bytes) rest told stands =
     (subst (λ (o : Bool). IsLongest o (bytes ++ rest) kind (length bytes)) (one_told stands.open_list open_list before stands.told told)
     stands.longest))
 
-pub bad_piece : (open_list : Bool) (before : List Part) (rest : List ℕ) → Tells open_list before → IsBadByte before rest
+pub bad_piece : (open_list : Bool) (before : List Part) (rest : List ℕ) → TellsOpen open_list before → IsBadByte before rest
     → piece_at open_list rest ≡ piece.Nothing
 bad_piece open_list before rest told bad =
     plain_piece open_list rest bad.plain
@@ -109,7 +110,7 @@ pub data Begins (open_list : Bool) (before : List Part) (text : List ℕ) : Type
   with_part : (part : Part) (rest : List ℕ) → text ≡ part_bytes part ++ rest → Stands before part rest → Begins open_list before text
   with_fault : (ending : Ending) → Ends before text ending → Begins open_list before text
 
-pub begins : (open_list : Bool) (before : List Part) (text : List ℕ) → Tells open_list before → Begins open_list before text
+pub begins : (open_list : Bool) (before : List Part) (text : List ℕ) → TellsOpen open_list before → Begins open_list before text
 begins open_list before [] told = with_fault at_the_end refl
 begins open_list before (byte ∷ bytes) told =
     by_blank (is_blank byte) refl

@@ -35,16 +35,16 @@ has_no_bracket (a_comment bytes) = true
 has_no_bracket (a_token kind bytes) = list_all (λ byte. not (byte == 93)) bytes
 
 -- a list of gates is open behind these parts: `|[` is a token among them, and no token behind it has a `]`
-pub record IsOpen (parts : List Part) : Type 0 where
+pub record HasOpenGates (parts : List Part) : Type 0 where
   pub before : List Part
   pub after : List Part
   pub opened : parts ≡ before ++ (a_token GATES_OPEN (codes "|[") ∷ after)
   pub still : list_all has_no_bracket after ≡ true
 
 -- whether a list of gates is open behind these parts
-abbrev pub Tells : Bool → List Part → Type 0
-Tells true parts = IsOpen parts
-Tells false parts = ¬ IsOpen parts
+abbrev pub TellsOpen : Bool → List Part → Type 0
+TellsOpen true parts = HasOpenGates parts
+TellsOpen false parts = ¬ HasOpenGates parts
 
 -- ---- What begins at a place
 
@@ -64,7 +64,7 @@ pub record BeginsPlainly (bytes : List ℕ) : Type 0 where
 pub record IsTokenHere (before : List Part) (kind count : ℕ) (bytes : List ℕ) : Type 0 where
   pub plain : BeginsPlainly bytes
   pub open_list : Bool
-  pub told : Tells open_list before
+  pub told : TellsOpen open_list before
   pub longest : IsLongest open_list bytes kind count
 
 -- the part stands behind those before it, and these bytes behind the part
@@ -80,7 +80,7 @@ pub record IsBadByte (before : List Part) (rest : List ℕ) : Type 0 where
   pub some : rest ≢ []
   pub plain : BeginsPlainly rest
   pub open_list : Bool
-  pub told : Tells open_list before
+  pub told : TellsOpen open_list before
   pub none : HasNoToken open_list rest
 
 -- a comment without an end: `(*`, and no `*)` behind it
@@ -163,8 +163,8 @@ TokensAreOfCuttings = (number : ℕ) (text : List ℕ) (parts : List Part) (rest
 
 -- a part is the sign `]|` exactly where these bytes begin and a list of gates is open
 pub record IsClosingSign (before : List Part) (part : Part) (bytes : List ℕ) : Type 0 where
-  pub only : part ≡ a_token GATES_CLOSE (codes "]|") → IsOpen before
-  pub always : begins_with (codes "]|") bytes ≡ true → IsOpen before → part ≡ a_token GATES_CLOSE (codes "]|")
+  pub only : part ≡ a_token GATES_CLOSE (codes "]|") → HasOpenGates before
+  pub always : begins_with (codes "]|") bytes ≡ true → HasOpenGates before → part ≡ a_token GATES_CLOSE (codes "]|")
 
 -- so `]|` is a token exactly at the first `]` outside comments behind the last `|[`, where a `|` follows it
 abbrev pub ClosingSignsClose : Type 0

@@ -6,7 +6,7 @@ use Rattle.lotos_base.specs.Signature.{Signature}
 use Rattle.behaviour_scopes.specs.Places.{places_written}
 use Rattle.syntax_trees.specs.WrittenDefinition.{WrittenSpecification, inners_of}
 use Rattle.behaviour_semantics.specs.Behaviour.{Behaviour, Process, Specification}
-use Rattle.behaviour_scopes.specs.ResolverState.{State, nothing_known}
+use Rattle.behaviour_scopes.specs.ResolverState.{State, nothing_declared}
 use Rattle.scope_parts.specs.ScopeFault.{ScopeFault}
 use Rattle.scope_parts.specs.Resolution.{Resolution, resolved, faulty}
 use Rattle.scope_parts.specs.Scope.{Callable}
@@ -155,5 +155,5 @@ signature_behind signature text first seen behind start are later =
     ap (λ (p : Point). p.signature) later ∙ signature_outside signature text first seen start are
 
 -- a resolver that knows nothing yet
-pub starts : (one other : Signature) (state : State) → state ≡ nothing_known one → one ≡ other → point_of state ≡ before_text other
+pub starts : (one other : Signature) (state : State) → state ≡ nothing_declared one → one ≡ other → point_of state ≡ before_text other
 starts one other state is same = ap point_of is ∙ ap before_text same

@@ -19,7 +19,7 @@ use Rattle.step_parts.specs.TargetNodes.{HasClosedParts}
 use Rattle.step_taker.specs.Rows.{alone_row, disabling_row, enabling_row, hiding_row, passing_row, relabelling_row}
 use Rattle.step_taker.specs.Stands.{HasRow, Row, Stand}
 use Rattle.step_taker.specs.Taken.{Ground, setting_on}
-use Rattle.step_taker.specs.Walked.{IsBelow, IsMoved}
+use Rattle.step_taker.specs.Walked.{IsPartBelow, IsMoved}
 use Rattle.step_taker.specs.declared.moved.Moved.{Moved}
 use Rattle.step_taker.proofs.WalkLemmas.{nodes_below, walked_made}
 
@@ -34,7 +34,7 @@ pub same_values : (signature : Signature) (made given : Label) → made ≡ give
     → AreTermsOf signature (label_profiles made)
 same_values signature made given e h = subst (λ (l : Label). AreTermsOf signature (label_profiles l)) (sym e) h
 
-module _ (ground : Ground) (leaves : List Term) (whole part : Stand) (below : IsBelow whole part) (moved : Moved)
+module _ (ground : Ground) (leaves : List Term) (whole part : Stand) (below : IsPartBelow whole part) (moved : Moved)
     (m : IsMoved ground leaves part moved) (made : Moved) (behind : made.behind ≡ moved.behind) (over : IsOver ground made) where
   by_rule : (row : Row) → HasRow (setting_on ground) leaves whole part row → row.own ≡ None → (n : Move)
       → row.label (label_of moved.label) ≡ None → row.after m.move ≡ Some n → label_of made.label ≡ n.label

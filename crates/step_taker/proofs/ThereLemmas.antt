@@ -13,7 +13,7 @@ use Rattle.step_parts.specs.declared.faults.StepFault.TheVariants as step_fault
 use Rattle.step_parts.proofs.CheckedLemmas.{no_memory, unless_more}
 use Rattle.step_taker.specs.Stands.{fault_at, stand, Stand}
 use Rattle.step_taker.specs.Taken.{Ground, setting_on}
-use Rattle.step_taker.specs.Walked.{IsBelow, IsFirstStepFault, IsMoved, IsThere, IsWalked}
+use Rattle.step_taker.specs.Walked.{IsPartBelow, IsFirstStepFault, IsMoved, IsThere, IsWalked}
 use Rattle.step_taker.specs.declared.moved.Moved.{Moved}
 use Rattle.step_taker.proofs.MisfitLemmas.{faults_of_copies, misfits, moves_of_copies}
 use Rattle.step_taker.proofs.WalkLemmas.{same_place, told_fault}
@@ -42,7 +42,7 @@ part_there place b c d s t u at below there e f node k leaf =
     record { behaviour = e; same_shape = f; node = node place.number there.node; leaf = leaf }
 
 -- a part that stands one node below is below
-pub is_below : (b c : Behaviour) (s t : plain.Shape) (n k : ℕ) → size s ≡ suc (size t) → IsBelow (stand b s n k) (stand c t (suc n) k)
+pub is_below : (b c : Behaviour) (s t : plain.Shape) (n k : ℕ) → size s ≡ suc (size t) → IsPartBelow (stand b s n k) (stand c t (suc n) k)
 is_below b c s t n k e = record { number = refl; sizes = e; next = refl }
 
 module _ (ground : Ground) (leaves : List Term) (place : Stand) (b : Behaviour) (s : plain.Shape) (at : At) (there : IsThere place b s

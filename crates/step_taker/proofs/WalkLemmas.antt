@@ -16,7 +16,7 @@ use Rattle.step_parts.specs.declared.faults.StepFault.{StepFault}
 use Rattle.step_parts.proofs.CheckedLemmas.{unless_more, unless_told}
 use Rattle.step_taker.specs.Stands.{fault_at, HasRow, Row, stand, Stand}
 use Rattle.step_taker.specs.Taken.{Ground, setting_on}
-use Rattle.step_taker.specs.Walked.{IsBelow, IsFirstStepFault, IsMoved, IsWalked}
+use Rattle.step_taker.specs.Walked.{IsPartBelow, IsFirstStepFault, IsMoved, IsWalked}
 use Rattle.step_taker.specs.declared.moved.Moved.{Moved}
 use Rattle.step_taker.proofs.RowLemmas.{label_fault, moved_after, no_fault, own_fault, part_fault}
 
@@ -50,7 +50,7 @@ pub record IsMade (ground : Ground) (whole part : Stand) (moved made : Moved) (m
   pub values : AreTermsOf ground.data_.signature (label_profiles made.label)
 
 -- the nodes of a whole that stands above its part
-pub nodes_below : (whole part : Stand) → IsBelow whole part → whole.number + size whole.shape ≡ part.number + size part.shape
+pub nodes_below : (whole part : Stand) → IsPartBelow whole part → whole.number + size whole.shape ≡ part.number + size part.shape
 nodes_below whole part below = omega (arith, below.number, below.sizes)
 
 module _ (ground : Ground) (leaves : List Term) (whole part : Stand) (row : Row) (has : HasRow (setting_on ground) leaves whole part row)

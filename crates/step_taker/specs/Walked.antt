@@ -65,7 +65,7 @@ IsWalked base leaves place (Ok moved) = IsMoved base leaves place moved
 IsWalked base leaves place (Err fault) = UnlessMemory (IsFirstStepFault base leaves place) fault
 
 -- The part stands one node below the whole, and its leaves begin where those of the whole do.
-pub record IsBelow (whole part : Stand) : Type 0 where
+pub record IsPartBelow (whole part : Stand) : Type 0 where
   pub number : part.number ≡ suc whole.number
   pub sizes : size whole.shape ≡ suc (size part.shape)
   pub next : part.next ≡ whole.next
@@ -74,7 +74,7 @@ pub record IsBelow (whole part : Stand) : Type 0 where
 abbrev pub IsMadeBy : (Ground → Row) → (Ground → Type 0) → At → Moved → Result Moved StepFault → Type 0
 IsMadeBy row Given at moved result =
     (base : Ground) (leaves : List Term) (whole part : Stand) → at.node ≡ kept_number whole.number
-    → HasRow (setting_on base) leaves whole part (row base) → IsBelow whole part → Given base
+    → HasRow (setting_on base) leaves whole part (row base) → IsPartBelow whole part → Given base
     → IsMoved base leaves part moved → IsWalked base leaves whole result
 
 -- The specification and the leaves are over the signature, and so many leaves are there.

@@ -16,7 +16,7 @@ use Rattle.path_order.specs.RuleSides.{sides_of}
 use Rattle.path_order.specs.declared.rule.Rule.{Rule}
 use Rattle.path_order.specs.declared.rules.Rules.{Rules}
 use Rattle.term_rewriter.specs.FirstHead.{first_head, numbered_where}
-use Rattle.term_rewriter.specs.FirstIndexView.{IsBelow, IsKeyBelow}
+use Rattle.term_rewriter.specs.FirstIndexView.{IsBelowNumber, IsKeyBelow}
 use Rattle.term_rewriter.proofs.FirstLemmas.{at_index, rule_over}
 
 -- one rule more
@@ -44,7 +44,7 @@ where_end test n xs have whole past so_far =
 
 -- the operations of a term of a signature are below the number of its operations
 first_below : (signature : Signature) (ts : ProfiledTerms) → AreOf signature ts
-    → IsBelow (length signature.operations) (first_head (all_bare ts))
+    → IsBelowNumber (length signature.operations) (first_head (all_bare ts))
 first_below signature no_profiled_terms h = tt
 first_below signature (profiled_term_then (profiled_variable n s) ts) h = tt
 first_below signature (profiled_term_then (profiled_node g operation us) ts) h =

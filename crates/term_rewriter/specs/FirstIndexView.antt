@@ -17,11 +17,11 @@ abbrev pub HasRoom : FirstIndex → ℕ → Type 0
 HasRoom index count = (length index.open.numbers.items ≡ count) × (length index.firsts.numbers.items ≡ count)
 
 -- the operation has a number below this one, if there is one
-abbrev pub IsBelow : ℕ → Option ℕ → Type 0
-IsBelow count None = Unit {0}
-IsBelow count (Some g) = g < count
+abbrev pub IsBelowNumber : ℕ → Option ℕ → Type 0
+IsBelowNumber count None = Unit {0}
+IsBelowNumber count (Some g) = g < count
 
 -- the operations at the heads of the term and of its first argument have numbers below this one
 abbrev pub IsKeyBelow : ℕ → Term → Type 0
 IsKeyBelow count (variable n s) = Unit {0}
-IsKeyBelow count (node f ts) = (f < count) × IsBelow count (first_head ts)
+IsKeyBelow count (node f ts) = (f < count) × IsBelowNumber count (first_head ts)

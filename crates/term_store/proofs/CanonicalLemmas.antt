@@ -14,9 +14,9 @@ use Rattle.path_order.specs.declared.rules.Rules.{Rules}
 use Rattle.path_order.proofs.RulesLemmas.{rules_have_forms, rules_well_formed}
 use Rattle.term_rewriter.specs.Form.{IsFormOf}
 use Rattle.term_rewriter.proofs.FormLemmas.{form_fits}
-use Rattle.term_store.specs.Canonical.{IsCanonical}
+use Rattle.term_store.specs.Canonical.{NumbersForm}
 use Rattle.term_store.specs.Kept.{kept_at, chosen_form}
-use Rattle.term_store.specs.Numbered.{term_at, TakesIn, IsNumberOf}
+use Rattle.term_store.specs.Numbered.{term_at, TakesIn, IsNumberOfTerm}
 use Rattle.term_store.specs.SharedView.{keys_in}
 use Rattle.term_store.specs.Turns.{AreSound, StaySound}
 use Rattle.term_store.specs.declared.forms.Forms.{Forms}
@@ -33,8 +33,8 @@ numbered_stays rules forms shared t sound of takes =
 
 -- the form that is kept for its number
 pub canonical_form : (rules : Rules) (before : Forms) (shared : SharedTerms) (after : Forms) (t : ProfiledTerm) (n form : ℕ)
-    → AreSound rules before → IsOf (signature_in rules) t → IsNumberOf t (keys_in before.shared) (keys_in shared) n
-    → StaySound rules (with_shared before shared) after → kept_at after.kept.items n ≡ Some form → IsCanonical rules after (bare t) form
+    → AreSound rules before → IsOf (signature_in rules) t → IsNumberOfTerm t (keys_in before.shared) (keys_in shared) n
+    → StaySound rules (with_shared before shared) after → kept_at after.kept.items n ≡ Some form → NumbersForm rules after (bare t) form
 canonical_form rules before shared after t n form sound of numbered stay kept = record {
   within = stay.sound.within n form kept;
   is = stay.sound.chosen n form kept
@@ -45,7 +45,7 @@ canonical_form rules before shared after t n form sound of numbered stay kept = 
 
 -- a term whose number is kept as that of its form is irreducible
 pub own_form : (rules : Rules) (before : Forms) (shared : SharedTerms) (after : Forms) (t : ProfiledTerm) (n form : ℕ)
-    → AreSound rules before → IsOf (signature_in rules) t → IsNumberOf t (keys_in before.shared) (keys_in shared) n
+    → AreSound rules before → IsOf (signature_in rules) t → IsNumberOfTerm t (keys_in before.shared) (keys_in shared) n
     → StaySound rules (with_shared before shared) after → kept_at after.kept.items n ≡ Some form → IsTrue (nat_eq form n)
     → IsNormal (plain_rules_in rules) (bare t)
 own_form rules before shared after t n form sound of numbered stay kept own =
@@ -59,7 +59,7 @@ own_form rules before shared after t n form sound of numbered stay kept own =
 -- ---- Two canonical terms
 
 pub canonical_grows : (rules : Rules) (before after : Forms) (t : Term) (n : ℕ) → StaySound rules before after
-    → IsCanonical rules before t n → IsCanonical rules after t n
+    → NumbersForm rules before t n → NumbersForm rules after t n
 canonical_grows rules before after t n stay is = record {
   within = within_grows (keys_in before.shared) (keys_in after.shared) n stay.grows is.within;
   is = ap bare (grown_stays (signature_in rules) (keys_in before.shared) (keys_in after.shared) n stay.grows is.within) ∙ is.is;
@@ -67,7 +67,7 @@ canonical_grows rules before after t n stay is = record {
 
 -- they are identical exactly where their numbers are
 pub numbers_decide : (rules : Rules) (forms : Forms) (left right : Term) (n m : ℕ) → AreSound rules forms
-    → IsCanonical rules forms left n → IsCanonical rules forms right m → (n ≡ m) ↔ (chosen_form rules left ≡ chosen_form rules right)
+    → NumbersForm rules forms left n → NumbersForm rules forms right m → (n ≡ m) ↔ (chosen_form rules left ≡ chosen_form rules right)
 numbers_decide rules forms left right n m sound one other = (
   (λ same. sym one.is ∙ ap (λ (k : ℕ). bare (term_at (signature_in rules) (keys_in forms.shared) k)) same ∙ other.is),
   (λ same.
@@ -78,7 +78,7 @@ numbers_decide rules forms left right n m sound one other = (
 -- ---- The term of the number
 
 pub canonical_of : (rules : Rules) (forms : Forms) (term : Sorted) (made : ProfiledTerm) (n : ℕ) → AreSound rules forms
-    → IsCanonical rules forms (term_in term) n → made ≡ term_at (signature_in rules) (keys_in forms.shared) n
+    → NumbersForm rules forms (term_in term) n → made ≡ term_at (signature_in rules) (keys_in forms.shared) n
     → IsFormOf (signature_in rules) (plain_rules_in rules) (profiled_in term) made
 canonical_of rules forms term made n sound is same =
     subst (λ (t : ProfiledTerm). IsFormOf (signature_in rules) (plain_rules_in rules) (profiled_in term) t) (sym same)
@@ -88,7 +88,7 @@ canonical_of rules forms term made n sound is same =
     })
 
 pub canonical_fits : (rules : Rules) (forms : Forms) (term : Sorted) (made : ProfiledTerm) (n : ℕ) → AreSound rules forms
-    → IsOf (signature_in rules) (profiled_in term) → IsCanonical rules forms (term_in term) n
+    → IsOf (signature_in rules) (profiled_in term) → NumbersForm rules forms (term_in term) n
     → made ≡ term_at (signature_in rules) (keys_in forms.shared) n → FitsProfiles made
 canonical_fits rules forms term made n sound of is same =
     (form_fits rules term made of (canonical_of rules forms term made n sound is same)).0

@@ -4,7 +4,7 @@ use Rattle.std.proofs.lemmas.List.{length-append, get_or_append_left}
 use Rattle.std.proofs.Math.Seq.{get_or-append_seam}
 use Rattle.lotos_base.specs.Signature.{Signature}
 use Rattle.sort_terms.specs.ProfiledTerm.{ProfiledTerm, ProfiledTerms, profiled_node, profiled_term_then, bare, all_bare}
-use Rattle.term_store.specs.Cells.{nothing, operation_at, members, key_term, with_terms, key_terms, AreBelow, IsCell, AreCells, IsOnce, Grows}
+use Rattle.term_store.specs.Cells.{nothing, operation_at, members, key_term, with_terms, key_terms, AreBelow, IsCell, AreCells, IsOnceEach, Grows}
 
 -- ---- One key more
 
@@ -141,7 +141,7 @@ same_key signature terms i j many (suc m ∷ f ∷ ns) (suc q ∷ g ∷ ms) one 
     let numbers = same_numbers terms i j many ns ms one inside cell.1 other.1 lists in
     λ k. suc (signs k) ∷ heads k ∷ numbers k
 
-below_one : (signature : Signature) (keys : List (List ℕ)) (bound : ℕ) → AreCells 0 keys → IsOnce keys
+below_one : (signature : Signature) (keys : List (List ℕ)) (bound : ℕ) → AreCells 0 keys → IsOnceEach keys
     → (i j : ℕ) → i < bound → i < length keys → j < length keys
     → bare (get_or (key_terms signature keys) i nothing) ≡ bare (get_or (key_terms signature keys) j nothing) → i ≡ j
 below_one signature keys zero cells once i j low inside other same = absurd (omega (arith, low))
@@ -157,7 +157,7 @@ below_one signature keys (suc bound) cells once i j low inside other same =
     (same_key signature terms i j (length keys) (get_or keys i []) (get_or keys j []) one_of other (first_cell_at keys i cells inside)
     (first_cell_at keys j cells other) equal)
 
-pub one_number : (signature : Signature) (keys : List (List ℕ)) → AreCells 0 keys → IsOnce keys → (i j : ℕ) → i < length keys
+pub one_number : (signature : Signature) (keys : List (List ℕ)) → AreCells 0 keys → IsOnceEach keys → (i j : ℕ) → i < length keys
     → j < length keys → bare (get_or (key_terms signature keys) i nothing) ≡ bare (get_or (key_terms signature keys) j nothing) → i ≡ j
 one_number signature keys cells once i j inside other same =
     below_one signature keys (suc i) cells once i j (omega arith) inside other same

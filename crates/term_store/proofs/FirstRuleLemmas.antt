@@ -23,7 +23,7 @@ use Rattle.term_rewriter.specs.declared.first_index.FirstIndex.{FirstIndex}
 use Rattle.term_rewriter.proofs.FirstLemmas.{none_matches_variable, tried_none, plain_at, code_at, left_node}
 use Rattle.term_rewriter.proofs.HeadLemmas.{where_number, where_has, where_rises, headed_is, match_begins, begins_headed, begins_first}
 use Rattle.term_store.specs.Cells.{operation_at, operation_in, members, key_term, key_terms, AreBelow, IsCell, HaveTermsOf}
-use Rattle.term_store.specs.FirstRule.{NoRule, IsFirstRuleAt, MatchesNot, NoneAmong, IsFirstAmong, HasAllRules, IsOpen, BeginsAs, Found, earlier_of}
+use Rattle.term_store.specs.FirstRule.{NoRule, IsFirstRuleAt, MatchesNot, NoneAmong, IsFirstAmong, HasAllRules, IsHeadAlone, BeginsAs, Found, earlier_of}
 use Rattle.term_store.specs.NumberSearch.{number_searched}
 use Rattle.term_store.specs.Numbered.{term_at, numbered_pairs}
 use Rattle.term_store.proofs.CellLemmas.{first_term_of_key, first_cell_at}
@@ -145,8 +145,8 @@ listed_none rules f first none = record {
 
 -- those with an operation at the head and none at the head of the first argument
 pub open_rules : (rules : Rules) (index : FirstIndex) (f : ℕ) (candidates : List ℕ) → IsIndexOf rules index
-    → candidates ≡ numbers_at index.open f → HasAllRules rules (IsOpen f) candidates
-open_rules rules index f candidates is are = listed rules (IsOpen f) (is_open f) candidates (are ∙ is.opens f) (λ t so. so)
+    → candidates ≡ numbers_at index.open f → HasAllRules rules (IsHeadAlone f) candidates
+open_rules rules index f candidates is are = listed rules (IsHeadAlone f) (is_open f) candidates (are ∙ is.opens f) (λ t so. so)
 
 -- those with one at the head
 pub headed_rules : (rules : Rules) (f g : ℕ) (candidates : List ℕ) → candidates ≡ headed f (plain_rules rules.rules.items)
@@ -176,7 +176,7 @@ passed rules keys n P candidates number bound pairs all first under = λ i m at 
     first.tried i m (all.rises i first.place m number at first.here (omega (arith, less, under))) at
 
 none_before : (rules : Rules) (keys : List (List ℕ)) (n f : ℕ) (us : Terms) (opens begun : List ℕ) (bound : ℕ)
-    → bare (term_at (signature_in rules) keys n) ≡ node f us → HasAllRules rules (IsOpen f) opens
+    → bare (term_at (signature_in rules) keys n) ≡ node f us → HasAllRules rules (IsHeadAlone f) opens
     → HasAllRules rules (BeginsAs f (first_head us)) begun → ArePassed rules keys n opens bound → ArePassed rules keys n begun bound
     → (k : ℕ) → k < bound → MatchesNot rules keys n k
 none_before rules keys n f us opens begun bound shape all others one two k less rule is found =
@@ -184,12 +184,12 @@ none_before rules keys n f us opens begun bound shape all others one two k less 
     (match_begins (term_in rule.left) f us (left_node rules k rule is)
     (subst (λ (u : Term). Matches (term_in rule.left) u) shape found))
   where
-    go : IsOpen f (term_in rule.left) ⊎ BeginsAs f (first_head us) (term_in rule.left) → ⊥
+    go : IsHeadAlone f (term_in rule.left) ⊎ BeginsAs f (first_head us) (term_in rule.left) → ⊥
     go (inl opens_so) = let at = all.has k rule is opens_so in one at.0 k at.1 less rule is found
     go (inr begins) = let at = others.has k rule is begins in two at.0 k at.1 less rule is found
 
 first_of : (rules : Rules) (keys : List (List ℕ)) (n f : ℕ) (us : Terms) (opens begun candidates : List ℕ) (number : ℕ)
-    (pairs : List (ℕ × ℕ)) → bare (term_at (signature_in rules) keys n) ≡ node f us → HasAllRules rules (IsOpen f) opens
+    (pairs : List (ℕ × ℕ)) → bare (term_at (signature_in rules) keys n) ≡ node f us → HasAllRules rules (IsHeadAlone f) opens
     → HasAllRules rules (BeginsAs f (first_head us)) begun → ArePassed rules keys n opens number → ArePassed rules keys n begun number
     → IsFirstAmong rules keys n candidates number pairs → IsFirstRuleAt rules keys n number pairs
 first_of rules keys n f us opens begun candidates number pairs shape all others one two first = record {
@@ -203,7 +203,7 @@ first_of rules keys n f us opens begun candidates number pairs shape all others 
 }
 
 pub first_of_two : (rules : Rules) (keys : List (List ℕ)) (n f : ℕ) (us : Terms) (opens begun : List ℕ) (one other : Option Found)
-    → bare (term_at (signature_in rules) keys n) ≡ node f us → HasAllRules rules (IsOpen f) opens
+    → bare (term_at (signature_in rules) keys n) ≡ node f us → HasAllRules rules (IsHeadAlone f) opens
     → HasAllRules rules (BeginsAs f (first_head us)) begun
     → MatchOption one (NoneAmong rules keys n opens) (λ found. IsFirstAmong rules keys n opens found.0 found.1.items)
     → MatchOption other (NoneAmong rules keys n begun) (λ found. IsFirstAmong rules keys n begun found.0 found.1.items)
@@ -216,7 +216,7 @@ first_of_two rules keys n f us opens begun None (Some other) shape all others fi
     (passed rules keys n (BeginsAs f (first_head us)) begun other.0 other.0 other.1.items others second (omega arith)) second
 first_of_two rules keys n f us opens begun (Some one) None shape all others first second =
     first_of rules keys n f us opens begun opens one.0 one.1.items shape all others
-    (passed rules keys n (IsOpen f) opens one.0 one.0 one.1.items all first (omega arith)) (λ i m at less. second i m at) first
+    (passed rules keys n (IsHeadAlone f) opens one.0 one.0 one.1.items all first (omega arith)) (λ i m at less. second i m at) first
 first_of_two rules keys n f us opens begun (Some one) (Some other) shape all others first second = go (nat_lt other.0 one.0) refl
   where
     go : (b : Bool) → nat_lt other.0 one.0 ≡ b
@@ -225,12 +225,12 @@ first_of_two rules keys n f us opens begun (Some one) (Some other) shape all oth
     go true less =
         let before = ltb-true other.0 one.0 less in
         first_of rules keys n f us opens begun begun other.0 other.1.items shape all others
-        (passed rules keys n (IsOpen f) opens one.0 other.0 one.1.items all first (omega (arith, before)))
+        (passed rules keys n (IsHeadAlone f) opens one.0 other.0 one.1.items all first (omega (arith, before)))
         (passed rules keys n (BeginsAs f (first_head us)) begun other.0 other.0 other.1.items others second (omega arith)) second
     go false less =
         let before = ltb-false other.0 one.0 less in
         first_of rules keys n f us opens begun opens one.0 one.1.items shape all others
-        (passed rules keys n (IsOpen f) opens one.0 one.0 one.1.items all first (omega arith))
+        (passed rules keys n (IsHeadAlone f) opens one.0 one.0 one.1.items all first (omega arith))
         (passed rules keys n (BeginsAs f (first_head us)) begun other.0 one.0 other.1.items others second before) first
 
 -- ---- The first of some terms

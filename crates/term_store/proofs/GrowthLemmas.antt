@@ -6,7 +6,7 @@ use Rattle.std.proofs.lemmas.Option.{same_Some}
 use Rattle.std.proofs.Math.Seq.{get_or-append_seam}
 use Rattle.lotos_base.specs.Signature.{Signature, Operation, IsOperation}
 use Rattle.sort_terms.specs.ProfiledTerm.{ProfiledTerm, IsOf}
-use Rattle.term_store.specs.Cells.{nothing, operation_at, key_term, key_terms, IsCell, AreCells, IsOnce, HasOneMore, HaveTermsOf, Grows}
+use Rattle.term_store.specs.Cells.{nothing, operation_at, key_term, key_terms, IsCell, AreCells, IsOnceEach, HasOneMore, HaveTermsOf, Grows}
 use Rattle.term_store.proofs.CellLemmas.{with_last, with_length, cells_last, cell_stays, first_term_of_key, grown_stays, grown_keys}
 
 pub get_or_of : {A : Type 0} (xs : List A) (n : ℕ) (x d : A) → slice_get xs n ≡ Some x → get_or xs n d ≡ x
@@ -21,8 +21,8 @@ operation_there signature f operation is = get_or_of signature.operations f oper
 below_or_last : (n m : ℕ) → n < suc m → (n < m) ⊎ (n ≡ m)
 below_or_last n m below = grind (arith, below)
 
-once_last : (keys : List (List ℕ)) (key : List ℕ) → IsOnce keys → ((n : ℕ) → n < length keys → ¬ (get_or keys n [] ≡ key))
-    → IsOnce (keys ++ key ∷ [])
+once_last : (keys : List (List ℕ)) (key : List ℕ) → IsOnceEach keys → ((n : ℕ) → n < length keys → ¬ (get_or keys n [] ≡ key))
+    → IsOnceEach (keys ++ key ∷ [])
 once_last keys key once absent i j inside other same =
     let many = length-append keys (key ∷ []) in
     go (below_or_last i (length keys) (omega (arith, inside, many))) (below_or_last j (length keys) (omega (arith, other, many)))

@@ -7,7 +7,7 @@ use Rattle.term_store.specs.Cells.{HaveTermsOf, Grows}
 use Rattle.std.specs.Prelude.{Bool, true, false, nat_eq, slice_set, ◌≢◌}
 use Rattle.std.proofs.lemmas.Bool.Decides.{Decides-eqb}
 use Rattle.std.proofs.lemmas.List.{get_or-set_same, get_or-set_other}
-use Rattle.term_store.specs.Kept.{kept_at, IsKnown, chosen_form, KeepsAtMost, KeepsFor, IsSound}
+use Rattle.term_store.specs.Kept.{kept_at, HasKeptForm, chosen_form, KeepsAtMost, KeepsFor, IsSoundStore}
 use Rattle.term_store.specs.Numbered.{term_at}
 use Rattle.term_store.proofs.CellLemmas.{grown_stays}
 use Rattle.term_store.proofs.NumberingLemmas.{grows_length}
@@ -20,7 +20,7 @@ nothing_more (o ∷ kept) zero = refl
 nothing_more (o ∷ kept) (suc n) = nothing_more kept n
 
 pub sound_grows : (rules : Rules) (before after : List (List ℕ)) (kept : List (Option ℕ)) → Grows before after
-    → HaveTermsOf (signature_in rules) after → IsSound rules before kept → IsSound rules after kept
+    → HaveTermsOf (signature_in rules) after → IsSoundStore rules before kept → IsSoundStore rules after kept
 sound_grows rules before after kept grows have sound = record {
   have = have;
   inside = λ n m is.
@@ -40,7 +40,7 @@ pub record IsFormNumber (rules : Rules) (keys : List (List ℕ)) (form n : ℕ) 
 
 pub sound_keeps : (rules : Rules) (keys : List (List ℕ)) (before after : List (Option ℕ)) (among : ℕ → Type 0) (form : ℕ)
     → KeepsAtMost before among form after → form < length keys → ((n : ℕ) → among n → IsFormNumber rules keys form n)
-    → IsSound rules keys before → IsSound rules keys after
+    → IsSoundStore rules keys before → IsSoundStore rules keys after
 sound_keeps rules keys before after among form keeps within forms sound = record {
   have = sound.have;
   inside = λ n m is. in_keys n m (keeps n m is);
@@ -70,11 +70,11 @@ kept_for before middle number form same inside = record {
   brought = λ n is. here n is;
 }
   where
-    here : (n : ℕ) → n ≡ number → IsKnown (slice_set middle number (Some form)) n
+    here : (n : ℕ) → n ≡ number → HasKeptForm (slice_set middle number (Some form)) n
     here n is =
         (form, ap (kept_at (slice_set middle number (Some form))) is ∙ get_or-set_same middle number (Some form) None inside)
 
-    go : (n : ℕ) → IsKnown before n → (b : Bool) → nat_eq n number ≡ b → IsKnown (slice_set middle number (Some form)) n
+    go : (n : ℕ) → HasKeptForm before n → (b : Bool) → nat_eq n number ≡ b → HasKeptForm (slice_set middle number (Some form)) n
     go n known true test = here n ((Decides-eqb n number).0 test)
     go n known false test =
         let other : n ≢ number = (λ is. let clash : true ≡ false = sym ((Decides-eqb n number).1 is) ∙ test in cc) in
@@ -87,6 +87,6 @@ kept_for_both before middle after first second one two = record {
   brought = λ n is. go n is;
 }
   where
-    go : (n : ℕ) → (n ≡ first) ⊎ (n ≡ second) → IsKnown after n
+    go : (n : ℕ) → (n ≡ first) ⊎ (n ≡ second) → HasKeptForm after n
     go n (inl is) = two.stays n (one.brought n is)
     go n (inr is) = two.brought n is

@@ -8,7 +8,7 @@ use Rattle.std.proofs.lemmas.List.{map-append}
 use Rattle.std.proofs.lemmas.List.Quantifiers.{position-Some}
 use Rattle.std.proofs.lemmas.Option.{none-some, same_Some}
 use Rattle.std.proofs.lemmas.Slice.Eq.{bytes_eq-Decides}
-use Rattle.term_store.specs.Cells.{IsCell, HasOneMore, StandsAt, operation_in}
+use Rattle.term_store.specs.Cells.{IsCell, HasOneMore, KeyStandsAt, operation_in}
 
 -- the items of each key
 abbrev pub items_of : List (Vec ℕ Global) → List (List ℕ)
@@ -68,7 +68,7 @@ as_many_keys [] = refl
 as_many_keys (key ∷ keys) = ap suc (as_many_keys keys)
 
 pub found_key : (keys : List (Vec ℕ Global)) (key : List ℕ) (n : ℕ) → Some n ≡ position (has_items key) keys
-    → StandsAt (items_of keys) key n
+    → KeyStandsAt (items_of keys) key n
 found_key [] key n found = absurd (none-some n (sym found))
 found_key (first ∷ keys) key n found =
     let it = position-Some (has_items key) (first ∷ keys) n first (sym found) in

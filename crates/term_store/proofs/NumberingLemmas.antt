@@ -7,9 +7,9 @@ use Rattle.std.proofs.lemmas.List.{length-append}
 use Rattle.std.proofs.lemmas.Result.{IfOk-weaker}
 use Rattle.lotos_base.specs.Signature.{Signature, Operation, IsOperation}
 use Rattle.sort_terms.specs.ProfiledTerm.{ProfiledTerm, ProfiledTerms, profiled_variable, profiled_node, no_profiled_terms, profiled_term_then, IsOf, AreOf}
-use Rattle.term_store.specs.Cells.{variable_key, operation_key, members, key_term, key_terms, AreBelow, IsCell, HasOneMore, StandsAt, HaveTermsOf, Grows}
+use Rattle.term_store.specs.Cells.{variable_key, operation_key, members, key_term, key_terms, AreBelow, IsCell, HasOneMore, KeyStandsAt, HaveTermsOf, Grows}
 use Rattle.term_match.specs.ProfiledInstance.{ProfiledSubstitution, profiled_binding, profiled_instance, profiled_instances}
-use Rattle.term_store.specs.Numbered.{term_at, TakesIn, TakeIn, IsNumberOf, numbered_pairs, numbers_in, values_of, IsInstanceOf, AreInstancesOf}
+use Rattle.term_store.specs.Numbered.{term_at, TakesIn, TakeIn, IsNumberOfTerm, numbered_pairs, numbers_in, values_of, IsInstanceOf, AreInstancesOf}
 use Rattle.term_store.specs.NumberSearch.{number_under}
 use Rattle.term_store.proofs.CellLemmas.{grown_stays, grows_on, grows_not}
 use Rattle.term_store.proofs.GrowthLemmas.{operation_there, grows_one, terms_more, number_term}
@@ -60,10 +60,10 @@ variable_taken t n s before key after is made more = record {
 
 pub variable_number : {E : Type 0} (pairs : List (ℕ × ℕ)) (t : ProfiledTerm) (n s : ℕ) (before : List (List ℕ)) (key : List ℕ)
     (after : List (List ℕ)) (result : Result ℕ E) → None ≡ number_under n pairs → t ≡ profiled_variable n s → key ≡ variable_key n s
-    → HasOneMore before key after → IfOk result (λ number. StandsAt after key number)
+    → HasOneMore before key after → IfOk result (λ number. KeyStandsAt after key number)
     → IfOk result (λ number. IsInstanceOf (values_of pairs before) t before after number)
 variable_number pairs t n s before key after result nothing is made more stands =
-    IfOk-weaker result (λ number. StandsAt after key number) (λ number. IsInstanceOf (values_of pairs before) t before after number)
+    IfOk-weaker result (λ number. KeyStandsAt after key number) (λ number. IsInstanceOf (values_of pairs before) t before after number)
     (λ number at. record {
       within = at.within;
       term = λ signature of have.
@@ -156,9 +156,9 @@ operation_taken values t f operation ts before middle key after is ready more = 
 pub operation_number : {E : Type 0} (values : Signature → ProfiledSubstitution) (t : ProfiledTerm) (f : ℕ) (operation : Operation)
     (ts : ProfiledTerms) (before middle : List (List ℕ)) (key : List ℕ) (after : List (List ℕ)) (result : Result ℕ E)
     → t ≡ profiled_node f operation ts → IsReadied values f ts before middle key → HasOneMore middle key after
-    → IfOk result (λ number. StandsAt after key number) → IfOk result (λ number. IsInstanceOf values t before after number)
+    → IfOk result (λ number. KeyStandsAt after key number) → IfOk result (λ number. IsInstanceOf values t before after number)
 operation_number values t f operation ts before middle key after result is ready more stands =
-    IfOk-weaker result (λ number. StandsAt after key number) (λ number. IsInstanceOf values t before after number)
+    IfOk-weaker result (λ number. KeyStandsAt after key number) (λ number. IsInstanceOf values t before after number)
     (λ number at. record {
       within = at.within;
       term = λ signature of have.
@@ -288,7 +288,7 @@ mutual
       λ i. profiled_term_then (here i) (there i)
 
 pub plain_number : (t : ProfiledTerm) (before after : List (List ℕ)) (n : ℕ) → IsInstanceOf (values_of [] before) t before after n
-    → IsNumberOf t before after n
+    → IsNumberOfTerm t before after n
 plain_number t before after n number = record {
   within = number.within;
   term = λ signature of have. number.term signature of have ∙ instance_same t;

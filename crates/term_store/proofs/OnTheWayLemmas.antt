@@ -12,8 +12,8 @@ use Rattle.sort_terms.specs.TermView.{all_profiled, profiled_of, profiled_terms}
 use Rattle.sort_terms.specs.declared.operations.Op.{Op}
 use Rattle.sort_terms.specs.declared.terms.Term.{Term}
 use Rattle.sort_terms.proofs.SizeLemmas.{sizes_popped}
-use Rattle.term_store.specs.Cells.{operation_key, members, key_terms, AreBelow, HasOneMore, StandsAt, HaveTermsOf, Grows}
-use Rattle.term_store.specs.Numbered.{term_at, TakesIn, IsNumberOf}
+use Rattle.term_store.specs.Cells.{operation_key, members, key_terms, AreBelow, HasOneMore, KeyStandsAt, HaveTermsOf, Grows}
+use Rattle.term_store.specs.Numbered.{term_at, TakesIn, IsNumberOfTerm}
 use Rattle.term_store.specs.OnTheWay.{with_numbered, numbered_by, IsLeftOf, AreLeftOf, halfway_of, IsOnItsWay, turns, turns_of}
 use Rattle.term_store.specs.declared.numbering.Numbering.{Numbering}
 use Rattle.term_store.specs.declared.numbering.Numbering.TheVariants.{First, Head}
@@ -67,7 +67,7 @@ terms_stay signature before after (n ∷ ns) grows below =
 -- ---- One number more
 
 pub way_pushed : (t : ProfiledTerm) (before now after : List (List ℕ)) (left : List Numbering) (u : ProfiledTerm) (made more : List ℕ)
-    (number : ℕ) → IsOnItsWay t before (u ∷ []) (halfway_of now left made) → TakesIn u now after → IsNumberOf u now after number
+    (number : ℕ) → IsOnItsWay t before (u ∷ []) (halfway_of now left made) → TakesIn u now after → IsNumberOfTerm u now after number
     → more ≡ made ++ number ∷ [] → IsOnItsWay t before [] (halfway_of after left more)
 way_pushed t before now after left u made more number way takes is pushed =
     subst (λ ns. IsOnItsWay t before [] (halfway_of after left ns)) (sym pushed) (record {
@@ -293,7 +293,7 @@ head_taken t before now after left made op count profile way more = record {
 pub way_head : (t : ProfiledTerm) (before now after : List (List ℕ)) (left : List Numbering) (made rest all : List ℕ) (op count number : ℕ)
     (profile : Bor (Rc Op Global)) → IsOnItsWay t before [] (halfway_of now (left ++ Head op profile count ∷ []) made)
     → HasOneMore now (operation_key op (take count (reverse made))) after
-    → StandsAt after (operation_key op (take count (reverse made))) number → reverse rest ≡ drop count (reverse made)
+    → KeyStandsAt after (operation_key op (take count (reverse made))) number → reverse rest ≡ drop count (reverse made)
     → all ≡ rest ++ number ∷ [] → IsOnItsWay t before [] (halfway_of after left all)
 way_head t before now after left made rest all op count number profile way more stands behind pushed =
     subst (λ ns. IsOnItsWay t before [] (halfway_of after left ns)) (sym pushed) (record {
@@ -349,7 +349,7 @@ way_begun_with t keys left made none nothing =
     (subst (λ ns. IsOnItsWay t keys (t ∷ []) (halfway_of keys [] ns)) (sym nothing) (way_begun t keys))
 
 pub way_ended : (t : ProfiledTerm) (before now : List (List ℕ)) (left : List Numbering) (made rest : List ℕ) (number : ℕ) → length left ≡ 0
-    → made ≡ rest ++ number ∷ [] → IsOnItsWay t before [] (halfway_of now left made) → IsNumberOf t before now number
+    → made ≡ rest ++ number ∷ [] → IsOnItsWay t before [] (halfway_of now left made) → IsNumberOfTerm t before now number
 way_ended t before now [] made rest number none popped way =
     let ended = subst (λ ns. IsOnItsWay t before [] (halfway_of now [] ns)) popped way in
     let first : reverse (rest ++ number ∷ []) ≡ number ∷ reverse rest = reverse-append rest (number ∷ []) in record {

@@ -6,10 +6,10 @@ use Rattle.path_order.specs.RulesView.{signature_in}
 use Rattle.path_order.specs.declared.rules.Rules.{Rules}
 use Rattle.path_order.proofs.RulesLemmas.{rules_have_forms}
 use Rattle.term_store.specs.Cells.{operation_in, Grows}
-use Rattle.term_store.specs.Kept.{IsKnown, chosen_form}
+use Rattle.term_store.specs.Kept.{HasKeptForm, chosen_form}
 use Rattle.term_store.specs.Numbered.{term_at}
 use Rattle.term_store.specs.SharedView.{keys_in}
-use Rattle.term_store.specs.Tasks.{AreAll, numbers_of, arguments_at, Brings, After, HaveOneForm, IsReady, AreReady}
+use Rattle.term_store.specs.Tasks.{AreAll, numbers_of, arguments_at, Brings, After, HaveOneForm, IsDoable, AreDoable}
 use Rattle.term_store.specs.Turns.{CanBeDone, Advances}
 use Rattle.term_store.specs.Weight.{rest_cost, weight, weights}
 use Rattle.rewriting_theory.specs.Measure.{choice_cost}
@@ -50,8 +50,8 @@ all_more P Q (n ∷ ns) more all = (more n all.0, all_more P Q ns more all.1)
 
 -- ---- What can be done
 
-pub ready_one : (rules : Rules) (keys : List (List ℕ)) (P Q : ℕ → Type 0) (task : Task) → Includes P Q → IsReady rules keys P task
-    → IsReady rules keys Q task
+pub ready_one : (rules : Rules) (keys : List (List ℕ)) (P Q : ℕ → Type 0) (task : Task) → Includes P Q → IsDoable rules keys P task
+    → IsDoable rules keys Q task
 ready_one rules keys P Q (Form k) more ready = ready
 ready_one rules keys P Q (Apply k) more ready = (ready.0, all_more P Q (arguments_at keys k) more ready.1)
 ready_one rules keys P Q (Keep term whole next) more ready = record {
@@ -64,7 +64,7 @@ ready_one rules keys P Q (Keep term whole next) more ready = record {
 }
 
 pub ready_more : (rules : Rules) (keys : List (List ℕ)) (P Q : ℕ → Type 0) (tasks : List Task) → Includes P Q
-    → AreReady rules keys P tasks → AreReady rules keys Q tasks
+    → AreDoable rules keys P tasks → AreDoable rules keys Q tasks
 ready_more rules keys P Q [] more ready = tt
 ready_more rules keys P Q (task ∷ tasks) more ready = (
   ready_one rules keys (After P tasks) (After Q tasks) task (after_more P Q tasks more) ready.0,
@@ -72,7 +72,7 @@ ready_more rules keys P Q (task ∷ tasks) more ready = (
 )
 
 pub ready_join : (rules : Rules) (keys : List (List ℕ)) (P : ℕ → Type 0) (tasks others : List Task)
-    → AreReady rules keys (After P others) tasks → AreReady rules keys P others → AreReady rules keys P (tasks ++ others)
+    → AreDoable rules keys (After P others) tasks → AreDoable rules keys P others → AreDoable rules keys P (tasks ++ others)
 ready_join rules keys P [] others first second = second
 ready_join rules keys P (task ∷ tasks) others first second = (
   ready_one rules keys (After (After P others) tasks) (After P (tasks ++ others)) task (after_join P tasks others) first.0,
@@ -80,7 +80,7 @@ ready_join rules keys P (task ∷ tasks) others first second = (
 )
 
 pub ready_split : (rules : Rules) (keys : List (List ℕ)) (P : ℕ → Type 0) (tasks others : List Task)
-    → AreReady rules keys P (tasks ++ others) → AreReady rules keys (After P others) tasks × AreReady rules keys P others
+    → AreDoable rules keys P (tasks ++ others) → AreDoable rules keys (After P others) tasks × AreDoable rules keys P others
 ready_split rules keys P [] others ready = (tt, ready)
 ready_split rules keys P (task ∷ tasks) others ready =
     let inner = ready_split rules keys P tasks others ready.1 in (
@@ -115,7 +115,7 @@ pub within_grows : (before after : List (List ℕ)) (n : ℕ) → Grows before a
 within_grows before after n grows inside = let long = grows_length before after grows in omega (arith, long, inside)
 
 ready_one_grows : (rules : Rules) (before after : List (List ℕ)) (P : ℕ → Type 0) (task : Task) → Grows before after
-    → IsReady rules before P task → IsReady rules after P task
+    → IsDoable rules before P task → IsDoable rules after P task
 ready_one_grows rules before after P (Form k) grows ready = within_grows before after k grows ready
 ready_one_grows rules before after P (Apply k) grows ready = (
   within_grows before after k grows ready.0,
@@ -131,13 +131,13 @@ ready_one_grows rules before after P (Keep term whole next) grows ready = record
 }
 
 pub ready_grows : (rules : Rules) (before after : List (List ℕ)) (P : ℕ → Type 0) (tasks : List Task) → Grows before after
-    → AreReady rules before P tasks → AreReady rules after P tasks
+    → AreDoable rules before P tasks → AreDoable rules after P tasks
 ready_grows rules before after P [] grows ready = tt
 ready_grows rules before after P (task ∷ tasks) grows ready =
     (ready_one_grows rules before after (After P tasks) task grows ready.0, ready_grows rules before after P tasks grows ready.1)
 
 weight_stays : (rules : Rules) (before after : List (List ℕ)) (P : ℕ → Type 0) (task : Task) → Grows before after
-    → IsReady rules before P task → weight rules after task ≡ weight rules before task
+    → IsDoable rules before P task → weight rules after task ≡ weight rules before task
 weight_stays rules before after P (Form k) grows ready =
     ap (λ t. 4 * choice_cost (rules_have_forms rules) t) (bare_stays rules before after k grows ready)
 weight_stays rules before after P (Apply k) grows ready =
@@ -145,7 +145,7 @@ weight_stays rules before after P (Apply k) grows ready =
 weight_stays rules before after P (Keep term whole next) grows ready = refl
 
 pub weights_stay : (rules : Rules) (before after : List (List ℕ)) (P : ℕ → Type 0) (tasks : List Task) → Grows before after
-    → AreReady rules before P tasks → weights rules after tasks ≡ weights rules before tasks
+    → AreDoable rules before P tasks → weights rules after tasks ≡ weights rules before tasks
 weights_stay rules before after P [] grows ready = refl
 weights_stay rules before after P (task ∷ tasks) grows ready =
     let one = weight_stays rules before after (After P tasks) task grows ready.0 in
@@ -162,13 +162,13 @@ weights_join rules keys (task ∷ tasks) others =
 -- ---- Others in the place of the last task
 
 pub replaced : (rules : Rules) (before after : Forms) (tasks others : List Task) (task : Task)
-    → Grows (keys_in before.shared) (keys_in after.shared) → Includes (IsKnown before.kept.items) (IsKnown after.kept.items)
-    → CanBeDone rules before (tasks ++ task ∷ []) → Includes (Brings task) (After (IsKnown after.kept.items) others)
+    → Grows (keys_in before.shared) (keys_in after.shared) → Includes (HasKeptForm before.kept.items) (HasKeptForm after.kept.items)
+    → CanBeDone rules before (tasks ++ task ∷ []) → Includes (Brings task) (After (HasKeptForm after.kept.items) others)
     → CanBeDone rules after others → weights rules (keys_in after.shared) others < weight rules (keys_in before.shared) task
     → Advances rules before (tasks ++ task ∷ []) after (tasks ++ others)
 replaced rules before after tasks others task grows known ready brings can less =
-    let P = IsKnown before.kept.items in
-    let Q = IsKnown after.kept.items in
+    let P = HasKeptForm before.kept.items in
+    let Q = HasKeptForm after.kept.items in
     let old = keys_in before.shared in
     let new = keys_in after.shared in
     let parts = ready_split rules old P tasks (task ∷ []) ready in
@@ -186,6 +186,6 @@ replaced rules before after tasks others task grows known ready brings can less 
       falls = omega (arith, same, first, second, less);
     }
   where
-    included : Includes (After (IsKnown before.kept.items) (task ∷ [])) (After (IsKnown after.kept.items) others)
-    included n (inl is) = after_before (IsKnown after.kept.items) others n (known n is)
+    included : Includes (After (HasKeptForm before.kept.items) (task ∷ [])) (After (HasKeptForm after.kept.items) others)
+    included n (inl is) = after_before (HasKeptForm after.kept.items) others n (known n is)
     included n (inr new) = brings n new

@@ -12,7 +12,7 @@ use Rattle.sort_terms.specs.ProfiledTerm.{ProfiledTerm, ProfiledTerms, profiled_
 use Rattle.sort_terms.specs.TermView.{profiled_of, all_profiled}
 use Rattle.sort_terms.specs.declared.terms.Term.{Term as CodeTerm}
 use Rattle.term_match.specs.Search.{looked_up, bound, searched, all_searched}
-use Rattle.term_store.specs.Cells.{members, key_term, key_terms, AreBelow, IsCell, AreCells, IsOnce, operation_in}
+use Rattle.term_store.specs.Cells.{members, key_term, key_terms, AreBelow, IsCell, AreCells, IsOnceEach, operation_in}
 use Rattle.term_store.specs.Numbered.{term_at, numbered_pair, numbered_pairs, numbers_in}
 use Rattle.term_store.specs.NumberSearch.{number_under, number_bound, arguments_under, number_searched, all_number_searched}
 use Rattle.term_store.proofs.CellLemmas.{first_term_of_key, first_cell_at, one_number}
@@ -53,7 +53,7 @@ below_more bound more (n ∷ ns) long below = ((let low = below.0 in omega (arit
 -- ---- The search
 
 -- terms that are kept are one exactly where their numbers are
-pub same_terms : (signature : Signature) (keys : List (List ℕ)) (k m : ℕ) → AreCells 0 keys → IsOnce keys → k < length keys
+pub same_terms : (signature : Signature) (keys : List (List ℕ)) (k m : ℕ) → AreCells 0 keys → IsOnceEach keys → k < length keys
     → m < length keys → term_eq (bare (term_at signature keys k)) (bare (term_at signature keys m)) ≡ nat_eq k m
 same_terms signature keys k m cells once low under =
     go (nat_eq k m) (term_eq (bare (term_at signature keys k)) (bare (term_at signature keys m))) refl refl
@@ -83,7 +83,7 @@ none_searched : (signature : Signature) (keys : List (List ℕ)) → IsSearched 
 none_searched signature keys = record { same = refl; within = λ pairs is. cc }
 
 bound_searched : (signature : Signature) (keys : List (List ℕ)) (n m : ℕ) (found : List (ℕ × ℕ)) (o : Option ℕ) → AreCells 0 keys
-    → IsOnce keys → m < length keys → AreBelow (length keys) (numbers_in found) → IsBelow (length keys) o
+    → IsOnceEach keys → m < length keys → AreBelow (length keys) (numbers_in found) → IsBelow (length keys) o
     → IsSearched signature keys (number_bound n m found o)
     (bound n (term_at signature keys m) (numbered_pairs signature keys found) (option_map (term_at signature keys) o))
 bound_searched signature keys n m found None cells once under below inside = record {
@@ -142,7 +142,7 @@ key_search_is signature keys f operation ls (suc q ∷ g ∷ ns) m found under c
 
 mutual
   pub search_is : (signature : Signature) (keys : List (List ℕ)) (l : ProfiledTerm) (m : ℕ) (found : List (ℕ × ℕ)) → AreCells 0 keys
-      → IsOnce keys → m < length keys → AreBelow (length keys) (numbers_in found)
+      → IsOnceEach keys → m < length keys → AreBelow (length keys) (numbers_in found)
       → IsSearched signature keys (number_searched keys l m found)
       (searched l (term_at signature keys m) (numbered_pairs signature keys found))
   search_is signature keys (profiled_variable n s) m found cells once under below =
@@ -159,7 +159,7 @@ mutual
       (λ ns inside. all_search_is signature keys ls ns found cells once inside below))
 
   all_search_is : (signature : Signature) (keys : List (List ℕ)) (ls : ProfiledTerms) (ns : List ℕ) (found : List (ℕ × ℕ))
-      → AreCells 0 keys → IsOnce keys → AreBelow (length keys) ns → AreBelow (length keys) (numbers_in found)
+      → AreCells 0 keys → IsOnceEach keys → AreBelow (length keys) ns → AreBelow (length keys) (numbers_in found)
       → IsSearched signature keys (all_number_searched keys ls ns found)
       (all_searched ls (members (key_terms signature keys) ns) (numbered_pairs signature keys found))
   all_search_is signature keys no_profiled_terms [] found cells once under below = record {

@@ -14,8 +14,8 @@ use Rattle.sort_terms.specs.declared.sorted.Sorted.{Sorted}
 use Rattle.path_order.specs.RulesView.{signature_in, plain_rules_in}
 use Rattle.path_order.specs.declared.rules.Rules.{Rules}
 use Rattle.path_order.proofs.RulesLemmas.{rules_have_forms, rules_well_formed}
-use Rattle.term_store.specs.Canonical.{IsCanonical}
-use Rattle.term_store.specs.Kept.{kept_at, chosen_form, IsSound}
+use Rattle.term_store.specs.Canonical.{NumbersForm}
+use Rattle.term_store.specs.Kept.{kept_at, chosen_form, IsSoundStore}
 use Rattle.term_store.specs.Numbered.{term_at}
 use Rattle.term_store.specs.SharedView.{keys_in}
 use Rattle.term_store.specs.StoreCanon.{store_canon, store_chooses}
@@ -29,7 +29,7 @@ use Rattle.term_store.proofs.CanonicalLemmas.{canonical_grows, numbers_decide, c
 nothing_kept : (n m : ℕ) → ¬ (kept_at [] n ≡ Some m)
 nothing_kept n m is = cc
 
-none_sound : (rules : Rules) → IsSound rules [] []
+none_sound : (rules : Rules) → IsSoundStore rules [] []
 none_sound rules = record {
   have = record {
     cells = tt;
@@ -43,18 +43,18 @@ none_sound rules = record {
 
 pub empty_sound : (rules : Rules) (forms : Forms) → keys_in forms.shared ≡ [] → forms.kept.items ≡ [] → AreSound rules forms
 empty_sound rules forms keys kept =
-    subst (λ (ks : List (List ℕ)). IsSound rules ks forms.kept.items) (sym keys)
-    (subst (λ (os : List (Option ℕ)). IsSound rules [] os) (sym kept) (none_sound rules))
+    subst (λ (ks : List (List ℕ)). IsSoundStore rules ks forms.kept.items) (sym keys)
+    (subst (λ (os : List (Option ℕ)). IsSoundStore rules [] os) (sym kept) (none_sound rules))
 
 -- ---- Two canonical terms
 
 pub same_decided : (first second third : Store) (left right : Term) (n m : ℕ) → second.rules ≡ first.rules
-    → StaySound second.rules second.forms third.forms → IsCanonical first.rules second.forms left n
-    → IsCanonical second.rules third.forms right m
+    → StaySound second.rules second.forms third.forms → NumbersForm first.rules second.forms left n
+    → NumbersForm second.rules third.forms right m
     → IsTrue (nat_eq n m) ↔ (store_canon first left ≡ store_canon first right)
 same_decided first second third left right n m same stay one other =
     let stays = subst (λ (rules : Rules). StaySound rules second.forms third.forms) same stay in
-    let two = subst (λ (rules : Rules). IsCanonical rules third.forms right m) same other in
+    let two = subst (λ (rules : Rules). NumbersForm rules third.forms right m) same other in
     let decide = numbers_decide first.rules third.forms left right n m stays.sound
     (canonical_grows first.rules second.forms third.forms left n stays one) two in
     ((λ yes. decide.0 ((Decides-eqb n m).0 yes)), (λ is. (Decides-eqb n m).1 (decide.1 is)))
@@ -70,7 +70,7 @@ pub record IsRead (rules : Rules) (term : Sorted) (made : ProfiledTerm) : Type 0
   pub is_of : IsOf (signature_in rules) made
 
 pub read_canonical : (rules others : Rules) (forms : Forms) (term : Sorted) (made : ProfiledTerm) (n : ℕ) → others ≡ rules
-    → AreSound others forms → IsOf (signature_in rules) (profiled_in term) → IsCanonical rules forms (term_in term) n
+    → AreSound others forms → IsOf (signature_in rules) (profiled_in term) → NumbersForm rules forms (term_in term) n
     → made ≡ term_at (signature_in others) (keys_in forms.shared) n → IsRead rules term made
 read_canonical rules others forms term made n same sound of is made_is =
     let well = subst (λ (r : Rules). AreSound r forms) same sound in

@@ -6,12 +6,12 @@ use Rattle.sort_terms.specs.ProfiledTerm.{ProfiledTerm, profiled_variable, bare,
 use Rattle.path_order.specs.RulesView.{signature_in, plain_rules_in}
 use Rattle.path_order.specs.declared.rules.Rules.{Rules}
 use Rattle.path_order.proofs.RulesLemmas.{rules_have_forms, rules_well_formed}
-use Rattle.term_store.specs.Cells.{operation_in, members, key_terms, AreBelow, IsCell, HaveTermsOf, HasOneMore, StandsAt, Grows}
+use Rattle.term_store.specs.Cells.{operation_in, members, key_terms, AreBelow, IsCell, HaveTermsOf, HasOneMore, KeyStandsAt, Grows}
 use Rattle.term_store.specs.FormsBelow.{HasFormsBelow}
-use Rattle.term_store.specs.Kept.{kept_at, IsKnown, KeepsAtMost, KeepsFor, number_or, form_or_same, IsSound}
+use Rattle.term_store.specs.Kept.{kept_at, HasKeptForm, KeepsAtMost, KeepsFor, number_or, form_or_same, IsSoundStore}
 use Rattle.term_store.specs.Numbered.{term_at}
 use Rattle.term_store.specs.SharedView.{keys_in}
-use Rattle.term_store.specs.Tasks.{AreAll, numbers_of, arguments_at, Brings, After, IsReady, AreReady, form_task, form_tasks, begun_tasks, whole_key}
+use Rattle.term_store.specs.Tasks.{AreAll, numbers_of, arguments_at, Brings, After, IsDoable, AreDoable, form_task, form_tasks, begun_tasks, whole_key}
 use Rattle.term_store.specs.Turns.{AreSound, StaySound, CanBeDone, Advances, IsWholeOf, CannotStep, StepsTo}
 use Rattle.term_store.specs.Weight.{rest_cost, cost_at, rest_at, weight, weights}
 use Rattle.term_store.specs.declared.forms.Forms.{Forms}
@@ -30,11 +30,11 @@ use Rattle.term_store.proofs.WholeLemmas.{whole_sound, whole_is}
 
 -- the last task can be done
 pub last_ready : (rules : Rules) (forms : Forms) (tasks : List Task) (task : Task) → CanBeDone rules forms (tasks ++ task ∷ [])
-    → IsReady rules (keys_in forms.shared) (IsKnown forms.kept.items) task
+    → IsDoable rules (keys_in forms.shared) (HasKeptForm forms.kept.items) task
 last_ready rules forms tasks task ready =
-    (ready_split rules (keys_in forms.shared) (IsKnown forms.kept.items) tasks (task ∷ []) ready).1.0
+    (ready_split rules (keys_in forms.shared) (HasKeptForm forms.kept.items) tasks (task ∷ []) ready).1.0
 
-same_known : (before after : Forms) → after.kept ≡ before.kept → Includes (IsKnown before.kept.items) (IsKnown after.kept.items)
+same_known : (before after : Forms) → after.kept ≡ before.kept → Includes (HasKeptForm before.kept.items) (HasKeptForm after.kept.items)
 same_known before after same n known = (known.0, ap (λ kept. kept_at kept.items n) same ∙ known.1)
 
 -- ---- The form of a term is looked for
@@ -74,28 +74,28 @@ form_tasks_weight rules keys kept (n ∷ ns) =
     go (Some m) = omega arith
 
 form_tasks_ready : (rules : Rules) (keys : List (List ℕ)) (P : ℕ → Type 0) (kept : List (Option ℕ)) (ns : List ℕ)
-    → AreBelow (length keys) ns → AreReady rules keys P (form_tasks kept ns)
+    → AreBelow (length keys) ns → AreDoable rules keys P (form_tasks kept ns)
 form_tasks_ready rules keys P kept [] below = tt
 form_tasks_ready rules keys P kept (n ∷ ns) below = go (kept_at kept n) (form_tasks_ready rules keys P kept ns below.1)
   where
-    go : (o : Option ℕ) → AreReady rules keys P (form_tasks kept ns) → AreReady rules keys P (form_task n o ++ form_tasks kept ns)
+    go : (o : Option ℕ) → AreDoable rules keys P (form_tasks kept ns) → AreDoable rules keys P (form_task n o ++ form_tasks kept ns)
     go None others = (below.0, others)
     go (Some m) others = others
 
-form_tasks_bring : (kept : List (Option ℕ)) (ns : List ℕ) → AreAll (After (IsKnown kept) (form_tasks kept ns)) ns
+form_tasks_bring : (kept : List (Option ℕ)) (ns : List ℕ) → AreAll (After (HasKeptForm kept) (form_tasks kept ns)) ns
 form_tasks_bring kept ns = go ns (form_tasks kept ns) (λ n is. is)
   where
-    one : (n : ℕ) (ms : List ℕ) (o : Option ℕ) → kept_at kept n ≡ o → After (IsKnown kept) (form_task n o ++ form_tasks kept ms) n
+    one : (n : ℕ) (ms : List ℕ) (o : Option ℕ) → kept_at kept n ≡ o → After (HasKeptForm kept) (form_task n o ++ form_tasks kept ms) n
     one n ms None is = inr refl
-    one n ms (Some m) is = after_before (IsKnown kept) (form_tasks kept ms) n (m, is)
+    one n ms (Some m) is = after_before (HasKeptForm kept) (form_tasks kept ms) n (m, is)
 
     later : (n : ℕ) (ms : List ℕ) (o : Option ℕ)
-        → Includes (After (IsKnown kept) (form_tasks kept ms)) (After (IsKnown kept) (form_task n o ++ form_tasks kept ms))
+        → Includes (After (HasKeptForm kept) (form_tasks kept ms)) (After (HasKeptForm kept) (form_task n o ++ form_tasks kept ms))
     later n ms None k is = inl is
     later n ms (Some m) k is = is
 
-    go : (ms : List ℕ) (tasks : List Task) → Includes (After (IsKnown kept) (form_tasks kept ms)) (After (IsKnown kept) tasks)
-        → AreAll (After (IsKnown kept) tasks) ms
+    go : (ms : List ℕ) (tasks : List Task) → Includes (After (HasKeptForm kept) (form_tasks kept ms)) (After (HasKeptForm kept) tasks)
+        → AreAll (After (HasKeptForm kept) tasks) ms
     go [] tasks more = tt
     go (n ∷ ms) tasks more = (
       more n (one n ms (kept_at kept n) refl),
@@ -129,7 +129,7 @@ begun rules forms tasks n None sound is ready =
     let parts = cost_parts_at rules keys n (operation_in (get_or keys n [])) sound.have inside refl in
     let less = form_tasks_weight rules keys kept ns in
     replaced rules forms forms tasks (Apply n ∷ form_tasks kept ns) (Form n) (grows_not keys) (λ k known. known) ready
-    (λ k same. inr same) ((inside, form_tasks_bring kept ns), form_tasks_ready rules keys (IsKnown kept) kept ns below)
+    (λ k same. inr same) ((inside, form_tasks_bring kept ns), form_tasks_ready rules keys (HasKeptForm kept) kept ns below)
     (omega (arith, parts, less))
 
 -- the form of a term is looked for
@@ -150,7 +150,7 @@ pub kept_sound : (rules : Rules) (before after : Forms) (among : ℕ → Type 0)
     → StaySound rules before after
 kept_sound rules before after among form sound same keeps within are =
     let keys : keys_in before.shared ≡ keys_in after.shared = ap keys_in (sym same) in record {
-      sound = subst (λ (ks : List (List ℕ)). IsSound rules ks after.kept.items) keys
+      sound = subst (λ (ks : List (List ℕ)). IsSoundStore rules ks after.kept.items) keys
           (sound_keeps rules (keys_in before.shared) before.kept.items after.kept.items among form keeps within are sound);
       grows = subst (λ (ks : List (List ℕ)). Grows (keys_in before.shared) ks) keys (grows_not (keys_in before.shared));
     }
@@ -207,7 +207,7 @@ whole_grows rules before after term whole grows is = record {
 }
 
 -- the form of the whole is that of the term
-pub whole_form : (rules : Rules) (keys : List (List ℕ)) (kept : List (Option ℕ)) (term whole form : ℕ) → IsSound rules keys kept
+pub whole_form : (rules : Rules) (keys : List (List ℕ)) (kept : List (Option ℕ)) (term whole form : ℕ) → IsSoundStore rules keys kept
     → IsWholeOf rules keys term whole → kept_at kept whole ≡ Some form → (n : ℕ) → n ≡ term → IsFormNumber rules keys form n
 whole_form rules keys kept term whole form sound it is n same =
     subst (λ (m : ℕ). IsFormNumber rules keys form m) (sym same)
@@ -270,20 +270,22 @@ next_turn rules before after tasks left term whole next grows same ready old_who
 pub done_grows : (rules : Rules) (before after : Forms) (tasks : List Task) → Grows (keys_in before.shared) (keys_in after.shared)
     → after.kept ≡ before.kept → CanBeDone rules before tasks → CanBeDone rules after tasks
 done_grows rules before after tasks grows same ready =
-    ready_more rules (keys_in after.shared) (IsKnown before.kept.items) (IsKnown after.kept.items) tasks (same_known before after same)
-    (ready_grows rules (keys_in before.shared) (keys_in after.shared) (IsKnown before.kept.items) tasks grows ready)
+    ready_more rules (keys_in after.shared) (HasKeptForm before.kept.items) (HasKeptForm after.kept.items) tasks
+    (same_known before after same)
+    (ready_grows rules (keys_in before.shared) (keys_in after.shared) (HasKeptForm before.kept.items) tasks grows ready)
 
 -- and what advances from there advances from before
 pub advances_from : (rules : Rules) (before middle after : Forms) (tasks left : List Task)
     → Grows (keys_in before.shared) (keys_in middle.shared) → middle.kept ≡ before.kept → CanBeDone rules before tasks
     → Advances rules middle tasks after left → Advances rules before tasks after left
 advances_from rules before middle after tasks left grows same ready one =
-    let stay = weights_stay rules (keys_in before.shared) (keys_in middle.shared) (IsKnown before.kept.items) tasks grows ready in
+    let stay = weights_stay rules (keys_in before.shared) (keys_in middle.shared) (HasKeptForm before.kept.items) tasks grows ready in
     let falls = one.falls in
     record {
       ready = one.ready;
       leads = λ n is.
-          one.leads n (after_more (IsKnown before.kept.items) (IsKnown middle.kept.items) tasks (same_known before middle same) n is);
+          one.leads n
+          (after_more (HasKeptForm before.kept.items) (HasKeptForm middle.kept.items) tasks (same_known before middle same) n is);
       falls = omega (arith, stay, falls);
     }
 
@@ -354,7 +356,7 @@ pub whole_stays : (rules : Rules) (before middle : Forms) (tasks : List Task) (n
     → StaySound rules before middle
 whole_stays rules before middle tasks n sound ready same more =
     let it = last_ready rules before tasks (Apply n) ready in record {
-      sound = subst (λ (kept : List (Option ℕ)). IsSound rules (keys_in middle.shared) kept) (ap (λ kept. kept.items) (sym same))
+      sound = subst (λ (kept : List (Option ℕ)). IsSoundStore rules (keys_in middle.shared) kept) (ap (λ kept. kept.items) (sym same))
           (whole_sound rules (keys_in before.shared) (keys_in middle.shared) before.kept.items n sound it.0 it.1 more);
       grows = grows_one (keys_in before.shared) (whole_key before.kept.items (keys_in before.shared) n) (keys_in middle.shared) more;
     }
@@ -362,7 +364,7 @@ whole_stays rules before middle tasks n sound ready same more =
 pub whole_number : (rules : Rules) (before middle : Forms) (tasks : List Task) (n whole : ℕ) → AreSound rules before
     → CanBeDone rules before (tasks ++ Apply n ∷ []) → middle.kept ≡ before.kept
     → HasOneMore (keys_in before.shared) (whole_key before.kept.items (keys_in before.shared) n) (keys_in middle.shared)
-    → StandsAt (keys_in middle.shared) (whole_key before.kept.items (keys_in before.shared) n) whole
+    → KeyStandsAt (keys_in middle.shared) (whole_key before.kept.items (keys_in before.shared) n) whole
     → IsWholeOf rules (keys_in middle.shared) n whole
 whole_number rules before middle tasks n whole sound ready same more stands =
     let it = last_ready rules before tasks (Apply n) ready in
@@ -386,7 +388,7 @@ advances_by_whole rules before middle after tasks left n sound ready same more o
 pub form_sound : (rules : Rules) (before middle after : Forms) (tasks : List Task) (n whole form : ℕ) → AreSound rules before
     → CanBeDone rules before (tasks ++ Apply n ∷ []) → middle.kept ≡ before.kept
     → HasOneMore (keys_in before.shared) (whole_key before.kept.items (keys_in before.shared) n) (keys_in middle.shared)
-    → StandsAt (keys_in middle.shared) (whole_key before.kept.items (keys_in before.shared) n) whole
+    → KeyStandsAt (keys_in middle.shared) (whole_key before.kept.items (keys_in before.shared) n) whole
     → kept_at middle.kept.items whole ≡ Some form → after.shared ≡ middle.shared
     → KeepsAtMost middle.kept.items (λ k. k ≡ n) form after.kept.items → StaySound rules before after
 form_sound rules before middle after tasks n whole form sound ready same more stands is shared keeps =

@@ -6,9 +6,9 @@ use Rattle.sort_terms.specs.ProfiledTerm.{ProfiledTerm, bare, all_bare, IsOf}
 use Rattle.path_order.specs.RulesView.{signature_in, plain_rules_in}
 use Rattle.path_order.specs.declared.rules.Rules.{Rules}
 use Rattle.path_order.proofs.RulesLemmas.{rules_have_forms}
-use Rattle.term_store.specs.Cells.{operation_in, members, key_term, key_terms, AreBelow, IsCell, HasOneMore, StandsAt}
+use Rattle.term_store.specs.Cells.{operation_in, members, key_term, key_terms, AreBelow, IsCell, HasOneMore, KeyStandsAt}
 use Rattle.term_store.specs.FormsBelow.{HasFormsBelow, of_variable, of_operation}
-use Rattle.term_store.specs.Kept.{IsKnown, number_or, form_or_same, forms_of, IsSound}
+use Rattle.term_store.specs.Kept.{HasKeptForm, number_or, form_or_same, forms_of, IsSoundStore}
 use Rattle.term_store.specs.Numbered.{term_at}
 use Rattle.term_store.specs.Tasks.{AreAll, numbers_of, arguments_at, key_with_forms, whole_key}
 use Rattle.term_store.specs.Turns.{IsWholeOf}
@@ -19,7 +19,7 @@ use Rattle.term_store.proofs.NumberingLemmas.{members_of, grows_length}
 use Rattle.term_store.proofs.FirstRuleLemmas.{variable_at, operation_term}
 
 -- the form of a term for which one is kept
-known_form : (rules : Rules) (keys : List (List ℕ)) (kept : List (Option ℕ)) (n : ℕ) → IsSound rules keys kept → IsKnown kept n
+known_form : (rules : Rules) (keys : List (List ℕ)) (kept : List (Option ℕ)) (n : ℕ) → IsSoundStore rules keys kept → HasKeptForm kept n
     → (form_or_same kept n < length keys) × Chosen (plain_rules_in rules) (bare (term_at (signature_in rules) keys n))
     (bare (term_at (signature_in rules) keys (form_or_same kept n)))
 known_form rules keys kept n sound known =
@@ -34,8 +34,8 @@ known_form rules keys kept n sound known =
     )
 
 -- those of several terms
-known_forms : (rules : Rules) (keys : List (List ℕ)) (kept : List (Option ℕ)) (ns : List ℕ) → IsSound rules keys kept
-    → AreAll (IsKnown kept) ns
+known_forms : (rules : Rules) (keys : List (List ℕ)) (kept : List (Option ℕ)) (ns : List ℕ) → IsSoundStore rules keys kept
+    → AreAll (HasKeptForm kept) ns
     → AreBelow (length keys) (forms_of kept ns) × AllChosen (plain_rules_in rules)
     (all_bare (members (key_terms (signature_in rules) keys) ns))
     (all_bare (members (key_terms (signature_in rules) keys) (forms_of kept ns)))
@@ -63,7 +63,8 @@ cell_below bound more (suc m ∷ f ∷ ns) below cell = (cell.0, go ns cell.1)
     go (n ∷ ms) all = (let low = all.0 in omega (arith, low, below), go ms all.1)
 
 whole_key_is : (rules : Rules) (keys : List (List ℕ)) (kept : List (Option ℕ)) (n : ℕ) (found : Option (ℕ × List ℕ))
-    → IsSound rules keys kept → n < length keys → operation_in (get_or keys n []) ≡ found → AreAll (IsKnown kept) (numbers_of found)
+    → IsSoundStore rules keys kept → n < length keys → operation_in (get_or keys n []) ≡ found
+    → AreAll (HasKeptForm kept) (numbers_of found)
     → IsWholeKey rules keys n (key_with_forms kept (get_or keys n []) found)
 whole_key_is rules keys kept n None sound inside is known =
     let signature = signature_in rules in
@@ -88,18 +89,18 @@ whole_key_is rules keys kept n (Some (f, ns)) sound inside is known =
     }
 
 -- What comes of the key of the whole: the terms stay sound, and where it has a number, that is the number of the whole.
-pub whole_sound : (rules : Rules) (before after : List (List ℕ)) (kept : List (Option ℕ)) (n : ℕ) → IsSound rules before kept
-    → n < length before → AreAll (IsKnown kept) (arguments_at before n) → HasOneMore before (whole_key kept before n) after
-    → IsSound rules after kept
+pub whole_sound : (rules : Rules) (before after : List (List ℕ)) (kept : List (Option ℕ)) (n : ℕ) → IsSoundStore rules before kept
+    → n < length before → AreAll (HasKeptForm kept) (arguments_at before n) → HasOneMore before (whole_key kept before n) after
+    → IsSoundStore rules after kept
 whole_sound rules before after kept n sound inside known more =
     let it = whole_key_is rules before kept n (operation_in (get_or before n [])) sound inside refl known in
     let key = whole_key kept before n in
     sound_grows rules before after kept (grows_one before key after more)
     (terms_more (signature_in rules) before key after more it.cell it.is_of sound.have) sound
 
-pub whole_is : (rules : Rules) (before after : List (List ℕ)) (kept : List (Option ℕ)) (n whole : ℕ) → IsSound rules before kept
-    → n < length before → AreAll (IsKnown kept) (arguments_at before n) → HasOneMore before (whole_key kept before n) after
-    → StandsAt after (whole_key kept before n) whole → IsWholeOf rules after n whole
+pub whole_is : (rules : Rules) (before after : List (List ℕ)) (kept : List (Option ℕ)) (n whole : ℕ) → IsSoundStore rules before kept
+    → n < length before → AreAll (HasKeptForm kept) (arguments_at before n) → HasOneMore before (whole_key kept before n) after
+    → KeyStandsAt after (whole_key kept before n) whole → IsWholeOf rules after n whole
 whole_is rules before after kept n whole sound inside known more stands =
     let it = whole_key_is rules before kept n (operation_in (get_or before n [])) sound inside refl known in
     let key = whole_key kept before n in

@@ -10,6 +10,6 @@ use Rattle.term_store.specs.SharedView.{keys_in}
 use Rattle.term_store.specs.declared.forms.Forms.{Forms}
 
 -- The number is that of the chosen form of the term.
-pub record IsCanonical (rules : Rules) (forms : Forms) (t : Term) (n : ℕ) : Type 0 where
+pub record NumbersForm (rules : Rules) (forms : Forms) (t : Term) (n : ℕ) : Type 0 where
   pub within : n < length (keys_in forms.shared)
   pub is : bare (term_at (signature_in rules) (keys_in forms.shared) n) ≡ chosen_form rules t

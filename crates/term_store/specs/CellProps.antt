@@ -2,7 +2,7 @@
 use Rattle.std.specs.Prelude.{ℕ, zero, suc, List, [], ◌∷◌}
 use Rattle.std.proofs.Props.{props}
 use Rattle.std.specs.Coded.{Unit-prop}
-use Rattle.term_store.specs.Cells.{AreBelow, IsCell, AreCells, IsOnce}
+use Rattle.term_store.specs.Cells.{AreBelow, IsCell, AreCells, IsOnceEach}
 
 AreBelow-prop : (bound : ℕ) (ns : List ℕ) → IsProp (AreBelow bound ns)
 AreBelow-prop bound [] = Unit-prop
@@ -21,5 +21,5 @@ AreCells-prop bound (key ∷ keys) =
     let others = AreCells-prop (suc bound) keys in
     hlevel (props, one, others)
 
-pub IsOnce-prop : (keys : List (List ℕ)) → IsProp (IsOnce keys)
+pub IsOnce-prop : (keys : List (List ℕ)) → IsProp (IsOnceEach keys)
 IsOnce-prop keys = hlevel props

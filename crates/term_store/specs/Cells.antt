@@ -68,8 +68,8 @@ AreCells bound [] = Unit {0}
 AreCells bound (key ∷ keys) = IsCell bound key × AreCells (suc bound) keys
 
 -- Each key stands once.
-abbrev pub IsOnce : List (List ℕ) → Type 0
-IsOnce keys = (i j : ℕ) → i < length keys → j < length keys → get_or keys i [] ≡ get_or keys j [] → i ≡ j
+abbrev pub IsOnceEach : List (List ℕ) → Type 0
+IsOnceEach keys = (i j : ℕ) → i < length keys → j < length keys → get_or keys i [] ≡ get_or keys j [] → i ≡ j
 
 -- The second list is the first one, or has the key behind it, which the first one has not.
 abbrev pub HasOneMore : List (List ℕ) → List ℕ → List (List ℕ) → Type 0
@@ -77,14 +77,14 @@ HasOneMore before key after = (after ≡ before) ⊎ (after ≡ before ++ key �
     × ((n : ℕ) → n < length before → ¬ (get_or before n [] ≡ key))
 
 -- The key stands at this number.
-pub record StandsAt (keys : List (List ℕ)) (key : List ℕ) (n : ℕ) : Type 0 where
+pub record KeyStandsAt (keys : List (List ℕ)) (key : List ℕ) (n : ℕ) : Type 0 where
   pub within : n < length keys
   pub is : get_or keys n [] ≡ key
 
 -- Each key stands on those before it and once, and the terms are of the signature.
 pub record HaveTermsOf (signature : Signature) (keys : List (List ℕ)) : Type 0 where
   pub cells : AreCells 0 keys
-  pub once : IsOnce keys
+  pub once : IsOnceEach keys
   pub of : (n : ℕ) → n < length keys → IsOf signature (get_or (key_terms signature keys) n nothing)
 
 -- The second list has the keys of the first one and none, or more, behind them.

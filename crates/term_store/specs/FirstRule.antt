@@ -59,8 +59,8 @@ pub record HasAllRules (rules : Rules) (P : Term → Type 0) (candidates : List 
   pub rises : (i j k m : ℕ) → slice_get candidates i ≡ Some k → slice_get candidates j ≡ Some m → k < m → i < j
 
 -- The operation is at the head of the term, and none at the head of the first argument.
-abbrev pub IsOpen : ℕ → Term → Type 0
-IsOpen f t = is_open f t ≡ true
+abbrev pub IsHeadAlone : ℕ → Term → Type 0
+IsHeadAlone f t = is_open f t ≡ true
 
 -- The operation is at the head of the term, and this one, if it is one, at the head of the first argument.
 abbrev pub BeginsAs : ℕ → Option ℕ → Term → Type 0

@@ -18,8 +18,8 @@ abbrev pub chosen_form : Rules → Term → Term
 chosen_form rules t = (rules_have_forms rules t).0
 
 -- A form is kept for the term with the number.
-abbrev pub IsKnown : List (Option ℕ) → ℕ → Type 0
-IsKnown kept n = (m : ℕ) × (kept_at kept n ≡ Some m)
+abbrev pub HasKeptForm : List (Option ℕ) → ℕ → Type 0
+HasKeptForm kept n = (m : ℕ) × (kept_at kept n ≡ Some m)
 
 -- What is kept after was kept before, but for this form of some terms.
 abbrev pub KeepsAtMost : List (Option ℕ) → (ℕ → Type 0) → ℕ → List (Option ℕ) → Type 0
@@ -28,8 +28,8 @@ KeepsAtMost before among form after =
 
 -- A form is kept for each of these terms and for each that had one before.
 pub record KeepsFor (before : List (Option ℕ)) (among : ℕ → Type 0) (after : List (Option ℕ)) : Type 0 where
-  pub stays : (n : ℕ) → IsKnown before n → IsKnown after n
-  pub brought : (n : ℕ) → among n → IsKnown after n
+  pub stays : (n : ℕ) → HasKeptForm before n → HasKeptForm after n
+  pub brought : (n : ℕ) → among n → HasKeptForm after n
 
 -- the number, or this one where there is none
 abbrev pub number_or : ℕ → Option ℕ → ℕ
@@ -45,7 +45,7 @@ abbrev pub forms_of : List (Option ℕ) → List ℕ → List ℕ
 forms_of kept ns = map (form_or_same kept) ns
 
 -- The terms are of the signature of the rules, and what is kept for a term is its chosen form.
-pub record IsSound (rules : Rules) (keys : List (List ℕ)) (kept : List (Option ℕ)) : Type 0 where
+pub record IsSoundStore (rules : Rules) (keys : List (List ℕ)) (kept : List (Option ℕ)) : Type 0 where
   pub have : HaveTermsOf (signature_in rules) keys
   pub inside : (n m : ℕ) → kept_at kept n ≡ Some m → n < length keys
   pub within : (n m : ℕ) → kept_at kept n ≡ Some m → m < length keys

@@ -21,7 +21,7 @@ pub record TakeIn (ts : ProfiledTerms) (before after : List (List ℕ)) : Type 0
   pub have : (signature : Signature) → AreOf signature ts → HaveTermsOf signature before → HaveTermsOf signature after
 
 -- The number is that of the term.
-pub record IsNumberOf (t : ProfiledTerm) (before after : List (List ℕ)) (n : ℕ) : Type 0 where
+pub record IsNumberOfTerm (t : ProfiledTerm) (before after : List (List ℕ)) (n : ℕ) : Type 0 where
   pub within : n < length after
   pub term : (signature : Signature) → IsOf signature t → HaveTermsOf signature before → term_at signature after n ≡ t
 

@@ -10,7 +10,7 @@ use Rattle.term_rewriter.specs.FirstIndexView.{IsIndexOf}
 use Rattle.term_rewriter.specs.declared.first_index.FirstIndex.{FirstIndex}
 use Rattle.term_store.specs.Cells.{HaveTermsOf}
 use Rattle.term_store.specs.CellProps.{AreCells-prop, IsOnce-prop}
-use Rattle.term_store.specs.Kept.{IsSound}
+use Rattle.term_store.specs.Kept.{IsSoundStore}
 
 pub IsIndexOf-prop : (rules : Rules) (index : FirstIndex) → IsProp (IsIndexOf rules index)
 IsIndexOf-prop rules index = hlevel props
@@ -22,7 +22,7 @@ HaveTermsOf-prop signature keys =
     let one = IsOf-prop signature in
     hlevel (props, cells, once, one)
 
-pub IsSound-prop : (rules : Rules) (keys : List (List ℕ)) (kept : List (Option ℕ)) → IsProp (IsSound rules keys kept)
+pub IsSound-prop : (rules : Rules) (keys : List (List ℕ)) (kept : List (Option ℕ)) → IsProp (IsSoundStore rules keys kept)
 IsSound-prop rules keys kept =
     let have = HaveTermsOf-prop (signature_in rules) keys in
     let set = Term-set in

@@ -50,15 +50,15 @@ pub record IsHandedOn (rules : Rules) (keys : List (List ℕ)) (known : ℕ → 
   pub of_whole : HaveOneForm rules keys whole next
 
 -- The task can be done where these forms are known.
-abbrev pub IsReady : Rules → List (List ℕ) → (ℕ → Type 0) → Task → Type 0
-IsReady rules keys known (Form k) = k < length keys
-IsReady rules keys known (Apply k) = (k < length keys) × AreAll known (arguments_at keys k)
-IsReady rules keys known (Keep term whole next) = IsHandedOn rules keys known term whole next
+abbrev pub IsDoable : Rules → List (List ℕ) → (ℕ → Type 0) → Task → Type 0
+IsDoable rules keys known (Form k) = k < length keys
+IsDoable rules keys known (Apply k) = (k < length keys) × AreAll known (arguments_at keys k)
+IsDoable rules keys known (Keep term whole next) = IsHandedOn rules keys known term whole next
 
 -- Each of the tasks can be done when those behind it are done.
-abbrev pub AreReady : Rules → List (List ℕ) → (ℕ → Type 0) → List Task → Type 0
-AreReady rules keys known [] = Unit {0}
-AreReady rules keys known (task ∷ tasks) = IsReady rules keys (After known tasks) task × AreReady rules keys known tasks
+abbrev pub AreDoable : Rules → List (List ℕ) → (ℕ → Type 0) → List Task → Type 0
+AreDoable rules keys known [] = Unit {0}
+AreDoable rules keys known (task ∷ tasks) = IsDoable rules keys (After known tasks) task × AreDoable rules keys known tasks
 
 -- the task of finding a form that is not kept yet
 abbrev pub form_task : ℕ → Option ℕ → List Task

@@ -6,17 +6,17 @@ use Rattle.path_order.specs.RulesView.{signature_in, plain_rules_in}
 use Rattle.path_order.specs.declared.rules.Rules.{Rules}
 use Rattle.term_store.specs.Cells.{Grows}
 use Rattle.term_store.specs.FormsBelow.{HasFormsBelow}
-use Rattle.term_store.specs.Kept.{IsKnown, IsSound}
+use Rattle.term_store.specs.Kept.{HasKeptForm, IsSoundStore}
 use Rattle.term_store.specs.Numbered.{term_at}
 use Rattle.term_store.specs.SharedView.{keys_in}
-use Rattle.term_store.specs.Tasks.{AreReady, After}
+use Rattle.term_store.specs.Tasks.{AreDoable, After}
 use Rattle.term_store.specs.Weight.{weights}
 use Rattle.term_store.specs.declared.forms.Forms.{Forms}
 use Rattle.term_store.specs.declared.tasks.Task.{Task}
 
 -- The terms are of the signature of the rules, and what is kept for a term is its chosen form.
 abbrev pub AreSound : Rules → Forms → Type 0
-AreSound rules forms = IsSound rules (keys_in forms.shared) forms.kept.items
+AreSound rules forms = IsSoundStore rules (keys_in forms.shared) forms.kept.items
 
 -- They still are, and each term has the number that it had.
 pub record StaySound (rules : Rules) (before after : Forms) : Type 0 where
@@ -25,12 +25,12 @@ pub record StaySound (rules : Rules) (before after : Forms) : Type 0 where
 
 -- Each of the tasks can be done when those behind it are done.
 abbrev pub CanBeDone : Rules → Forms → List Task → Type 0
-CanBeDone rules forms tasks = AreReady rules (keys_in forms.shared) (IsKnown forms.kept.items) tasks
+CanBeDone rules forms tasks = AreDoable rules (keys_in forms.shared) (HasKeptForm forms.kept.items) tasks
 
 -- The tasks that are left can be done, they bring all that those before would have, and they are less work.
 pub record Advances (rules : Rules) (before : Forms) (tasks : List Task) (after : Forms) (left : List Task) : Type 0 where
   pub ready : CanBeDone rules after left
-  pub leads : (n : ℕ) → After (IsKnown before.kept.items) tasks n → After (IsKnown after.kept.items) left n
+  pub leads : (n : ℕ) → After (HasKeptForm before.kept.items) tasks n → After (HasKeptForm after.kept.items) left n
   pub falls : weights rules (keys_in after.shared) left < weights rules (keys_in before.shared) tasks
 
 -- The term with the one number is the operation at the head of that with the other one, on the chosen forms of its

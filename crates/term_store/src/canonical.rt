@@ -6,7 +6,7 @@ ghost use Rattle.sort_terms.specs.ProfiledTerm.{IsOf};
 ghost use Rattle.sort_terms.specs.SortedView.{profiled_in, term_in};
 ghost use Rattle.std.specs.Prelude.{IfOk, IsTrue};
 ghost use Rattle.term_rewriter.specs.FirstIndexView.{IsIndexOf};
-ghost use Rattle.term_store.specs.Canonical.{IsCanonical};
+ghost use Rattle.term_store.specs.Canonical.{NumbersForm};
 ghost use Rattle.term_store.specs.Turns.{AreSound, StaySound};
 
 use crate::forms::Forms;
@@ -40,7 +40,7 @@ pub fn canonical(
     requires term { IsOf (signature_in rules.now) (profiled_in term.now) }
     ensures stay { StaySound rules.now forms.old forms.new }
     ensures canonical { IfOk result
-        (λ found. IsCanonical rules.now forms.new (term_in term.now) found.number) }
+        (λ found. NumbersForm rules.now forms.new (term_in term.now) found.number) }
     ensures own { IfOk result
         (λ found. IsTrue found.is_own → IsNormal (plain_rules_in rules.now) (term_in term.now)) }
 {

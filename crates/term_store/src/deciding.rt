@@ -7,7 +7,7 @@ ghost use Rattle.rewriting_theory.specs.Rewriting.{IsNormal, Rewrites};
 ghost use Rattle.sort_terms.specs.ProfiledTerm.{IsOf};
 ghost use Rattle.sort_terms.specs.SortedView.{profiled_in, term_in};
 ghost use Rattle.std.specs.Prelude.{◌≡◌, ◌↔◌, IfOk, IsTrue};
-ghost use Rattle.term_store.specs.Canonical.{IsCanonical};
+ghost use Rattle.term_store.specs.Canonical.{NumbersForm};
 ghost use Rattle.term_store.specs.StoreCanon.{store_canon, store_is_canon};
 ghost use Rattle.term_store.specs.Turns.{StaySound};
 
@@ -105,7 +105,7 @@ impl Store {
         ensures rules { self.new.rules ≡ self.old.rules }
         ensures stay { StaySound self.old.rules self.old.forms self.new.forms }
         ensures number { IfOk result
-            (λ found. IsCanonical self.old.rules self.new.forms (term_in term.now) found.number) }
+            (λ found. NumbersForm self.old.rules self.new.forms (term_in term.now) found.number) }
         ensures own { IfOk result (λ found. IsTrue found.is_own
             → IsNormal (plain_rules_in self.old.rules) (term_in term.now)) }
     {

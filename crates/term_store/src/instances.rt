@@ -2,7 +2,7 @@
 
 ghost use Rattle.sort_terms.specs.TermView.{all_profiled, profiled_of};
 ghost use Rattle.std.specs.Prelude.{◌≡◌, ◌≤◌, ◌++◌, [], IfOk, OnOk, drop, length, take};
-ghost use Rattle.term_store.specs.Cells.{AreBelow, HasOneMore, StandsAt, operation_key, variable_key};
+ghost use Rattle.term_store.specs.Cells.{AreBelow, HasOneMore, KeyStandsAt, operation_key, variable_key};
 ghost use Rattle.term_store.specs.Numbered.{
   AreInstancesOf,
   IsInstanceOf,
@@ -109,7 +109,7 @@ pub(crate) fn variable(
     ensures more { HasOneMore (keys_in shared.old) (variable_key number sort)
         (keys_in shared.new) }
     ensures stands { IfOk result
-        (λ n. StandsAt (keys_in shared.new) (variable_key number sort) n) }
+        (λ n. KeyStandsAt (keys_in shared.new) (variable_key number sort) n) }
 {
     shared.number_copied(alloc, &[0, number as usize, sort as usize])
 }
@@ -126,7 +126,7 @@ fn number_behind(
     ensures more { HasOneMore (keys_in shared.old) (drop start key.old.items)
         (keys_in shared.new) }
     ensures stands { IfOk result
-        (λ number. StandsAt (keys_in shared.new) (drop start key.old.items) number) }
+        (λ number. KeyStandsAt (keys_in shared.new) (drop start key.old.items) number) }
     ensures left { OnOk result (key.new.items ≡ take start key.old.items) }
 {
     let number = shared.number_copied(alloc, &key.as_slice()[start..])?;

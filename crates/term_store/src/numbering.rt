@@ -17,8 +17,8 @@ ghost use Rattle.std.specs.Prelude.{
   reverse,
   take,
 };
-ghost use Rattle.term_store.specs.Cells.{HasOneMore, StandsAt, operation_key};
-ghost use Rattle.term_store.specs.Numbered.{IsNumberOf, TakesIn};
+ghost use Rattle.term_store.specs.Cells.{HasOneMore, KeyStandsAt, operation_key};
+ghost use Rattle.term_store.specs.Numbered.{IsNumberOfTerm, TakesIn};
 ghost use Rattle.term_store.specs.OnTheWay.{
   halfway_of,
   KeepsTaken,
@@ -49,7 +49,7 @@ pub enum Numbering<'a> {
 /// before.
 pub fn number_of(alloc: Global, shared: &mut SharedTerms, term: &Term) -> Result<usize, NoMemory>
     ensures takes { TakesIn (profiled_of term.now) (keys_in shared.old) (keys_in shared.new) }
-    ensures number { IfOk result (λ n. IsNumberOf (profiled_of term.now) (keys_in shared.old)
+    ensures number { IfOk result (λ n. IsNumberOfTerm (profiled_of term.now) (keys_in shared.old)
         (keys_in shared.new) n) }
 {
     let mut left = Vec::new(alloc);
@@ -162,7 +162,7 @@ fn number_above(
 ) -> Result<usize, NoMemory>
     ensures more { HasOneMore (keys_in shared.old)
         (operation_key op (take count (reverse made.old.items))) (keys_in shared.new) }
-    ensures stands { IfOk result (λ n. StandsAt (keys_in shared.new)
+    ensures stands { IfOk result (λ n. KeyStandsAt (keys_in shared.new)
         (operation_key op (take count (reverse made.old.items))) n) }
     ensures rest { OnOk result (reverse made.new.items ≡ drop count (reverse made.old.items)) }
 {

@@ -3,7 +3,7 @@
 ghost use Rattle.std.proofs.Common.{get_or};
 ghost use Rattle.std.specs.Option.{option_map};
 ghost use Rattle.std.specs.Prelude.{◌≡◌, ◌<◌, [], IfOk, length};
-ghost use Rattle.term_store.specs.Cells.{AreCells, HasOneMore, StandsAt, operation_in};
+ghost use Rattle.term_store.specs.Cells.{AreCells, HasOneMore, KeyStandsAt, operation_in};
 
 use indexmap::IndexSet;
 use lotos_base::NoMemory;
@@ -65,7 +65,7 @@ impl SharedTerms {
     /// The number of the term with this key, which is kept if it was not before.
     pub fn number(&mut self, key: Vec<usize>) -> Result<usize, NoMemory>
         ensures more { HasOneMore (keys_in self.old) key.items (keys_in self.new) }
-        ensures stands { IfOk result (λ number. StandsAt (keys_in self.new) key.items number) }
+        ensures stands { IfOk result (λ number. KeyStandsAt (keys_in self.new) key.items number) }
     {
         let (number, _) = self.keys.insert_full(key)?;
         Ok(number)
@@ -74,7 +74,7 @@ impl SharedTerms {
     /// The same, by a key of which a copy is kept if the term was not kept before.
     pub fn number_copied(&mut self, alloc: Global, key: &[usize]) -> Result<usize, NoMemory>
         ensures more { HasOneMore (keys_in self.old) key.now (keys_in self.new) }
-        ensures stands { IfOk result (λ number. StandsAt (keys_in self.new) key.now number) }
+        ensures stands { IfOk result (λ number. KeyStandsAt (keys_in self.new) key.now number) }
     {
         match self.keys.get_index_of(key) {
             Some(number) => Ok(number),

@@ -1,7 +1,7 @@
 //! Operations on the chosen forms of their arguments.
 
 ghost use Rattle.std.specs.Prelude.{◌≡◌, ◌++◌, ◌<◌, [], IfOk, length};
-ghost use Rattle.term_store.specs.Cells.{AreCells, HasOneMore, StandsAt, operation_key};
+ghost use Rattle.term_store.specs.Cells.{AreCells, HasOneMore, KeyStandsAt, operation_key};
 ghost use Rattle.term_store.specs.Kept.{forms_of};
 ghost use Rattle.term_store.specs.SharedView.{keys_in};
 ghost use Rattle.term_store.specs.Tasks.{whole_key};
@@ -19,7 +19,7 @@ pub fn whole(alloc: Global, forms: &mut Forms, number: usize) -> Result<usize, N
     ensures more { HasOneMore (keys_in forms.old.shared)
         (whole_key forms.old.kept.items (keys_in forms.old.shared) number)
         (keys_in forms.new.shared) }
-    ensures stands { IfOk result (λ whole. StandsAt (keys_in forms.new.shared)
+    ensures stands { IfOk result (λ whole. KeyStandsAt (keys_in forms.new.shared)
         (whole_key forms.old.kept.items (keys_in forms.old.shared) number) whole) }
 {
     let key = key_of_whole(alloc, forms, number)?;

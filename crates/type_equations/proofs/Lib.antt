@@ -12,3 +12,4 @@ pub mod MadeLemmas
 pub mod GivenLemmas
 pub mod GroupLemmas
 pub mod SectionLemmas
+pub mod TwinLemmas

@@ -3,3 +3,5 @@ pub mod ScopeFor
 pub mod Truth
 pub mod ProfiledNumbering
 pub mod SectionScope
+pub mod OtherResults
+pub mod ResultsView

@@ -17,6 +17,7 @@ pub mod sides;
 pub mod signatures;
 pub mod sorts;
 pub mod truth;
+pub mod twins;
 
 pub use declaring::declare_equations;
 pub use equation_laws::sides_make_an_equation;
@@ -26,5 +27,5 @@ pub use made::equation_made;
 pub use own::add_section;
 pub use premisses::check_premisses;
 pub use sides::read_sides;
-pub use signatures::signature_copy;
+pub use signatures::{signature_copy, signature_with_twins};
 pub use truth::sort_with_truth;

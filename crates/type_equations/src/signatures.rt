@@ -1,7 +1,8 @@
 //! The signature of a presentation.
 
 ghost use Rattle.sort_terms.specs.Operations.{operation_of, sort_of};
-ghost use Rattle.sort_terms.specs.SignatureView.{signature_of};
+ghost use Rattle.sort_terms.specs.SignatureView.{signature_of, twin_marks_of};
+ghost use Rattle.sort_terms.specs.TwinMarks.{twin_marks as marks_of};
 ghost use Rattle.std.specs.Prelude.{◌≡◌, IfOk, map};
 ghost use Rattle.type_presentations.specs.PresentationView.{
   IsSound,
@@ -9,6 +10,7 @@ ghost use Rattle.type_presentations.specs.PresentationView.{
   presentation_of,
 };
 
+use crate::twins::twin_marks;
 use lotos_base::NoMemory;
 use sort_terms::{Op, Signature, Sort};
 use std::alloc::Global;
@@ -24,6 +26,24 @@ pub fn signature_copy(alloc: Global, presentation: &Presentation) -> Result<Sign
     let sorts = sort_copies(alloc, presentation.sorts.sorts())?;
     let ops = op_copies(alloc, presentation.ops.ops())?;
     Ok(Signature::of(sorts, ops))
+}
+
+/// The sorts and operations of the presentation, and for each operation whether it has a twin.
+pub fn signature_with_twins(
+    alloc: Global,
+    presentation: &Presentation,
+) -> Result<Signature, NoMemory>
+    requires sound { IsSound presentation.now }
+    requires within { IsWithinLimits presentation.now }
+    ensures lists { IfOk result (λ s. signature_of s
+        ≡ (presentation_of presentation.now).signature) }
+    ensures marks { IfOk result (λ s. twin_marks_of s
+        ≡ marks_of (presentation_of presentation.now).signature.operations) }
+{
+    let sorts = sort_copies(alloc, presentation.sorts.sorts())?;
+    let ops = op_copies(alloc, presentation.ops.ops())?;
+    let twins = twin_marks(alloc, ops.as_slice())?;
+    Ok(Signature::marked(sorts, ops, twins))
 }
 
 // The same sorts.

@@ -27,7 +27,7 @@ use Rattle.type_equations.specs.ScopeFor.{sorts_asked}
 use Rattle.type_equations.specs.SectionScope.{question_in}
 use Rattle.type_presentations.specs.EquationListView.{equations_in}
 use Rattle.type_presentations.specs.declared.equation_list.EquationList.{EquationList}
-use Rattle.type_flatten.specs.FormalLists.{AreKept, over_signature}
+use Rattle.type_flatten.specs.FormalLists.{AreKeptFormals, over_signature}
 
 -- ---- Questions one after another.
 
@@ -63,26 +63,26 @@ own_over p (formal_kept a left right asked own not one two rest) =
 
 -- ---- Lists that grow.
 
-pub nothing_kept : (p : Presentation) (list : EquationList) → AreKept p [] list list
+pub nothing_kept : (p : Presentation) (list : EquationList) → AreKeptFormals p [] list list
 nothing_kept p list = ([], no_more_formals, sym (append-nil (equations_in list)))
 
-kept_append : (p : Presentation) (asked more : List EquationQuestion) (old now new : EquationList) → AreKept p asked old now
-    → AreKept p more now new → AreKept p (asked ++ more) old new
+kept_append : (p : Presentation) (asked more : List EquationQuestion) (old now new : EquationList) → AreKeptFormals p asked old now
+    → AreKeptFormals p more now new → AreKeptFormals p (asked ++ more) old new
 kept_append p asked more old now new (own, are, grown) (other, these, then) = (
   own ++ other,
   own_append p are these,
   then ∙ ap (λ (es : List Equation). es ++ other) grown ∙ append_assoc (equations_in old) own other,
 )
 
-kept_as : (p : Presentation) (asked more : List EquationQuestion) (old new : EquationList) → asked ≡ more → AreKept p asked old new
-    → AreKept p more old new
-kept_as p asked more old new same = subst (λ (qs : List EquationQuestion). AreKept p qs old new) same
+kept_as : (p : Presentation) (asked more : List EquationQuestion) (old new : EquationList) → asked ≡ more → AreKeptFormals p asked old new
+    → AreKeptFormals p more old new
+kept_as p asked more old new same = subst (λ (qs : List EquationQuestion). AreKeptFormals p qs old new) same
 
 -- one more equation of a group
 pub kept_next : {A B : Type 0} (f : A → B) (g : B → EquationQuestion) (p : Presentation) (old now new : EquationList) (xs : List A) (i : ℕ)
     (x : A)
-    → i < length xs → x ≡ get_or xs i x → AreKept p (map g (map f (take i xs))) old now → AreKept p (g (f x) ∷ []) now new
-    → AreKept p (map g (map f (take (i + 1) xs))) old new
+    → i < length xs → x ≡ get_or xs i x → AreKeptFormals p (map g (map f (take i xs))) old now → AreKeptFormals p (g (f x) ∷ []) now new
+    → AreKeptFormals p (map g (map f (take (i + 1) xs))) old new
 kept_next {B = B} f g p old now new xs i x within is before one =
     kept_as p (map g (map f (take i xs)) ++ g (f x) ∷ []) (map g (map f (take (i + 1) xs))) old new
     (sym (ap (λ (ys : List B). map g ys) (so_far f xs i x within is) ∙ map-append g (map f (take i xs)) (f x ∷ [])))
@@ -91,8 +91,8 @@ kept_next {B = B} f g p old now new xs i x within is before one =
 -- one more group of a section
 pub group_kept_next : {A B : Type 0} (f : A → B) (g : B → List EquationQuestion) (p : Presentation) (old now new : EquationList)
     (xs : List A) (i : ℕ) (x : A)
-    → i < length xs → x ≡ get_or xs i x → AreKept p (flat_map g (map f (take i xs))) old now → AreKept p (g (f x)) now new
-    → AreKept p (flat_map g (map f (take (i + 1) xs))) old new
+    → i < length xs → x ≡ get_or xs i x → AreKeptFormals p (flat_map g (map f (take i xs))) old now → AreKeptFormals p (g (f x)) now new
+    → AreKeptFormals p (flat_map g (map f (take (i + 1) xs))) old new
 group_kept_next {B = B} f g p old now new xs i x within is before one =
     kept_as p (flat_map g (map f (take i xs)) ++ g (f x)) (flat_map g (map f (take (i + 1) xs))) old new
     (sym (ap (λ (ys : List B). flat_map g ys) (so_far f xs i x within is) ∙ flat_map-append g (map f (take i xs)) (f x ∷ [])
@@ -102,8 +102,8 @@ group_kept_next {B = B} f g p old now new xs i x within is before one =
 -- a group is its sorts and then its equations
 pub group_kept : (p : Presentation) (written : List WrittenVariable) (g : GroupText) (old new : EquationList) (items : List EqText)
     (i : ℕ) → items ≡ g.equations.items → i ≡ length items
-    → AreKept p (map (question_in true written (group_of g)) (map equation_of (take i items))) old new
-    → AreKept p (asked_of_group true written (group_of g)) old new
+    → AreKeptFormals p (map (question_in true written (group_of g)) (map equation_of (take i items))) old new
+    → AreKeptFormals p (asked_of_group true written (group_of g)) old new
 group_kept p written g old new items i are all kept =
     kept_append p (sorts_asked (group_of g)) (map (question_in true written (group_of g)) (map equation_of g.equations.items)) old old new (
       [],
@@ -111,37 +111,38 @@ group_kept p written g old new items i are all kept =
           (sorts_keep_nothing p (group_of g).variables),
       sym (append-nil (equations_in old)),
     )
-    (subst (λ (es : List EqText). AreKept p (map (question_in true written (group_of g)) (map equation_of es)) old new)
+    (subst (λ (es : List EqText). AreKeptFormals p (map (question_in true written (group_of g)) (map equation_of es)) old new)
     (take_whole items i all ∙ are) kept)
 
 -- a section is its variables and then its groups
 pub section_kept : (p : Presentation) (s : EqnsText) (old new : EquationList) (items : List GroupText) (i : ℕ)
     → items ≡ s.groups.items → i ≡ length items
-    → AreKept p (flat_map (asked_of_group true (variables_of s.variables.items)) (map group_of (take i items))) old new
-    → AreKept p (asked_of_section true (equations_of s)) old new
+    → AreKeptFormals p (flat_map (asked_of_group true (variables_of s.variables.items)) (map group_of (take i items))) old new
+    → AreKeptFormals p (asked_of_section true (equations_of s)) old new
 section_kept p s old new items i are all kept =
     kept_append p (asked_of_variables (variables_of s.variables.items))
     (flat_map (asked_of_group true (variables_of s.variables.items)) (map group_of s.groups.items)) old old new
     ([], sorts_keep_nothing p (variables_of s.variables.items), sym (append-nil (equations_in old)))
-    (subst (λ (gs : List GroupText). AreKept p (flat_map (asked_of_group true (variables_of s.variables.items)) (map group_of gs)) old new)
+    (subst (λ (gs : List GroupText). AreKeptFormals p (flat_map (asked_of_group true (variables_of s.variables.items))
+    (map group_of gs)) old new)
     (take_whole items i all ∙ are) kept)
 
 -- over the presentation itself
 pub kept_over_presentation : (p : Presentation) (asked : List EquationQuestion) (old new : EquationList)
-    → AreKept (over_signature p.signature) asked old new → AreKept p asked old new
+    → AreKeptFormals (over_signature p.signature) asked old new → AreKeptFormals p asked old new
 kept_over_presentation p asked old new (own, are, grown) = (own, own_over p are, grown)
 
 -- ---- One equation.
 
 pub premised_left_out : (p : Presentation) (a : AskedEquation) (list : EquationList) → has_premisses a.equation.premisses ≡ true
-    → AreKept p (formal_asked a ∷ []) list list
+    → AreKeptFormals p (formal_asked a ∷ []) list list
 premised_left_out p a list is =
     ([], premised_passed a [] [] is no_more_formals, sym (append-nil (equations_in list)))
 
 pub plain_kept : (p : Presentation) (a : AskedEquation) (left right : Term) (e : Equation) (old new : EquationList)
     → has_premisses a.equation.premisses ≡ false → IsSide p a a.equation.left left → IsSide p a a.equation.right right
     → e ≡ equation_of_sides a.equation.place (scope_of p a) left right → equations_in new ≡ equations_in old ++ e ∷ []
-    → AreKept p (formal_asked a ∷ []) old new
+    → AreKeptFormals p (formal_asked a ∷ []) old new
 plain_kept p a left right e old new not one two is grown = (
   equation_of_sides a.equation.place (scope_of p a) left right ∷ [],
   formal_kept a left right [] [] not one two no_more_formals,

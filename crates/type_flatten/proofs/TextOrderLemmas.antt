@@ -10,7 +10,7 @@ use Rattle.type_definitions.proofs.NumberLists.{not_true, among_at, at_among, am
 use Rattle.type_definitions.specs.DeclaredTypes.{mention_graph}
 use Rattle.type_definitions.proofs.UnknownLemmas.{graph_within}
 use Rattle.type_definitions.proofs.OrderLemmas.{stays_done, stay_done, is_done, no_cycle}
-use Rattle.type_flatten.specs.TextOrder.{StandsAt, IsOrderOfText, FlatteningFollowsTheText}
+use Rattle.type_flatten.specs.TextOrder.{TypeStandsAt, IsOrderOfText, FlatteningFollowsTheText}
 
 abbrev IsIn : List ℕ → ℕ → Type 0
 IsIn list i = is_among list i ≡ true
@@ -166,17 +166,17 @@ module _ (graph : List (List ℕ)) where
 
   -- ---- Positions
 
-  at_end : (done : List ℕ) (x k i : ℕ) → StandsAt (done ++ x ∷ []) k i → StandsAt done k i ⊎ ((k ≡ length done) × (i ≡ x))
+  at_end : (done : List ℕ) (x k i : ℕ) → TypeStandsAt (done ++ x ∷ []) k i → TypeStandsAt done k i ⊎ ((k ≡ length done) × (i ≡ x))
   at_end [] x zero i at = inr (refl, sym (same_Some x i at))
   at_end [] x (suc k) i at = absurd (cc at)
   at_end (y ∷ done) x zero i at = inl at
   at_end (y ∷ done) x (suc k) i at = by (at_end done x k i at)
     where
-      by : StandsAt done k i ⊎ ((k ≡ length done) × (i ≡ x)) → StandsAt done k i ⊎ ((suc k ≡ suc (length done)) × (i ≡ x))
+      by : TypeStandsAt done k i ⊎ ((k ≡ length done) × (i ≡ x)) → TypeStandsAt done k i ⊎ ((suc k ≡ suc (length done)) × (i ≡ x))
       by (inl there) = inl there
       by (inr last) = inr (ap suc last.0, last.1)
 
-  below_end : (done : List ℕ) (k i : ℕ) → StandsAt done k i → k < length done
+  below_end : (done : List ℕ) (k i : ℕ) → TypeStandsAt done k i → k < length done
   below_end [] k i at = absurd (cc at)
   below_end (x ∷ done) zero i at = omega arith
   below_end (x ∷ done) (suc k) i at = let less = below_end done k i at in omega (arith, less)
@@ -201,36 +201,37 @@ module _ (graph : List (List ℕ)) where
       by (inl before) below = wider (below before)
       by (inr last) below = wider (subst (IsLed done) (sym (among_one x j last)) led)
 
-  only_types : (order : List ℕ) → IsBuilt order → (k i : ℕ) → StandsAt order k i → i < length graph
+  only_types : (order : List ℕ) → IsBuilt order → (k i : ℕ) → TypeStandsAt order k i → i < length graph
   only_types _ none_built k i at = absurd (cc at)
   only_types _ (one_built done x built new has led inside) k i at = by (at_end done x k i at) (only_types done built k i)
     where
-      by : StandsAt done k i ⊎ ((k ≡ length done) × (i ≡ x)) → (StandsAt done k i → i < length graph) → i < length graph
+      by : TypeStandsAt done k i ⊎ ((k ≡ length done) × (i ≡ x)) → (TypeStandsAt done k i → i < length graph) → i < length graph
       by (inl there) below = below there
       by (inr last) below = subst (λ (n : ℕ). n < length graph) (sym last.1) inside
 
-  once_there : (order : List ℕ) → IsBuilt order → (k l i : ℕ) → StandsAt order k i → StandsAt order l i → k ≡ l
+  once_there : (order : List ℕ) → IsBuilt order → (k l i : ℕ) → TypeStandsAt order k i → TypeStandsAt order l i → k ≡ l
   once_there _ none_built k l i at also = absurd (cc at)
   once_there _ (one_built done x built new has led inside) k l i at also =
       by (at_end done x k i at) (at_end done x l i also) (once_there done built k l i)
     where
-      twice : (n : ℕ) → StandsAt done n i → i ≡ x → ⊥
+      twice : (n : ℕ) → TypeStandsAt done n i → i ≡ x → ⊥
       twice n there same = both_ways (is_among done x) new (subst (IsIn done) same (among_at done n i there))
 
-      by : StandsAt done k i ⊎ ((k ≡ length done) × (i ≡ x)) → StandsAt done l i ⊎ ((l ≡ length done) × (i ≡ x))
-          → (StandsAt done k i → StandsAt done l i → k ≡ l) → k ≡ l
+      by : TypeStandsAt done k i ⊎ ((k ≡ length done) × (i ≡ x)) → TypeStandsAt done l i ⊎ ((l ≡ length done) × (i ≡ x))
+          → (TypeStandsAt done k i → TypeStandsAt done l i → k ≡ l) → k ≡ l
       by (inl one) (inl two) below = below one two
       by (inl one) (inr last) below = absurd (twice k one last.1)
       by (inr last) (inl two) below = absurd (twice l two last.1)
       by (inr last) (inr end) below = last.0 ∙ sym end.0
 
-  behind_all : (order : List ℕ) → IsBuilt order → (k l i j : ℕ) → StandsAt order k i → StandsAt order l j → Mentions graph i j → l < k
+  behind_all : (order : List ℕ) → IsBuilt order → (k l i j : ℕ) → TypeStandsAt order k i → TypeStandsAt order l j → Mentions graph i j
+      → l < k
   behind_all _ none_built k l i j at also m = absurd (cc at)
   behind_all _ (one_built done x built new has led inside) k l i j at also m =
       by (at_end done x k i at) (at_end done x l j also) (behind_all done built k l i j)
     where
-      by : StandsAt done k i ⊎ ((k ≡ length done) × (i ≡ x)) → StandsAt done l j ⊎ ((l ≡ length done) × (j ≡ x))
-          → (StandsAt done k i → StandsAt done l j → Mentions graph i j → l < k) → l < k
+      by : TypeStandsAt done k i ⊎ ((k ≡ length done) × (i ≡ x)) → TypeStandsAt done l j ⊎ ((l ≡ length done) × (j ≡ x))
+          → (TypeStandsAt done k i → TypeStandsAt done l j → Mentions graph i j → l < k) → l < k
       by (inl one) (inl two) below = below one two m
       by (inl one) (inr last) below =
           absurd (both_ways (is_among done x) new (subst (IsIn done) last.1 (closed done built i j (among_at done k i one) m)))
@@ -238,13 +239,13 @@ module _ (graph : List (List ℕ)) where
       by (inr last) (inr end) below =
           absurd (both_ways (is_among done x) new (subst (IsIn done) end.1 (has j (subst (λ (n : ℕ). Mentions graph n j) last.1 m))))
 
-  text_first : (order : List ℕ) → IsBuilt order → (k l i j : ℕ) → StandsAt order k i → StandsAt order l j → i < j → l < k
+  text_first : (order : List ℕ) → IsBuilt order → (k l i j : ℕ) → TypeStandsAt order k i → TypeStandsAt order l j → i < j → l < k
       → (r : ℕ) × (r ≤ i) × MentionsLead graph r j
   text_first _ none_built k l i j at also earlier before = absurd (cc at)
   text_first _ (one_built done x built new has led inside) k l i j at also earlier before =
       by (at_end done x k i at) (at_end done x l j also) (text_first done built k l i j)
     where
-      rooted : StandsAt done l j → i ≡ x → (r : ℕ) × (r ≤ i) × MentionsLead graph r j
+      rooted : TypeStandsAt done l j → i ≡ x → (r : ℕ) × (r ≤ i) × MentionsLead graph r j
       rooted there same = go (roots done built j (among_at done l j there))
         where
           go : IsLed done j → (r : ℕ) × (r ≤ i) × MentionsLead graph r j
@@ -258,8 +259,8 @@ module _ (graph : List (List ℕ)) where
                   let most = ltb-false i is.root low in absurd (omega (arith, most, itself, earlier))
               lead false low (inr leads) = (is.root, ltb-false i is.root low, leads)
 
-      by : StandsAt done k i ⊎ ((k ≡ length done) × (i ≡ x)) → StandsAt done l j ⊎ ((l ≡ length done) × (j ≡ x))
-          → (StandsAt done k i → StandsAt done l j → i < j → l < k → (r : ℕ) × (r ≤ i) × MentionsLead graph r j)
+      by : TypeStandsAt done k i ⊎ ((k ≡ length done) × (i ≡ x)) → TypeStandsAt done l j ⊎ ((l ≡ length done) × (j ≡ x))
+          → (TypeStandsAt done k i → TypeStandsAt done l j → i < j → l < k → (r : ℕ) × (r ≤ i) × MentionsLead graph r j)
           → (r : ℕ) × (r ≤ i) × MentionsLead graph r j
       by (inl one) (inl two) below = below one two earlier before
       by (inr last) (inl two) below = rooted two last.1

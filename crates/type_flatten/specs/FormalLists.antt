@@ -47,8 +47,8 @@ abbrev pub over_signature : Signature → PlainPresentation
 over_signature signature = record { signature = signature; equations = []; formal_sorts = []; formal_operations = [] }
 
 -- The list is the old one with the formal equations among what is asked behind it.
-abbrev pub AreKept : PlainPresentation → List EquationQuestion → EquationList → EquationList → Type 0
-AreKept p asked old new = (own : List Equation) × AreOwnFormals p asked own × (equations_in new ≡ equations_in old ++ own)
+abbrev pub AreKeptFormals : PlainPresentation → List EquationQuestion → EquationList → EquationList → Type 0
+AreKeptFormals p asked old new = (own : List Equation) × AreOwnFormals p asked own × (equations_in new ≡ equations_in old ++ own)
 
 -- ---- Unions.
 

@@ -11,16 +11,17 @@ ghost use Rattle.type_presentations.specs.PresentationView.{
 use lotos_base::NoMemory;
 use sort_terms::Flat;
 use std::alloc::Global;
-use type_equations::signature_copy;
+use type_equations::signature_with_twins;
 use type_presentations::Presentation;
 
-/// The signature and the equations of the presentation, without its marks.
+/// The signature and the equations of the presentation, without its marks. The signature says which
+/// operations have twins.
 pub fn data_of(alloc: Global, presentation: Presentation) -> Result<Flat, NoMemory>
     requires sound { IsSound presentation }
     requires within { IsWithinLimits presentation }
     ensures { IfOk result (λ flat. AreDataOf (presentation_of presentation) flat) }
 {
-    let signature = signature_copy(alloc, &presentation)?;
+    let signature = signature_with_twins(alloc, &presentation)?;
     Ok(Flat {
         signature,
         equations: presentation.equations.into_equations(),

@@ -71,9 +71,9 @@ impl<'a> FormalTypes<'a> {
             → t.formals ≡ equations_in formals → AreFormalTypes (all ++ t ∷ []) self.new) }
     {
         let count = self.formals.len();
+        self.types.add(alloc, text, presentation)?;
         self.formals.push(formals)?;
         self.names.add(alloc, text.name, count)?;
-        self.types.add(alloc, text, presentation)?;
         Ok(())
     }
 

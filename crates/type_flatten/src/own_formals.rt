@@ -14,7 +14,7 @@ ghost use Rattle.type_definitions.specs.DeclaredEquations.{
 ghost use Rattle.type_definitions.specs.FormalEquations.{has_premisses};
 ghost use Rattle.type_equations.specs.ScopeFor.{IsScopeFor};
 ghost use Rattle.type_equations.specs.SectionScope.{IsSectionFor};
-ghost use Rattle.type_flatten.specs.FormalLists.{AreFormalsOver, AreKept, over_signature};
+ghost use Rattle.type_flatten.specs.FormalLists.{AreFormalsOver, AreKeptFormals, over_signature};
 ghost use Rattle.type_presentations.specs.PresentationView.{IsSound, IsWithinLimits, presentation_of};
 
 use sort_terms::{Reader, Signature};
@@ -37,7 +37,7 @@ pub fn own_formals(
     requires sound { IsSound presentation.now }
     requires within { IsWithinLimits presentation.now }
     requires over { AreFormalsOver (presentation_of presentation.now).signature list.old }
-    ensures kept { OnOk result (AreKept
+    ensures kept { OnOk result (AreKeptFormals
         (over_signature (presentation_of presentation.now).signature)
         (asked_of_section true (equations_of section.now)) list.old list.new) }
     ensures over { OnOk result (AreFormalsOver (presentation_of presentation.now).signature
@@ -55,7 +55,7 @@ fn own_formals_over(
     section: &EqnsText,
 ) -> Result<(), TypeFault>
     requires { AreFormalsOver (signature_of signature.now) list.old }
-    ensures kept { OnOk result (AreKept (over_signature (signature_of signature.now))
+    ensures kept { OnOk result (AreKeptFormals (over_signature (signature_of signature.now))
         (asked_of_section true (equations_of section.now)) list.old list.new) }
     ensures over { OnOk result (AreFormalsOver (signature_of signature.now) list.new) }
 {
@@ -71,7 +71,7 @@ fn keep_section(
     section: &EqnsText,
 ) -> Result<(), TypeFault>
     requires { AreFormalsOver (signature_read reader.now) list.old }
-    ensures kept { OnOk result (AreKept (over_signature (signature_read reader.now))
+    ensures kept { OnOk result (AreKeptFormals (over_signature (signature_read reader.now))
         (asked_of_section true (equations_of section.now)) list.old list.new) }
     ensures over { OnOk result (AreFormalsOver (signature_read reader.now) list.new) }
 {
@@ -99,7 +99,7 @@ fn keep_group(
     ensures kept { OnOk result ((written : List WrittenVariable)
         → IsSectionFor (over_signature (signature_read reader.now)) written
         (signature_read reader.now) section.now.variables.items
-        → AreKept (over_signature (signature_read reader.now))
+        → AreKeptFormals (over_signature (signature_read reader.now))
         (asked_of_group true written (group_of group.now)) list.old list.new) }
     ensures over { OnOk result (AreFormalsOver (signature_read reader.now) list.new) }
 {
@@ -126,7 +126,7 @@ fn keep_equation(
     ensures kept { OnOk result ((asked : AskedEquation)
         → IsScopeFor (over_signature (signature_read reader.now)) asked.variables asked.sort
         scope.now → asked.equation ≡ equation_of equation.now
-        → AreKept (over_signature (signature_read reader.now)) (formal_asked asked ∷ [])
+        → AreKeptFormals (over_signature (signature_read reader.now)) (formal_asked asked ∷ [])
         list.old list.new) }
     ensures over { OnOk result (AreFormalsOver (signature_read reader.now) list.new) }
 {

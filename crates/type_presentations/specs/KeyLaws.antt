@@ -1,6 +1,6 @@
 -- What equal keys say.
 use Rattle.std.proofs.Common.{◌≡◌, ℕ, Bool, true, false, List, [], ◌∷◌, ◌++◌, length, refl, ap, sym, ◌∙◌, arith}
-use Rattle.std.specs.Prelude.{◌&&◌, ◌↔◌, nat_eq}
+use Rattle.std.specs.Prelude.{◌&&◌, ◌↔◌, not, nat_eq}
 use Rattle.std.specs.Str.{bytes_eq}
 use Rattle.std.proofs.lemmas.Bool.{eq-eqb, eqb-true, and_from}
 use Rattle.std.proofs.lemmas.List.{length-map}
@@ -8,11 +8,12 @@ use Rattle.std.specs.Char.{to_ascii_lowercase}
 use Rattle.lotos_base.proofs.Bytes.{same_bytes, bytes_same}
 use Rattle.lotos_base.specs.Names.{folded}
 use Rattle.lotos_base.specs.Signature.{Sort, Operation, Form, prefix_form, infix_form}
-use Rattle.lotos_base.specs.Twins.{form_eq}
+use Rattle.lotos_base.specs.Twins.{are_twins, form_eq}
+use Rattle.lotos_base.proofs.Truth.{same_truth}
 use Rattle.sort_terms.specs.WellFormedTest.{are_one_sort, are_one_operation}
 use Rattle.sort_terms.proofs.NodeLemmas.{forms_eq, eq_forms}
 use Rattle.type_definitions.specs.Presentation.{is_same_sort, is_same_operation}
-use Rattle.type_presentations.specs.Keys.{name_key, sort_key, form_number, profile_key, operation_key, KeysTell}
+use Rattle.type_presentations.specs.Keys.{name_key, sort_key, form_number, profile_key, twin_key, operation_key, KeysTell}
 
 -- ---- Lists and tests.
 
@@ -123,6 +124,45 @@ profiles o p = (
       let result : o.result ≡ p.result = one.result in
       cc),
 )
+
+-- twins have one key and other results
+pub twins : (o p : Operation) → are_twins o p ≡ (bytes_eq (twin_key o) (twin_key p) && not (nat_eq o.result p.result))
+twins o p = same_truth (are_twins o p) (bytes_eq (twin_key o) (twin_key p) && others) forth back
+  where
+    name_test : Bool
+    name_test = bytes_eq (folded o.name) (folded p.name)
+
+    form_test : Bool
+    form_test = form_eq o.form p.form
+
+    arguments_test : Bool
+    arguments_test = bytes_eq o.arguments p.arguments
+
+    others : Bool
+    others = not (nat_eq o.result p.result)
+
+    forth : are_twins o p ≡ true → (bytes_eq (twin_key o) (twin_key p) && others) ≡ true
+    forth h =
+        let front : (name_test && form_test) ≡ true = left_of (name_test && form_test) (arguments_test && others) h in
+        let back : (arguments_test && others) ≡ true = right_of (name_test && form_test) (arguments_test && others) h in
+        let name : folded o.name ≡ folded p.name =
+        same_bytes (folded o.name) (folded p.name) (left_of name_test form_test front) in
+        let form : form_number o.form ≡ form_number p.form =
+        ap form_number (forms_eq o.form p.form (right_of name_test form_test front)) in
+        let arguments : o.arguments ≡ p.arguments = same_bytes o.arguments p.arguments (left_of arguments_test others back) in
+        let keys : twin_key o ≡ twin_key p = cc in
+        and_from _ _ (bytes_same (twin_key o) (twin_key p) keys) (right_of arguments_test others back)
+
+    back : (bytes_eq (twin_key o) (twin_key p) && others) ≡ true → are_twins o p ≡ true
+    back h =
+        let e : twin_key o ≡ twin_key p = same_bytes (twin_key o) (twin_key p) (left_of (bytes_eq (twin_key o) (twin_key p)) others h) in
+        let form : form_number o.form ≡ form_number p.form = cc in
+        let as_many : length o.arguments ≡ length p.arguments = cc in
+        let behind : o.arguments ++ folded o.name ≡ p.arguments ++ folded p.name = cc in
+        let parts = split o.arguments p.arguments (folded o.name) (folded p.name) as_many behind in
+        and_from _ _
+        (and_from _ _ (bytes_same (folded o.name) (folded p.name) parts.1) (eq_forms o.form p.form (one_form o.form p.form form)))
+        (and_from _ _ (bytes_same o.arguments p.arguments parts.0) (right_of (bytes_eq (twin_key o) (twin_key p)) others h))
 
 operations : (o p : Operation) → (operation_key o ≡ operation_key p) ↔ (is_same_operation o p ≡ true)
 operations o p = (

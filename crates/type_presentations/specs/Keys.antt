@@ -1,5 +1,5 @@
 -- Keys of sorts and operations: lists of numbers that are equal exactly where two sorts or operations are, or have one name,
--- or one name, form and profile.
+-- or one name, form and profile, or one name, form and argument sorts.
 use Rattle.std.specs.Prelude.{◌≡◌, ◌↔◌, ℕ, true, List, ◌∷◌, ◌++◌, length}
 use Rattle.lotos_base.specs.Names.{folded}
 use Rattle.lotos_base.specs.Signature.{Sort, Operation, Form, prefix_form, infix_form}
@@ -24,7 +24,12 @@ profile_key operation =
     form_number operation.form ∷ operation.result ∷ length operation.arguments
     ∷ (operation.arguments ++ folded operation.name)
 
--- an operation by these and its origin
+-- an operation by its name, form and argument sorts
+abbrev pub twin_key : Operation → List ℕ
+twin_key operation =
+    form_number operation.form ∷ length operation.arguments ∷ (operation.arguments ++ folded operation.name)
+
+-- an operation by name, form, profile and origin
 abbrev pub operation_key : Operation → List ℕ
 operation_key operation =
     length operation.name ∷ form_number operation.form ∷ operation.result ∷ length operation.arguments

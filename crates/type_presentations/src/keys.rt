@@ -5,6 +5,7 @@ ghost use Rattle.lotos_base.specs.WrittenView.{form_of};
 ghost use Rattle.type_presentations.specs.Keys.{
   form_number as number_of_form,
   profile_key as key_of_profile,
+  twin_key as key_of_twins,
 };
 ghost use Rattle.sort_terms.specs.Operations.{operation_of};
 ghost use Rattle.std.specs.Prelude.{◌≡◌, ◌∷◌, ◌++◌, IfOk, OnOk, length};
@@ -19,6 +20,19 @@ pub fn profile_key(alloc: Global, op: &Op) -> Result<Vec<usize>, NoMemory>
 {
     let mut key = Vec::new(alloc);
     push_profile(&mut key, op)?;
+    push_name(&mut key, &op.name)?;
+    Ok(key)
+}
+
+/// The key of an operation by its name, form and argument sorts. Its twins are the operations with
+/// the same key and other results.
+pub fn twin_key(alloc: Global, op: &Op) -> Result<Vec<usize>, NoMemory>
+    ensures { IfOk result (λ key. key.items ≡ key_of_twins (operation_of op.now)) }
+{
+    let mut key = Vec::new(alloc);
+    key.push(form_number(op.form))?;
+    key.push(op.arguments.len())?;
+    push_numbers(&mut key, op.arguments.as_slice())?;
     push_name(&mut key, &op.name)?;
     Ok(key)
 }

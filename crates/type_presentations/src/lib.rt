@@ -28,7 +28,7 @@ pub use growing_operations::grow_by_op;
 pub use growing_sorts::grow_by_sort;
 pub use key_laws::keys_tell;
 pub use key_set::KeySet;
-pub use keys::profile_key;
+pub use keys::{profile_key, twin_key};
 pub use marking::{mark_op, mark_sort};
 pub use marks::Marks;
 pub use member_list::{MemberList, OperationList, SortList};

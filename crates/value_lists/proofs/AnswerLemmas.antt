@@ -18,7 +18,7 @@ use Rattle.value_lists.specs.InstanceList as found
 use Rattle.value_lists.specs.Tuples.{tuple_count}
 use Rattle.value_lists.specs.ValueList.{AreValueLists, HasMoreValues, HasUpToValues, IsValueList}
 use Rattle.value_lists.specs.declared.limits.TheConstants.{MAX_INSTANCES, MAX_VALUES}
-use Rattle.value_lists.specs.ListOutcome.{ListOutcome, listed, refused, no_sort, too_many_values, too_many_instances, IsListOf, HasFew, HasTooMany, IsSettled, MayChoose, ValuesComeTo, has_no_sort, has_too_many, has_values, InstancesComeTo, has_too_many_instances, has_instances, IsInstanceList}
+use Rattle.value_lists.specs.ListOutcome.{ListOutcome, listed, refused, no_sort, too_many_values, too_many_instances, IsListOf, HasFew, HasTooMany, IsOwnForm, MayChoose, ValuesComeTo, has_no_sort, has_too_many, has_values, InstancesComeTo, has_too_many_instances, has_instances, IsInstanceList}
 use Rattle.value_lists.specs.ListText.{Printing, list_refusal_text, value_list_text, values_text, instance_list_text, instances_text, printing_of}
 use Rattle.value_lists.specs.ListView.{AddsList, HasChoices, HasRules, IsPrintedFor, printing_with}
 use Rattle.value_lists.proofs.SettledLemmas.{few_same, instances_same, list_same, lists_same, more_same, settled}
@@ -55,9 +55,9 @@ module _ (basis : SessionBasis) (signature : Signature) (rules : List Rule) (has
   values_added terms before after list few added = (
     listed terms,
     has_values sort terms named_there
-        (few_same basis.data_.signature (IsNormal rules) (IsSettled basis) (settled rules basis.canon has.normal) size MAX_VALUES
+        (few_same basis.data_.signature (IsNormal rules) (IsOwnForm basis) (settled rules basis.canon has.normal) size MAX_VALUES
         (subst (λ (it : Signature). HasUpToValues it (IsNormal rules) size MAX_VALUES) has.over few))
-        (list_same basis.data_.signature (IsNormal rules) (IsSettled basis) (settled rules basis.canon has.normal) size sort terms
+        (list_same basis.data_.signature (IsNormal rules) (IsOwnForm basis) (settled rules basis.canon has.normal) size sort terms
         (subst (λ (it : Signature). IsValueList it (IsNormal rules) size sort terms) has.over list)),
     added ∙ ap (λ (it : Signature). before ++ value_list_text it terms) has.over,
   )
@@ -67,7 +67,7 @@ module _ (basis : SessionBasis) (signature : Signature) (rules : List Rule) (has
   too_many_added before after more added = (
     refused too_many_values,
     has_too_many sort named_there
-        (more_same basis.data_.signature (IsNormal rules) (IsSettled basis) (settled rules basis.canon has.normal) size MAX_VALUES
+        (more_same basis.data_.signature (IsNormal rules) (IsOwnForm basis) (settled rules basis.canon has.normal) size MAX_VALUES
         (subst (λ (it : Signature). HasMoreValues it (IsNormal rules) size MAX_VALUES) has.over more)),
     added,
   )
@@ -83,19 +83,19 @@ module _ (basis : SessionBasis) (signature : Signature) (rules : List Rule) (has
     (entry : solving.Entry) (size : ℕ) where
   few_there : HasUpToValues signature (IsNormal rules) size MAX_VALUES → HasFew basis size
   few_there few =
-      few_same basis.data_.signature (IsNormal rules) (IsSettled basis) (settled rules basis.canon has.normal) size MAX_VALUES
+      few_same basis.data_.signature (IsNormal rules) (IsOwnForm basis) (settled rules basis.canon has.normal) size MAX_VALUES
       (subst (λ (it : Signature). HasUpToValues it (IsNormal rules) size MAX_VALUES) has.over few)
 
   pub more_there : HasMoreValues signature (IsNormal rules) size MAX_VALUES → HasTooMany basis size
   more_there more =
-      more_same basis.data_.signature (IsNormal rules) (IsSettled basis) (settled rules basis.canon has.normal) size MAX_VALUES
+      more_same basis.data_.signature (IsNormal rules) (IsOwnForm basis) (settled rules basis.canon has.normal) size MAX_VALUES
       (subst (λ (it : Signature). HasMoreValues it (IsNormal rules) size MAX_VALUES) has.over more)
 
   pub has_choices : (choices : List (List Term)) → AreValueLists signature (IsNormal rules) size entry.variables choices
       → (0 < length entry.variables → HasUpToValues signature (IsNormal rules) size MAX_VALUES) → HasChoices basis entry size choices
   has_choices choices are few = record {
     may = by (none_or_some entry.variables);
-    are = lists_same basis.data_.signature (IsNormal rules) (IsSettled basis) (settled rules basis.canon has.normal) size
+    are = lists_same basis.data_.signature (IsNormal rules) (IsOwnForm basis) (settled rules basis.canon has.normal) size
         entry.variables choices
         (subst (λ (it : Signature). AreValueLists it (IsNormal rules) size entry.variables choices) has.over are);
   }

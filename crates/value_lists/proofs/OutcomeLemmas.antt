@@ -13,11 +13,11 @@ use Rattle.value_lists.specs.declared.limits.TheConstants.{MAX_VALUES, MAX_INSTA
 use Rattle.value_lists.proofs.ListLemmas.{listed_once, not_more_and_few, has_each_once}
 use Rattle.value_lists.proofs.RisingLists.{one_list, pairs_rise, among_contains, contains_among}
 use Rattle.value_lists.proofs.TupleOrderLemmas.{not_before_itself, before_then}
-use Rattle.value_lists.specs.ListOutcome.{ListRefusal, ListOutcome, listed, refused, IsSettled, IsListOf, HasTooMany, HasFew, ValuesComeTo, has_no_sort, has_too_many, has_values, AreListsOf, IsInstanceList, MayChoose, EntryInstances, InstancesComeTo, has_no_entry, has_too_many_values, has_too_many_instances, has_instances}
+use Rattle.value_lists.specs.ListOutcome.{ListRefusal, ListOutcome, listed, refused, IsOwnForm, IsListOf, HasTooMany, HasFew, ValuesComeTo, has_no_sort, has_too_many, has_values, AreListsOf, IsInstanceList, MayChoose, EntryInstances, InstancesComeTo, has_no_entry, has_too_many_values, has_too_many_instances, has_instances}
 
 -- there are too many values, or there are not
 clash : (basis : SessionBasis) (size : ℕ) → HasTooMany basis size → HasFew basis size → ⊥
-clash basis size more few = not_more_and_few basis.data_.signature (IsSettled basis) size MAX_VALUES more few
+clash basis size more few = not_more_and_few basis.data_.signature (IsOwnForm basis) size MAX_VALUES more few
 
 -- ---- Values
 

@@ -8,7 +8,7 @@ use Rattle.std.proofs.lemmas.Nat.{div-add-mod', div-mul-add, mod-mul-add, mul-ad
 use Rattle.std.proofs.lemmas.Option.{same_Some, slice_get-get_or}
 use Rattle.lotos_base.specs.Term.{Term, variable}
 use Rattle.value_lists.specs.TupleNumbers.{has_empty, tuple_at}
-use Rattle.value_lists.specs.Tuples.{IsTuple, tuple_count, StandsBefore, TupleBefore, HasEachOnce, AllHaveEachOnce}
+use Rattle.value_lists.specs.Tuples.{IsTuple, tuple_count, TermStandsBefore, TupleBefore, HasEachOnce, AllHaveEachOnce}
 use Rattle.value_lists.proofs.OrderLemmas.{compared}
 
 -- ---- Counts
@@ -98,7 +98,7 @@ number_of (choice ∷ choices) (t ∷ ts) default ((place, within, at), h) =
 -- ---- They rise together
 
 stands_before : (choice : List Term) (i j : ℕ) (default : Term) → i < j → j < length choice
-    → StandsBefore choice (get_or choice i default) (get_or choice j default)
+    → TermStandsBefore choice (get_or choice i default) (get_or choice j default)
 stands_before choice i j default before within =
     (i, j, before, slice_get-get_or choice i default (omega (arith, before, within)), slice_get-get_or choice j default within)
 

@@ -26,19 +26,19 @@ pub data ListOutcome (A : Type 0) : Type 0 where
   refused : ListRefusal → ListOutcome A
 
 -- The term is its own canonical form.
-abbrev pub IsSettled : SessionBasis → Term → Type 0
-IsSettled basis t = basis.canon t ≡ t
+abbrev pub IsOwnForm : SessionBasis → Term → Type 0
+IsOwnForm basis t = basis.canon t ≡ t
 
 -- The list of the values of the sort with at most so many operations.
 abbrev pub IsListOf : SessionBasis → (size sort : ℕ) → List Term → Type 0
-IsListOf basis size sort terms = IsValueList basis.data_.signature (IsSettled basis) size sort terms
+IsListOf basis size sort terms = IsValueList basis.data_.signature (IsOwnForm basis) size sort terms
 
 -- Over all sorts there are more than 2,000 values with at most so many operations, or there are not.
 abbrev pub HasTooMany : SessionBasis → (size : ℕ) → Type 0
-HasTooMany basis size = HasMoreValues basis.data_.signature (IsSettled basis) size MAX_VALUES
+HasTooMany basis size = HasMoreValues basis.data_.signature (IsOwnForm basis) size MAX_VALUES
 
 abbrev pub HasFew : SessionBasis → (size : ℕ) → Type 0
-HasFew basis size = HasUpToValues basis.data_.signature (IsSettled basis) size MAX_VALUES
+HasFew basis size = HasUpToValues basis.data_.signature (IsOwnForm basis) size MAX_VALUES
 
 -- ---- Values
 
@@ -64,15 +64,15 @@ pub data ValuesComeTo (basis : SessionBasis) (name : List ℕ) (size : ℕ) : Li
 
 -- There is a list for each sort, of its values with at most so many operations.
 abbrev pub AreListsOf : SessionBasis → (size : ℕ) → List ℕ → List (List Term) → Type 0
-AreListsOf basis size sorts choices = AreValueLists basis.data_.signature (IsSettled basis) size sorts choices
+AreListsOf basis size sorts choices = AreValueLists basis.data_.signature (IsOwnForm basis) size sorts choices
 
 -- An instance of an entry: values for its variables, from these lists, that meet its conditions.
-abbrev pub IsInstance : SessionBasis → Entry → List (List Term) → List Term → Type 0
-IsInstance basis entry choices values = IsTuple choices values × Meets basis.data_ entry values
+abbrev pub IsEntryInstance : SessionBasis → Entry → List (List Term) → List Term → Type 0
+IsEntryInstance basis entry choices values = IsTuple choices values × Meets basis.data_ entry values
 
 -- The list has exactly the instances, the first variable changing slowest.
 pub record IsInstanceList (basis : SessionBasis) (entry : Entry) (choices tuples : List (List Term)) : Type 0 where
-  pub exactly : (values : List Term) → Contains tuples values ↔ IsInstance basis entry choices values
+  pub exactly : (values : List Term) → Contains tuples values ↔ IsEntryInstance basis entry choices values
   pub rising : AllPairs (TupleBefore choices) tuples
 
 -- The number of values over all sorts is looked at only where the entry has a variable.

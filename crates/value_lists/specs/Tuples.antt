@@ -16,8 +16,8 @@ tuple_count [] = 1
 tuple_count (choice ∷ choices) = length choice * tuple_count choices
 
 -- The first term stands in the list somewhere before the second one.
-abbrev pub StandsBefore : List Term → Term → Term → Type 0
-StandsBefore choice t u =
+abbrev pub TermStandsBefore : List Term → Term → Term → Type 0
+TermStandsBefore choice t u =
     (i : ℕ) × (j : ℕ) × (i < j) × (slice_get choice i ≡ Some t) × (slice_get choice j ≡ Some u)
 
 -- The first tuple comes before the second one: at the first place where they differ, its term stands earlier in the list
@@ -27,7 +27,7 @@ TupleBefore [] ts us = ⊥
 TupleBefore (choice ∷ choices) [] us = ⊥
 TupleBefore (choice ∷ choices) (t ∷ ts) [] = ⊥
 TupleBefore (choice ∷ choices) (t ∷ ts) (u ∷ us) =
-    StandsBefore choice t u ⊎ ((t ≡ u) × TupleBefore choices ts us)
+    TermStandsBefore choice t u ⊎ ((t ≡ u) × TupleBefore choices ts us)
 
 -- No term stands at two places of the list.
 abbrev pub HasEachOnce : List Term → Type 0

@@ -6,8 +6,8 @@ use Rattle.lotos_base.specs.Term.{Term}
 use Rattle.behaviour_semantics.proofs.InstanceLemmas.{every_at}
 use Rattle.certificate_theory.specs.MatchedPairs.{PairFails, PairIsMatched, PairsFail}
 use Rattle.menu_builder.proofs.HandedOn.{held_before, holds_after, keeps_both, keeps_itself}
-use Rattle.bisim_check.specs.Faults.{TellsFault}
-use Rattle.bisim_check.specs.Readings.{comparison_of, pair_among, pairs_in, IsKept, IsListed}
+use Rattle.bisim_check.specs.Faults.{TellsPairs}
+use Rattle.bisim_check.specs.Readings.{comparison_of, pair_among, pairs_in, IsKeptReading, IsListedPair}
 use Rattle.bisim_check.specs.Surveys.{IsSideOf}
 use Rattle.bisim_check.proofs.AnswerLemmas.{place_of, place_within, each_below_next}
 use Rattle.bisim_check.proofs.PairLemmas.{all_placed}
@@ -29,13 +29,13 @@ check_pair-requires-clause-right g c =
 
 pub check_pair-requires-clause-kept : goal.check_pair-requires-clause-kept
 check_pair-requires-clause-kept g c =
-    holds_after (λ (d : Data) (k : Term → Term). IsKept d k c.args.left.now c.args.right.now c.args.reading.now)
+    holds_after (λ (d : Data) (k : Term → Term). IsKeptReading d k c.args.left.now c.args.right.now c.args.reading.now)
     c.loop-number.invariant.same_known c.requires.kept
 
 pub check_pair-requires-clause-listed : goal.check_pair-requires-clause-listed
 check_pair-requires-clause-listed g c =
     let reading = c.args.reading.now in
-    every_at (IsListed reading.lefts.items reading.rights.items) reading.pairs.items c.loop-number.number c.index.result.now
+    every_at (IsListedPair reading.lefts.items reading.rights.items) reading.pairs.items c.loop-number.number c.index.result.now
     c.requires.kept.pairs (place_of reading.pairs.items c.loop-number.number c.index.result.now (omega arith) c.index.ensures)
 
 pub pair_index-requires : goal.pair_index-requires
@@ -57,7 +57,8 @@ returns-in_err-check_pair-clause-matched g c = λ b d.
     let reading = c.args.reading.now in
     let found = c.index.result.now in
     let pair = pair_among reading.lefts.items reading.rights.items found in
-    gave_up _ (TellsFault (PairsFail compared (pairs_in reading))) c.from_residual-in_err-check_pair.result c.in_err-check_pair.field-0.0
+    gave_up _ (TellsPairs (PairsFail compared (pairs_in reading))) c.from_residual-in_err-check_pair.result
+    c.in_err-check_pair.field-0.0
     c.from_residual-in_err-check_pair.ensures.1
     (told (PairFails compared (pairs_in reading) pair) (PairsFail compared (pairs_in reading)) c.in_err-check_pair.field-0.0
     (λ f h. record {
@@ -68,7 +69,7 @@ returns-in_err-check_pair-clause-matched g c = λ b d.
       fails = h;
       earlier = c.loop-number.invariant.matched b d;
     })
-    (held_before (λ (e : Data) (k : Term → Term). TellsFault (PairFails (comparison_of e k c.args.left.now c.args.right.now b d)
+    (held_before (λ (e : Data) (k : Term → Term). TellsPairs (PairFails (comparison_of e k c.args.left.now c.args.right.now b d)
     (pairs_in reading) pair) c.in_err-check_pair.field-0.0) c.loop-number.invariant.same_known
     (c.in_err-check_pair.ensures.matched b d)))
 

@@ -7,7 +7,7 @@ use Rattle.certificate_theory.specs.MatchedPairs.{PairFails}
 use Rattle.menu_builder.proofs.HandedOn.{held_before, holds_after}
 use Rattle.menu_builder.specs.Menus.{entries_in}
 use Rattle.bisim_check.specs.Events.{event_of, IsUnanswered}
-use Rattle.bisim_check.specs.Faults.{TellsFault}
+use Rattle.bisim_check.specs.Faults.{TellsPairs}
 use Rattle.bisim_check.specs.Matching.{AreEvents, ListedTowards}
 use Rattle.std.specs.Prelude.{false, true}
 use Rattle.bisim_check.specs.Readings.{comparison_of, pair_among, pairs_in}
@@ -78,7 +78,7 @@ returns-in_err-check_events-clause-matched g c = λ b d.
     let moves = map event_of c.in_ok-moves.moves.items in
     let answers = map event_of c.in_ok-answers.answers.items in
     let pair = pair_among reading.lefts.items reading.rights.items listed in
-    gave_up _ (TellsFault (PairFails (comparison_of known canon left right b d) (pairs_in reading) pair))
+    gave_up _ (TellsPairs (PairFails (comparison_of known canon left right b d) (pairs_in reading) pair))
     c.from_residual-in_err-check_events.result c.in_err-check_events.field-0.0 c.from_residual-in_err-check_events.ensures.1
     (told (IsUnanswered (specification_of left) (specification_of right) (ListedTowards false (pairs_in reading)) false listed.line moves
     answers) (PairFails (comparison_of known canon left right b d) (pairs_in reading) pair) c.in_err-check_events.field-0.0

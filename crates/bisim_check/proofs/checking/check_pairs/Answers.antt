@@ -6,9 +6,9 @@ use Rattle.certificate_theory.specs.Certificate.{CertificateFault, accepted, ref
 use Rattle.certificate_theory.specs.Checking.{CertificateComesTo}
 use Rattle.menu_builder.proofs.HandedOn.{held_before, holds_after}
 use Rattle.std.specs.Prelude.{ℕ}
-use Rattle.bisim_check.specs.Faults.{TellsFault}
+use Rattle.bisim_check.specs.Faults.{TellsPairs}
 use Rattle.bisim_check.specs.LineView.{line_of}
-use Rattle.bisim_check.specs.Readings.{comparison_of, IsKept}
+use Rattle.bisim_check.specs.Readings.{comparison_of, IsKeptReading}
 use Rattle.bisim_check.specs.Surveys.{IsSideOf}
 use Rattle.bisim_check.proofs.checking.check_pairs.Goals as goal
 
@@ -23,7 +23,7 @@ follow-requires-clause-right g c =
 
 pub follow-requires-clause-kept : goal.follow-requires-clause-kept
 follow-requires-clause-kept g c =
-    holds_after (λ (d : Data) (k : Term → Term). IsKept d k c.args.left.now c.args.right.now c.in_ok-reading.reading)
+    holds_after (λ (d : Data) (k : Term → Term). IsKeptReading d k c.args.left.now c.args.right.now c.in_ok-reading.reading)
     c.in_ok-reading.ensures.same_known c.in_ok-reading.ensures.kept
 
 pub follow-requires-clause-sides : goal.follow-requires-clause-sides
@@ -37,6 +37,6 @@ returns-clause-comes_to g c =
     let lines = map line_of c.args.lines.now in
     held_before (λ (d : Data) (k : Term → Term). MatchResult c.follow.result
     (λ (number : ℕ). CertificateComesTo (comparison_of d k c.args.left.now c.args.right.now start other_start) lines (accepted number))
-    (TellsFault (λ (f : CertificateFault). CertificateComesTo (comparison_of d k c.args.left.now c.args.right.now start other_start)
+    (TellsPairs (λ (f : CertificateFault). CertificateComesTo (comparison_of d k c.args.left.now c.args.right.now start other_start)
     lines (refused f)))) c.in_ok-reading.ensures.same_known
     (c.follow.ensures.comes_to start other_start c.in_ok-reading.ensures.begins)

@@ -8,9 +8,9 @@ use Rattle.certificate_theory.specs.Checking.{CertificateComesTo}
 use Rattle.certificate_theory.specs.MatchedPairs.{AllPairsAreMatched, PairsFail}
 use Rattle.certificate_theory.specs.NamedStates.{LinesFail}
 use Rattle.menu_builder.proofs.HandedOn.{held_before, holds_after}
-use Rattle.bisim_check.specs.Faults.{TellsFault}
+use Rattle.bisim_check.specs.Faults.{TellsPairs}
 use Rattle.bisim_check.specs.LineView.{line_of}
-use Rattle.bisim_check.specs.Readings.{comparison_of, pair_among, pairs_in, reading_of, IsKept}
+use Rattle.bisim_check.specs.Readings.{comparison_of, pair_among, pairs_in, reading_of, IsKeptReading}
 use Rattle.bisim_check.specs.Surveys.{IsSideOf}
 use Rattle.bisim_check.proofs.DataLemmas.{never}
 use Rattle.bisim_check.proofs.ReadingLemmas.{few_pairs}
@@ -24,7 +24,7 @@ returns-in_err-read_lines-clause-comes_to g c = λ b d is.
     let compared = comparison_of (g.D.Deciding.known_data c.args.data.now) (g.D.Deciding.canon c.args.data.now)
     c.args.left.now.spec.now c.args.right.now.spec.now b d in
     let lines = map line_of c.args.lines.now in
-    gave_up _ (TellsFault (λ (f : CertificateFault). CertificateComesTo compared lines (refused f))) c.from_residual.result
+    gave_up _ (TellsPairs (λ (f : CertificateFault). CertificateComesTo compared lines (refused f))) c.from_residual.result
     c.in_err-read_lines.field-0.0 c.from_residual.ensures.1
     (told (LinesFail compared (reading_of c.args.reading.now) 1 lines)
     (λ (f : CertificateFault). CertificateComesTo compared lines (refused f)) c.in_err-read_lines.field-0.0
@@ -49,7 +49,7 @@ check_listed-requires-clause-right g c =
 
 pub check_listed-requires-clause-kept : goal.check_listed-requires-clause-kept
 check_listed-requires-clause-kept g c =
-    holds_after (λ (d : Data) (k : Term → Term). IsKept d k c.args.left.now.spec.now c.args.right.now.spec.now
+    holds_after (λ (d : Data) (k : Term → Term). IsKeptReading d k c.args.left.now.spec.now c.args.right.now.spec.now
     c.read_lines.new.reading) c.in_ok-read_lines.ensures.same_known c.in_ok-read_lines.ensures.kept_after
 
 pub check_listed-requires-clause-sides : goal.check_listed-requires-clause-sides
@@ -62,13 +62,13 @@ returns-in_err-check_listed-clause-comes_to g c = λ b d is.
     c.args.left.now.spec.now c.args.right.now.spec.now b d in
     let lines = map line_of c.args.lines.now in
     let reading = c.read_lines.new.reading in
-    gave_up _ (TellsFault (λ (f : CertificateFault). CertificateComesTo compared lines (refused f)))
+    gave_up _ (TellsPairs (λ (f : CertificateFault). CertificateComesTo compared lines (refused f)))
     c.from_residual-in_err-check_listed.result c.in_err-check_listed.field-0.0 c.from_residual-in_err-check_listed.ensures.1
     (told (PairsFail compared (pairs_in reading)) (λ (f : CertificateFault). CertificateComesTo compared lines (refused f))
     c.in_err-check_listed.field-0.0
     (pair_fails compared lines (reading_of c.args.reading.now) is (reading_of reading) (c.in_ok-read_lines.ensures.read b d)
     (c.lists_the_starts.ensures.0 c.if-not-lists_the_starts.false))
-    (held_before (λ (e : Data) (k : Term → Term). TellsFault (PairsFail (comparison_of e k c.args.left.now.spec.now
+    (held_before (λ (e : Data) (k : Term → Term). TellsPairs (PairsFail (comparison_of e k c.args.left.now.spec.now
     c.args.right.now.spec.now b d) (pairs_in reading)) c.in_err-check_listed.field-0.0) c.in_ok-read_lines.ensures.same_known
     (c.in_err-check_listed.ensures.matched b d)))
 

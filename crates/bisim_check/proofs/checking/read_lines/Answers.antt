@@ -6,9 +6,9 @@ use Rattle.lotos_base.specs.Term.{Term}
 use Rattle.certificate_theory.specs.Certificate.{CertificateLine}
 use Rattle.certificate_theory.specs.NamedStates.{LineIsRead, LineFails, LinesAreRead, all_read, LinesFail}
 use Rattle.menu_builder.proofs.HandedOn.{held_before, holds_after, keeps_both, keeps_itself}
-use Rattle.bisim_check.specs.Faults.{TellsFault}
+use Rattle.bisim_check.specs.Faults.{TellsPairs}
 use Rattle.bisim_check.specs.LineView.{line_of}
-use Rattle.bisim_check.specs.Readings.{comparison_of, reading_of, IsKept}
+use Rattle.bisim_check.specs.Readings.{comparison_of, reading_of, IsKeptReading}
 use Rattle.bisim_check.specs.Surveys.{IsSideOf}
 use Rattle.bisim_check.specs.declared.lines.PairLine.TheVariants.{Left}
 use Rattle.bisim_check.proofs.AnswerLemmas.{drop_at, place_given}
@@ -38,7 +38,7 @@ read_line-requires-clause-right g c =
 
 pub read_line-requires-clause-kept : goal.read_line-requires-clause-kept
 read_line-requires-clause-kept g c =
-    holds_after (λ (d : Data) (k : Term → Term). IsKept d k c.args.left.now.spec.now c.args.right.now.spec.now c.loop-line.reading)
+    holds_after (λ (d : Data) (k : Term → Term). IsKeptReading d k c.args.left.now.spec.now c.args.right.now.spec.now c.loop-line.reading)
     c.loop-line.invariant.same_known c.loop-line.invariant.kept
 
 pub returns-in_err-read_line-clause-read : goal.returns-in_err-read_line-clause-read
@@ -51,7 +51,7 @@ returns-in_err-read_line-clause-read g c = λ b d.
     let line = line_of item in
     let now = reading_of c.loop-line.reading in
     let number : c.loop-line.number + 1 ≡ suc i = add-one c.loop-line.number ∙ ap (λ (n : ℕ). suc n) c.loop-line.invariant.counted in
-    gave_up _ (TellsFault (LinesFail compared (reading_of c.args.reading.now) 1 lines)) c.from_residual.result
+    gave_up _ (TellsPairs (LinesFail compared (reading_of c.args.reading.now) 1 lines)) c.from_residual.result
     c.in_err-read_line.field-0.0 c.from_residual.ensures.1
     (told (LineFails compared now (c.loop-line.number + 1) line) (LinesFail compared (reading_of c.args.reading.now) 1 lines)
     c.in_err-read_line.field-0.0
@@ -59,7 +59,7 @@ returns-in_err-read_line-clause-read g c = λ b d.
     (fail_now compared (drop i lines) line (drop (i + 1) lines) (suc i) now f
     (drop_at lines i line (at_map line_of c.args.lines.now i item (place_given c.args.lines.now i (Left 0 0) c.loop-line-test.true)))
     (subst (λ (n : ℕ). LineFails compared now n line f) number h)))
-    (held_before (λ (e : Data) (k : Term → Term). TellsFault (LineFails (comparison_of e k c.args.left.now.spec.now
+    (held_before (λ (e : Data) (k : Term → Term). TellsPairs (LineFails (comparison_of e k c.args.left.now.spec.now
     c.args.right.now.spec.now b d) now (c.loop-line.number + 1) line) c.in_err-read_line.field-0.0) c.loop-line.invariant.same_known
     (c.in_err-read_line.ensures.read b d)))
 
@@ -96,7 +96,7 @@ loop-line-preserved g c =
           (held_before (λ (e : Data) (k : Term → Term). LineIsRead (comparison_of e k left right b d) now (c.loop-line.number + 1) line
           next) same (c.in_ok-read_line.ensures.read b d)))
           (subst (λ (n : ℕ). LinesFail compared next (suc n) (drop (i + 1) lines) f) (add-one i) more));
-      kept = held_before (λ (e : Data) (k : Term → Term). IsKept e k left right c.read_line.new.reading) same
+      kept = held_before (λ (e : Data) (k : Term → Term). IsKeptReading e k left right c.read_line.new.reading) same
           c.in_ok-read_line.ensures.kept_after;
       counted = ap (λ (n : ℕ). n + 1) c.loop-line.invariant.counted;
       same_known = keeps_both same c.in_ok-read_line.ensures.same_known;

@@ -4,7 +4,7 @@ use Rattle.certificate_theory.specs.Certificate.{CertificateFault, Reading as Pl
 use Rattle.certificate_theory.specs.NamedStates.{LinesAreRead, LinesFail}
 use Rattle.menu_builder.specs.HandedOn.{KeepsData}
 use Rattle.bisim_check.specs.LineView.{line_of}
-use Rattle.bisim_check.specs.Readings.{comparison_of, reading_of, IsKept}
+use Rattle.bisim_check.specs.Readings.{comparison_of, reading_of, IsKeptReading}
 use Rattle.bisim_check.proofs.checking.read_lines.Given as goal
 
 abbrev pub invariant-loop-line : goal.invariant-loop-line
@@ -20,7 +20,7 @@ invariant-loop-line g l =
           (reading_of l.reading) (suc l.line-index) (drop l.line-index (map line_of l.lines)) f
           → LinesFail (comparison_of known canon l.left.spec.now l.right.spec.now b c) (reading_of l.fn.reading) 1
           (map line_of l.lines) f;
-      kept : IsKept known canon l.left.spec.now l.right.spec.now l.reading;
+      kept : IsKeptReading known canon l.left.spec.now l.right.spec.now l.reading;
       counted : l.number ≡ l.line-index;
       same_known : KeepsData g.D.Deciding.known_data g.D.Deciding.canon l.fn.data l.data;
     }

@@ -1,7 +1,7 @@
 use Rattle.std.proofs.Common.{refl, sym, ◌∙◌, ap, arith, get_or}
 use Rattle.behaviour_tree.specs.StateView.{state_of}
 use Rattle.path_order.specs.HeadIndexView.{numbers_at}
-use Rattle.bisim_check.specs.PairIndex.{IsPairAt}
+use Rattle.bisim_check.specs.PairIndex.{PairStandsAt}
 use Rattle.bisim_check.specs.Readings.{pairs_in}
 use Rattle.bisim_check.proofs.AnswerLemmas.{place_given, none_below_next}
 use Rattle.bisim_check.proofs.DataLemmas.{never}
@@ -20,7 +20,7 @@ pub loop-number-preserved : goal.loop-number-preserved
 loop-number-preserved c =
     let numbers = c.under-number-items.result.now in
     let i = c.loop-number.number-index in
-    none_below_next (IsPairAt (pairs_in c.args.reading.now) (state_of c.args.left.now) (state_of c.args.right.now)) numbers i
+    none_below_next (PairStandsAt (pairs_in c.args.reading.now) (state_of c.args.left.now) (state_of c.args.right.now)) numbers i
     (get_or numbers i 0) (place_given numbers i 0 c.loop-number-test.true)
     c.loop-number.invariant (λ h. never (sym c.if-is_numbered.false ∙ c.is_numbered.ensures.1 h))
 

@@ -5,7 +5,7 @@ use Rattle.behaviour_semantics.proofs.InstanceLemmas.{every_at}
 use Rattle.behaviour_semantics.proofs.OptionLemmas.{some_value}
 use Rattle.behaviour_tree.specs.StateView.{state_of}
 use Rattle.certificate_theory.specs.Certificate.{ListedPair}
-use Rattle.bisim_check.specs.Readings.{pair_among, pairs_in, IsPlaced}
+use Rattle.bisim_check.specs.Readings.{pair_among, pairs_in, IsPlacedPair}
 use Rattle.bisim_check.proofs.AnswerLemmas.{place_within, read_there}
 use Rattle.bisim_check.proofs.DataLemmas.{never}
 use Rattle.bisim_check.proofs.matching.is_numbered.Goals as goal
@@ -26,7 +26,7 @@ returns-in-None c =
 pub is_pair-requires : goal.is_pair-requires
 is_pair-requires c =
     let pairs = c.args.reading.now.pairs.items in
-    every_at (IsPlaced c.args.reading.now) pairs c.args.number c.in-Some.pair.now c.requires
+    every_at (IsPlacedPair c.args.reading.now) pairs c.args.number c.in-Some.pair.now c.requires
     (read_there c.deref.result.now pairs c.args.number c.in-Some.pair.now c.deref.ensures.value
     (ltb-true _ _ (sym c.in-Some.ensures.lookup.0)) c.in-Some.ensures.lookup.1)
 

@@ -5,7 +5,7 @@ use Rattle.behaviour_semantics.specs.Behaviour.{Behaviour}
 use Rattle.behaviour_tree.specs.StateView.{state_of}
 use Rattle.certificate_theory.specs.NamedStates.{NamesNoState, NamesState}
 use Rattle.menu_builder.proofs.HandedOn.{held_before, holds_after}
-use Rattle.bisim_check.specs.Faults.{TellsFault}
+use Rattle.bisim_check.specs.Faults.{TellsPairs}
 use Rattle.bisim_check.specs.Surveys.{IsSideOf, IsStateIn, IsSurveyed, behaviours_in, side_over}
 use Rattle.bisim_check.proofs.Results.{gave_up}
 use Rattle.bisim_check.proofs.SurveyLemmas.{surveyed_more}
@@ -23,7 +23,7 @@ survey-requires-clause-state g c =
 
 pub returns-in_err-state-clause-added : goal.returns-in_err-state-clause-added
 returns-in_err-state-clause-added g c =
-    gave_up _ (TellsFault (NamesNoState (side_over (g.D.Deciding.known_data c.args.data.now) (g.D.Deciding.canon c.args.data.now)
+    gave_up _ (TellsPairs (NamesNoState (side_over (g.D.Deciding.known_data c.args.data.now) (g.D.Deciding.canon c.args.data.now)
     c.args.side.now.spec.now) (behaviours_in c.args.states.now.items) c.args.from c.args.number c.args.line)) c.from_residual.result
     c.in_err-state.field-0.0 c.from_residual.ensures.1 c.in_err-state.ensures.named
 

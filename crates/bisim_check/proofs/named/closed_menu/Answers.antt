@@ -1,5 +1,5 @@
 use Rattle.std.proofs.Common.{arith}
-use Rattle.bisim_check.specs.Faults.{TellsFault}
+use Rattle.bisim_check.specs.Faults.{TellsPairs}
 use Rattle.bisim_check.specs.Readings.{IsClosedOne, IsOpenFault}
 use Rattle.bisim_check.proofs.AnswerLemmas.{each_below, place_within}
 use Rattle.bisim_check.proofs.ReadingLemmas.{every_from}
@@ -8,7 +8,7 @@ use Rattle.bisim_check.proofs.named.closed_menu.Goals as goal
 
 pub returns-in_err-closed_at : goal.returns-in_err-closed_at
 returns-in_err-closed_at c =
-    gave_up _ (TellsFault (IsOpenFault c.args.menu.now c.args.line)) c.from_residual.result c.in_err-closed_at.field-0.0
+    gave_up _ (TellsPairs (IsOpenFault c.args.menu.now c.args.line)) c.from_residual.result c.in_err-closed_at.field-0.0
     c.from_residual.ensures.1 c.in_err-closed_at.ensures
 
 pub loop-position-preserved : goal.loop-position-preserved

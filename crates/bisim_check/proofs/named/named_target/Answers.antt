@@ -5,7 +5,7 @@ use Rattle.certificate_theory.specs.Certificate.{CertificateFault, no_state, no_
 use Rattle.certificate_theory.specs.NamedStates.{NamesNoState, numbered_entry}
 use Rattle.behaviour_tree.specs.StateView.{state_of}
 use Rattle.menu_builder.specs.Menus.{entries_in}
-use Rattle.bisim_check.specs.Faults.{TellsFault}
+use Rattle.bisim_check.specs.Faults.{TellsPairs}
 use Rattle.bisim_check.specs.Surveys.{behaviours_in, side_over}
 use Rattle.bisim_check.proofs.Results.{gave_up}
 use Rattle.bisim_check.proofs.SurveyLemmas.{told, entry_there, entry_over, found_surveyed, names, names_open, names_no_entry, names_no_state, some_member}
@@ -16,7 +16,7 @@ returns-in_err-surveyed-clause-named g c =
     let known = g.D.Deciding.known_data c.args.data.now in
     let canon = g.D.Deciding.canon c.args.data.now in
     let states = c.args.states.now.items in
-    gave_up _ (TellsFault (NamesNoState (side_over known canon c.args.spec.now) (behaviours_in states) c.args.from c.args.number
+    gave_up _ (TellsPairs (NamesNoState (side_over known canon c.args.spec.now) (behaviours_in states) c.args.from c.args.number
     c.args.line)) c.from_residual.result c.in_err-surveyed.field-0.0 c.from_residual.ensures.1
     (told (λ (f : CertificateFault). (f ≡ no_state c.args.line) × (slice_get (behaviours_in states) c.args.from ≡ None))
     (NamesNoState (side_over known canon c.args.spec.now) (behaviours_in states) c.args.from c.args.number c.args.line)
@@ -29,7 +29,7 @@ returns-in_err-entry-clause-named g c =
     let canon = g.D.Deciding.canon c.args.data.now in
     let states = c.args.states.now.items in
     let found = c.in_ok-surveyed.surveyed.now in
-    gave_up _ (TellsFault (NamesNoState (side_over known canon c.args.spec.now) (behaviours_in states) c.args.from c.args.number
+    gave_up _ (TellsPairs (NamesNoState (side_over known canon c.args.spec.now) (behaviours_in states) c.args.from c.args.number
     c.args.line)) c.from_residual-in_err-entry.result c.in_err-entry.field-0.0 c.from_residual-in_err-entry.ensures.1
     (told (λ (f : CertificateFault). (f ≡ no_entry c.args.line) × (numbered_entry (entries_in found.menu) c.args.number ≡ None))
     (NamesNoState (side_over known canon c.args.spec.now) (behaviours_in states) c.args.from c.args.number c.args.line)

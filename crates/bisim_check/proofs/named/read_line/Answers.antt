@@ -2,7 +2,7 @@ use Rattle.std.proofs.Common.{MatchResult, sym, subst}
 use Rattle.std.proofs.lemmas.Result.{MatchResult-weaker}
 use Rattle.behaviour_semantics.specs.Behaviour.{stop}
 use Rattle.certificate_theory.specs.NamedStates.{NamesNoState, LineIsRead, LineFails}
-use Rattle.bisim_check.specs.Faults.{TellsFault}
+use Rattle.bisim_check.specs.Faults.{TellsPairs}
 use Rattle.bisim_check.specs.LineView.{line_of}
 use Rattle.bisim_check.specs.Readings.{comparison_of, reading_of}
 use Rattle.bisim_check.specs.Surveys.{behaviours_in, side_over}
@@ -22,7 +22,7 @@ returns-in-Left-clause-kept_after g c =
     let canon = g.D.Deciding.canon c.args.data.now in
     left_kept known canon c.args.left.now.spec.now c.args.right.now.spec.now c.args.reading.now c.requires.kept c.add_state.result
     c.add_state.new.states c.in-Left.from c.in-Left.entry
-    (TellsFault (NamesNoState (side_over known canon c.args.left.now.spec.now) (behaviours_in c.args.reading.now.lefts.items)
+    (TellsPairs (NamesNoState (side_over known canon c.args.left.now.spec.now) (behaviours_in c.args.reading.now.lefts.items)
     c.in-Left.from c.in-Left.entry c.args.number)) c.add_state.ensures.added c.add_state.ensures.surveyed_after
 
 pub returns-in-Right-clause-read : goal.returns-in-Right-clause-read
@@ -37,7 +37,7 @@ returns-in-Right-clause-kept_after g c =
     let canon = g.D.Deciding.canon c.args.data.now in
     right_kept known canon c.args.left.now.spec.now c.args.right.now.spec.now c.args.reading.now c.requires.kept
     c.add_state-in-Right.result c.add_state-in-Right.new.states c.in-Right.from c.in-Right.entry
-    (TellsFault (NamesNoState (side_over known canon c.args.right.now.spec.now) (behaviours_in c.args.reading.now.rights.items)
+    (TellsPairs (NamesNoState (side_over known canon c.args.right.now.spec.now) (behaviours_in c.args.reading.now.rights.items)
     c.in-Right.from c.in-Right.entry c.args.number)) c.add_state-in-Right.ensures.added
     c.add_state-in-Right.ensures.surveyed_after
 
@@ -49,7 +49,7 @@ returns-in-Pair-clause-read g c = λ b d.
     let right = c.args.right.now.spec.now in
     subst (λ (it : PairLine). MatchResult c.add_pair.result (λ _. LineIsRead (comparison_of known canon left right b d)
     (reading_of c.args.reading.now) c.args.number (line_of it) (reading_of c.add_pair.new.reading))
-    (TellsFault (LineFails (comparison_of known canon left right b d) (reading_of c.args.reading.now) c.args.number (line_of it))))
+    (TellsPairs (LineFails (comparison_of known canon left right b d) (reading_of c.args.reading.now) c.args.number (line_of it))))
     (sym c.in-Pair.is)
     (MatchResult-weaker c.add_pair.result (c.add_pair.ensures known canon left right b d c.requires.kept) (λ _ h. h.0) (λ _ h. h))
 

@@ -2,7 +2,7 @@ use Rattle.std.proofs.Common.{arith}
 use Rattle.std.proofs.lemmas.List.{length-map}
 use Rattle.lotos_base.proofs.Members.{at_map}
 use Rattle.behaviour_semantics.proofs.InstanceLemmas.{every_at}
-use Rattle.bisim_check.specs.Readings.{pair_among, pairs_in, IsPlaced}
+use Rattle.bisim_check.specs.Readings.{pair_among, pairs_in, IsPlacedPair}
 use Rattle.bisim_check.proofs.AnswerLemmas.{place_of, place_within}
 use Rattle.bisim_check.proofs.IndexLemmas.{index_more}
 use Rattle.bisim_check.proofs.pair_index.pair_index.Goals as goal
@@ -14,7 +14,7 @@ loop-number-init c =
 pub file-requires-clause-placed : goal.file-requires-clause-placed
 file-requires-clause-placed c =
     let pairs = c.args.reading.now.pairs.items in
-    every_at (IsPlaced c.args.reading.now) pairs c.loop-number.number c.index.result.now c.requires
+    every_at (IsPlacedPair c.args.reading.now) pairs c.loop-number.number c.index.result.now c.requires
     (place_of pairs c.loop-number.number c.index.result.now (omega arith) c.index.ensures)
 
 pub loop-number-preserved : goal.loop-number-preserved

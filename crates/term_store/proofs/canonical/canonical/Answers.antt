@@ -2,7 +2,7 @@ use Rattle.std.proofs.Common.{subst}
 use Rattle.sort_terms.specs.SortedView.{profiled_in}
 use Rattle.sort_terms.specs.TermView.{profiled_of}
 use Rattle.sort_terms.specs.declared.terms.Term.{Term}
-use Rattle.term_store.specs.Numbered.{TakesIn, IsNumberOf}
+use Rattle.term_store.specs.Numbered.{TakesIn, IsNumberOfTerm}
 use Rattle.term_store.specs.SharedView.{keys_in}
 use Rattle.term_store.proofs.CanonicalLemmas.{numbered_stays, canonical_form, own_form}
 use Rattle.term_store.proofs.TurnLemmas.{with_shared, stay_on}
@@ -41,14 +41,14 @@ returns-clause-stay c =
 
 pub returns-clause-canonical : goal.returns-clause-canonical
 returns-clause-canonical c =
-    let numbered = subst (λ (t : Term). IsNumberOf (profiled_of t) (keys_in c.args.forms.now.shared) (keys_in c.number_of.new.shared)
+    let numbered = subst (λ (t : Term). IsNumberOfTerm (profiled_of t) (keys_in c.args.forms.now.shared) (keys_in c.number_of.new.shared)
     c.in_ok-number.number) c.term.ensures c.in_ok-number.ensures.number in
     canonical_form c.args.rules.now c.args.forms.now c.number_of.new.shared c.chosen.new.forms (profiled_in c.args.term.now)
     c.in_ok-number.number c.in_ok-form.form c.requires.sound c.requires.term numbered c.chosen.ensures.stay c.in_ok-form.ensures.kept
 
 pub returns-clause-own : goal.returns-clause-own
 returns-clause-own c own =
-    let numbered = subst (λ (t : Term). IsNumberOf (profiled_of t) (keys_in c.args.forms.now.shared) (keys_in c.number_of.new.shared)
+    let numbered = subst (λ (t : Term). IsNumberOfTerm (profiled_of t) (keys_in c.args.forms.now.shared) (keys_in c.number_of.new.shared)
     c.in_ok-number.number) c.term.ensures c.in_ok-number.ensures.number in
     own_form c.args.rules.now c.args.forms.now c.number_of.new.shared c.chosen.new.forms (profiled_in c.args.term.now)
     c.in_ok-number.number c.in_ok-form.form c.requires.sound c.requires.term numbered c.chosen.ensures.stay c.in_ok-form.ensures.kept own

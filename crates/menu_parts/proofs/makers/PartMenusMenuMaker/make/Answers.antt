@@ -3,7 +3,7 @@ use Rattle.behaviour_semantics.specs.WellFormed.{Every}
 use Rattle.behaviour_tree.specs.StateView.{stands_for, state_of}
 use Rattle.menu_parts.specs.Items.{HasEntryTerms, HasItemTerms, plain_item}
 use Rattle.step_taker.specs.Taken.{ground_of}
-use Rattle.menu_parts.specs.KeptMenus.{listed_for}
+use Rattle.menu_parts.specs.Spread.{listed_for}
 use Rattle.menu_parts.specs.declared.kept.Kept.{Kept}
 use Rattle.menu_parts.proofs.MakerLemmas.{copied_node, kept_borrowed, menu_exact, menu_over}
 use Rattle.menu_parts.proofs.makers.PartMenusMenuMaker.make.Goals as goal

@@ -14,3 +14,6 @@ returns-in_ok-under_hide-in-Hidden-clause-terms c = λ signature h. c.in_ok-unde
 
 pub returns-in_ok-under_pairs-in-Relabelled-clause-terms : goal.returns-in_ok-under_pairs-in-Relabelled-clause-terms
 returns-in_ok-under_pairs-in-Relabelled-clause-terms c = λ signature h. c.in_ok-under_pairs-in-Relabelled.ensures.terms signature h
+
+pub returns-in_ok-under_pairs-in-Under-clause-terms : goal.returns-in_ok-under_pairs-in-Under-clause-terms
+returns-in_ok-under_pairs-in-Under-clause-terms c = λ signature h. c.in_ok-under_pairs-in-Under.ensures.terms signature h

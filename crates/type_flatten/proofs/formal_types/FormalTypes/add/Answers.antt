@@ -7,15 +7,15 @@ use Rattle.type_presentations.specs.PresentationView.{presentation_of}
 use Rattle.type_flatten.proofs.TypesLemmas.{as_many_lists, names_of, with_one_type}
 use Rattle.type_flatten.proofs.formal_types.FormalTypes.add.Goals as goal
 
-pub add-requires-2 : goal.add-requires-2
-add-requires-2 c = record { sound = c.requires.types.1.sound; presentation = c.requires.presentation }
+pub add-requires : goal.add-requires
+add-requires c = record { sound = c.requires.types.1.sound; presentation = c.requires.presentation }
 
 pub returns : goal.returns
 returns c = λ (all : List FlattenedType) (t : FlattenedType) are is formals.
     let as_many : length (names_of all) ≡ length c.args.self.now.formals.items =
     length-map all (λ (x : FlattenedType). x.mentioned.at.name) ∙ as_many_lists all c.args.self.now.formals.items are.formals in
     with_one_type all t c.args.self.now _ (declared_with (declared_type_of c.args.text.now) (presentation_of c.args.presentation)) _ are is
-    c.in_ok-add-2.ensures.presented c.in_ok-add-2.ensures.sound
-    (c.in_ok-add.ensures (names_of all) are.names
+    c.in_ok-add.ensures.presented c.in_ok-add.ensures.sound
+    (c.in_ok-add-2.ensures (names_of all) are.names
     (as_many ∙ sym c.args.self.now.formals.ok.0 ∙ sym c.len-count.ensures))
     c.in_ok-push.ensures.items refl formals c.requires.formals
