@@ -257,12 +257,27 @@ fn step_in(
     step_over(alloc, &spec, &start, &mut book, letters, terms)
 }
 
+// What comes of the derivation in the text.
+fn told_of_text(
+    alloc: Global,
+    text: &str,
+    letters: &str,
+    terms: &[Written],
+) -> Result<String, Fail> {
+    let accepted = accept(alloc, text)?;
+    step_in(alloc, accepted, letters, terms)
+}
+
+// The same with the leaves.
+fn told_with(alloc: Global, text: &str, letters: &str, leaves: &str) -> Result<String, Fail> {
+    let terms = terms_of(alloc, leaves)?;
+    told_of_text(alloc, text, letters, terms.as_slice())
+}
+
 // What comes of the derivation in the body.
 fn told(alloc: Global, body: &str, letters: &str, leaves: &str) -> Result<String, Fail> {
-    let terms = terms_of(alloc, leaves)?;
     let text = format!(in alloc; "{BEFORE}{body}{BEHIND}")?;
-    let accepted = accept(alloc, text.as_str())?;
-    step_in(alloc, accepted, letters, terms.as_slice())
+    told_with(alloc, text.as_str(), letters, leaves)
 }
 
 #[test]

@@ -15,7 +15,7 @@ entries-requires-clause-ranks c = c.requires.known.1.ranks_are
 
 pub entries-requires-clause-state : goal.entries-requires-clause-state
 entries-requires-clause-state c =
-    c.in_ok-state.ensures.lawful (signature_of c.args.accepted.book.flat.signature) c.args.accepted.spec c.requires.known.1.state
+    c.in_ok-state.ensures.lawful (signature_of c.args.accepted.now.book.flat.signature) c.args.accepted.now.spec c.requires.known.1.state
 
 pub entries-requires-clause-closed : goal.entries-requires-clause-closed
 entries-requires-clause-closed c = c.in_ok-state.ensures.closed
