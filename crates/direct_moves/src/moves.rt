@@ -440,7 +440,8 @@ fn are_at_their_gates(listed: &[PlainMove]) -> bool {
     true
 }
 
-// Whether no list has the depth of 1, and the moves in that of 2 are at the gates of their positions.
+// Whether no list has the depth of 1, and the moves in that of 2 are at the gates of their
+// positions.
 fn has_its_moves(alloc: Global, body: &Rc<PlainBehaviour>) -> Result<bool, AllocError> {
     if moves(alloc, &[], 1, body)?.is_some() {
         return Ok(false);

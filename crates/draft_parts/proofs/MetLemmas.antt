@@ -172,7 +172,8 @@ over_set P [] i e h p = tt
 over_set P (x ∷ drafts) zero e h p = (p, h.1)
 over_set P (x ∷ drafts) (suc i) e h p = (h.0, over_set P drafts i e h.1 p)
 
-pub over_at : (P : Draft → Type 0) (drafts : List Draft) (i : ℕ) (d : Draft) → i < length drafts → d ≡ get_or drafts i d → Every P drafts → P d
+pub over_at : (P : Draft → Type 0) (drafts : List Draft) (i : ℕ) (d : Draft) → i < length drafts → d ≡ get_or drafts i d
+    → Every P drafts → P d
 over_at P [] i d within is h = absurd (omega arith)
 over_at P (x ∷ drafts) zero d within is h = subst P (sym is) h.0
 over_at P (x ∷ drafts) (suc i) d within is h = over_at P drafts i d (omega arith) is h.1
@@ -206,7 +207,8 @@ met_begun meet label later given made none = record {
   kept = all_same meet given later;
 }
 
-pub here_is : (drafts : List Draft) (i : ℕ) (d : Draft) → i < length drafts → d ≡ get_or drafts i d → drop i drafts ≡ d ∷ drop (suc i) drafts
+pub here_is : (drafts : List Draft) (i : ℕ) (d : Draft) → i < length drafts → d ≡ get_or drafts i d
+    → drop i drafts ≡ d ∷ drop (suc i) drafts
 here_is drafts i d within is = drop-cons drafts i d within ∙ ap (λ (y : Draft). y ∷ drop (suc i) drafts) (sym is)
 
 pub met_passed : (meet : SynchronisationSet) (label : Label) (later given now made : List Draft) (i : ℕ) (d : Draft) → i < length now

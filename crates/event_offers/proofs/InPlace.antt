@@ -53,7 +53,8 @@ module _ {X : Type 0} (R : X → X → Type 0) where
   changed_views view f e zero (x ∷ old) now past h = absurd (omega (arith, past, ap length h))
   changed_views view f e (suc i) [] now past h = ap (map view) h
   changed_views view f e (suc i) (x ∷ old) [] past h = absurd h
-  changed_views view f e (suc i) (x ∷ old) (y ∷ now) past h = λ j. e x y h.0 j ∷ changed_views view f e i old now (omega (arith, past)) h.1 j
+  changed_views view f e (suc i) (x ∷ old) (y ∷ now) past h =
+      λ j. e x y h.0 j ∷ changed_views view f e i old now (omega (arith, past)) h.1 j
 
   pub changed_have : {A : Type 0} (view : X → A) (P : A → Type 0) → ((x y : X) → R x y → P (view y)) → (i : ℕ) (old now : List X)
       → length now ≤ i → AreChangedUpTo R i old now → Every P (map view now)

@@ -65,7 +65,7 @@ spread_items (Both' _ left _ right) = spread_items left ++ spread_items right
 abbrev pub NoneEnds : List Entry → Type 0
 NoneEnds entries = Every (λ (entry : Entry). is_exit entry.label ≡ Bool.false) entries
 
--- The behaviour is a relabelling of the part, or has two sides that stand side by side, as far as menus tell.
+-- The behaviour is a relabelling of the part, as far as menus tell.
 abbrev pub IsRelabelled : Ground → Relabelling → Behaviour → Behaviour → Type 0
 IsRelabelled basis pairs part whole =
     (entries : List Entry) → IsExactOn basis part entries → IsExactOn basis whole (relabel_menu pairs entries)

@@ -68,7 +68,8 @@ returns-clause-read c =
     let signature = known_signature c.args.known.now in
     let parts = map (λ part. part.now) c.args.parts.now in
     c.loop-number.invariant.comes (stopping c.loop-number.reading c.ended.result)
-    (rest_read parts signature c.loop-number.number _ c.part_at.result.now (reading_in c.loop-number.reading) (stopping c.loop-number.reading c.ended.result)
+    (rest_read parts signature c.loop-number.number _ c.part_at.result.now (reading_in c.loop-number.reading)
+    (stopping c.loop-number.reading c.ended.result)
     c.loop-number.auto.number-end c.loop-number-test.false
     (omega (arith, length-map c.args.parts.now (λ part. part.now), c.loop-number.invariant.last))
     c.part_at.ensures (c.ended.ensures signature))

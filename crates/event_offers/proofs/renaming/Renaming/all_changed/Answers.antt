@@ -36,5 +36,5 @@ pub returns-clause-profiles : goal.returns-clause-profiles
 returns-clause-profiles c =
     let count = changed_length (IsRenamed c.args.self.now) c.loop-i.i c.args.terms.items c.loop-i.made.items c.loop-i.invariant in
     let past : length c.loop-i.made.items ≤ c.loop-i.i = omega (arith, count) in
-    changed_views (IsRenamed c.args.self.now) profiled_in (profiled_instance (profiled_renaming_of c.args.self.now)) (λ old now h. h.profiles)
-    c.loop-i.i c.args.terms.items c.loop-i.made.items past c.loop-i.invariant
+    changed_views (IsRenamed c.args.self.now) profiled_in (profiled_instance (profiled_renaming_of c.args.self.now))
+    (λ old now h. h.profiles) c.loop-i.i c.args.terms.items c.loop-i.made.items past c.loop-i.invariant

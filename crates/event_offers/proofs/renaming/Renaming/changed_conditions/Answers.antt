@@ -16,7 +16,8 @@ returns-then-changes_nothing-clause-profiles c =
 
 pub loop-i-preserved : goal.loop-i-preserved
 loop-i-preserved c =
-    let count = changed_length (AreSidesRenamed c.args.self.now) c.loop-i.i c.args.conditions.items c.loop-i.made.items c.loop-i.invariant in
+    let count = changed_length (AreSidesRenamed c.args.self.now) c.loop-i.i c.args.conditions.items c.loop-i.made.items
+    c.loop-i.invariant in
     let within : c.loop-i.i < length c.loop-i.made.items = omega (arith, count) in
     changed_more (AreSidesRenamed c.args.self.now) c.loop-i.i c.args.conditions.items c.loop-i.made.items _ c.index_mut.result.now
     c.change_sides.new.condition within c.index_mut.ensures.value refl
@@ -24,14 +25,16 @@ loop-i-preserved c =
 
 pub returns-clause-same : goal.returns-clause-same
 returns-clause-same c =
-    let count = changed_length (AreSidesRenamed c.args.self.now) c.loop-i.i c.args.conditions.items c.loop-i.made.items c.loop-i.invariant in
+    let count = changed_length (AreSidesRenamed c.args.self.now) c.loop-i.i c.args.conditions.items c.loop-i.made.items
+    c.loop-i.invariant in
     let past : length c.loop-i.made.items ≤ c.loop-i.i = omega (arith, count) in
     changed_views (AreSidesRenamed c.args.self.now) condition_of (test_with (renaming_of c.args.self.now)) (λ old now h. h.same) c.loop-i.i
     c.args.conditions.items c.loop-i.made.items past c.loop-i.invariant
 
 pub returns-clause-profiles : goal.returns-clause-profiles
 returns-clause-profiles c =
-    let count = changed_length (AreSidesRenamed c.args.self.now) c.loop-i.i c.args.conditions.items c.loop-i.made.items c.loop-i.invariant in
+    let count = changed_length (AreSidesRenamed c.args.self.now) c.loop-i.i c.args.conditions.items c.loop-i.made.items
+    c.loop-i.invariant in
     let past : length c.loop-i.made.items ≤ c.loop-i.i = omega (arith, count) in
     changed_views (AreSidesRenamed c.args.self.now) condition_sides (pair_instance (profiled_renaming_of c.args.self.now))
     (λ old now h. h.profiles) c.loop-i.i c.args.conditions.items c.loop-i.made.items past c.loop-i.invariant
